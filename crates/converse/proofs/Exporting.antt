@@ -1,5 +1,5 @@
 -- What a contract of an export needs of the contents: the text under a message's key is the message's own.
-use Rattle.std.proofs.Common.{◌≡◌, ◌⊎◌, inl, inr, ◌<◌, ◌≤◌, ◌+◌, ◌==◌, ◌&&◌, ℕ, Bool, true, false, not, List, [], ◌∷◌, ◌++◌, length, take, drop, get_or, map, refl, subst, sym, ◌∙◌, ap, ap₂, append_assoc, append-nil, zero, suc, cond, arith, Option, None, Some, Result, Ok, Err, true≢false, take_all}
+use Rattle.std.proofs.Common.{◌≡◌, ◌⊎◌, inl, inr, ◌<◌, ◌≤◌, ◌+◌, ◌==◌, ℕ, Bool, true, false, not, List, [], ◌∷◌, ◌++◌, length, take, drop, get_or, map, refl, subst, sym, ◌∙◌, ap, ap₂, append_assoc, append-nil, zero, suc, cond, arith, Option, None, Some, Result, Ok, Err, true≢false, take_all}
 use Rattle.std.proofs.lemmas.List.{take_more, take-map, map-append, length-map}
 use Rattle.std.proofs.lemmas.Bool.{and_parts, or_parts, eq-eqb}
 use Rattle.std.specs.Prelude.{OnOk, OnErr, unwrap_or, filter, is_ok, if◌then◌else◌}
@@ -9,10 +9,11 @@ use Rattle.std.specs.Str.{bytes_eq}
 use Rattle.policy.specs.Policy.{are_distinct}
 use Rattle.vault.specs.declared.answer.Head.{Head}
 use Rattle.vault.specs.declared.fault.VaultFault.{VaultFault}
+use Rattle.vault.specs.declared.fault.VaultFault.TheVariants as vault
 use Rattle.vault.specs.declared.record.Keyed.{Keyed}
-use Rattle.vault.specs.Calls.{text_under, has_grown}
+use Rattle.vault.specs.Calls.{text_under, has_grown, IsRefusal}
 use Rattle.vault.specs.Changes.{Contents, AreSound, head_of, heads, kept_in}
-use Rattle.converse.specs.Causes.{IsReadFault, IsExportFault}
+use Rattle.converse.specs.Causes.{IsRefused, IsExportFault}
 use Rattle.converse.specs.declared.fault.Fault.{Fault}
 use Rattle.converse.specs.declared.fault.Fault.TheVariants as fault
 use Rattle.converse.proofs.Clauses.{grown_since}
@@ -24,10 +25,18 @@ pub record Stays {V : Type 0} (Holds : V → Contents → Type 0) (IsClean : V �
   pub held : (c : Contents) → Holds before c → IsClean now → Holds now c
   pub so : (c : Contents) → Holds before c → IsClean now → P c
 
--- The same of a loop that puts files, whose folder's count of faults doesn't fall.
-pub record Puts {V : Type 0} (Holds : V → Contents → Type 0) (IsClean : V → Type 0) (before now : V) (first last : ℕ) (P : Contents → Type 0) : Type 0 where
+-- The same of a loop that reads, whose vault's count of faults doesn't fall.
+pub record StaysRead {V : Type 0} (Holds : V → Contents → Type 0) (IsClean : V → Type 0) (before now : V) (early late : ℕ) (P : Contents → Type 0) : Type 0 where
   pub clean : IsClean now → IsClean before
   pub held : (c : Contents) → Holds before c → IsClean now → Holds now c
+  pub read : early ≤ late
+  pub so : (c : Contents) → Holds before c → IsClean now → P c
+
+-- The same of a loop that puts files, whose folder's count of faults doesn't fall either.
+pub record Puts {V : Type 0} (Holds : V → Contents → Type 0) (IsClean : V → Type 0) (before now : V) (early late first last : ℕ) (P : Contents → Type 0) : Type 0 where
+  pub clean : IsClean now → IsClean before
+  pub held : (c : Contents) → Holds before c → IsClean now → Holds now c
+  pub read : early ≤ late
   pub counted : first ≤ last
   pub so : (c : Contents) → Holds before c → IsClean now → P c
 
@@ -37,35 +46,71 @@ pub counts_on : (a b d : ℕ) → a ≤ b → b ≤ d → a ≤ d
 counts_on a b d p q = omega (arith, p, q)
 
 -- a folder that refused is told as want of memory, or its count grew
-pub put_cause : (failed : Bool) (f : Fault) → (f ≡ fault.CannotPut) ⊎ (f ≡ fault.OutOfMemory) → failed ≡ true → IsExportFault failed f
-put_cause failed f (inl e) g = subst (IsExportFault failed) (sym e) g
-put_cause failed f (inr e) g = subst (IsExportFault failed) (sym e) tt
+pub put_cause : (failed written : Bool) (P : VaultFault → Type 0) (f : Fault) → (f ≡ fault.CannotPut) ⊎ (f ≡ fault.OutOfMemory) → failed ≡ true → IsExportFault failed written P f
+put_cause failed written P f (inl e) g = subst (IsExportFault failed written P) (sym e) g
+put_cause failed written P f (inr e) g = subst (IsExportFault failed written P) (sym e) tt
 
--- a message that can't be read is a cause, whatever the folder did
-pub read_cause : (failed : Bool) (f : Fault) → IsReadFault f → IsExportFault failed f
-read_cause failed fault.CannotRead h = absurd h
-read_cause failed (fault.BadEvent n) h = absurd h
-read_cause failed fault.BadHost h = absurd h
-read_cause failed (fault.Store e) h = tt
-read_cause failed (fault.Talk e) h = absurd h
-read_cause failed (fault.NoPolicy e) h = absurd h
-read_cause failed fault.NoClock h = absurd h
-read_cause failed fault.CannotPut h = absurd h
-read_cause failed fault.CannotWrite h = absurd h
-read_cause failed fault.OutOfMemory h = tt
+-- a cause is one still where more failed
+pub cause_still : (put more written further : Bool) (P Q : VaultFault → Type 0) → (put ≡ true → more ≡ true) → (written ≡ true → further ≡ true) → ((e : VaultFault) → P e → Q e)
+    → (f : Fault) → IsExportFault put written P f → IsExportFault more further Q f
+cause_still put more written further P Q p w q fault.CannotRead h = absurd h
+cause_still put more written further P Q p w q (fault.BadEvent n) h = absurd h
+cause_still put more written further P Q p w q fault.BadHost h = absurd h
+cause_still put more written further P Q p w q (fault.Store e) h = q e h
+cause_still put more written further P Q p w q (fault.Talk e) h = absurd h
+cause_still put more written further P Q p w q (fault.NoPolicy e) h = absurd h
+cause_still put more written further P Q p w q fault.NoClock h = absurd h
+cause_still put more written further P Q p w q fault.CannotPut h = p h
+cause_still put more written further P Q p w q fault.CannotWrite h = w h
+cause_still put more written further P Q p w q fault.OutOfMemory h = tt
 
--- what is a cause since a count is one since an earlier count
-pub export_fault_since : (first before now : ℕ) → first ≤ before → (f : Fault) → IsExportFault (has_grown before now) f → IsExportFault (has_grown first now) f
-export_fault_since first before now l fault.CannotRead h = absurd h
-export_fault_since first before now l (fault.BadEvent n) h = absurd h
-export_fault_since first before now l fault.BadHost h = absurd h
-export_fault_since first before now l (fault.Store e) h = tt
-export_fault_since first before now l (fault.Talk e) h = absurd h
-export_fault_since first before now l (fault.NoPolicy e) h = absurd h
-export_fault_since first before now l fault.NoClock h = absurd h
-export_fault_since first before now l fault.CannotPut h = grown_since first before now l h
-export_fault_since first before now l fault.CannotWrite h = tt
-export_fault_since first before now l fault.OutOfMemory h = tt
+-- a refusal since a count is one since an earlier count
+pub refused_since : (there : Bool) (first before now : ℕ) → first ≤ before → (e : VaultFault) → IsRefused there (has_grown before now) e → IsRefused there (has_grown first now) e
+refused_since there first before now l vault.NoMaildrop h = h
+refused_since there first before now l vault.Conflict h = absurd h
+refused_since there first before now l vault.Full h = absurd h
+refused_since there first before now l vault.Store h = grown_since first before now l h
+refused_since there first before now l vault.NoMemory h = tt
+refused_since there first before now l vault.NotEmpty h = absurd h
+refused_since there first before now l vault.NotOurs h = absurd h
+refused_since there first before now l vault.OldVersion h = absurd h
+refused_since there first before now l vault.NoClerk h = absurd h
+
+-- what is there isn't told as missing
+pub refused_there : (there counted : Bool) (e : VaultFault) → IsRefused true counted e → IsRefused there counted e
+refused_there there counted vault.NoMaildrop h = absurd (true≢false h)
+refused_there there counted vault.Conflict h = absurd h
+refused_there there counted vault.Full h = absurd h
+refused_there there counted vault.Store h = h
+refused_there there counted vault.NoMemory h = tt
+refused_there there counted vault.NotEmpty h = absurd h
+refused_there there counted vault.NotOurs h = absurd h
+refused_there there counted vault.OldVersion h = absurd h
+refused_there there counted vault.NoClerk h = absurd h
+
+abbrev is_missing : {A : Type 0} → Result A VaultFault → Bool
+is_missing (Err vault.NoMaildrop) = true
+is_missing _ = false
+
+missing : {A : Type 0} (there : Bool) (x : A) → ◌≡◌ {A = Result A VaultFault} (if there then Ok x else Err vault.NoMaildrop) (Err vault.NoMaildrop) → there ≡ false
+missing true x h = absurd (true≢false (ap is_ok h))
+missing false x h = refl
+
+other : {A : Type 0} (there : Bool) (x : A) (e : VaultFault) → is_missing {A = A} (Err e) ≡ false → ◌≡◌ {A = Result A VaultFault} (if there then Ok x else Err vault.NoMaildrop) (Err e) → ⊥
+other true x e o h = true≢false (ap is_ok h)
+other false x e o h = true≢false (ap is_missing h ∙ o)
+
+-- a call that looks at a maildrop refuses for a cause
+pub look_refused : {A : Type 0} (there counted : Bool) (x : A) (e : VaultFault) → IsRefusal {A = A} (if there then Ok x else Err vault.NoMaildrop) e → (e ≡ vault.Store → counted ≡ true) → IsRefused there counted e
+look_refused there counted x vault.NoMaildrop h s = missing there x h
+look_refused there counted x vault.Conflict h s = absurd (other there x vault.Conflict refl h)
+look_refused there counted x vault.Full h s = absurd (other there x vault.Full refl h)
+look_refused there counted x vault.Store h s = s refl
+look_refused there counted x vault.NoMemory h s = tt
+look_refused there counted x vault.NotEmpty h s = absurd (other there x vault.NotEmpty refl h)
+look_refused there counted x vault.NotOurs h s = absurd (other there x vault.NotOurs refl h)
+look_refused there counted x vault.OldVersion h s = absurd (other there x vault.OldVersion refl h)
+look_refused there counted x vault.NoClerk h s = absurd (other there x vault.NoClerk refl h)
 
 -- what holds in any case holds of an answer
 pub on_ok : {A E P : Type 0} (r : Result A E) → P → OnOk r P

@@ -14,6 +14,7 @@ mod Telling
 pub mod Escaping
 pub mod Reading
 mod Numbering
+pub mod TextWriting
 pub mod Running
 pub mod Playing
 pub mod Stopping

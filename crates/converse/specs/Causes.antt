@@ -3,7 +3,11 @@ use Rattle.std.specs.Prelude.{◌≡◌, ℕ, ⊤, Bool, true, false, List, Opti
 use Rattle.creds.specs.Names.{is_host}
 use Rattle.office.specs.declared.office.OpenFault.{OpenFault}
 use Rattle.office.specs.declared.office.OpenFault.TheVariants as opening
+use Rattle.vault.specs.declared.fault.VaultFault.{VaultFault}
 use Rattle.vault.specs.declared.fault.VaultFault.TheVariants as vault
+use Rattle.vault.specs.Calls.{has_grown}
+use Rattle.vault.specs.Changes.{Contents}
+use Rattle.vault.specs.Records.{is_one_of}
 use Rattle.converse.specs.declared.script.ScriptFault.{ScriptFault}
 use Rattle.converse.specs.declared.script.ScriptFault.TheVariants as script
 use Rattle.converse.specs.declared.fault.Fault.{Fault}
@@ -36,15 +40,33 @@ IsWhyNot text host _ = ⊥
 abbrev pub Tells : (before after : Option (List ℕ)) → (Fault → Type 0) → Type 0
 Tells before after Is = (fault : Fault) × Is fault × PrintsPart before after (fault_line fault)
 
--- why a message isn't read: the store refuses, or memory ran out
-abbrev pub IsReadFault : Fault → Type 0
-IsReadFault (Store fault) = ⊤
-IsReadFault OutOfMemory = ⊤
-IsReadFault _ = ⊥
+-- why a store refuses a look at a maildrop that is there or not: a fault that it counted, or want
+-- of memory; or the maildrop isn't there
+abbrev pub IsRefused : (there counted : Bool) → VaultFault → Type 0
+IsRefused there counted vault.NoMaildrop = there ≡ false
+IsRefused there counted vault.Store = counted ≡ true
+IsRefused there counted vault.NoMemory = ⊤
+IsRefused there counted _ = ⊥
 
--- why an export ends: a file can't be put only where a call of the folder failed; or what is
--- printed is refused, or a message isn't read
-abbrev pub IsExportFault : (failed : Bool) → Fault → Type 0
-IsExportFault failed CannotPut = failed ≡ true
-IsExportFault failed CannotWrite = ⊤
-IsExportFault failed fault = IsReadFault fault
+-- a store refuses an export, whatever it held: so it is where the store is clean still
+abbrev pub IsRefusedExport : {V : Type 0} (Holds : V → Contents → Type 0) (IsClean : V → Type 0)
+    (Faults : V → ℕ) (before now : V) (maildrop : List ℕ) → VaultFault → Type 0
+IsRefusedExport Holds IsClean Faults before now maildrop fault =
+    (c : Contents) → Holds before c → IsClean now
+    → IsRefused (is_one_of maildrop c.maildrops) (has_grown (Faults before) (Faults now)) fault
+
+-- it refuses to read what is there
+abbrev pub IsRefusedRead : {V : Type 0} (Holds : V → Contents → Type 0) (IsClean : V → Type 0)
+    (Faults : V → ℕ) (before now : V) (IsThere : Contents → Type 0) → VaultFault → Type 0
+IsRefusedRead Holds IsClean Faults before now IsThere fault =
+    (c : Contents) → Holds before c → IsClean now → IsThere c
+    → IsRefused true (has_grown (Faults before) (Faults now)) fault
+
+-- why an export ends: a file can't be put only where a call of the folder failed, and its line
+-- can't be written only where one of the writer did; or the store refuses, or memory ran out
+abbrev pub IsExportFault : (put written : Bool) (Refuses : VaultFault → Type 0) → Fault → Type 0
+IsExportFault put written Refuses CannotPut = put ≡ true
+IsExportFault put written Refuses CannotWrite = written ≡ true
+IsExportFault put written Refuses (Store fault) = Refuses fault
+IsExportFault put written Refuses OutOfMemory = ⊤
+IsExportFault put written Refuses _ = ⊥

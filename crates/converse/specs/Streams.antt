@@ -27,6 +27,13 @@ pub record Writes (before now : Writing) (octets : List ℕ) : Type 0 where
   pub told : Appends before.holds now.holds octets
   pub kept : before.faults ≤ now.faults
 
+-- a sink took a beginning of a text, or all of it
+pub record WritesPart (before now : Writing) (text : List ℕ) : Type 0 where
+  pub told : List ℕ
+  pub rest : List ℕ
+  pub is : text ≡ told ++ rest
+  pub writes : Writes before now told
+
 -- a call of it failed
 abbrev pub reads_failed : (before now : Reading) → Bool
 reads_failed before now = has_grown before.faults now.faults

@@ -3,17 +3,17 @@
 ghost use Rattle.std.specs.Prelude.{◌≡◌, ◌≤◌, ◌<◌, ◌∷◌, ◌⊎◌, [], true, false, ℕ, length, map};
 ghost use Rattle.std.specs.Prelude.{string_bytes, IsErr, IsOk, IfOk, IfErr, OnOk, OnErr};
 ghost use Rattle.std.specs.List.{All};
-ghost use Rattle.std.specs.Io.KnownBytes.{Appends};
 ghost use Rattle.vault.specs.Records.{is_one_of};
 ghost use Rattle.vault.specs.Calls.{text_under, has_grown};
 ghost use Rattle.vault.specs.Changes.{Contents};
-ghost use Rattle.converse.specs.Causes.{IsReadFault, IsExportFault, Tells};
-ghost use Rattle.converse.specs.Printed.{PrintsPart};
+ghost use Rattle.converse.specs.Causes.{IsExportFault, IsRefusedExport, IsRefusedRead, Tells};
+ghost use Rattle.converse.specs.Streams.{Writes, WritesPart, writes_failed};
 ghost use Rattle.converse.specs.Exported.{files_of, Takes, TakesFirst, export_line, IsFront};
 ghost use Rattle.converse.specs.Exported.{IsMeasured, file_under};
 
 use crate::fault::{Fault, put_fault, tell_fault};
-use crate::printing::print;
+use crate::streams::Sink;
+use crate::writing::write_text;
 use creds::{Name, Uid};
 use std::alloc::{AllocError, Global};
 use std::io;
@@ -64,7 +64,7 @@ pub trait Folder {
 /// maildrop, the store refuses, memory runs out, the folder refuses, `out` refuses octets.
 /// The files that were put before a fault stay; none is put in part. Only before the last of these
 /// faults all messages are put, and a beginning of the line may be on `out`.
-pub fn export<V: Vault, F: Folder, W: Write, E: Write>(
+pub fn export<V: Vault, F: Folder, W: Sink, E: Write>(
     alloc: Global,
     vault: &mut V,
     maildrop: &Name,
@@ -77,21 +77,23 @@ pub fn export<V: Vault, F: Folder, W: Write, E: Write>(
     ensures whole { result ≡ 0 → (c : Contents) → V.holds vault.old c → V.is_clean vault.new
         → Takes (F.files folder.old) (F.files folder.new) (files_of maildrop.now c) }
     ensures told { result ≡ 0 → (c : Contents) → V.holds vault.old c → V.is_clean vault.new
-        → Appends (W.contents out.old) (W.contents out.new)
+        → Writes (W.seen out.old) (W.seen out.new)
         (export_line (length (files_of maildrop.now c))) }
     ensures part { (c : Contents) → V.holds vault.old c → V.is_clean vault.new
         → TakesFirst (F.files folder.old) (F.files folder.new) (files_of maildrop.now c) }
     ensures last { (out.new ≡ out.old)
         ⊎ ((c : Contents) → V.holds vault.old c → V.is_clean vault.new
         → Takes (F.files folder.old) (F.files folder.new) (files_of maildrop.now c)
-        × PrintsPart (W.contents out.old) (W.contents out.new)
+        × WritesPart (W.seen out.old) (W.seen out.new)
         (export_line (length (files_of maildrop.now c)))) }
     ensures missing { (c : Contents) → V.holds vault.old c → V.is_clean vault.new
         → is_one_of maildrop.now c.maildrops ≡ false → result ≡ 1 }
     ensures settled { result ≡ 0 → F.is_settled folder.new ≡ true }
     ensures settled_first { (out.new ≡ out.old) ⊎ (F.is_settled folder.new ≡ true) }
     ensures why { result ≡ 1 → Tells (E.contents err.old) (E.contents err.new)
-        (IsExportFault (has_grown (F.faults folder.old) (F.faults folder.new))) }
+        (IsExportFault (has_grown (F.faults folder.old) (F.faults folder.new))
+        (writes_failed (W.seen out.old) (W.seen out.new))
+        (IsRefusedExport V.holds V.is_clean V.faults vault.old vault.new maildrop.now)) }
     ensures held { (c : Contents) → V.holds vault.old c → V.is_clean vault.new
         → V.holds vault.new c }
     ensures clean { V.is_clean vault.new → V.is_clean vault.old }
@@ -103,7 +105,7 @@ pub fn export<V: Vault, F: Folder, W: Write, E: Write>(
 }
 
 /// Puts the messages of a maildrop into a folder, and prints how many.
-fn put_maildrop<V: Vault, F: Folder, W: Write>(
+fn put_maildrop<V: Vault, F: Folder, W: Sink>(
     alloc: Global,
     vault: &mut V,
     maildrop: &Name,
@@ -113,21 +115,23 @@ fn put_maildrop<V: Vault, F: Folder, W: Write>(
     ensures whole { OnOk result ((c : Contents) → V.holds vault.old c → V.is_clean vault.new
         → Takes (F.files folder.old) (F.files folder.new) (files_of maildrop.now c)) }
     ensures told { OnOk result ((c : Contents) → V.holds vault.old c → V.is_clean vault.new
-        → Appends (W.contents out.old) (W.contents out.new)
+        → Writes (W.seen out.old) (W.seen out.new)
         (export_line (length (files_of maildrop.now c)))) }
     ensures part { (c : Contents) → V.holds vault.old c → V.is_clean vault.new
         → TakesFirst (F.files folder.old) (F.files folder.new) (files_of maildrop.now c) }
     ensures last { (out.new ≡ out.old)
         ⊎ ((c : Contents) → V.holds vault.old c → V.is_clean vault.new
         → Takes (F.files folder.old) (F.files folder.new) (files_of maildrop.now c)
-        × PrintsPart (W.contents out.old) (W.contents out.new)
+        × WritesPart (W.seen out.old) (W.seen out.new)
         (export_line (length (files_of maildrop.now c)))) }
     ensures missing { (c : Contents) → V.holds vault.old c → V.is_clean vault.new
         → is_one_of maildrop.now c.maildrops ≡ false → IsErr result }
     ensures settled { IsOk result → F.is_settled folder.new ≡ true }
     ensures settled_first { (out.new ≡ out.old) ⊎ (F.is_settled folder.new ≡ true) }
     ensures cause { IfErr result
-        (IsExportFault (has_grown (F.faults folder.old) (F.faults folder.new))) }
+        (IsExportFault (has_grown (F.faults folder.old) (F.faults folder.new))
+        (writes_failed (W.seen out.old) (W.seen out.new))
+        (IsRefusedExport V.holds V.is_clean V.faults vault.old vault.new maildrop.now)) }
     ensures held { (c : Contents) → V.holds vault.old c → V.is_clean vault.new
         → V.holds vault.new c }
     ensures clean { V.is_clean vault.new → V.is_clean vault.old }
@@ -135,7 +139,7 @@ fn put_maildrop<V: Vault, F: Folder, W: Write>(
     let heads = vault.heads(maildrop)?;
     let line = count_line(alloc, heads.len())?;
     put_messages(alloc, vault, heads.as_slice(), folder)?;
-    print(out, line.as_bytes())?;
+    write_text(out, line.as_bytes())?;
     Ok(())
 }
 
@@ -157,7 +161,10 @@ fn put_messages<V: Vault, F: Folder>(
     ensures clean { V.is_clean vault.new → V.is_clean vault.old }
     ensures settled { IsOk result → F.is_settled folder.new ≡ true }
     ensures cause { IfErr result
-        (IsExportFault (has_grown (F.faults folder.old) (F.faults folder.new))) }
+        (IsExportFault (has_grown (F.faults folder.old) (F.faults folder.new))
+        false
+        (IsRefusedRead V.holds V.is_clean V.faults vault.old vault.new
+        (λ c. All (IsMeasured c) heads.now))) }
 {
     match put_each(alloc, vault, heads, folder) {
         Ok(()) => settle(folder),
@@ -169,8 +176,8 @@ fn put_messages<V: Vault, F: Folder>(
 fn settle<F: Folder>(folder: &mut F) -> Result<(), Fault>
     ensures kept { Takes (F.files folder.old) (F.files folder.new) [] }
     ensures settled { IsOk result → F.is_settled folder.new ≡ true }
-    ensures cause { IfErr result
-        (IsExportFault (has_grown (F.faults folder.old) (F.faults folder.new))) }
+    ensures cause { IfErr result (IsExportFault
+        (has_grown (F.faults folder.old) (F.faults folder.new)) false (λ _. ⊥)) }
 {
     match folder.settle() {
         Ok(()) => Ok(()),
@@ -195,8 +202,12 @@ fn put_each<V: Vault, F: Folder>(
         → V.holds vault.new c }
     ensures clean { V.is_clean vault.new → V.is_clean vault.old }
     ensures counted { F.faults folder.old ≤ F.faults folder.new }
+    ensures counted_too { V.faults vault.old ≤ V.faults vault.new }
     ensures cause { IfErr result
-        (IsExportFault (has_grown (F.faults folder.old) (F.faults folder.new))) }
+        (IsExportFault (has_grown (F.faults folder.old) (F.faults folder.new))
+        false
+        (IsRefusedRead V.holds V.is_clean V.faults vault.old vault.new
+        (λ c. All (IsMeasured c) heads.now))) }
 {
     for head in heads {
         put_message(alloc, vault, head, folder)?;
@@ -219,8 +230,12 @@ fn put_message<V: Vault, F: Folder>(
         → V.holds vault.new c }
     ensures clean { V.is_clean vault.new → V.is_clean vault.old }
     ensures counted { F.faults folder.old ≤ F.faults folder.new }
+    ensures counted_too { V.faults vault.old ≤ V.faults vault.new }
     ensures cause { IfErr result
-        (IsExportFault (has_grown (F.faults folder.old) (F.faults folder.new))) }
+        (IsExportFault (has_grown (F.faults folder.old) (F.faults folder.new))
+        false
+        (IsRefusedRead V.holds V.is_clean V.faults vault.old vault.new
+        (λ c. IsMeasured c head.now))) }
 {
     let text = read_text(alloc, vault, head)?;
     let uid = Uid {
@@ -241,7 +256,10 @@ fn read_text<V: Vault>(alloc: Global, vault: &mut V, head: &Head) -> Result<Vec<
     ensures held { (c : Contents) → V.holds vault.old c → V.is_clean vault.new
         → V.holds vault.new c }
     ensures clean { V.is_clean vault.new → V.is_clean vault.old }
-    ensures cause { IfErr result IsReadFault }
+    ensures counted { V.faults vault.old ≤ V.faults vault.new }
+    ensures cause { IfErr result (IsExportFault false false
+        (IsRefusedRead V.holds V.is_clean V.faults vault.old vault.new
+        (λ c. IsMeasured c head.now))) }
 {
     let mut text = Vec::new(alloc);
     while (text.len() as u64) < head.octets {
@@ -263,7 +281,10 @@ fn read_more<V: Vault>(vault: &mut V, key: MessageKey, text: &mut Vec<u8>) -> Re
     ensures held { (c : Contents) → V.holds vault.old c → V.is_clean vault.new
         → V.holds vault.new c }
     ensures clean { V.is_clean vault.new → V.is_clean vault.old }
-    ensures cause { IfErr result IsReadFault }
+    ensures counted { V.faults vault.old ≤ V.faults vault.new }
+    ensures cause { IfErr result (IsExportFault false false
+        (IsRefusedRead V.holds V.is_clean V.faults vault.old vault.new
+        (λ c. length text.old.items < length (text_under key c.messages)))) }
 {
     let mut page = [0u8; PAGE_OCTETS];
     let count = vault.page(key, text.len() as u64, &mut page)?;

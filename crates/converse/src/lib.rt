@@ -21,6 +21,7 @@ pub mod script;
 mod streams;
 pub mod talk;
 pub mod talk_over_store;
+mod writing;
 
 pub use fault::{Fault, fault_text, put_fault, read_fault, tell_fault};
 pub use noted::Noted;

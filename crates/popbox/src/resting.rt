@@ -6,7 +6,7 @@ use causes::{Watched, tell_closed_store, tell_refusal, tell_unread};
 use clap::ArgMatches;
 use converse::check_store::StoreFile;
 use converse::export::{Folder, export};
-use converse::{Fault, tell_fault};
+use converse::{Fault, Noted, tell_fault};
 use creds::Name;
 use jobs::check_all;
 use mailsql::meta::find_mark;
@@ -260,7 +260,7 @@ fn export_over<V: Vault, E: Write>(
 ) -> Result<u8, Fault> {
     let alloc: Global = rt.alloc();
     let out = BufWriter::new(alloc, io::writer(rt)).map_err(|_| Fault::OutOfMemory)?;
-    let mut out = Watched::new(out);
+    let mut out = Noted::new(Watched::new(out));
     let mut folder = NamedFolder {
         rt,
         path,
@@ -274,7 +274,7 @@ fn export_over<V: Vault, E: Write>(
             let _ = writeln!(err, "why: {store}: it has no maildrop {maildrop}");
         }
         tell_refusal(err, path, folder.refusal);
-        tell_refusal(err, "standard output", out.refusal());
+        tell_refusal(err, "standard output", out.inner.refusal());
     }
     Ok(status)
 }

@@ -1,5 +1,5 @@
 use Rattle.converse.specs.Exported.{IsMeasured, file_under}
-use Rattle.converse.proofs.Exporting.{at_index, takes_more, takes_all, takes_first, faults_first, counts_on, export_fault_since}
+use Rattle.converse.proofs.Exporting.{at_index, takes_more, takes_all, takes_first, faults_first, counts_on}
 use Rattle.converse.proofs.export.put_each.Goals as goal
 
 pub loop-head-preserved : goal.loop-head-preserved
@@ -9,6 +9,7 @@ loop-head-preserved g c =
     record {
       clean = λ k. s.clean (t.clean k);
       held = λ d h k. t.held d (s.held d h (t.clean k)) k;
+      read = counts_on _ _ _ s.read t.counted_too;
       counted = counts_on _ _ _ s.counted t.counted;
       so = λ d h k all. takes_more (file_under d) c.args.heads.now c.loop-head.head-index _ _ _ _ c.loop-head-test.true c.head-item.is
           (s.so d h (t.clean k) all)

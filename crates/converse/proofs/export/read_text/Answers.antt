@@ -1,6 +1,6 @@
 use Rattle.std.proofs.Common.{rules}
 use Rattle.vault.specs.Calls.{text_under}
-use Rattle.converse.proofs.Exporting.{whole_text}
+use Rattle.converse.proofs.Exporting.{whole_text, counts_on}
 use Rattle.converse.proofs.export.read_text.Goals as goal
 
 pub loop-vault-preserved : goal.loop-vault-preserved
@@ -10,6 +10,7 @@ loop-vault-preserved g c =
     record {
       clean = λ k. s.clean (t.clean k);
       held = λ d h k. t.held d (s.held d h (t.clean k)) k;
+      read = counts_on _ _ _ s.read t.counted;
       so = λ d h k. t.front d (s.held d h (t.clean k)) k (s.so d h (t.clean k));
     }
 
