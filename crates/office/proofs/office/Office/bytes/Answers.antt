@@ -8,7 +8,7 @@ use Rattle.office.specs.Replying.{is_empty}
 use Rattle.popline.specs.Cutting.{has_newline}
 use Rattle.office.specs.Trace.{acts, is_open, history, next_line}
 use Rattle.office.specs.Accounts.{account_of}
-use Rattle.office.proofs.Accounts.{piece_lacking}
+use Rattle.office.proofs.Accounts.{piece_account}
 use Rattle.office.specs.Locks.{Released}
 use Rattle.office.specs.Expected.{most_in_a_piece}
 use Rattle.office.specs.Output.{nothing_owed}
@@ -127,7 +127,7 @@ returns-in-Err-clause-stands g c T st clean =
     let line = c.in-Err.ensures.err in
     let x = next_there ct (streamed (seen T n) p o.moment) (clocked o.moment p k) p (awaits_bytes ct (seen T n) k p o.moment m nothing fits) line in
     let first = (c.get_mut.follows.holds k').3 (search rules) in
-    let second = c.cut_off.ensures.connections in
+    let second = c.cut_off_without_memory.ensures.connections in
     moved g.V.Vault.holds o _ T (Bytes n p) _ NoMemory n refl st refl refl refl refl refl refl (whole-bytes T n p NoMemory) refl refl
     (rw found refl) (λ q e. seen-bytes_other T n p q NoMemory e) (λ q ne. second.2 q (is_apart n q ne) ∙ first.2 q (is_apart n q ne)) (record {
       contents = ct;
@@ -137,7 +137,7 @@ returns-in-Err-clause-stands g c T st clean =
       carried = λ q e i. i;
       locks = released T.base (acts T) (acts (given T (Bytes n p) (Tagged NoMemory))) n (λ d q e. ap (λ s. holds_by s d) (seen-bytes_other T n p q NoMemory e))
           (λ d. let out = (over-bytes T n p x.0 line x.1).authorization in rw out refl) ct (seen T n) k.session c.hear.new.locks _ m.session refl refl
-          (λ d. c.in-Err.ensures.locks_err d ∙ st.locks d) (subst (λ h. Released h c.hear.new.locks c.cut_off.new.locks) c.maildrop-held.ensures c.cut_off.ensures.locks);
+          (λ d. c.in-Err.ensures.locks_err d ∙ st.locks d) (subst (λ h. Released h c.hear.new.locks c.cut_off_without_memory.new.locks) c.maildrop-held.ensures c.cut_off_without_memory.ensures.locks);
     })
 
 pub returns-in-Err-clause-outcome : goal.returns-in-Err-clause-outcome
@@ -271,8 +271,7 @@ returns-in-Ok-clause-account g c fresh T st clean =
     let told = does.account fresh ct j.transaction st.keeps.held clean j.has_transaction in
     let is = piece_told T n p st.keeps sound o.policy st.policy o.locks st.locks o.moment st.moment k m nothing fits w k' o.locks
     (λ f. does.may f ct j.transaction st.keeps.held clean j.has_transaction) (does.ok ct j.transaction st.keeps.held clean j.has_transaction) does.lines in
-    told ∙ (is ∙ sym (ap (account_of T (Bytes n p)) (marked w _ c.shown.ensures)))
+    told ∙ (is ∙ sym (ap (account_of T (Bytes n p)) (marked w _ c.shown.ensures) ∙ piece_account T n p w))
 
 pub returns-in-Err-clause-account : goal.returns-in-Err-clause-account
-returns-in-Err-clause-account g c fresh T st clean =
-    c.in-Err.ensures.account_err ∙ (fresh ∙ sym (piece_lacking T.base (history T) c.args.c (has_newline c.args.piece.now) (next_line T.log (history T) c.args.c c.args.piece.now)))
+returns-in-Err-clause-account g c fresh T st clean = c.cut_off_without_memory.ensures.account

@@ -27,3 +27,9 @@ returns-in-None-clause-stop g c T st clean up = unasked_stops T (Gone c.args.c) 
 
 pub returns-in-Some-clause-stop : goal.returns-in-Some-clause-stop
 returns-in-Some-clause-stop g c T st clean up = unasked_stops T (Gone c.args.c) outcome.Done st.keeps (returns-in-Some-clause-stands g c T st clean).keeps (λ d. g.met.V.Vault.settled _ d clean up)
+
+pub returns-in-None-clause-account : goal.returns-in-None-clause-account
+returns-in-None-clause-account g c fresh T = fresh
+
+pub returns-in-Some-clause-account : goal.returns-in-Some-clause-account
+returns-in-Some-clause-account g c fresh T = refl

@@ -3,7 +3,7 @@ use Rattle.office.specs.Shown.{outcome_seen, event_seen}
 use Rattle.office.proofs.Lending.{admitted, sent_so}
 use Rattle.office.proofs.Stopping.{event_read}
 use Rattle.office.proofs.Memory.{has_memory}
-use Rattle.office.proofs.Accounts.{opening_told, going_told, tick_told, deposit_told, command_told, restart_told}
+use Rattle.office.proofs.Accounts.{opening_told, tick_told, deposit_told, command_told, restart_told}
 use Rattle.office.proofs.office.Office.step_with_account.Goals as goal
 
 pub returns-in-Connect-clause-stands : goal.returns-in-Connect-clause-stands
@@ -142,7 +142,7 @@ pub returns-in-Connect-clause-account : goal.returns-in-Connect-clause-account
 returns-in-Connect-clause-account g c T st clean = rw c.in-Connect.is (sym (opening_told T _))
 
 pub returns-in-Gone-clause-account : goal.returns-in-Gone-clause-account
-returns-in-Gone-clause-account g c T st clean = rw c.in-Gone.is (sym (going_told T _ _))
+returns-in-Gone-clause-account g c T st clean = rw c.in-Gone.is (c.gone.ensures.account refl T)
 
 pub returns-in-Tick-clause-account : goal.returns-in-Tick-clause-account
 returns-in-Tick-clause-account g c T st clean = rw c.in-Tick.is (sym (tick_told T _ _))
