@@ -10,13 +10,13 @@ mod content;
 mod fields;
 mod head;
 mod lines;
+mod no_command;
 mod refusal;
 mod request;
 mod request_line;
 mod responses;
 mod route;
 mod router;
-mod stop;
 mod target;
 
 pub use content::Content;

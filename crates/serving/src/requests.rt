@@ -27,7 +27,7 @@ use adminhttp::{
 };
 use office::{AdminCommand, Answer, Event, Office, Outcome};
 use policy::PolicyFault;
-use std::alloc::Global;
+use std::alloc::{AllocError, Global};
 use vault::Vault;
 
 /// How many links of the administration may be open at once.

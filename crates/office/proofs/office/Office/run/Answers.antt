@@ -1,6 +1,8 @@
 use Rattle.std.proofs.Common.{arith, refl, sym, take, take_all, subst, get_or}
 use Rattle.std.proofs.lemmas.Grind.{common_steps}
 use Rattle.std.proofs.lemmas.List.{take_more}
+use Rattle.office.specs.Events.{Trace}
+use Rattle.office.specs.Stands.{StandsFor, vault_of}
 use Rattle.office.specs.Runs.{Follows, Ran, followed}
 use Rattle.office.proofs.Running.{ran_more}
 use Rattle.office.proofs.Memory.{steps_have_memory}
