@@ -1,5 +1,5 @@
 -- What a line's account is by what is kept of its connection, and what an event's is by its acts.
-use Rattle.std.proofs.Common.{◌≡◌, ℕ, Bool, true, false, List, [], ◌∷◌, ◌++◌, Option, Some, None, Result, Ok, Err, refl, sym, ◌∙◌, ap, true≢false}
+use Rattle.std.proofs.Common.{◌≡◌, ℕ, Bool, true, false, List, [], ◌∷◌, ◌++◌, Option, Some, None, Result, Ok, Err, refl, sym, ◌∙◌, ap, subst, true≢false}
 use Rattle.creds.specs.declared.login_name.LoginName.{LoginName}
 use Rattle.policy.specs.Policy.{Policy}
 use Rattle.popline.specs.Cutting.{Cut, TooLong, has_newline}
@@ -20,11 +20,13 @@ use Rattle.office.specs.Replying.{said_to_line, reply_to_cut}
 use Rattle.office.specs.Events.{Mark, Ignored, Tagged, Trace}
 use Rattle.office.specs.Events as event
 use Rattle.office.specs.Answers.{AdminCommand}
+use Rattle.office.specs.Outcomes.{Outcome, mark_of}
+use Rattle.office.specs.Expected.{IsOutcome, shown_at}
 use Rattle.office.specs.Trace.{history, idle_acts, idle_numbers, is_left, next_line, acts_of_piece, acts_of_took, line_act}
 use Rattle.office.specs.Kept.{LineContext, asks}
 use Rattle.office.specs.Transaction.{Transaction, LiesIn, transaction_of, transaction_said, transaction_answered, transaction_asks, transaction_reply}
 use Rattle.office.specs.Answered.{reply_of, tag_of, HasTransaction}
-use Rattle.office.specs.Accounts.{command_account, fault_told, line_account, transaction_account, quit_or, quit_account, removal_by, line_told, acts_account, acts_told, failed_told, account_of, removal_told, removal_seen, state_account}
+use Rattle.office.specs.Accounts.{command_account, fault_told, line_account, transaction_account, quit_or, quit_account, removal_by, line_told, acts_account, acts_told, failed_told, account_of, outcome_told, removal_told, removal_seen, state_account}
 use Rattle.office.specs.declared.account.Account.{Account}
 use Rattle.office.specs.declared.account.Account.TheVariants as account
 use Rattle.office.specs.declared.account.Removal.{Removal}
@@ -187,9 +189,14 @@ module _ (T : Trace) where
   deposit_told d class id text Ignored = refl
   deposit_told d class id text (Tagged t) = refl
 
-  pub command_told : (command : AdminCommand) (m : Mark) → account_of T (event.Admin command) m ≡ account.Nothing
-  command_told command Ignored = refl
-  command_told command (Tagged t) = refl
+  -- a command's account, by its outcome
+  command_shown : (command : AdminCommand) (t : Tag) → account_of T (event.Admin command) (mark_of (shown_at T.base T.log (history T) (event.Admin command) t)) ≡ outcome_told (shown_at T.base T.log (history T) (event.Admin command) t)
+  command_shown command Done = refl
+  command_shown command Failed = refl
+  command_shown command NoMemory = refl
+
+  pub command_told : (lent : ℕ → ℕ) (command : AdminCommand) (o : Outcome) → IsOutcome T lent (event.Admin command) o → account_of T (event.Admin command) (mark_of o) ≡ outcome_told o
+  command_told lent command o is = subst (λ (o : Outcome). account_of T (event.Admin command) (mark_of o) ≡ outcome_told o) (sym is.is) (command_shown command is.tag)
 
   pub restart_told : (boot : ℕ) (m : Mark) → account_of T (event.Restart boot) m ≡ account.Nothing
   restart_told boot Ignored = refl

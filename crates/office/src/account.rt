@@ -62,6 +62,8 @@ pub enum End {
     NoMemory,
     /// The store refused a page of the message that was sent.
     StoreFailed,
+    /// An administrator ended the session.
+    SessionEnded,
 }
 
 /// What an office judged in an event. It takes no memory but that of a session which quit, and

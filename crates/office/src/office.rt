@@ -2,7 +2,7 @@
 ghost use Rattle.std.specs.Prelude.{◌≡◌, ◌⊎◌, ◌<◌, ◌≤◌, ◌↔◌, not, true, false, ℕ, List, length};
 ghost use Rattle.std.specs.Prelude.{take, min, None, IfOk, IfErr, OnOk, OnErr, MatchResult};
 ghost use Rattle.office.specs.Events.{Trace, given};
-ghost use Rattle.office.specs.Shown.{event_seen, outcome_seen, followed_by};
+ghost use Rattle.office.specs.Shown.{event_seen, command_seen, outcome_seen, followed_by};
 ghost use Rattle.office.specs.Events as event;
 ghost use Rattle.office.specs.Trace.{history, rest, is_open, is_ready, IsLent, most_lent};
 ghost use Rattle.office.specs.Expected.{IsOutcome, is_full, octets_taken, asks_no_store, may_show};
@@ -23,7 +23,7 @@ ghost use Rattle.office.specs.Locks.{Released};
 ghost use Rattle.office.specs.Buffered.{output_kept};
 ghost use Rattle.office.specs.Output.{most_output};
 ghost use Rattle.office.specs.Answered.{shown_of};
-ghost use Rattle.office.specs.Accounts.{IsAccount};
+ghost use Rattle.office.specs.Accounts.{IsAccount, outcome_told};
 ghost use Rattle.office.specs.Runs.{Step as Shown, followed, Follows, Enters, Ran};
 ghost use Rattle.office.specs.Runs.{HaveCauses, HaveMemory, AreAnswered, StopLeavesRun};
 ghost use Rattle.office.specs.Runs.{done_before};
@@ -31,7 +31,9 @@ ghost use Rattle.office.specs.Runs.{done_before};
 use crate::connection::Connection;
 use crate::locks::{Locks, release};
 use crate::login_state::LineOutcome;
-use crate::{Account, End, Event, Limits, Outcome, Reason, RunFault, Step, Transcript};
+use crate::{
+    Account, AdminCommand, Answer, End, Event, Limits, Outcome, Reason, RunFault, Step, Transcript,
+};
 use creds::{HostName, Name};
 use policy::Policy;
 use std::alloc::{AllocError, Global};
@@ -78,6 +80,16 @@ fn shown(line_outcome: LineOutcome) -> Outcome
     match line_outcome {
         LineOutcome::Done => Outcome::Done,
         LineOutcome::Failed => Outcome::Failed,
+    }
+}
+
+/// What the outcome of a command tells: that it ended a session, where it did.
+fn ended_by(outcome: &Outcome) -> Account
+    ensures { result ≡ outcome_told (outcome_seen outcome.now) }
+{
+    match outcome {
+        Outcome::Answered(Answer::Ended) => Account::Ended(End::SessionEnded),
+        _ => Account::Nothing,
     }
 }
 
@@ -314,6 +326,18 @@ impl<V: Vault> Office<V> {
         }
     }
 
+    /// Does a command. That it ended a session becomes the account.
+    fn command(&mut self, command: &AdminCommand, account: &mut Account) -> Outcome
+        ensures after { AfterEvent V.Vault self.old self.new (event.Admin
+            (command_seen command.now)) (outcome_seen result) }
+        ensures account { OfEachTrace V.Vault self.old self.new (λ T. IsAccount T (event.Admin
+            (command_seen command.now)) (outcome_seen result) account.new) }
+    {
+        let outcome = self.administer(command);
+        *account = ended_by(&outcome);
+        outcome
+    }
+
     /// Does one event. What it judged becomes the account, which tells nothing before.
     fn handle(&mut self, event: Event<'_>, account: &mut Account) -> Outcome
         ensures after { AfterEvent V.Vault self.old self.new (event_seen event.entry)
@@ -335,7 +359,7 @@ impl<V: Vault> Office<V> {
             Event::Gone(c) => self.gone(c, account),
             Event::Tick(now) => self.tick(now),
             Event::Deposit(maildrop, class, id, text) => self.deposit(maildrop, class, id, text),
-            Event::Admin(command) => self.administer(command),
+            Event::Admin(command) => self.command(command, account),
             Event::Restart(boot) => self.restart(boot),
         }
     }
@@ -385,8 +409,9 @@ impl<V: Vault> Office<V> {
 
     /// Does one event, as [`Office::step`] does, and tells what it judged: `account` becomes the
     /// account of this event, whatever it told before. It is that of the line that acted, also
-    /// where the store failed; or why the connection ended, where it is gone, memory was wanting or
-    /// a page was refused. Other events have none, nor has one that is ignored.
+    /// where the store failed; or why the connection ended, where it is gone, memory was wanting, a
+    /// page was refused or a command ended its session. Other events have none, nor has one that is
+    /// ignored.
     pub fn step_with_account(&mut self, event: Event<'_>, account: &mut Account) -> Outcome
         ensures stands { OfEachTrace V.Vault self.old self.new (λ T.
             StandsFor V.holds self.new (followed_by T (event_seen event.entry) result)) }
