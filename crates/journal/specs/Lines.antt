@@ -9,6 +9,7 @@ use Rattle.creds.specs.declared.uid.Uid.{Uid}
 use Rattle.creds.specs.declared.login_name.LoginName.{LoginName}
 use Rattle.office.specs.declared.account.Account.{Account}
 use Rattle.office.specs.declared.account.Account.TheVariants as account
+use Rattle.office.specs.declared.account.End.TheVariants as end
 use Rattle.office.specs.declared.account.Removal.{Removal}
 use Rattle.office.specs.declared.account.Way.{Way}
 use Rattle.office.specs.declared.account.Way.TheVariants as way
@@ -69,7 +70,17 @@ abbrev pub is_told : Account → Bool
 is_told account.Nothing = false
 is_told account.Marked = false
 is_told account.Unmarked = false
+is_told (account.Ended cause) = false
 is_told _ = true
+
+-- why a connection ended, as the line of its end tells it, where the account says so
+abbrev pub cause_text : Account → List ℕ
+cause_text (account.Ended end.Gone) = codes " cause=gone"
+cause_text (account.Ended end.NoMemory) = codes " cause=\"out of memory\""
+cause_text (account.Ended end.StoreFailed) = codes " cause=\"store failed\""
+cause_text (account.Login name by judged.ThirdWrongCredential) =
+    codes " cause=\"login failed, closing\""
+cause_text _ = []
 
 -- ---- what a QUIT removed
 

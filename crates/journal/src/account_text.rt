@@ -3,9 +3,10 @@ ghost use Rattle.std.specs.Prelude.{◌≡◌, IfOk, Some, true, string_bytes};
 ghost use Rattle.journal.specs.Lines.{name_text as name_words, way_text, verdict_text};
 ghost use Rattle.journal.specs.Lines.{farewell_text, login_text as login_line};
 ghost use Rattle.journal.specs.Lines.{quit_text as quit_line, account_text, is_told};
+ghost use Rattle.journal.specs.Lines.{cause_text as cause_words};
 
 use creds::{LoginName, Name};
-use office::{Account, Removal, Verdict, Way};
+use office::{Account, End, Removal, Verdict, Way};
 use std::alloc::{AllocError, Global};
 
 /// By which command a login came.
@@ -135,7 +136,7 @@ pub fn has_line(account: &Account) -> bool
     ensures { result ≡ is_told account.now }
 {
     match account {
-        Account::Nothing | Account::Marked | Account::Unmarked => false,
+        Account::Nothing | Account::Marked | Account::Unmarked | Account::Ended(_) => false,
         _ => true,
     }
 }
@@ -150,6 +151,22 @@ pub fn line_of(alloc: Global, who: &str, account: &Account) -> Result<String, Al
         Account::NoName => nameless_text(alloc, who),
         Account::Quit(removal) => quit_text(alloc, who, removal),
         Account::QuitBeforeLogin => early_text(alloc, who),
-        Account::Nothing | Account::Marked | Account::Unmarked => Ok(String::new(alloc)),
+        Account::Nothing | Account::Marked | Account::Unmarked | Account::Ended(_) => {
+            Ok(String::new(alloc))
+        }
+    }
+}
+
+/// Why a connection ended, as the line of its end tells it; without text for an account that
+/// doesn't say so.
+pub fn cause_text(account: &Account) -> &'static str
+    ensures { result.now ≡ cause_words account.now }
+{
+    match account {
+        Account::Ended(End::Gone) => " cause=gone",
+        Account::Ended(End::NoMemory) => " cause=\"out of memory\"",
+        Account::Ended(End::StoreFailed) => " cause=\"store failed\"",
+        Account::Login(_, _, Verdict::ThirdWrongCredential) => " cause=\"login failed, closing\"",
+        _ => "",
     }
 }

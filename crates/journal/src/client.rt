@@ -1,5 +1,5 @@
 //! The mail programs' connections, as the log tells of them.
-use super::account_text::{has_line, line_of};
+use super::account_text::{cause_text, has_line, line_of};
 use creds::{LoginName, Name};
 use office::{Account, Verdict};
 use serving::Link;
@@ -23,6 +23,8 @@ struct Client {
     /// How many messages that session has marked.
     marked: u64,
     has_quit: bool,
+    /// Why it ends, as its line tells it: the first cause that was heard, or empty.
+    cause: &'static str,
 }
 
 impl Client {
@@ -37,6 +39,9 @@ impl Client {
 
     /// Keeps what an account says of the session.
     fn take(&mut self, account: &Account) {
+        if self.cause.is_empty() {
+            self.cause = cause_text(account);
+        }
         match account {
             Account::Login(name, _, Verdict::Accepted) => {
                 self.session = Some(*name);
@@ -78,7 +83,8 @@ impl Client {
     fn loss(&self, alloc: Global) -> Result<String, AllocError> {
         let who = self.who(alloc)?;
         let session = self.session_text(alloc)?;
-        format!(in alloc; "event=closed {who}{session}")
+        let cause = self.cause;
+        format!(in alloc; "event=closed {who}{session}{cause}")
     }
 
     /// The values of a line that tells of its session.
@@ -123,6 +129,7 @@ impl Clients {
             is_in: false,
             marked: 0,
             has_quit: false,
+            cause: "",
         })?;
         Ok(())
     }

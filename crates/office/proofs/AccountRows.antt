@@ -11,13 +11,15 @@ use Rattle.popline.specs.Cutting as cutting
 use Rattle.session.specs.declared.removals.Removals.TheVariants.{JudgedAtDele}
 use Rattle.office.specs.History.{Act, Open, Line, Restart, Tag, Done, Failed, NoMemory}
 use Rattle.office.specs.Told.{told}
-use Rattle.office.specs.Events.{Bytes, Tagged, Trace}
+use Rattle.office.specs.Events.{Admin, Bytes, Connect, Gone, Ignored, Tagged, Took, Trace}
+use Rattle.office.specs.Answers.{EndSession}
 use Rattle.office.specs.Accounts.{account_of, acts_account}
 use Rattle.office.specs.declared.account.Account.{Account}
-use Rattle.office.specs.declared.account.Account.TheVariants.{Nothing, Login, NoName, Marked, Unmarked, Quit, QuitBeforeLogin}
+use Rattle.office.specs.declared.account.Account.TheVariants.{Nothing, Login, NoName, Marked, Unmarked, Quit, QuitBeforeLogin, Ended}
+use Rattle.office.specs.declared.account.End.TheVariants as end
 use Rattle.office.specs.declared.account.Way.TheVariants as way
 use Rattle.office.specs.declared.account.Verdict.TheVariants as judged
-use Rattle.office.proofs.Sample.{W, Step, shows, run_judged_at_quit, connect, says, as_bob}
+use Rattle.office.proofs.Sample.{W, Step, Give, shows, run_judged_at_quit, connect, says, as_bob}
 
 abbrev line : List ℕ → Tag → Act × Tag
 line octets t = (Line 1896 (cutting.Line octets), t)
@@ -94,9 +96,17 @@ bob_marks = connect 1 ++ says 1 (as_bob ++ codes "DELE 3" ∷ codes "DELE 2" ∷
 abbrev next : Trace → List ℕ → Account
 next T octets = account_of T (Bytes 1 (octets ++ line_end)) (Tagged Done)
 
--- his QUIT, a first and a second mark, a reset, and a name that is out of place
-lines_of_a_session : shows (run_judged_at_quit bob_marks) (λ T. next T (codes "QUIT") ∷ next T (codes "DELE 1") ∷ next T (codes "DELE 2") ∷ next T (codes "RSET") ∷ next T (codes "USER bob") ∷ [])
+-- his QUIT, a first and a second mark, a reset, a name that is out of place, and the end of his session, and of none
+lines_of_a_session : shows (run_judged_at_quit bob_marks) (λ T. next T (codes "QUIT") ∷ next T (codes "DELE 1") ∷ next T (codes "DELE 2") ∷ next T (codes "RSET") ∷ next T (codes "USER bob")
+    ∷ account_of T (Admin (EndSession 1)) (Tagged Done) ∷ account_of T (Admin (EndSession 2)) (Tagged Done) ∷ [])
     ≡ Quit (record { name = record { clerk = codes "bob"; maildrop = codes "orders" }; marked = 2; removed = record { class = codes "note"; k = 2 } ∷ []; denied = Some (codes "default"); is_done = true })
-    ∷ Marked ∷ Nothing ∷ Unmarked ∷ Nothing ∷ []
+    ∷ Marked ∷ Nothing ∷ Unmarked ∷ Nothing ∷ Ended end.SessionEnded ∷ Nothing ∷ []
 unfolding digits login_name decode_pairs md5 M.digest_bytes M.hash_after M.compress M.rounds M.block_words
 lines_of_a_session = refl
+
+-- a connection whose greeting waits is gone, lacks memory at a piece, or is refused a page; one that isn't open is ignored
+ends_of_connections : shows (run_judged_at_quit (Give Connect ∷ [])) (λ T. account_of T (Gone 1) (Tagged Done) ∷ account_of T (Bytes 1 (codes "NOOP" ++ line_end)) (Tagged NoMemory)
+    ∷ account_of T (Took 1 1) (Tagged NoMemory) ∷ account_of T (Took 1 1) (Tagged Failed) ∷ account_of T (Took 1 1) (Tagged Done) ∷ account_of T (Gone 2) Ignored ∷ [])
+    ≡ Ended end.Gone ∷ Ended end.NoMemory ∷ Ended end.NoMemory ∷ Ended end.StoreFailed ∷ Nothing ∷ Nothing ∷ []
+unfolding digits login_name decode_pairs md5 M.digest_bytes M.hash_after M.compress M.rounds M.block_words
+ends_of_connections = refl

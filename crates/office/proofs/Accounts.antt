@@ -1,8 +1,8 @@
 -- What a line's account is by what is kept of its connection, and what an event's is by its acts.
-use Rattle.std.proofs.Common.{◌≡◌, ℕ, Bool, true, false, List, [], ◌∷◌, ◌++◌, Option, Some, None, Result, Ok, Err, refl, sym, ◌∙◌, ap, true≢false}
+use Rattle.std.proofs.Common.{◌≡◌, ℕ, Bool, true, false, List, [], ◌∷◌, ◌++◌, Option, Some, None, Result, Ok, Err, refl, sym, ◌∙◌, ap, subst, true≢false}
 use Rattle.creds.specs.declared.login_name.LoginName.{LoginName}
 use Rattle.policy.specs.Policy.{Policy}
-use Rattle.popline.specs.Cutting.{Cut, TooLong}
+use Rattle.popline.specs.Cutting.{Cut, TooLong, has_newline}
 use Rattle.popline.specs.Cutting as cutting
 use Rattle.popline.specs.Commands.{Command, Pass, Quit, command_of}
 use Rattle.popline.specs.declared.command.Keyword.TheVariants as keyword
@@ -14,17 +14,19 @@ use Rattle.vault.specs.Changes.{Contents}
 use Rattle.vault.specs.declared.record.Keyed.{Keyed}
 use Rattle.session.specs.Session.{Session}
 use Rattle.office.specs.History.{Act, Line, Idle, Tag, Done, Failed, NoMemory, Said, Says, Entry}
-use Rattle.office.specs.Connections.{is_quit, reading, user}
+use Rattle.office.specs.Connections.{is_quit, reading, user, serving, closing}
 use Rattle.office.specs.Sessions.{in_session}
 use Rattle.office.specs.Replying.{said_to_line, reply_to_cut}
 use Rattle.office.specs.Events.{Mark, Ignored, Tagged, Trace}
 use Rattle.office.specs.Events as event
 use Rattle.office.specs.Answers.{AdminCommand}
-use Rattle.office.specs.Trace.{history, idle_acts, idle_numbers, acts_of_piece, acts_of_took, line_act}
+use Rattle.office.specs.Outcomes.{Outcome, mark_of}
+use Rattle.office.specs.Expected.{IsOutcome, shown_at}
+use Rattle.office.specs.Trace.{history, idle_acts, idle_numbers, is_left, next_line, acts_of_piece, acts_of_took, line_act}
 use Rattle.office.specs.Kept.{LineContext, asks}
 use Rattle.office.specs.Transaction.{Transaction, LiesIn, transaction_of, transaction_said, transaction_answered, transaction_asks, transaction_reply}
 use Rattle.office.specs.Answered.{reply_of, tag_of, HasTransaction}
-use Rattle.office.specs.Accounts.{command_account, fault_told, line_account, transaction_account, quit_or, quit_account, removal_by, line_told, acts_account, account_of, removal_told, removal_seen, state_account}
+use Rattle.office.specs.Accounts.{command_account, fault_told, line_account, transaction_account, quit_or, quit_account, removal_by, line_told, acts_account, acts_told, failed_told, account_of, outcome_told, removal_told, removal_seen, state_account}
 use Rattle.office.specs.declared.account.Account.{Account}
 use Rattle.office.specs.declared.account.Account.TheVariants as account
 use Rattle.office.specs.declared.account.Removal.{Removal}
@@ -139,28 +141,10 @@ line_so B G c k d t old j named x w may =
 -- ---- events in which no line acts
 
 module _ (B : Records) (G : List Entry) where
-  none_lacking : (c : ℕ) (next : Option Cut) → acts_account B G (line_act c NoMemory next) ≡ account.Nothing
-  none_lacking c None = refl
-  none_lacking c (Some x) = refl
-
-  pub piece_lacking : (c : ℕ) (b : Bool) (next : Option Cut) → acts_account B G (acts_of_piece b c NoMemory next) ≡ account.Nothing
-  piece_lacking c true next = none_lacking c next
-  piece_lacking c false next = refl
-
-  pub taking_lacking : (left serving closing : Bool) (c : ℕ) (next : Option Cut) → acts_account B G (acts_of_took left serving closing c NoMemory next) ≡ account.Nothing
-  taking_lacking true serving closing c next = refl
-  taking_lacking false serving true c next = refl
-  taking_lacking false serving false c next = none_lacking c next
-
   -- the line behind a taking of all
   pub all_taken : (left serving closing : Bool) (c : ℕ) (t : Tag) (next x : Option Cut) → left ≡ false → closing ≡ false → next ≡ x
       → acts_account B G (acts_of_took left serving closing c t next) ≡ acts_account B G (line_act c t x)
   all_taken left serving closing c t next x all on is = rw (all, on, is) refl
-
-  -- a page that can't be read ends the connection
-  pub part_refused : (serving closing : Bool) (c : ℕ) (next : Option Cut) → acts_account B G (acts_of_took true serving closing c Failed next) ≡ account.Nothing
-  part_refused true closing c next = refl
-  part_refused false closing c next = refl
 
   pub part_taken : (serving closing : Bool) (c : ℕ) (next : Option Cut) → acts_account B G (acts_of_took true serving closing c Done next) ≡ account.Nothing
   part_taken serving closing c next = refl
@@ -186,9 +170,16 @@ module _ (T : Trace) where
   opening_told (Tagged Failed) = refl
   opening_told (Tagged NoMemory) = refl
 
-  pub going_told : (c : ℕ) (m : Mark) → account_of T (event.Gone c) m ≡ account.Nothing
-  going_told c Ignored = refl
-  going_told c (Tagged t) = refl
+  -- a line that acted is what is told
+  pub piece_account : (c : ℕ) (p : List ℕ) (w : LineOutcome) → account_of T (event.Bytes c p) (Tagged (tag_of w))
+      ≡ acts_account T.base (history T) (acts_of_piece (has_newline p) c (tag_of w) (next_line T.log (history T) c p))
+  piece_account c p outcome.Done = refl
+  piece_account c p outcome.Failed = refl
+
+  pub taking_account : (c n : ℕ) (w : LineOutcome) → is_left T.log (history T) c n ≡ false → account_of T (event.Took c n) (Tagged (tag_of w))
+      ≡ acts_account T.base (history T) (acts_of_took (is_left T.log (history T) c n) (serving (history T) c) (closing (history T) c) c (tag_of w) (next_line T.log (history T) c []))
+  taking_account c n outcome.Done all = refl
+  taking_account c n outcome.Failed all = ap (λ (left : Bool). failed_told left (acts_told T (event.Took c n) Failed)) all
 
   pub tick_told : (now : ℕ) (m : Mark) → account_of T (event.Tick now) m ≡ account.Nothing
   tick_told now Ignored = refl
@@ -198,9 +189,14 @@ module _ (T : Trace) where
   deposit_told d class id text Ignored = refl
   deposit_told d class id text (Tagged t) = refl
 
-  pub command_told : (command : AdminCommand) (m : Mark) → account_of T (event.Admin command) m ≡ account.Nothing
-  command_told command Ignored = refl
-  command_told command (Tagged t) = refl
+  -- a command's account, by its outcome
+  command_shown : (command : AdminCommand) (t : Tag) → account_of T (event.Admin command) (mark_of (shown_at T.base T.log (history T) (event.Admin command) t)) ≡ outcome_told (shown_at T.base T.log (history T) (event.Admin command) t)
+  command_shown command Done = refl
+  command_shown command Failed = refl
+  command_shown command NoMemory = refl
+
+  pub command_told : (lent : ℕ → ℕ) (command : AdminCommand) (o : Outcome) → IsOutcome T lent (event.Admin command) o → account_of T (event.Admin command) (mark_of o) ≡ outcome_told o
+  command_told lent command o is = subst (λ (o : Outcome). account_of T (event.Admin command) (mark_of o) ≡ outcome_told o) (sym is.is) (command_shown command is.tag)
 
   pub restart_told : (boot : ℕ) (m : Mark) → account_of T (event.Restart boot) m ≡ account.Nothing
   restart_told boot Ignored = refl

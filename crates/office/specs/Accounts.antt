@@ -15,19 +15,25 @@ use Rattle.vault.specs.Records.{Records, class_of, uid_of}
 use Rattle.session.specs.Session.{Session}
 use Rattle.session.specs.Session as head
 use Rattle.session.specs.View.{marked as rows_marked, to_remove, denying}
-use Rattle.office.specs.History.{Act, Line, Tag, NoMemory, Said, Says, Entry, in_force, is_done}
+use Rattle.office.specs.History.{Act, Line, Tag, Done, Failed, NoMemory, Said, Says, Entry}
+use Rattle.office.specs.History.{in_force, is_done}
 use Rattle.office.specs.Connections.{is_quit, reading, user}
 use Rattle.office.specs.Sessions.{in_session, marks, view}
 use Rattle.office.specs.Replying.{said_to_line}
-use Rattle.office.specs.Events.{Event, Mark, Trace}
-use Rattle.office.specs.Outcomes.{Outcome, mark_of}
-use Rattle.office.specs.Trace.{history, acts_at}
+use Rattle.office.specs.Events.{Event, Mark, Ignored, Tagged, Trace}
+use Rattle.office.specs.Events as event
+use Rattle.office.specs.Outcomes.{Outcome, Answered, mark_of}
+use Rattle.office.specs.Answers.{Answer}
+use Rattle.office.specs.Answers as answer
+use Rattle.office.specs.Told.{administered}
+use Rattle.office.specs.Trace.{history, acts_of, is_left}
 use Rattle.office.specs.Transaction.{Transaction}
 use Rattle.office.specs.declared.login_state.LineOutcome.{LineOutcome}
 use Rattle.office.specs.declared.login_state.LineOutcome.TheVariants as outcome
 use Rattle.office.specs.declared.account.Account.{Account}
 use Rattle.office.specs.declared.account.Removal.{Removal}
 use Rattle.office.specs.declared.account.Account.TheVariants as account
+use Rattle.office.specs.declared.account.End.TheVariants as end
 use Rattle.office.specs.declared.account.Way.{Way}
 use Rattle.office.specs.declared.account.Way.TheVariants as way
 use Rattle.office.specs.declared.account.Verdict.{Verdict}
@@ -112,9 +118,41 @@ abbrev pub acts_account : Records → List Entry → List (Act × Tag) → Accou
 acts_account B G ((Line c x, t) ∷ []) = line_told B G c x t
 acts_account B G _ = account.Nothing
 
+-- the account of the acts of an event that shows this tag
+abbrev pub acts_told : Trace → Event → Tag → Account
+acts_told T e t = acts_account T.base (history T) (acts_of T.log (history T) e t)
+
+-- a page that is refused ends the connection; a line at which the store fails has its own account
+abbrev pub failed_told : (left : Bool) → Account → Account
+failed_told true told = account.Ended end.StoreFailed
+failed_told false told = told
+
+-- a command that was answered so ended a session, and the connection with it
+abbrev pub answer_told : Answer → Account
+answer_told answer.Ended = account.Ended end.SessionEnded
+answer_told _ = account.Nothing
+
+-- what the outcome of a command tells
+abbrev pub outcome_told : Outcome → Account
+outcome_told (Answered answer) = answer_told answer
+outcome_told _ = account.Nothing
+
+-- The account of an event that shows this tag: why it ended its connection, where no line did; or
+-- that of its acts.
+abbrev pub account_at : Trace → Event → Tag → Account
+account_at T (event.Gone c) t = account.Ended end.Gone
+account_at T (event.Bytes c piece) NoMemory = account.Ended end.NoMemory
+account_at T (event.Took c octets) NoMemory = account.Ended end.NoMemory
+account_at T (event.Took c octets) Failed =
+    failed_told (is_left T.log (history T) c octets) (acts_told T (event.Took c octets) Failed)
+account_at T (event.Admin command) Done =
+    answer_told (administered T.base (history T) command)
+account_at T e t = acts_told T e t
+
 -- the account of a trace's next event, which got this mark
 abbrev pub account_of : Trace → Event → Mark → Account
-account_of T e m = acts_account T.base (history T) (acts_at T.log (history T) e m)
+account_of T e Ignored = account.Nothing
+account_of T e (Tagged t) = account_at T e t
 
 -- this is the account of an event with this outcome
 abbrev pub IsAccount : Trace → Event → Outcome → Account → Type 0

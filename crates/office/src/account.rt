@@ -54,6 +54,18 @@ pub struct Removal {
     pub is_done: bool,
 }
 
+/// Why an event ended a connection, where no line did.
+#[derive(Clone, Copy)]
+pub enum End {
+    /// The client went, or was sent away.
+    Gone,
+    NoMemory,
+    /// The store refused a page of the message that was sent.
+    StoreFailed,
+    /// An administrator ended the session.
+    SessionEnded,
+}
+
 /// What an office judged in an event. It takes no memory but that of a session which quit, and
 /// holds no password and no digest.
 #[derive(Drop)]
@@ -73,6 +85,8 @@ pub enum Account {
     Quit(Removal),
     /// QUIT came before a login.
     QuitBeforeLogin,
+    /// The connection was ended, and no line ended it.
+    Ended(End),
 }
 
 /// How a login was judged that got this reply; `None` for a reply that judges no login.

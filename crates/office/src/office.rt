@@ -2,7 +2,7 @@
 ghost use Rattle.std.specs.Prelude.{◌≡◌, ◌⊎◌, ◌<◌, ◌≤◌, ◌↔◌, not, true, false, ℕ, List, length};
 ghost use Rattle.std.specs.Prelude.{take, min, None, IfOk, IfErr, OnOk, OnErr, MatchResult};
 ghost use Rattle.office.specs.Events.{Trace, given};
-ghost use Rattle.office.specs.Shown.{event_seen, outcome_seen, followed_by};
+ghost use Rattle.office.specs.Shown.{event_seen, command_seen, outcome_seen, followed_by};
 ghost use Rattle.office.specs.Events as event;
 ghost use Rattle.office.specs.Trace.{history, rest, is_open, is_ready, IsLent, most_lent};
 ghost use Rattle.office.specs.Expected.{IsOutcome, is_full, octets_taken, asks_no_store, may_show};
@@ -23,7 +23,7 @@ ghost use Rattle.office.specs.Locks.{Released};
 ghost use Rattle.office.specs.Buffered.{output_kept};
 ghost use Rattle.office.specs.Output.{most_output};
 ghost use Rattle.office.specs.Answered.{shown_of};
-ghost use Rattle.office.specs.Accounts.{IsAccount};
+ghost use Rattle.office.specs.Accounts.{IsAccount, outcome_told};
 ghost use Rattle.office.specs.Runs.{Step as Shown, followed, Follows, Enters, Ran};
 ghost use Rattle.office.specs.Runs.{HaveCauses, HaveMemory, AreAnswered, StopLeavesRun};
 ghost use Rattle.office.specs.Runs.{done_before};
@@ -31,7 +31,9 @@ ghost use Rattle.office.specs.Runs.{done_before};
 use crate::connection::Connection;
 use crate::locks::{Locks, release};
 use crate::login_state::LineOutcome;
-use crate::{Account, Event, Limits, Outcome, Reason, RunFault, Step, Transcript};
+use crate::{
+    Account, AdminCommand, Answer, End, Event, Limits, Outcome, Reason, RunFault, Step, Transcript,
+};
 use creds::{HostName, Name};
 use policy::Policy;
 use std::alloc::{AllocError, Global};
@@ -81,6 +83,16 @@ fn shown(line_outcome: LineOutcome) -> Outcome
     }
 }
 
+/// What the outcome of a command tells: that it ended a session, where it did.
+fn ended_by(outcome: &Outcome) -> Account
+    ensures { result ≡ outcome_told (outcome_seen outcome.now) }
+{
+    match outcome {
+        Outcome::Answered(Answer::Ended) => Account::Ended(End::SessionEnded),
+        _ => Account::Nothing,
+    }
+}
+
 /// Ends a connection, with nothing removed, and lets the maildrop that it holds go.
 fn cut_off(
     connections: &mut BTreeMap<u64, Connection>,
@@ -93,6 +105,22 @@ fn cut_off(
 {
     let _ = connections.remove(&c);
     release(locks, held);
+}
+
+/// Ends a connection for want of memory, as `account` then tells.
+fn cut_off_without_memory(
+    connections: &mut BTreeMap<u64, Connection>,
+    locks: &mut Locks,
+    c: u64,
+    held: Option<Name>,
+    account: &mut Account,
+)
+    ensures connections { Updates nat_cmp connections.old connections.new c None }
+    ensures locks { Released held locks.old locks.new }
+    ensures account { account.new ≡ Account.Ended End.NoMemory }
+{
+    *account = Account::Ended(End::NoMemory);
+    cut_off(connections, locks, c, held);
 }
 
 impl<V: Vault> Office<V> {
@@ -222,7 +250,7 @@ impl<V: Vault> Office<V> {
         ) {
             Ok(line_outcome) => shown(line_outcome),
             Err(_) => {
-                cut_off(&mut self.connections, &mut self.locks, c, held);
+                cut_off_without_memory(&mut self.connections, &mut self.locks, c, held, account);
                 Outcome::NoMemory
             }
         }
@@ -248,12 +276,13 @@ impl<V: Vault> Office<V> {
         let taken = match connection.take(self.alloc, &mut self.vault, octets, self.moment) {
             Ok(taken) => taken,
             Err(_) => {
-                cut_off(&mut self.connections, &mut self.locks, c, held);
+                cut_off_without_memory(&mut self.connections, &mut self.locks, c, held, account);
                 return Outcome::NoMemory;
             }
         };
         if !taken {
             cut_off(&mut self.connections, &mut self.locks, c, held);
+            *account = Account::Ended(End::StoreFailed);
             return Outcome::Failed;
         }
         if !connection.owes_nothing() {
@@ -273,25 +302,40 @@ impl<V: Vault> Office<V> {
         ) {
             Ok(line_outcome) => shown(line_outcome),
             Err(_) => {
-                cut_off(&mut self.connections, &mut self.locks, c, held);
+                cut_off_without_memory(&mut self.connections, &mut self.locks, c, held, account);
                 Outcome::NoMemory
             }
         }
     }
 
-    fn gone(&mut self, c: u64) -> Outcome
+    fn gone(&mut self, c: u64, account: &mut Account) -> Outcome
         ensures after { AfterEvent V.Vault self.old self.new (event.Gone c) (outcome_seen result) }
         ensures unasked { vault_of self.new ≡ vault_of self.old }
         ensures done { (result ≡ Outcome.Done) ⊎ (result
             ≡ Outcome.Ignored Reason.NoSuchConnection) }
+        ensures account { account.old ≡ Account.Nothing → (T : Trace)
+            → IsAccount T (event.Gone c) (outcome_seen result) account.new }
     {
         match self.connections.remove(&c) {
             None => Outcome::Ignored(Reason::NoSuchConnection),
             Some(connection) => {
                 release(&mut self.locks, connection.maildrop());
+                *account = Account::Ended(End::Gone);
                 Outcome::Done
             }
         }
+    }
+
+    /// Does a command. That it ended a session becomes the account.
+    fn command(&mut self, command: &AdminCommand, account: &mut Account) -> Outcome
+        ensures after { AfterEvent V.Vault self.old self.new (event.Admin
+            (command_seen command.now)) (outcome_seen result) }
+        ensures account { OfEachTrace V.Vault self.old self.new (λ T. IsAccount T (event.Admin
+            (command_seen command.now)) (outcome_seen result) account.new) }
+    {
+        let outcome = self.administer(command);
+        *account = ended_by(&outcome);
+        outcome
     }
 
     /// Does one event. What it judged becomes the account, which tells nothing before.
@@ -312,10 +356,10 @@ impl<V: Vault> Office<V> {
             Event::Connect => self.connect(),
             Event::Bytes(c, piece) => self.bytes(c, piece, account),
             Event::Took(c, octets) => self.took(c, octets, account),
-            Event::Gone(c) => self.gone(c),
+            Event::Gone(c) => self.gone(c, account),
             Event::Tick(now) => self.tick(now),
             Event::Deposit(maildrop, class, id, text) => self.deposit(maildrop, class, id, text),
-            Event::Admin(command) => self.administer(command),
+            Event::Admin(command) => self.command(command, account),
             Event::Restart(boot) => self.restart(boot),
         }
     }
@@ -365,8 +409,9 @@ impl<V: Vault> Office<V> {
 
     /// Does one event, as [`Office::step`] does, and tells what it judged: `account` becomes the
     /// account of this event, whatever it told before. It is that of the line that acted, also
-    /// where the store failed. An event in which no line acted, one that is ignored and one without
-    /// memory have none.
+    /// where the store failed; or why the connection ended, where it is gone, memory was wanting, a
+    /// page was refused or a command ended its session. Other events have none, nor has one that is
+    /// ignored.
     pub fn step_with_account(&mut self, event: Event<'_>, account: &mut Account) -> Outcome
         ensures stands { OfEachTrace V.Vault self.old self.new (λ T.
             StandsFor V.holds self.new (followed_by T (event_seen event.entry) result)) }

@@ -80,7 +80,9 @@ fn write_once<V: Vault, W: Wire, L: Listener>(
         }
         Io::Later => 0,
         Io::End | Io::Broken => {
-            let _ = office.step(Event::Gone(seat.connection));
+            let mut account = Account::Nothing;
+            let _ = office.step_with_account(Event::Gone(seat.connection), &mut account);
+            listener.hear(seat.connection, &account);
             0
         }
     }
@@ -145,7 +147,9 @@ fn read_once<V: Vault, W: Wire, L: Listener>(
         }
         Io::Later => false,
         Io::End | Io::Broken => {
-            let _ = office.step(Event::Gone(connection));
+            let mut account = Account::Nothing;
+            let _ = office.step_with_account(Event::Gone(connection), &mut account);
+            listener.hear(connection, &account);
             false
         }
     }

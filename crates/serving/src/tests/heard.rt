@@ -73,7 +73,8 @@ fn quit_text(alloc: Global, removal: &Removal) -> Result<String, AllocError> {
     )
 }
 
-/// An account; empty where nothing was judged.
+/// An account; empty where no line was judged. Of the office that reckons all is taken at once, so
+/// that a connection may end at another event.
 fn account_text(alloc: Global, account: &Account) -> Result<String, AllocError> {
     match account {
         Account::Login(name, by, verdict) => login_text(alloc, name, *by, *verdict),
@@ -82,7 +83,7 @@ fn account_text(alloc: Global, account: &Account) -> Result<String, AllocError> 
         Account::Unmarked => String::from_str(alloc, "unmarked"),
         Account::Quit(removal) => quit_text(alloc, removal),
         Account::QuitBeforeLogin => String::from_str(alloc, "quit before a login"),
-        Account::Nothing => Ok(String::new(alloc)),
+        Account::Ended(_) | Account::Nothing => Ok(String::new(alloc)),
     }
 }
 

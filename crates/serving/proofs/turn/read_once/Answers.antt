@@ -78,19 +78,19 @@ returns-in-End-clause-serves g c = λ seats these has before T beside s clean.
     let connection = c.args.seat.connection in
     let now = trace_of T.base s.log in
     let both : ToldOfPorts = record { pop = s.told; admin = beside.admin } in
-    let o = outcome_seen c.step.result in
+    let o = outcome_seen c.step_with_account-in-End.result in
     let io = c.read.result in
     let fault : is_fault io ≡ true = search rules in
     let is_so : c.ready.result ≡ true = search rules in
     let here = ready_open now connection (sym (c.ready.ensures now s.stands) ∙ is_so) in
     let at_k = seat_owns s.owner seats c.args.seat has s.seated.own in
-    let k = gone_mark now (lent_by c.args.office.now) connection o here (c.step.ensures.outcome now s.stands clean) in
+    let k = gone_mark now (lent_by c.args.office.now) connection o here (c.step_with_account-in-End.ensures.outcome now s.stands clean) in
     record {
       log = (event.Gone connection, mark_of o) ∷ s.log;
       told = has_read s.told number io [];
       owner = s.owner;
-      stands = c.step.ensures.stands now s.stands clean;
-      admitted = (c.step.ensures.admitted now s.stands clean, s.admitted);
+      stands = c.step_with_account-in-End.ensures.stands now s.stands clean;
+      admitted = (c.step_with_account-in-End.ensures.admitted now s.stands clean, s.admitted);
       tells = subst (λ xs. g.W.Wire.tells c.read.new.self (record { pop = has_read s.told number io xs; admin = beside.admin })) (fault_none io c.read.new.buffer fault) (c.read.ensures.told both s.tells);
       served = subst (λ m. AreServed (has_read s.told number io []) s.owner T.base ((event.Gone connection, m) ∷ s.log)) (sym k.1)
           (served_read_fault s.told s.owner T.base s.log number connection io k.0 fault s.served at_k here);
@@ -144,14 +144,14 @@ returns-in-End-clause-works g c =
     let seat = c.args.seat in
     let room = length c.args.buffer.now in
     let connection = seat.connection in
-    let m = mark_of (outcome_seen c.step.result) in
+    let m = mark_of (outcome_seen c.step_with_account-in-End.result) in
     let io = c.read.result in
     let octets = counted io c.read.new.buffer in
     let fault : is_fault io ≡ true = search rules in
     record {
       given = (event.Gone connection, m) ∷ [];
       calls = Read Pop seat.link room io octets ∷ [];
-      was_given = given_one Holds g.V.Vault.is_clean g.V.Vault.faults office c.step.new.self (event.Gone connection) (outcome_seen c.step.result) c.step.ensures.clean c.step.ensures.stands c.step.ensures.admitted c.step.ensures.counted c.step.ensures.cause;
+      was_given = given_one Holds g.V.Vault.is_clean g.V.Vault.faults office c.step_with_account-in-End.new.self (event.Gone connection) (outcome_seen c.step_with_account-in-End.result) c.step_with_account-in-End.ensures.clean c.step_with_account-in-End.ensures.stands c.step_with_account-in-End.ensures.admitted c.step_with_account-in-End.ensures.counted c.step_with_account-in-End.ensures.cause;
       was_asked = asked_one g.W.Wire.asked c.args.wire.now c.read.new.self (Read Pop seat.link room io octets) c.read.ensures.called;
       facts = (read_cut Holds g.V.Vault.is_clean g.V.Vault.faults office seat room io octets m fault, hurried_quiet false (Read Pop seat.link room io octets ∷ []));
     }

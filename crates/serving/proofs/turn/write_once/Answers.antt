@@ -75,20 +75,20 @@ returns-in-End-clause-serves g c = λ seats these has before T beside s clean.
     let number = c.args.seat.link.number in
     let connection = c.args.seat.connection in
     let now = trace_of T.base s.log in
-    let o = outcome_seen c.step.result in
+    let o = outcome_seen c.step_with_account-in-End.result in
     let io = c.write.result in
     let fault : is_fault io ≡ true = search rules in
     let no : c.is_empty.result ≡ false = search rules in
     let some = lent_some c.is_empty.result (length lent) c.is_empty.ensures no in
     let here = lent_open now connection (length lent) lent (c.owed-lent.ensures.lent now s.stands) some (omega arith) in
     let at_k = seat_owns s.owner seats c.args.seat has s.seated.own in
-    let k = gone_mark now (lent_by c.args.office.now) connection o here (c.step.ensures.outcome now s.stands clean) in
+    let k = gone_mark now (lent_by c.args.office.now) connection o here (c.step_with_account-in-End.ensures.outcome now s.stands clean) in
     record {
       log = (event.Gone connection, mark_of o) ∷ s.log;
       told = has_written s.told number io [];
       owner = s.owner;
-      stands = c.step.ensures.stands now s.stands clean;
-      admitted = (c.step.ensures.admitted now s.stands clean, s.admitted);
+      stands = c.step_with_account-in-End.ensures.stands now s.stands clean;
+      admitted = (c.step_with_account-in-End.ensures.admitted now s.stands clean, s.admitted);
       tells = subst (λ xs. g.W.Wire.tells c.write.new.self (record { pop = has_written s.told number io xs; admin = beside.admin })) (fault_none io lent fault) (c.write.ensures.told (record { pop = s.told; admin = beside.admin }) s.tells);
       served = subst (λ m. AreServed (has_written s.told number io []) s.owner T.base ((event.Gone connection, m) ∷ s.log)) (sym k.1)
           (served_written_fault s.told s.owner T.base s.log number connection io k.0 fault s.served at_k here);
@@ -141,7 +141,7 @@ returns-in-End-clause-works g c =
     let office = c.args.office.now in
     let seat = c.args.seat in
     let connection = seat.connection in
-    let o = outcome_seen c.step.result in
+    let o = outcome_seen c.step_with_account-in-End.result in
     let io = c.write.result in
     let lent = c.owed-lent.result.now in
     let fault : is_fault io ≡ true = search rules in
@@ -151,13 +151,13 @@ returns-in-End-clause-works g c =
     record {
       given = (event.Gone connection, mark_of o) ∷ [];
       calls = Wrote Pop seat.link io octets ∷ [];
-      was_given = given_one Holds g.V.Vault.is_clean g.V.Vault.faults office c.step.new.self (event.Gone connection) (outcome_seen c.step.result) c.step.ensures.clean c.step.ensures.stands c.step.ensures.admitted c.step.ensures.counted c.step.ensures.cause;
+      was_given = given_one Holds g.V.Vault.is_clean g.V.Vault.faults office c.step_with_account-in-End.new.self (event.Gone connection) (outcome_seen c.step_with_account-in-End.result) c.step_with_account-in-End.ensures.clean c.step_with_account-in-End.ensures.stands c.step_with_account-in-End.ensures.admitted c.step_with_account-in-End.ensures.counted c.step_with_account-in-End.ensures.cause;
       was_asked = asked_one g.W.Wire.asked c.args.wire.now c.write.new.self (Wrote Pop seat.link io octets) c.write.ensures.called;
-      facts = wrote_cut Holds g.V.Vault.is_clean g.V.Vault.faults office c.step.new.self seat io octets (mark_of o) fault
+      facts = wrote_cut Holds g.V.Vault.is_clean g.V.Vault.faults office c.step_with_account-in-End.new.self seat io octets (mark_of o) fault
           (λ B L s k.
           (let now = trace_of B L in
           let here = lent_open now connection (length lent) lent (c.owed-lent.ensures.lent now s) some (omega arith) in
-          let t = gone_mark now (lent_by office) connection o here (c.step.ensures.outcome now s k) in
+          let t = gone_mark now (lent_by office) connection o here (c.step_with_account-in-End.ensures.outcome now s k) in
           shut_rest (trace_of B ((event.Gone connection, mark_of o) ∷ L)) connection
           (subst (λ m. is_open (trace_of B ((event.Gone connection, m) ∷ L)) connection ≡ false) (sym t.1) (gone_so B L connection t.0))));
     }

@@ -25,3 +25,9 @@ returns-in-Some-clause-after g c =
     (λ T st clean. ended_stands g.V.Vault.holds c.args.self.now _ T _ _ c.args.c (gone_ends T c.args.c) st k found (λ k h. h) refl refl refl refl refl c.remove.ensures.updates
     (subst (λ m. Released m c.args.self.now.locks c.release.new.locks) c.maildrop.ensures c.release.ensures))
     (λ T st. let there = open_at T c.args.c st k found in record { tag = Done; may = refl; is = rw there refl })
+
+pub returns-in-None-clause-account : goal.returns-in-None-clause-account
+returns-in-None-clause-account g c fresh T = fresh
+
+pub returns-in-Some-clause-account : goal.returns-in-Some-clause-account
+returns-in-Some-clause-account g c fresh T = refl

@@ -1,5 +1,5 @@
 use Rattle.std.proofs.Common.{◌∙◌, sym, true≢false, rules}
-use Rattle.office.proofs.Accounts.{opening_told, going_told, tick_told, deposit_told, command_told, restart_told}
+use Rattle.office.proofs.Accounts.{opening_told, tick_told, deposit_told, restart_told}
 use Rattle.office.proofs.office.Office.handle.Goals as goal
 
 pub returns-in-Connect-clause-after : goal.returns-in-Connect-clause-after
@@ -21,7 +21,7 @@ pub returns-in-Deposit-clause-after : goal.returns-in-Deposit-clause-after
 returns-in-Deposit-clause-after g c = rw c.in-Deposit.is c.deposit.ensures
 
 pub returns-in-Admin-clause-after : goal.returns-in-Admin-clause-after
-returns-in-Admin-clause-after g c = rw c.in-Admin.is c.administer.ensures
+returns-in-Admin-clause-after g c = rw c.in-Admin.is c.command.ensures.after
 
 pub returns-in-Restart-clause-after : goal.returns-in-Restart-clause-after
 returns-in-Restart-clause-after g c = rw c.in-Restart.is c.restart.ensures.after
@@ -48,16 +48,16 @@ pub returns-in-Took-clause-account : goal.returns-in-Took-clause-account
 returns-in-Took-clause-account g c fresh T st clean = rw c.in-Took.is (c.took.ensures.account fresh T st clean)
 
 pub returns-in-Gone-clause-account : goal.returns-in-Gone-clause-account
-returns-in-Gone-clause-account g c fresh T st clean = rw c.in-Gone.is (fresh ∙ sym (going_told T _ _))
+returns-in-Gone-clause-account g c fresh T st clean = rw c.in-Gone.is (c.gone.ensures.account fresh T)
 
 pub returns-in-Tick-clause-account : goal.returns-in-Tick-clause-account
 returns-in-Tick-clause-account g c fresh T st clean = rw c.in-Tick.is (fresh ∙ sym (tick_told T _ _))
 
 pub returns-in-Deposit-clause-account : goal.returns-in-Deposit-clause-account
-returns-in-Deposit-clause-account g c fresh T st clean = rw c.in-Deposit.is (fresh ∙ sym (deposit_told T _ _ _ _ _))
+returns-in-Deposit-clause-account g c fresh T st clean = rw c.in-Deposit.is (fresh ∙ sym (deposit_told T c.in-Deposit.maildrop.now c.in-Deposit.class.now c.in-Deposit.id.now c.in-Deposit.text.now _))
 
 pub returns-in-Admin-clause-account : goal.returns-in-Admin-clause-account
-returns-in-Admin-clause-account g c fresh T st clean = rw c.in-Admin.is (fresh ∙ sym (command_told T _ _))
+returns-in-Admin-clause-account g c fresh T st clean = rw c.in-Admin.is (c.command.ensures.account T st clean)
 
 pub returns-in-Restart-clause-account : goal.returns-in-Restart-clause-account
-returns-in-Restart-clause-account g c fresh T st clean = rw c.in-Restart.is (fresh ∙ sym (restart_told T _ _))
+returns-in-Restart-clause-account g c fresh T st clean = rw c.in-Restart.is (fresh ∙ sym (restart_told T c.in-Restart.boot _))

@@ -6,7 +6,7 @@ use Rattle.office.specs.History.{Done, Failed, NoMemory}
 use Rattle.office.specs.Connections.{closing, serving, user}
 use Rattle.office.specs.Trace.{acts, history, is_left, next_line}
 use Rattle.office.specs.Accounts.{account_of}
-use Rattle.office.proofs.Accounts.{taking_lacking, part_refused, part_taken, closed_taken}
+use Rattle.office.proofs.Accounts.{taking_account, part_taken, closed_taken}
 use Rattle.office.specs.Replying.{is_empty}
 use Rattle.office.specs.Output.{nothing_owed}
 use Rattle.office.specs.Kept.{Kept, line_after, maildrop_of}
@@ -68,11 +68,11 @@ returns-in-Err-clause-after g c = record {
       let left : is_left T.log (history T) x n ≡ true = left_over s n (took_more ct s k n o.moment m fits c.in-Err.ensures.err) in
       let more = more_than_lent ct T x k m c.in-Err.ensures.err in
       let first = (c.get_mut.follows.holds k1).3 (search rules) in
-      let second = c.cut_off.ensures.connections in
+      let second = c.cut_off_without_memory.ensures.connections in
       stands_after g.V.Vault o _ T (Took x n) outcome.NoMemory
       (ended_by g.V.Vault.holds o _ T (Took x n) NoMemory x (took_ends T x n NoMemory left (lacking_ends (serving (history T) x) x)) st k found
       (λ d h. c.take.ensures.looks.held d h clean) refl refl refl refl refl second.1 (λ q e. second.2 q e ∙ first.2 q e)
-      (subst (λ h. Released h o.locks c.cut_off.new.locks) c.maildrop-held.ensures c.cut_off.ensures.locks))
+      (subst (λ h. Released h o.locks c.cut_off_without_memory.new.locks) c.maildrop-held.ensures c.cut_off_without_memory.ensures.locks))
       (record { tag = NoMemory; may = rw (left, more) refl; is = rw goes refl }) tt (λ up answered. absurd answered)
       (λ up. before_left T (Took x n) st.keeps (c.take.ensures.looks.stop ct st.keeps.held clean up)) (g.met.V.Vault.settled _) clean;
 }
@@ -99,11 +99,11 @@ returns-then-not-taken-clause-after g c = record {
       let left : is_left T.log (history T) x n ≡ true = left_over s n (took_more ct s k n o.moment m fits (text_feeds k.output.source reads)) in
       let serves : serving (history T) x ≡ true = m.serving reads in
       let first = (c.get_mut.follows.holds k1).3 (search rules) in
-      let second = c.cut_off-then-not-taken.ensures.connections in
+      let second = c.cut_off.ensures.connections in
       stands_after g.V.Vault o _ T (Took x n) outcome.Failed
       (ended_by g.V.Vault.holds o _ T (Took x n) Failed x (took_ends T x n Failed left (refused_ends (serving (history T) x) x serves)) st k found
       (λ d h. c.take.ensures.looks.held d h clean) refl refl refl refl refl second.1 (λ q e. second.2 q e ∙ first.2 q e)
-      (subst (λ h. Released h o.locks c.cut_off-then-not-taken.new.locks) c.maildrop-held.ensures c.cut_off-then-not-taken.ensures.locks))
+      (subst (λ h. Released h o.locks c.cut_off.new.locks) c.maildrop-held.ensures c.cut_off.ensures.locks))
       (record { tag = Failed; may = rw (left, serves) refl; is = rw goes refl }) (c.in-Ok.ensures.cause c.if-not-taken.true ct (untaken_of s) st.keeps.held clean m.owed) (λ up answered. absurd answered)
       (λ up. before_left T (Took x n) st.keeps (c.take.ensures.looks.stop ct st.keeps.held clean up)) (g.met.V.Vault.settled _) clean;
 }
@@ -271,7 +271,7 @@ returns-in-Err-resume-clause-after g c = record {
       let next = next_there ct (took s n o.moment) k1 k1.pending ready c.in-Err-resume.ensures.err.0 in
       let line = next_kept T x ∙ next.1 in
       let first = (c.get_mut.follows.holds c.resume.new.self).3 (search rules) in
-      let second = c.cut_off-in-Err-resume.ensures.connections in
+      let second = c.cut_off_without_memory-in-Err-resume.ensures.connections in
       let gone = over-took T x n next.0 over open_yet line in
       let sits : k1.session ≡ k.session = ap (λ (k : Kept). k.session) c.take.ensures.kept in
       stands_after g.V.Vault o _ T (Took x n) outcome.NoMemory
@@ -285,7 +285,7 @@ returns-in-Err-resume-clause-after g c = record {
         locks = released T.base (acts T) (acts (given T (Took x n) (Tagged NoMemory))) x (λ d q e. ap (λ s. holds_by s d) (seen-took_other T x n q NoMemory e))
             (λ d. let out = gone.authorization in rw out refl) ct s k1.session c.resume.new.locks _ (subst (IsSession ct s) (sym sits) m.session) refl refl
             (λ d. c.in-Err-resume.ensures.err.1.locks d ∙ st.locks d)
-            (subst (λ h. Released h c.resume.new.locks c.cut_off-in-Err-resume.new.locks) (c.maildrop-held.ensures ∙ ap maildrop_of (sym sits)) c.cut_off-in-Err-resume.ensures.locks);
+            (subst (λ h. Released h c.resume.new.locks c.cut_off_without_memory-in-Err-resume.new.locks) (c.maildrop-held.ensures ∙ ap maildrop_of (sym sits)) c.cut_off_without_memory-in-Err-resume.ensures.locks);
       }))
       (record { tag = NoMemory; may = rw (over, open_yet, line) refl; is = rw goes refl }) tt (λ up answered. absurd answered)
       (λ up. line_left T x st.keeps sound (took s n o.moment) k1 k1.pending (judged_at ct o.policy k1.stamp o.locks) k1.state ready j (Took x n)
@@ -389,15 +389,13 @@ returns-in-Ok-resume-clause-account g c fresh T st clean =
     let did = line.answered ct j.transaction held clean j.has_transaction in
     let named : k1.state.user ≡ user (history T) x = ap (λ (k : Kept). k.state.user) c.take.ensures.kept ∙ m.user in
     let is = taking_told T x n st.keeps sound o.policy st.policy o.locks st.locks o.moment st.moment k1 ready over open_yet w c.resume.new.self did named in
-    did.account fresh ∙ (is ∙ sym (ap (account_of T (Took x n)) (marked w _ c.shown.ensures)))
+    did.account fresh ∙ (is ∙ sym (ap (account_of T (Took x n)) (marked w _ c.shown.ensures) ∙ taking_account T x n w over))
 
 pub returns-in-Err-resume-clause-account : goal.returns-in-Err-resume-clause-account
-returns-in-Err-resume-clause-account g c fresh T st clean =
-    c.in-Err-resume.ensures.err.1.account ∙ (fresh ∙ sym (taking_lacking T.base (history T) (is_left T.log (history T) c.args.c c.args.octets) (serving (history T) c.args.c) (closing (history T) c.args.c) c.args.c (next_line T.log (history T) c.args.c [])))
+returns-in-Err-resume-clause-account g c fresh T st clean = c.cut_off_without_memory-in-Err-resume.ensures.account
 
 pub returns-in-Err-clause-account : goal.returns-in-Err-clause-account
-returns-in-Err-clause-account g c fresh T st clean =
-    fresh ∙ sym (taking_lacking T.base (history T) (is_left T.log (history T) c.args.c c.args.octets) (serving (history T) c.args.c) (closing (history T) c.args.c) c.args.c (next_line T.log (history T) c.args.c []))
+returns-in-Err-clause-account g c fresh T st clean = c.cut_off_without_memory.ensures.account
 
 pub returns-then-not-taken-clause-account : goal.returns-then-not-taken-clause-account
 returns-then-not-taken-clause-account g c fresh T st clean =
@@ -414,7 +412,7 @@ returns-then-not-taken-clause-account g c fresh T st clean =
     let fits = lent_ready k.output n lends.1 in
     let reads = c.in-Ok.ensures.refused c.if-not-taken.true in
     let left : is_left T.log (history T) x n ≡ true = left_over s n (took_more ct s k n o.moment m fits (text_feeds k.output.source reads)) in
-    rw left (fresh ∙ sym (part_refused T.base (history T) (serving (history T) x) (closing (history T) x) x (next_line T.log (history T) x [])))
+    rw left refl
 
 pub returns-then-not-owes_nothing-clause-account : goal.returns-then-not-owes_nothing-clause-account
 returns-then-not-owes_nothing-clause-account g c fresh T st clean =
