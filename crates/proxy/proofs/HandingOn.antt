@@ -74,8 +74,8 @@ none_on : (link : Link) (k : ℕ) (x : Call) → IsOnLine link x → (k ≡ link
 none_on link k (Waited millis) h ne = refl
 none_on link k (Accepted port came) h ne = refl
 none_on link k (Looked port of io octets) h ne = refl
-none_on link k (Read Pop of io octets) h ne = none_at (of.number == k) octets (ne_eqb of.number k (λ e. ne (sym e ∙ ap (λ (l : Link). l.number) h.0)))
-none_on link k (Read Admin of io octets) h ne = refl
+none_on link k (Read Pop of room io octets) h ne = none_at (of.number == k) octets (ne_eqb of.number k (λ e. ne (sym e ∙ ap (λ (l : Link). l.number) h.0)))
+none_on link k (Read Admin of room io octets) h ne = refl
 none_on link k (Wrote port of io octets) h ne = refl
 none_on link k (Closed port of) h ne = refl
 
@@ -91,7 +91,7 @@ ends_append b [] ys = refl
 ends_append b (Waited millis ∷ xs) ys = ends_append false xs ys
 ends_append b (Accepted port came ∷ xs) ys = ends_append b xs ys
 ends_append b (Looked port of io octets ∷ xs) ys = ends_append b xs ys
-ends_append b (Read port of io octets ∷ xs) ys = ends_append (b || has_line octets) xs ys
+ends_append b (Read port of room io octets ∷ xs) ys = ends_append (b || has_line octets) xs ys
 ends_append b (Wrote port of io octets ∷ xs) ys = ends_append b xs ys
 ends_append b (Closed port of ∷ xs) ys = ends_append b xs ys
 
@@ -101,7 +101,7 @@ ends_still link [] a = refl
 ends_still link (Waited millis ∷ xs) a = absurd a.0
 ends_still link (Accepted port came ∷ xs) a = absurd a.0
 ends_still link (Looked port of io octets ∷ xs) a = ends_still link xs a.1
-ends_still link (Read port of io octets ∷ xs) a = ends_still link xs a.1
+ends_still link (Read port of room io octets ∷ xs) a = ends_still link xs a.1
 ends_still link (Wrote port of io octets ∷ xs) a = absurd a.0
 ends_still link (Closed port of ∷ xs) a = ends_still link xs a.1
 
@@ -119,8 +119,8 @@ ends_now link b [] a e = absurd (true≢false (sym e))
 ends_now link b (Waited millis ∷ xs) a e = absurd a.0
 ends_now link b (Accepted port came ∷ xs) a e = absurd a.0
 ends_now link b (Looked port of io octets ∷ xs) a e = ends_now link b xs a.1 e
-ends_now link b (Read Admin of io octets ∷ xs) a e = absurd a.0
-ends_now link b (Read Pop of io octets ∷ xs) a e = ⊎_elim
+ends_now link b (Read Admin of room io octets ∷ xs) a e = absurd a.0
+ends_now link b (Read Pop of room io octets ∷ xs) a e = ⊎_elim
     (λ (here : has_line octets ≡ true). (let on : (b || has_line octets) ≡ true = ap (λ c. b || c) here ∙ or_true b in subst (λ c. ends_line c xs ≡ true) (sym on) (ends_still link xs a.1)))
     (λ (later : has_line (read_on link.number xs) ≡ true). ends_now link (b || has_line octets) xs a.1 later)
     (some_at (of.number == link.number) octets (read_on link.number xs) e)
@@ -141,8 +141,8 @@ unread : (k : ℕ) (inside : List Call) (call : Call) → IsBehindLine inside ca
 unread k inside (Waited millis) b e = refl
 unread k inside (Accepted port came) b e = refl
 unread k inside (Looked port of io octets) b e = refl
-unread k inside (Read Admin of io octets) b e = refl
-unread k inside (Read Pop of io octets) b e = ⊎_elim
+unread k inside (Read Admin of room io octets) b e = refl
+unread k inside (Read Pop of room io octets) b e = ⊎_elim
     (λ (q : of.number ≡ k). absurd (same_number of k inside q b e))
     (λ (ne : of.number ≡ k → ⊥). ap (λ o. has_line (o ++ [])) (none_at (of.number == k) octets (ne_eqb of.number k ne)))
     (cases_eq of.number k)
@@ -162,7 +162,7 @@ one_more : (call : Call) → is_wait call ≡ false → ends_line true (call ∷
 one_more (Waited millis) e = absurd (true≢false e)
 one_more (Accepted port came) e = refl
 one_more (Looked port of io octets) e = refl
-one_more (Read port of io octets) e = refl
+one_more (Read port of room io octets) e = refl
 one_more (Wrote port of io octets) e = refl
 one_more (Closed port of) e = refl
 
@@ -250,40 +250,40 @@ module _ {W : Type 0} (Asked : W → List Call → Type 0) where
 
   -- ---- a line that is read
 
-  octets_same : (link : Link) (io : Io) (octets : List ℕ) → read_on link.number (Read Pop link io octets ∷ []) ≡ octets
-  octets_same link io octets = ap (λ b. (if b then octets else []) ++ []) (eq-eqb link.number link.number refl) ∙ append-nil octets
+  octets_same : (link : Link) (room : ℕ) (io : Io) (octets : List ℕ) → read_on link.number (Read Pop link room io octets ∷ []) ≡ octets
+  octets_same link room io octets = ap (λ b. (if b then octets else []) ++ []) (eq-eqb link.number link.number refl) ∙ append-nil octets
 
-  ends_same : (link : Link) (io : Io) (octets : List ℕ) → list_any (ends_on link.number) (Read Pop link io octets ∷ []) ≡ is_fault io
-  ends_same link io octets = ap (λ b. (is_fault io && b) || false) (eq-eqb link.number link.number refl) ∙ and_true (is_fault io)
+  ends_same : (link : Link) (room : ℕ) (io : Io) (octets : List ℕ) → list_any (ends_on link.number) (Read Pop link room io octets ∷ []) ≡ is_fault io
+  ends_same link room io octets = ap (λ b. (is_fault io && b) || false) (eq-eqb link.number link.number refl) ∙ and_true (is_fault io)
     where
       and_true : (b : Bool) → ((b && true) || false) ≡ b
       and_true true = refl
       and_true false = refl
 
   -- one read
-  pub one_read : (w : W) (link : Link) (io : Io) (octets : List ℕ) (p : Progress) (before : List Call) → Asked w (before ++ Read Pop link io octets ∷ []) → length octets ≤ 1 → IsAsFarAs p octets
+  pub one_read : (w : W) (link : Link) (room : ℕ) (io : Io) (octets : List ℕ) (p : Progress) (before : List Call) → Asked w (before ++ Read Pop link room io octets ∷ []) → length octets ≤ room → room ≤ 1 → IsAsFarAs p octets
       → is_fault io ≡ is_fault (io_of p) → TakesLine Asked w link p before
-  one_read w link io octets p before asked short far fault = record {
-    taken = Read Pop link io octets ∷ [];
+  one_read w link room io octets p before asked short one far fault = record {
+    taken = Read Pop link room io octets ∷ [];
     asked = asked;
     are = record {
-      own = ((refl, short), tt);
+      own = ((refl, short, one), tt);
       reads = refl;
-      far = subst (IsAsFarAs p) (sym (octets_same link io octets)) far;
-      over = ends_same link io octets ∙ fault;
+      far = subst (IsAsFarAs p) (sym (octets_same link room io octets)) far;
+      over = ends_same link room io octets ∙ fault;
     };
   }
 
   -- one into no room
-  pub none_taken : (w : W) (link : Link) (io : Io) (room : List ℕ) (before : List Call) → IsWithin 0 io → Asked w (before ++ Read Pop link io (counted io room) ∷ []) → TakesLine Asked w link (Open io) before
-  none_taken w link io room before within asked =
-      one_read w link io [] (Open io) before (subst (λ o. Asked w (before ++ Read Pop link io o ∷ [])) (counted_none io room within) asked) (omega arith) refl refl
+  pub none_taken : (w : W) (link : Link) (io : Io) (buffer : List ℕ) (before : List Call) → IsWithin 0 io → Asked w (before ++ Read Pop link 0 io (counted io buffer) ∷ []) → TakesLine Asked w link (Open io) before
+  none_taken w link io buffer before within asked =
+      one_read w link 0 io [] (Open io) before (subst (λ o. Asked w (before ++ Read Pop link 0 io o ∷ [])) (counted_none io buffer within) asked) (omega arith) (omega arith) refl refl
 
   -- one that gave an octet
-  pub octet_read : (w : W) (link : Link) (n x : ℕ) (one : List ℕ) (p : Progress) (before : List Call) → Asked w (before ++ Read Pop link (Count n) (take n one) ∷ []) → 0 < n → n ≤ 1 → length one ≡ 1 → x ≡ get_or one 0 x
+  pub octet_read : (w : W) (link : Link) (n x : ℕ) (one : List ℕ) (p : Progress) (before : List Call) → Asked w (before ++ Read Pop link 1 (Count n) (take n one) ∷ []) → 0 < n → n ≤ 1 → length one ≡ 1 → x ≡ get_or one 0 x
       → IsAsFarAs p (x ∷ []) → is_fault (io_of p) ≡ false → TakesLine Asked w link p before
   octet_read w link n x one p before asked lt le single is far fine =
-      one_read w link (Count n) (x ∷ []) p before (subst (λ o. Asked w (before ++ Read Pop link (Count n) o ∷ [])) (one_front n x one lt le single is) asked) (omega arith) far (sym fine)
+      one_read w link 1 (Count n) (x ∷ []) p before (subst (λ o. Asked w (before ++ Read Pop link 1 (Count n) o ∷ [])) (one_front n x one lt le single is) asked) (omega arith) (omega arith) far (sym fine)
 
   far_then : (q : Progress) (xs ys : List ℕ) → has_line xs ≡ false → IsAsFarAs q ys → IsAsFarAs q (xs ++ ys)
   far_then Whole xs ys none (front, e, open_yet) =
@@ -350,15 +350,15 @@ module _ {W : Type 0} (Asked : W → List Call → Type 0) where
   awaits w known hurries link p calls a = subst (λ o. IsSo o link.number a.inside) a.unknown (a.known_so link.number)
 
   -- a line that isn't whole yet
-  pub line_open : (w : W) (known : ℕ → Option (Option IpAddr)) (hurries : Bool) (link : Link) (was io : Io) (calls : List Call) → is_fault was ≡ is_fault io → AskedAmid Asked w known hurries link (Open was) calls
-      → AskedBehind Asked w known hurries (calls ++ Read Pop link io [] ∷ [])
-  line_open w known hurries link was io calls same a =
+  pub line_open : (w : W) (known : ℕ → Option (Option IpAddr)) (hurries : Bool) (link : Link) (was : Io) (room : ℕ) (io : Io) (calls : List Call) → is_fault was ≡ is_fault io → AskedAmid Asked w known hurries link (Open was) calls
+      → AskedBehind Asked w known hurries (calls ++ Read Pop link room io [] ∷ [])
+  line_open w known hurries link was room io calls same a =
       let k = link.number in
       let t = a.takes in
       record {
         inside = a.inside ++ t.taken;
         asked = t.asked;
-        behind = IsOfLine a.inside t.taken calls link io
+        behind = IsOfLine a.inside t.taken calls link room io
             (record { awaited = awaits w known hurries link (Open was) calls a; own = t.are.own; reads = t.are.reads; line = nothing_behind_so_far (Open was) (read_on k t.taken) t.are.far; over = t.are.over ∙ same }) a.behind;
         known_so = λ j. ⊎_elim
             (λ (e : j ≡ k). so_still (known j) j a.inside t.taken (λ n. subst (λ i. has_line (read_on i t.taken) ≡ false) (sym e) t.are.far) (a.known_so j))
@@ -368,16 +368,16 @@ module _ {W : Type 0} (Asked : W → List Call → Type 0) where
       }
 
   -- one that is, and tells a source
-  pub line_whole : (w : W) (known known' : ℕ → Option (Option IpAddr)) (hurries : Bool) (link : Link) (source : Option IpAddr) (calls : List Call) → IsPut known link.number (Some source) known'
-      → AskedAmid Asked w known hurries link Whole calls → AskedBehind Asked w known' true (calls ++ Read Pop link Later [] ∷ [])
-  line_whole w known known' hurries link source calls put a =
+  pub line_whole : (w : W) (known known' : ℕ → Option (Option IpAddr)) (hurries : Bool) (link : Link) (source : Option IpAddr) (room : ℕ) (calls : List Call) → IsPut known link.number (Some source) known'
+      → AskedAmid Asked w known hurries link Whole calls → AskedBehind Asked w known' true (calls ++ Read Pop link room Later [] ∷ [])
+  line_whole w known known' hurries link source room calls put a =
       let k = link.number in
       let t = a.takes in
       let has : has_line (read_on k t.taken) ≡ true = ap has_line t.are.far.1 ∙ whole_has t.are.far.0 in
       record {
         inside = a.inside ++ t.taken;
         asked = t.asked;
-        behind = IsOfLine a.inside t.taken calls link Later
+        behind = IsOfLine a.inside t.taken calls link room Later
             (record { awaited = awaits w known hurries link Whole calls a; own = t.are.own; reads = t.are.reads; line = nothing_behind_so_far Whole (read_on k t.taken) t.are.far; over = t.are.over }) a.behind;
         known_so = λ j. ⊎_elim
             (λ (e : j ≡ k). subst (λ i. IsSo (known' i) i (a.inside ++ t.taken)) (sym e) (subst (λ o. IsSo o k (a.inside ++ t.taken)) (sym put.there) (whole_now k a.inside t.taken has)))
@@ -387,9 +387,9 @@ module _ {W : Type 0} (Asked : W → List Call → Type 0) where
       }
 
   -- its link is closed
-  pub line_broken : (w w' : W) (known : ℕ → Option (Option IpAddr)) (hurries : Bool) (link : Link) (p : Progress) (calls : List Call) → ((before : List Call) → Asked w before → Asked w' (before ++ Closed Pop link ∷ []))
-      → AskedAmid Asked w known hurries link p calls → AskedBehind Asked w' known hurries (calls ++ Read Pop link Broken [] ∷ [])
-  line_broken w w' known hurries link p calls called a =
+  pub line_broken : (w w' : W) (known : ℕ → Option (Option IpAddr)) (hurries : Bool) (link : Link) (p : Progress) (room : ℕ) (calls : List Call) → ((before : List Call) → Asked w before → Asked w' (before ++ Closed Pop link ∷ []))
+      → AskedAmid Asked w known hurries link p calls → AskedBehind Asked w' known hurries (calls ++ Read Pop link room Broken [] ∷ [])
+  line_broken w w' known hurries link p room calls called a =
       let k = link.number in
       let t = a.takes in
       let taken = t.taken ++ Closed Pop link ∷ [] in
@@ -400,7 +400,7 @@ module _ {W : Type 0} (Asked : W → List Call → Type 0) where
       record {
         inside = a.inside ++ taken;
         asked = subst (Asked w') (append_assoc a.inside t.taken (Closed Pop link ∷ [])) (called (a.inside ++ t.taken) t.asked);
-        behind = IsOfLine a.inside taken calls link Broken
+        behind = IsOfLine a.inside taken calls link room Broken
             (record {
               awaited = awaits w known hurries link p calls a;
               own = own;
