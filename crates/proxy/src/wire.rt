@@ -86,7 +86,7 @@ fn read_octet<W: Wire>(wire: &mut W, link: Link, line: &mut Line) -> Progress
         → IsLineRead W.tells wire.new link.number line.old.items line.new.items result t }
     ensures so_far { has_line line.old.items ≡ false → IsAsFarAs result line.new.items }
     ensures called { (a : List Call) → W.asked wire.old a
-        → TakesLine W.asked wire.new link result a }
+        → TakesLine W.asked wire.new link 1 result a }
 {
     let mut one = [0u8; 1];
     match wire.read(Port::Pop, link, &mut one) {
@@ -111,7 +111,7 @@ fn read_octets<W: Wire>(wire: &mut W, link: Link, line: &mut Line, left: usize) 
         → IsLineRead W.tells wire.new link.number line.old.items line.new.items result t }
     ensures so_far { has_line line.old.items ≡ false → IsAsFarAs result line.new.items }
     ensures called { (a : List Call) → W.asked wire.old a
-        → TakesLine W.asked wire.new link result a }
+        → TakesLine W.asked wire.new link 1 result a }
 {
     match read_octet(wire, link, line) {
         Progress::Open(Io::Count(count)) => {
@@ -167,9 +167,9 @@ impl<W: Wire, C: Clock> ProxiedWire<W, C> {
             (get nat_cmp self.new.known) (at_port ThePop (λ of. has_read of link.number result [])
             u) }
         ensures broken { result ≡ TheBroken }
-        ensures called { (far : HowFar) (room : ℕ) (a : List Call)
+        ensures called { (least : ℕ) (far : HowFar) (room : ℕ) (a : List Call)
             → AskedAmid W.asked self.old.wire (get nat_cmp self.old.known)
-            self.old.hurries link far a
+            self.old.hurries link least far a
             → AskedBehind W.asked self.new.wire (get nat_cmp self.new.known)
             self.new.hurries (a ++ call.Read ThePop link room result [] ∷ []) }
     {
@@ -212,7 +212,7 @@ impl<W: Wire, C: Clock> ProxiedWire<W, C> {
         ensures within { IsWithin 0 result }
         ensures called { (io : AnIo) (room : ℕ) (a : List Call) → is_fault io ≡ false
             → AskedAmid W.asked self.old.wire (get nat_cmp self.old.known)
-            self.old.hurries link (Progress.Open io) a
+            self.old.hurries link 1 (Progress.Open io) a
             → AskedBehind W.asked self.new.wire (get nat_cmp self.new.known)
             self.new.hurries (a ++ call.Read ThePop link room result [] ∷ []) }
     {
@@ -238,7 +238,7 @@ impl<W: Wire, C: Clock> ProxiedWire<W, C> {
         ensures within { IsWithin 0 result }
         ensures called { (room : ℕ) (a : List Call)
             → AskedAmid W.asked self.old.wire (get nat_cmp self.old.known)
-            self.old.hurries link Progress.Whole a
+            self.old.hurries link 1 Progress.Whole a
             → AskedBehind W.asked self.new.wire (get nat_cmp self.new.known)
             self.new.hurries (a ++ call.Read ThePop link room result [] ∷ []) }
     {
