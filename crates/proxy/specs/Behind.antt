@@ -17,7 +17,7 @@ use Rattle.proxy.specs.Proxied.{has_line, behind_line, io_of, IsAsFarAs}
 
 -- the octets that a call read on it
 abbrev pub octets_on : ℕ → Call → List ℕ
-octets_on k (Read Pop link io octets) = if link.number == k then octets else []
+octets_on k (Read Pop link room io octets) = if link.number == k then octets else []
 octets_on k _ = []
 
 -- all that calls read on it
@@ -27,7 +27,7 @@ read_on k (call ∷ calls) = octets_on k call ++ read_on k calls
 
 -- a call told its end, or that it is broken, or closed it
 abbrev pub ends_on : ℕ → Call → Bool
-ends_on k (Read Pop link io octets) = is_fault io && link.number == k
+ends_on k (Read Pop link room io octets) = is_fault io && link.number == k
 ends_on k (Wrote Pop link io octets) = is_fault io && link.number == k
 ends_on k (Closed Pop link) = link.number == k
 ends_on k _ = false
@@ -42,27 +42,28 @@ IsLineAwaited k calls = (has_line (read_on k calls) ≡ false) ⊎ (list_any (en
 
 -- ---- the calls by which a line is read
 
--- the link is looked at, an octet of it is read, or it is closed
-abbrev pub IsOnLine : Link → Call → Type 0
-IsOnLine link (Looked Pop of io octets) = of ≡ link
-IsOnLine link (Read Pop of io octets) = (of ≡ link) × (length octets ≤ 1)
-IsOnLine link (Closed Pop of) = of ≡ link
-IsOnLine link _ = ⊥
+-- the link is looked at, it is read with room for an octet at most, `least` at least, or closed
+abbrev pub IsOnLine : Link → (least : ℕ) → Call → Type 0
+IsOnLine link least (Looked Pop of io octets) = of ≡ link
+IsOnLine link least (Read Pop of room io octets) =
+    (of ≡ link) × (length octets ≤ room) × (least ≤ room) × (room ≤ 1)
+IsOnLine link least (Closed Pop of) = of ≡ link
+IsOnLine link least _ = ⊥
 
-abbrev pub AreOnLine : Link → List Call → Type 0
-AreOnLine link [] = ⊤
-AreOnLine link (call ∷ calls) = IsOnLine link call × AreOnLine link calls
+abbrev pub AreOnLine : Link → (least : ℕ) → List Call → Type 0
+AreOnLine link least [] = ⊤
+AreOnLine link least (call ∷ calls) = IsOnLine link least call × AreOnLine link least calls
 
 abbrev pub is_read : Call → Bool
-is_read (Read port link io octets) = true
+is_read (Read port link room io octets) = true
 is_read _ = false
 
--- A read that gave no octet outside has read on the link's first line: at least once, and nothing
--- behind that line. It told that the link ended or is broken just where one of these calls did, or
--- closed it.
+-- A read that gave no octet outside has read on the link's first line: at least once, each time an
+-- octet but where the link is over, and nothing behind that line. It told that the link ended or is
+-- broken just where one of these calls did, or closed it.
 pub record ReadsLine (link : Link) (io : Io) (before taken : List Call) : Type 0 where
   pub awaited : IsLineAwaited link.number before
-  pub own : AreOnLine link taken
+  pub own : AreOnLine link (if is_fault io then 0 else 1) taken
   pub reads : list_any is_read taken ≡ true
   pub line : behind_line (read_on link.number taken) ≡ []
   pub over : list_any (ends_on link.number) taken ≡ is_fault io
@@ -73,13 +74,14 @@ pub record ReadsLine (link : Link) (io : Io) (before taken : List Call) : Type 0
 abbrev pub ends_line : (so_far : Bool) → List Call → Bool
 ends_line so_far [] = so_far
 ends_line so_far (Waited millis ∷ calls) = ends_line false calls
-ends_line so_far (Read port link io octets ∷ calls) = ends_line (so_far || has_line octets) calls
+ends_line so_far (Read port link room io octets ∷ calls) =
+    ends_line (so_far || has_line octets) calls
 ends_line so_far (_ ∷ calls) = ends_line so_far calls
 
 -- a call on a client's link is handed on behind its first line alone, where it looks or reads
 abbrev pub IsBehindLine : (before : List Call) → Call → Type 0
 IsBehindLine before (Looked Pop link io octets) = IsLineWhole link.number before
-IsBehindLine before (Read Pop link io octets) = IsLineWhole link.number before
+IsBehindLine before (Read Pop link room io octets) = IsLineWhole link.number before
 IsBehindLine before _ = ⊤
 
 -- `calls` were made, and `inside` those of the wire inside: each is handed on as it is, but in the
@@ -95,9 +97,9 @@ pub data AreBehindLines : (inside calls : List Call) → Type 0 where
   IsKeptBack : (inside calls : List Call) (link : Link) → IsLineAwaited link.number inside
       → AreBehindLines inside calls
       → AreBehindLines inside (calls ++ Looked Pop link Later [] ∷ [])
-  IsOfLine : (inside taken calls : List Call) (link : Link) (io : Io)
+  IsOfLine : (inside taken calls : List Call) (link : Link) (room : ℕ) (io : Io)
       → ReadsLine link io inside taken → AreBehindLines inside calls
-      → AreBehindLines (inside ++ taken) (calls ++ Read Pop link io [] ∷ [])
+      → AreBehindLines (inside ++ taken) (calls ++ Read Pop link room io [] ∷ [])
 
 -- ---- what the wire keeps
 
@@ -118,25 +120,26 @@ pub record AskedBehind {W : Type 0} (Asked : W → List Call → Type 0) (wire :
 -- ---- a line that is read
 
 -- calls on a link's line came so far
-pub record AreOfLine (link : Link) (progress : Progress) (taken : List Call) : Type 0 where
-  pub own : AreOnLine link taken
+pub record AreOfLine (link : Link) (least : ℕ) (progress : Progress) (taken : List Call)
+    : Type 0 where
+  pub own : AreOnLine link least taken
   pub reads : list_any is_read taken ≡ true
   pub far : IsAsFarAs progress (read_on link.number taken)
   pub over : list_any (ends_on link.number) taken ≡ is_fault (io_of progress)
 
 -- such calls were made behind these
 pub record TakesLine {W : Type 0} (Asked : W → List Call → Type 0) (wire : W) (link : Link)
-    (progress : Progress) (before : List Call) : Type 0 where
+    (least : ℕ) (progress : Progress) (before : List Call) : Type 0 where
   pub taken : List Call
   pub asked : Asked wire (before ++ taken)
-  pub are : AreOfLine link progress taken
+  pub are : AreOfLine link least progress taken
 
 -- so it is within a read of which nothing is told yet
 pub record AskedAmid {W : Type 0} (Asked : W → List Call → Type 0) (wire : W)
-    (known : ℕ → Option (Option IpAddr)) (hurries : Bool) (link : Link) (progress : Progress)
-    (calls : List Call) : Type 0 where
+    (known : ℕ → Option (Option IpAddr)) (hurries : Bool) (link : Link) (least : ℕ)
+    (progress : Progress) (calls : List Call) : Type 0 where
   pub inside : List Call
-  pub takes : TakesLine Asked wire link progress inside
+  pub takes : TakesLine Asked wire link least progress inside
   pub behind : AreBehindLines inside calls
   pub known_so : (k : ℕ) → IsSo (known k) k inside
   pub pressed : hurries ≡ true → ends_line false inside ≡ true

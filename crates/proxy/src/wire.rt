@@ -86,7 +86,7 @@ fn read_octet<W: Wire>(wire: &mut W, link: Link, line: &mut Line) -> Progress
         → IsLineRead W.tells wire.new link.number line.old.items line.new.items result t }
     ensures so_far { has_line line.old.items ≡ false → IsAsFarAs result line.new.items }
     ensures called { (a : List Call) → W.asked wire.old a
-        → TakesLine W.asked wire.new link result a }
+        → TakesLine W.asked wire.new link 1 result a }
 {
     let mut one = [0u8; 1];
     match wire.read(Port::Pop, link, &mut one) {
@@ -111,7 +111,7 @@ fn read_octets<W: Wire>(wire: &mut W, link: Link, line: &mut Line, left: usize) 
         → IsLineRead W.tells wire.new link.number line.old.items line.new.items result t }
     ensures so_far { has_line line.old.items ≡ false → IsAsFarAs result line.new.items }
     ensures called { (a : List Call) → W.asked wire.old a
-        → TakesLine W.asked wire.new link result a }
+        → TakesLine W.asked wire.new link 1 result a }
 {
     match read_octet(wire, link, line) {
         Progress::Open(Io::Count(count)) => {
@@ -167,11 +167,11 @@ impl<W: Wire, C: Clock> ProxiedWire<W, C> {
             (get nat_cmp self.new.known) (at_port ThePop (λ of. has_read of link.number result [])
             u) }
         ensures broken { result ≡ TheBroken }
-        ensures called { (far : HowFar) (a : List Call)
+        ensures called { (least : ℕ) (far : HowFar) (room : ℕ) (a : List Call)
             → AskedAmid W.asked self.old.wire (get nat_cmp self.old.known)
-            self.old.hurries link far a
+            self.old.hurries link least far a
             → AskedBehind W.asked self.new.wire (get nat_cmp self.new.known)
-            self.new.hurries (a ++ call.Read ThePop link result [] ∷ []) }
+            self.new.hurries (a ++ call.Read ThePop link room result [] ∷ []) }
     {
         self.wire.close(Port::Pop, link);
         Io::Broken
@@ -186,11 +186,12 @@ impl<W: Wire, C: Clock> ProxiedWire<W, C> {
             (get nat_cmp self.new.known) (at_port ThePop (λ of. has_read of link.number result [])
             u) }
         ensures within { IsWithin 0 result }
-        ensures called { (a : List Call) → get nat_cmp self.old.known link.number ≡ None
+        ensures called { (room : ℕ) (a : List Call)
+            → get nat_cmp self.old.known link.number ≡ None
             → AskedBehind W.asked self.old.wire (get nat_cmp self.old.known)
             self.old.hurries a
             → AskedBehind W.asked self.new.wire (get nat_cmp self.new.known)
-            self.new.hurries (a ++ call.Read ThePop link result [] ∷ []) }
+            self.new.hurries (a ++ call.Read ThePop link room result [] ∷ []) }
     {
         let mut none = [0u8; 0];
         match self.wire.read(Port::Pop, link, &mut none) {
@@ -209,11 +210,11 @@ impl<W: Wire, C: Clock> ProxiedWire<W, C> {
             (get nat_cmp self.new.begun) (get nat_cmp self.new.known)
             (at_port ThePop (λ of. has_read of link.number result []) u) }
         ensures within { IsWithin 0 result }
-        ensures called { (io : AnIo) (a : List Call) → is_fault io ≡ false
+        ensures called { (io : AnIo) (room : ℕ) (a : List Call) → is_fault io ≡ false
             → AskedAmid W.asked self.old.wire (get nat_cmp self.old.known)
-            self.old.hurries link (Progress.Open io) a
+            self.old.hurries link 1 (Progress.Open io) a
             → AskedBehind W.asked self.new.wire (get nat_cmp self.new.known)
-            self.new.hurries (a ++ call.Read ThePop link result [] ∷ []) }
+            self.new.hurries (a ++ call.Read ThePop link room result [] ∷ []) }
     {
         if begun.line.is_full() {
             return self.break_off(link);
@@ -235,11 +236,11 @@ impl<W: Wire, C: Clock> ProxiedWire<W, C> {
             (get nat_cmp self.new.known) (at_port ThePop (λ of. has_read of link.number result [])
             u) }
         ensures within { IsWithin 0 result }
-        ensures called { (a : List Call)
+        ensures called { (room : ℕ) (a : List Call)
             → AskedAmid W.asked self.old.wire (get nat_cmp self.old.known)
-            self.old.hurries link Progress.Whole a
+            self.old.hurries link 1 Progress.Whole a
             → AskedBehind W.asked self.new.wire (get nat_cmp self.new.known)
-            self.new.hurries (a ++ call.Read ThePop link result [] ∷ []) }
+            self.new.hurries (a ++ call.Read ThePop link room result [] ∷ []) }
     {
         let Some(read) = ProxyLine::read(line) else {
             return self.break_off(link);
@@ -261,11 +262,12 @@ impl<W: Wire, C: Clock> ProxiedWire<W, C> {
             (get nat_cmp self.new.known) (at_port ThePop (λ of. has_read of link.number result [])
             u) }
         ensures within { IsWithin 0 result }
-        ensures called { (a : List Call) → get nat_cmp self.old.known link.number ≡ None
+        ensures called { (room : ℕ) (a : List Call)
+            → get nat_cmp self.old.known link.number ≡ None
             → AskedBehind W.asked self.old.wire (get nat_cmp self.old.known)
             self.old.hurries a
             → AskedBehind W.asked self.new.wire (get nat_cmp self.new.known)
-            self.new.hurries (a ++ call.Read ThePop link result [] ∷ []) }
+            self.new.hurries (a ++ call.Read ThePop link room result [] ∷ []) }
     {
         let Some(mut begun) = self.begun.remove(&link.number) else {
             return self.refuse(link);
@@ -297,7 +299,8 @@ impl<W: Wire, C: Clock> ProxiedWire<W, C> {
             → AskedBehind W.asked self.old.wire (get nat_cmp self.old.known) self.old.hurries a
             → AskedBehind W.asked self.new.wire (get nat_cmp self.new.known)
             self.new.hurries
-            (a ++ call.Read ThePop link result (counted result buffer.new) ∷ []) }
+            (a ++ call.Read ThePop link (length buffer.old) result
+            (counted result buffer.new) ∷ []) }
     {
         if self.known.contains_key(&link.number) {
             return self.wire.read(Port::Pop, link, buffer);

@@ -40,13 +40,13 @@ pub returns-clause-so_far : goal.returns-clause-so_far
 returns-clause-so_far g c h = rw c.push.ensures.items (still_open c.args.line.now.items _ h (search rules))
 
 pub returns-in-Later-clause-called : goal.returns-in-Later-clause-called
-returns-in-Later-clause-called g c a h = one_read g.W.Wire.asked c.read.new.self c.args.link Later [] (Open Later) a (c.in-Later.ensures.called a h) (omega arith) refl refl
+returns-in-Later-clause-called g c a h = one_read g.W.Wire.asked c.read.new.self c.args.link 1 Later [] (Open Later) a (c.in-Later.ensures.called a h) (omega arith) (omega arith) refl refl
 
 pub returns-in-End-clause-called : goal.returns-in-End-clause-called
-returns-in-End-clause-called g c a h = one_read g.W.Wire.asked c.read.new.self c.args.link End [] (Open End) a (c.in-End.ensures.called a h) (omega arith) refl refl
+returns-in-End-clause-called g c a h = one_read g.W.Wire.asked c.read.new.self c.args.link 1 End [] (Open End) a (c.in-End.ensures.called a h) (omega arith) (omega arith) refl refl
 
 pub returns-in-Broken-clause-called : goal.returns-in-Broken-clause-called
-returns-in-Broken-clause-called g c a h = one_read g.W.Wire.asked c.read.new.self c.args.link Broken [] (Open Broken) a (c.in-Broken.ensures.called a h) (omega arith) refl refl
+returns-in-Broken-clause-called g c a h = one_read g.W.Wire.asked c.read.new.self c.args.link 1 Broken [] (Open Broken) a (c.in-Broken.ensures.called a h) (omega arith) (omega arith) refl refl
 
 pub returns-then-octet-eq10-clause-called : goal.returns-then-octet-eq10-clause-called
 returns-then-octet-eq10-clause-called g c a h =

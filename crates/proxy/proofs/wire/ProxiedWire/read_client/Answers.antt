@@ -37,7 +37,7 @@ returns-then-contains_key-clause-called g c a h =
     let known = get nat_cmp c.args.self.now.known in
     let octets = counted c.read.result c.read.new.buffer in
     let there : is_some (known k) ≡ true = sym c.contains_key.ensures ∙ c.if-contains_key.true in
-    hands_on g.W.Wire.asked c.args.self.now.wire c.read.new.self known c.args.self.now.hurries a (Read Pop c.args.link c.read.result octets) refl
+    hands_on g.W.Wire.asked c.args.self.now.wire c.read.new.self known c.args.self.now.hurries a (Read Pop c.args.link (length c.args.buffer.now) c.read.result octets) refl
     (λ inside so. known_whole (known k) k inside there (so k)) c.read.ensures.called h
 
 pub returns-clause-called : goal.returns-clause-called
@@ -46,5 +46,5 @@ returns-clause-called g c a h =
     let k = c.args.link.number in
     let io = c.read_line.result in
     let away : is_some (get nat_cmp c.args.self.now.known k) ≡ false = sym c.contains_key.ensures ∙ c.if-contains_key.false in
-    subst (λ xs. AskedBehind g.W.Wire.asked r.wire (get nat_cmp r.known) r.hurries (a ++ Read Pop c.args.link io xs ∷ [])) (sym (counted_none io c.args.buffer.now c.read_line.ensures.within))
-    (c.read_line.ensures.called a (none_known _ away) h)
+    subst (λ xs. AskedBehind g.W.Wire.asked r.wire (get nat_cmp r.known) r.hurries (a ++ Read Pop c.args.link (length c.args.buffer.now) io xs ∷ [])) (sym (counted_none io c.args.buffer.now c.read_line.ensures.within))
+    (c.read_line.ensures.called (length c.args.buffer.now) a (none_known _ away) h)

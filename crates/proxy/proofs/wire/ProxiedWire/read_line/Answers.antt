@@ -1,4 +1,4 @@
-use Rattle.std.proofs.Common.{◌≡◌, ◌∙◌, refl, sym, ap, subst, IfSome, Some, None, false}
+use Rattle.std.proofs.Common.{arith, ◌≡◌, ◌∙◌, refl, sym, ap, subst, IfSome, Some, None, false}
 use Rattle.std.specs.Ordering.{nat_cmp}
 use Rattle.std.specs.BTreeMap.{get}
 use Rattle.serving.specs.Wires.{is_fault}
@@ -85,51 +85,51 @@ returns-in-Open-Count-clause-told g c u (t, h, a) =
     c.keep-in-Open-Count.ensures.told u (x.0, x.1, as_later b' known x.0 u k c.in-Open-Count.field-0 fine x.2, x.3, x.4) (subst (λ p. IsAsFarAs p now) c.in-Open-Count.is far)
 
 pub returns-in-Whole-clause-called : goal.returns-in-Whole-clause-called
-returns-in-Whole-clause-called g c a none h =
+returns-in-Whole-clause-called g c room a none h =
     let known = get nat_cmp c.args.self.now.known in
     let hurries = c.args.self.now.hurries in
     let w = c.read_octets.new.wire in
     let p = c.read_octets.result in
-    let m = amid g.W.Wire.asked c.args.self.now.wire w known hurries c.args.link p a h none
+    let m = amid g.W.Wire.asked c.args.self.now.wire w known hurries c.args.link 1 p a h none
     (λ b k. looked_first g.W.Wire.asked w c.args.link c.look.result (counted c.look.result c.look.new.buffer) p b (c.read_octets.ensures.called _ (c.look.ensures.called b k))) in
-    c.learn.ensures.called a (subst (λ q. AskedAmid g.W.Wire.asked w known hurries c.args.link q a) c.in-Whole.is m)
+    c.learn.ensures.called room a (subst (λ q. AskedAmid g.W.Wire.asked w known hurries c.args.link 1 q a) c.in-Whole.is m)
 
 pub returns-in-Open-End-clause-called : goal.returns-in-Open-End-clause-called
-returns-in-Open-End-clause-called g c a none h =
+returns-in-Open-End-clause-called g c room a none h =
     let known = get nat_cmp c.args.self.now.known in
     let hurries = c.args.self.now.hurries in
     let w = c.read_octets.new.wire in
     let p = c.read_octets.result in
-    let m = amid g.W.Wire.asked c.args.self.now.wire w known hurries c.args.link p a h none
+    let m = amid g.W.Wire.asked c.args.self.now.wire w known hurries c.args.link 1 p a h none
     (λ b k. looked_first g.W.Wire.asked w c.args.link c.look.result (counted c.look.result c.look.new.buffer) p b (c.read_octets.ensures.called _ (c.look.ensures.called b k))) in
-    line_open g.W.Wire.asked w known hurries c.args.link End End a refl (subst (λ q. AskedAmid g.W.Wire.asked w known hurries c.args.link q a) (c.in-Open-End.is ∙ ap Open c.in-Open-End.field-0-is) m)
+    line_open g.W.Wire.asked w known hurries c.args.link 1 End room End a refl (omega arith) (subst (λ q. AskedAmid g.W.Wire.asked w known hurries c.args.link 1 q a) (c.in-Open-End.is ∙ ap Open c.in-Open-End.field-0-is) m)
 
 pub returns-in-Open-Broken-clause-called : goal.returns-in-Open-Broken-clause-called
-returns-in-Open-Broken-clause-called g c a none h =
+returns-in-Open-Broken-clause-called g c room a none h =
     let known = get nat_cmp c.args.self.now.known in
     let hurries = c.args.self.now.hurries in
     let w = c.read_octets.new.wire in
     let p = c.read_octets.result in
-    let m = amid g.W.Wire.asked c.args.self.now.wire w known hurries c.args.link p a h none
+    let m = amid g.W.Wire.asked c.args.self.now.wire w known hurries c.args.link 1 p a h none
     (λ b k. looked_first g.W.Wire.asked w c.args.link c.look.result (counted c.look.result c.look.new.buffer) p b (c.read_octets.ensures.called _ (c.look.ensures.called b k))) in
-    line_open g.W.Wire.asked w known hurries c.args.link Broken Broken a refl (subst (λ q. AskedAmid g.W.Wire.asked w known hurries c.args.link q a) (c.in-Open-Broken.is ∙ ap Open c.in-Open-Broken.field-0-is) m)
+    line_open g.W.Wire.asked w known hurries c.args.link 1 Broken room Broken a refl (omega arith) (subst (λ q. AskedAmid g.W.Wire.asked w known hurries c.args.link 1 q a) (c.in-Open-Broken.is ∙ ap Open c.in-Open-Broken.field-0-is) m)
 
 pub returns-in-Open-Later-clause-called : goal.returns-in-Open-Later-clause-called
-returns-in-Open-Later-clause-called g c a none h =
+returns-in-Open-Later-clause-called g c room a none h =
     let known = get nat_cmp c.args.self.now.known in
     let hurries = c.args.self.now.hurries in
     let w = c.read_octets.new.wire in
     let p = c.read_octets.result in
-    let m = amid g.W.Wire.asked c.args.self.now.wire w known hurries c.args.link p a h none
+    let m = amid g.W.Wire.asked c.args.self.now.wire w known hurries c.args.link 1 p a h none
     (λ b k. looked_first g.W.Wire.asked w c.args.link c.look.result (counted c.look.result c.look.new.buffer) p b (c.read_octets.ensures.called _ (c.look.ensures.called b k))) in
-    c.keep.ensures.called c.in-Open-Later.field-0 a (ap is_fault c.in-Open-Later.field-0-is) (subst (λ q. AskedAmid g.W.Wire.asked w known hurries c.args.link q a) c.in-Open-Later.is m)
+    c.keep.ensures.called c.in-Open-Later.field-0 room a (ap is_fault c.in-Open-Later.field-0-is) (subst (λ q. AskedAmid g.W.Wire.asked w known hurries c.args.link 1 q a) c.in-Open-Later.is m)
 
 pub returns-in-Open-Count-clause-called : goal.returns-in-Open-Count-clause-called
-returns-in-Open-Count-clause-called g c a none h =
+returns-in-Open-Count-clause-called g c room a none h =
     let known = get nat_cmp c.args.self.now.known in
     let hurries = c.args.self.now.hurries in
     let w = c.read_octets.new.wire in
     let p = c.read_octets.result in
-    let m = amid g.W.Wire.asked c.args.self.now.wire w known hurries c.args.link p a h none
+    let m = amid g.W.Wire.asked c.args.self.now.wire w known hurries c.args.link 1 p a h none
     (λ b k. looked_first g.W.Wire.asked w c.args.link c.look.result (counted c.look.result c.look.new.buffer) p b (c.read_octets.ensures.called _ (c.look.ensures.called b k))) in
-    c.keep-in-Open-Count.ensures.called c.in-Open-Count.field-0 a (ap is_fault c.in-Open-Count.field-0-is) (subst (λ q. AskedAmid g.W.Wire.asked w known hurries c.args.link q a) c.in-Open-Count.is m)
+    c.keep-in-Open-Count.ensures.called c.in-Open-Count.field-0 room a (ap is_fault c.in-Open-Count.field-0-is) (subst (λ q. AskedAmid g.W.Wire.asked w known hurries c.args.link 1 q a) c.in-Open-Count.is m)

@@ -1,4 +1,4 @@
-use Rattle.std.proofs.Common.{sym, subst}
+use Rattle.std.proofs.Common.{sym, subst, length}
 use Rattle.std.specs.Ordering.{nat_cmp}
 use Rattle.std.specs.BTreeMap.{get}
 use Rattle.serving.specs.Wires.{at_port, has_read, counted}
@@ -20,5 +20,6 @@ returns-in-Admin-clause-called g c a h =
     let known = get nat_cmp c.args.self.now.known in
     let hurries = c.args.self.now.hurries in
     let octets = counted c.read.result c.read.new.buffer in
-    hands_on g.W.Wire.asked c.args.self.now.wire c.read.new.self known hurries a (Read c.args.port c.args.link c.read.result octets) refl
-    (λ inside so. subst (λ p. IsBehindLine inside (Read p c.args.link c.read.result octets)) (sym c.in-Admin.is) tt) c.read.ensures.called h
+    let room = length c.args.buffer.now in
+    hands_on g.W.Wire.asked c.args.self.now.wire c.read.new.self known hurries a (Read c.args.port c.args.link room c.read.result octets) refl
+    (λ inside so. subst (λ p. IsBehindLine inside (Read p c.args.link room c.read.result octets)) (sym c.in-Admin.is) tt) c.read.ensures.called h
