@@ -31,6 +31,7 @@ impl<W: Wire> NotedWire<W> {
     pub fn new(wire: W) -> NotedWire<W>
         ensures wire { result.wire ≡ wire }
         ensures fresh { TellNothing result.counts result.notes.calls }
+        ensures calls { result.notes.calls ≡ [] }
     {
         NotedWire {
             wire,
