@@ -693,6 +693,7 @@ pub fn serve_turn<V: Vault, W: Wire, S: Spool, L: Listener>(
     end_late_ones(office, wire, &mut links.clients, now);
     close_links(office, wire, &mut links.clients);
     serve_spool(office, spool, &mut links.clients);
+    // For the proof: what each connection took was sent to it.
     taken_is_sent();
 }
 
@@ -712,6 +713,7 @@ pub fn begin<V: Vault, W: Wire, S: Spool>(
     ensures short { AreShort result }
     ensures settings { settings result ≡ none_set }
 {
+    // For the proof: what each connection took was sent to it.
     taken_is_sent();
     Links::new(alloc)
 }
