@@ -78,6 +78,7 @@ abbrev pub cause_text : Account → List ℕ
 cause_text (account.Ended end.Gone) = codes " cause=gone"
 cause_text (account.Ended end.NoMemory) = codes " cause=\"out of memory\""
 cause_text (account.Ended end.StoreFailed) = codes " cause=\"store failed\""
+cause_text (account.Ended end.SessionEnded) = codes " cause=\"session ended\""
 cause_text (account.Login name by judged.ThirdWrongCredential) =
     codes " cause=\"login failed, closing\""
 cause_text _ = []

@@ -166,6 +166,7 @@ pub fn cause_text(account: &Account) -> &'static str
         Account::Ended(End::Gone) => " cause=gone",
         Account::Ended(End::NoMemory) => " cause=\"out of memory\"",
         Account::Ended(End::StoreFailed) => " cause=\"store failed\"",
+        Account::Ended(End::SessionEnded) => " cause=\"session ended\"",
         Account::Login(_, _, Verdict::ThirdWrongCredential) => " cause=\"login failed, closing\"",
         _ => "",
     }

@@ -25,7 +25,7 @@ use crate::wire::{Io, Link, Port, Wire};
 use adminhttp::{
     Content, Got, Method, Refusal, Request, RequestLine, Target, policy_response, response,
 };
-use office::{AdminCommand, Answer, Event, Office, Outcome};
+use office::{Account, AdminCommand, Answer, Event, Office, Outcome};
 use policy::PolicyFault;
 use std::alloc::{AllocError, Global};
 use vault::Vault;
@@ -179,6 +179,13 @@ fn response_to<'a>(alloc: Global, outcome: &'a Outcome) -> (Response, Content<'a
     }
 }
 
+/// Tells the listener of the connection whose session a command ended.
+fn tell_end<L: Listener>(listener: &mut L, command: &AdminCommand, account: &Account) {
+    if let AdminCommand::EndSession(connection) = command {
+        listener.hear(*connection, account);
+    }
+}
+
 /// Gives a command to the office, makes the response, and tells the listener.
 fn command<V: Vault, L: Listener>(
     alloc: Global,
@@ -196,7 +203,9 @@ fn command<V: Vault, L: Listener>(
         → HasAsked V.holds B L read office.new (Some (octets_of result)) }
     ensures clean { V.is_clean (vault_of office.new) → V.is_clean (vault_of office.old) }
 {
-    let outcome = office.step(Event::Admin(command));
+    let mut account = Account::Nothing;
+    let outcome = office.step_with_account(Event::Admin(command), &mut account);
+    tell_end(listener, command, &account);
     let (response, content) = response_to(alloc, &outcome);
     let line = Some(RequestLine::of(command));
     listener.asked(link, &Asked { line, content });

@@ -14,16 +14,16 @@ use Rattle.serving.proofs.requests.command.Goals as goal
 pub returns-clause-asked : goal.returns-clause-asked
 returns-clause-asked g c = λ B L read stands asks clean.
     (let now = trace_of B L in
-    asked_one g.V.Vault.holds B L read c.step-outcome.new.self (lent_by c.args.office.now) (command_seen c.args.command.now) (outcome_seen c.step-outcome.result) (octets_of c.response_to-response.result.0)
-    (c.step-outcome.ensures.outcome now stands clean) (c.step-outcome.ensures.stands now stands clean) (c.step-outcome.ensures.admitted now stands clean) asks c.response_to-response.ensures.told)
+    asked_one g.V.Vault.holds B L read c.step_with_account-outcome.new.self (lent_by c.args.office.now) (command_seen c.args.command.now) (outcome_seen c.step_with_account-outcome.result) (octets_of c.response_to-response.result.0)
+    (c.step_with_account-outcome.ensures.outcome now stands clean) (c.step_with_account-outcome.ensures.stands now stands clean) (c.step_with_account-outcome.ensures.admitted now stands clean) asks c.response_to-response.ensures.told)
 
 pub returns-clause-works : goal.returns-clause-works
 returns-clause-works g c = λ read asks.
     (let o = c.args.office.now in
-    let o1 = c.step-outcome.new.self in
-    let out = outcome_seen c.step-outcome.result in
+    let o1 = c.step_with_account-outcome.new.self in
+    let out = outcome_seen c.step_with_account-outcome.result in
     let seen = command_seen c.args.command.now in
     let response = octets_of c.response_to-response.result.0 in
     gives_command g.V.Vault.holds g.V.Vault.is_clean g.V.Vault.faults o o1 seen (mark_of out) (ComeTo read (Some response))
-    (given_one g.V.Vault.holds g.V.Vault.is_clean g.V.Vault.faults o o1 (event.Admin seen) out c.step-outcome.ensures.clean c.step-outcome.ensures.stands c.step-outcome.ensures.admitted c.step-outcome.ensures.counted c.step-outcome.ensures.cause)
-    (λ B L stands clean. comes_to B L read (lent_by o) seen out response (c.step-outcome.ensures.outcome (trace_of B L) stands clean) asks c.response_to-response.ensures.told))
+    (given_one g.V.Vault.holds g.V.Vault.is_clean g.V.Vault.faults o o1 (event.Admin seen) out c.step_with_account-outcome.ensures.clean c.step_with_account-outcome.ensures.stands c.step_with_account-outcome.ensures.admitted c.step_with_account-outcome.ensures.counted c.step_with_account-outcome.ensures.cause)
+    (λ B L stands clean. comes_to B L read (lent_by o) seen out response (c.step_with_account-outcome.ensures.outcome (trace_of B L) stands clean) asks c.response_to-response.ensures.told))
