@@ -58,7 +58,7 @@ lent_of contents s None h = let e = h.closed in rw e (sym (ap length (none_taken
 lent_of contents s (Some k) h = let e = h.opened in rw e (ap length (same_lent contents k.session k.output (untaken_of s) h.owed (is_feeding k.output.source) refl))
 
 pub lent_owed : {V : Type 0} (Holds : V → Contents → Type 0) (o : Office V) (T : Trace) → StandsFor Holds o T → (c : ℕ) → lent_by o c ≡ owed_by T c
-lent_owed Holds o T st c = lent_of st.keeps.contents (seen T c) _ (st.links c)
+lent_owed Holds o T st c = lent_of st.keeps.contents (seen T c) _ (st.connections c)
 
 pub lent_whole : (rest lent : List ℕ) → IsLent rest lent → length lent ≡ length (take most_lent rest) → lent ≡ take most_lent rest
 lent_whole rest lent is e = is.beginning ∙ (ap (λ n. take n rest) (e ∙ length-take most_lent rest) ∙ take_min most_lent rest)
