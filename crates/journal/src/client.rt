@@ -24,7 +24,7 @@ struct Client {
     marked: u64,
     has_quit: bool,
     /// Why it ends, as its line tells it: the first cause that was heard, or empty.
-    cause: &'static str,
+    cause: String,
 }
 
 impl Client {
@@ -38,9 +38,11 @@ impl Client {
     }
 
     /// Keeps what an account says of the session.
-    fn take(&mut self, account: &Account) {
-        if self.cause.is_empty() {
-            self.cause = cause_text(account);
+    fn take(&mut self, alloc: Global, account: &Account) {
+        if self.cause.is_empty()
+            && let Ok(cause) = String::from_str(alloc, cause_text(account))
+        {
+            self.cause = cause;
         }
         match account {
             Account::Login(name, _, Verdict::Accepted) => {
@@ -83,7 +85,7 @@ impl Client {
     fn loss(&self, alloc: Global) -> Result<String, AllocError> {
         let who = self.who(alloc)?;
         let session = self.session_text(alloc)?;
-        let cause = self.cause;
+        let cause = self.cause.as_str();
         format!(in alloc; "event=closed {who}{session}{cause}")
     }
 
@@ -120,6 +122,7 @@ impl Clients {
         ip: Option<IpAddr>,
         address: String,
     ) -> Result<(), AllocError> {
+        let alloc = *address.allocator();
         self.clients.push(Client {
             link,
             ip,
@@ -129,7 +132,7 @@ impl Clients {
             is_in: false,
             marked: 0,
             has_quit: false,
-            cause: "",
+            cause: String::new(alloc),
         })?;
         Ok(())
     }
@@ -183,7 +186,7 @@ impl Clients {
             self.leave(&name.maildrop);
         }
         let client = self.of(connection)?;
-        client.take(account);
+        client.take(alloc, account);
         if !has_line(account) {
             return None;
         }
