@@ -1,7 +1,7 @@
 //! Why a store can't be opened: its file is looked at again.
 
 use super::unsound_row::unsound_table;
-use mailsql::meta::{all_marks, find_mark};
+use mailsql::meta::{all_meta_rows, find_meta_row};
 use mailsql::schema::has_marks;
 use sqlite::{Alter, Connection, MemStore, Wary};
 use sqlite_schema::names::same_name;
@@ -109,23 +109,23 @@ fn tell_version<S: Alter, E: Write>(
     err: &mut E,
     conn: &mut Connection<S>,
 ) -> io::Result<()> {
-    match find_mark(alloc, conn, b"popbox") {
-        Ok(Some(mark)) if mark.value > NEWEST => {
-            let found = mark.value;
+    match find_meta_row(alloc, conn, b"popbox") {
+        Ok(Some(row)) if row.value > NEWEST => {
+            let found = row.value;
             writeln!(
                 err,
                 "a store of version {found}, newer than {NEWEST}, which this popbox makes"
             )
         }
-        Ok(Some(mark)) if mark.value >= OLDEST => {
-            let found = mark.value;
+        Ok(Some(row)) if row.value >= OLDEST => {
+            let found = row.value;
             writeln!(
                 err,
                 "a store of version {found} by its mark, with the tables of version {NEWEST}"
             )
         }
-        Ok(Some(mark)) => {
-            let found = mark.value;
+        Ok(Some(row)) => {
+            let found = row.value;
             writeln!(
                 err,
                 "a store of version {found}, older than {OLDEST}, which this popbox carries over"
@@ -137,7 +137,7 @@ fn tell_version<S: Alter, E: Write>(
 }
 
 /// Tells the first table, index or view that has the name of a table of ours, in a database without
-/// our marks.
+/// our version row.
 fn tell_taken<E: Write>(err: &mut E, schema: &Schema, ours: &Schema) -> io::Result<()> {
     let mut tables = schema.tables.as_slice().iter();
     if let Some(table) = tables.find(|table| is_our_name(table.name.as_slice(), ours)) {
@@ -173,19 +173,19 @@ fn tell_object<E: Write>(err: &mut E, kind: &str, name: &[u8]) -> io::Result<()>
     )
 }
 
-/// Tells why a database with our table of marks is no store.
+/// Tells why a database with our table `meta` is no store.
 fn tell_marks<S: Alter, E: Write>(
     alloc: Global,
     err: &mut E,
     conn: &mut Connection<S>,
 ) -> io::Result<()> {
-    let version = match find_mark(alloc, conn, b"popbox") {
-        Ok(Some(mark)) => mark.value,
+    let version = match find_meta_row(alloc, conn, b"popbox") {
+        Ok(Some(row)) => row.value,
         Ok(None) => return writeln!(err, "its table `meta` has no row `popbox`"),
         Err(error) => return writeln!(err, "{error}"),
     };
-    match all_marks(alloc, conn) {
-        Ok(marks) if marks.len() == 1 => {}
+    match all_meta_rows(alloc, conn) {
+        Ok(rows) if rows.len() == 1 => {}
         Ok(_) => return writeln!(err, "its table `meta` has a row that isn't popbox's"),
         Err(error) => return writeln!(err, "{error}"),
     }

@@ -4,12 +4,12 @@ use Rattle.std.specs.Io.KnownBytes.{Appends, Consumes, Keeps}
 use Rattle.vault.specs.Records.{Records}
 use Rattle.vault.specs.Calls.{has_grown, greatest_count}
 use Rattle.office.specs.History.{Act, Tag}
-use Rattle.office.specs.Events.{Event, Mark, Log, Trace}
+use Rattle.office.specs.Events.{Event, EventTag, Log, Trace}
 use Rattle.office.specs.Events as event
 use Rattle.office.specs.Trace.{acts, rest, is_open, IsLent}
 use Rattle.office.specs.Replying.{is_empty}
 use Rattle.office.specs.Expected.{IsOutcome, most_in_a_piece, is_full}
-use Rattle.office.specs.Outcomes.{Outcome, Opened, mark_of, HasCause}
+use Rattle.office.specs.Outcomes.{Outcome, Opened, event_tag_of, HasCause}
 use Rattle.office.specs.Outcomes as outcome
 use Rattle.converse.specs.Printed.{PrintsPart}
 use Rattle.converse.specs.Talk.{TalksInPart}
@@ -25,8 +25,8 @@ use Rattle.converse.proofs.Ends.{part_lends, part_shut, goes, waited, waited_rea
 
 pub hears : (B : Records) (c : ℕ) (past : List (Act × Tag)) (octets written piece : List ℕ) (L : Log) → Waits B c past octets written L → length piece ≤ most_in_a_piece
     → (lent : ℕ → ℕ) (o : Outcome) → IsOutcome (trace_of B L) lent (event.Bytes c piece) o
-    → MatchResult (memory_by o) (λ _. GoesOn B c past (octets ++ piece) written ((event.Bytes c piece, mark_of o) ∷ L))
-    (λ e. IsCut e B c past (octets ++ piece) written ((event.Bytes c piece, mark_of o) ∷ L))
+    → MatchResult (memory_by o) (λ _. GoesOn B c past (octets ++ piece) written ((event.Bytes c piece, event_tag_of o) ∷ L))
+    (λ e. IsCut e B c past (octets ++ piece) written ((event.Bytes c piece, event_tag_of o) ∷ L))
 hears B c past octets written piece L w short lent (Opened n) h = hears_on B c past octets written piece L w (le-ltb most_in_a_piece (length piece) short) lent (Opened n) h refl
 hears B c past octets written piece L w short lent outcome.Done h = hears_on B c past octets written piece L w (le-ltb most_in_a_piece (length piece) short) lent outcome.Done h refl
 hears B c past octets written piece L w short lent outcome.Failed h = hears_on B c past octets written piece L w (le-ltb most_in_a_piece (length piece) short) lent outcome.Failed h refl
@@ -64,7 +64,7 @@ cause_of before now o e h = subst (λ q. HasCause before now q) e h
 
 module _ (B : Records) (c : ℕ) (past : List (Act × Tag)) (octets written : List ℕ) (L : Log) (n : ℕ) (lent : List ℕ) where
   abbrev After : Outcome → Log
-  After o = (event.Took c n, mark_of o) ∷ L
+  After o = (event.Took c n, event_tag_of o) ∷ L
 
   abbrev Written : List ℕ
   Written = written ++ take n lent
@@ -186,16 +186,16 @@ shut_by a false e f = refl
 -- ---- the connection's own events
 
 -- one more of them
-pub one_more : (c : ℕ) (older L : Log) (e : Event × Mark) → is_own c e ≡ true → Extends c older L → Extends c older (e ∷ L)
+pub one_more : (c : ℕ) (older L : Log) (e : Event × EventTag) → is_own c e ≡ true → Extends c older L → Extends c older (e ∷ L)
 one_more c older L e h w = record { opening = w.opening; own = e ∷ w.own; each = rw h w.each; is = ap (λ (X : Log). e ∷ X) w.is }
 
-pub one_heard : (c : ℕ) (older L : Log) (piece : List ℕ) (m : Mark) → Extends c older L → Extends c older ((event.Bytes c piece, m) ∷ L)
+pub one_heard : (c : ℕ) (older L : Log) (piece : List ℕ) (m : EventTag) → Extends c older L → Extends c older ((event.Bytes c piece, m) ∷ L)
 one_heard c older L piece m w = one_more c older L (event.Bytes c piece, m) (eq-eqb c c refl) w
 
-pub one_taken : (c : ℕ) (older L : Log) (n : ℕ) (m : Mark) → Extends c older L → Extends c older ((event.Took c n, m) ∷ L)
+pub one_taken : (c : ℕ) (older L : Log) (n : ℕ) (m : EventTag) → Extends c older L → Extends c older ((event.Took c n, m) ∷ L)
 one_taken c older L n m w = one_more c older L (event.Took c n, m) (eq-eqb c c refl) w
 
-pub one_gone : (c : ℕ) (older L : Log) (m : Mark) → Extends c older L → Extends c older ((event.Gone c, m) ∷ L)
+pub one_gone : (c : ℕ) (older L : Log) (m : EventTag) → Extends c older L → Extends c older ((event.Gone c, m) ∷ L)
 one_gone c older L m w = one_more c older L (event.Gone c, m) (eq-eqb c c refl) w
 
 -- what a turn of writing says where it wrote nothing, and where it wrote something
@@ -219,10 +219,10 @@ refused_out AtEnd grown T c e L r = ⊎_elim
 pub comes_out : (AtEnd : Type 0) (before during now : ℕ) → during ≤ now → (T : Trace) (c : ℕ) (octets written : List ℕ) (r : Result Unit TalkFault) (L : Log) (lent : ℕ → ℕ) (o : Outcome)
     → IsOutcome (trace_of T.base L) lent (event.Gone c) o
     → MatchResult r (λ _. (Waits T.base c (acts T) octets written L × AtEnd) ⊎ IsOver before during T.base c (acts T) octets written L) (λ e. IsCut e T.base c (acts T) octets written L)
-    → ComesOut AtEnd (has_grown before now) T c octets written r ((event.Gone c, mark_of o) ∷ L)
+    → ComesOut AtEnd (has_grown before now) T c octets written r ((event.Gone c, event_tag_of o) ∷ L)
 comes_out AtEnd before during now later T c octets written (Ok done) L lent o is h =
     let g = goes T.base c (acts T) octets written L lent o is in
-    let after = (event.Gone c, mark_of o) ∷ L in (
+    let after = (event.Gone c, event_tag_of o) ∷ L in (
       g.1,
       ⊎_elim
           (λ (w : Waits T.base c (acts T) octets written L × AtEnd). inl (waited T.base c (acts T) octets written L after w.0 g.0 AtEnd w.1))
@@ -235,14 +235,14 @@ comes_out AtEnd before during now later T c octets written (Ok done) L lent o is
     )
 comes_out AtEnd before during now later T c octets written (Err fault.Read) L lent o is h =
     let g = goes T.base c (acts T) octets written L lent o is in
-    (g.1, waited_reading T.base c (acts T) octets written L ((event.Gone c, mark_of o) ∷ L) h g.0)
+    (g.1, waited_reading T.base c (acts T) octets written L ((event.Gone c, event_tag_of o) ∷ L) h g.0)
 comes_out AtEnd before during now later T c octets written (Err fault.Write) L lent o is h =
     let g = goes T.base c (acts T) octets written L lent o is in
-    (g.1, broken T.base c (acts T) octets written false L ((event.Gone c, mark_of o) ∷ L) h g.0)
+    (g.1, broken T.base c (acts T) octets written false L ((event.Gone c, event_tag_of o) ∷ L) h g.0)
 comes_out AtEnd before during now later T c octets written (Err fault.TooManyConnections) L lent o is h = absurd h
 comes_out AtEnd before during now later T c octets written (Err fault.NoMemory) L lent o is h =
     let g = goes T.base c (acts T) octets written L lent o is in
-    inr ((g.1, broken T.base c (acts T) octets written true L ((event.Gone c, mark_of o) ∷ L) h.0 g.0), (mark_of o, L, refl, h.1))
+    inr ((g.1, broken T.base c (acts T) octets written true L ((event.Gone c, event_tag_of o) ∷ L) h.0 g.0), (event_tag_of o, L, refl, h.1))
 comes_out AtEnd before during now later T c octets written (Err fault.Endless) L lent o is h =
     let g = goes T.base c (acts T) octets written L lent o is in
-    ((g.1, broken T.base c (acts T) octets written false L ((event.Gone c, mark_of o) ∷ L) h.0 g.0), h.1)
+    ((g.1, broken T.base c (acts T) octets written false L ((event.Gone c, event_tag_of o) ∷ L) h.0 g.0), h.1)

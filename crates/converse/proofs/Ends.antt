@@ -10,12 +10,12 @@ use Rattle.office.specs.History.{Act, Line, Gone, Tag, Done, Failed, NoMemory, i
 use Rattle.office.specs.Connections.{connected, closing, sent}
 use Rattle.office.specs.Replying.{is_empty}
 use Rattle.office.specs.Told.{told}
-use Rattle.office.specs.Events.{Event, Mark, Tagged, Log, Trace, given}
+use Rattle.office.specs.Events.{Event, EventTag, Tagged, Log, Trace, given}
 use Rattle.office.specs.Events as event
 use Rattle.office.specs.Log.{taken, next_number}
 use Rattle.office.specs.Trace.{acts, history, rest, rest_if, is_open, is_open_by, untaken, IsLent}
 use Rattle.office.specs.Expected.{IsOutcome, ignored, shown_at, or_ignored, reason_if, may_show, is_full}
-use Rattle.office.specs.Outcomes.{Outcome, Reason, NoSuchConnection, TooManyConnections, Opened, mark_of}
+use Rattle.office.specs.Outcomes.{Outcome, Reason, NoSuchConnection, TooManyConnections, Opened, event_tag_of}
 use Rattle.office.specs.Outcomes as outcome
 use Rattle.converse.specs.Talk.{goes_on, acted_on, spoken, opened_on, AreInTurn, left_unless_closing, Talks, TalksInPart, BreaksOff, BreaksOffReading}
 use Rattle.converse.specs.Talked.{trace_of}
@@ -82,7 +82,7 @@ module _ (T : Trace) (lent : ℕ → ℕ) where
   refused_full false NoMemory r e = cc
 
   pub connects : (o : Outcome) → IsOutcome T lent event.Connect o
-      → MatchResult (opened_by o) (λ c. (c ≡ next_number T.log) × GoesOn T.base (next_number T.log) (acts T) [] [] ((event.Connect, mark_of o) ∷ T.log)) (λ e. Refuses T e ((event.Connect, mark_of o) ∷ T.log))
+      → MatchResult (opened_by o) (λ c. (c ≡ next_number T.log) × GoesOn T.base (next_number T.log) (acts T) [] [] ((event.Connect, event_tag_of o) ∷ T.log)) (λ e. Refuses T e ((event.Connect, event_tag_of o) ∷ T.log))
   unfolding is_odd
   connects (Opened c) h = (opened_number h.tag c (opened_if (is_full T) (shown_at T.base T.log (history T) event.Connect h.tag) c (sym h.is)), begun)
   connects outcome.Done h = let q = even (is_full T) h.tag outcome.Done h.may h.is in cc
@@ -93,7 +93,7 @@ module _ (T : Trace) (lent : ℕ → ℕ) where
 
 -- ---- the end
 
-gone_mark : (b : Bool) (o : Outcome) → o ≡ or_ignored (reason_if (not b) NoSuchConnection) outcome.Done → mark_of o ≡ cond b (Tagged Done) event.Ignored
+gone_mark : (b : Bool) (o : Outcome) → o ≡ or_ignored (reason_if (not b) NoSuchConnection) outcome.Done → event_tag_of o ≡ cond b (Tagged Done) event.Ignored
 gone_mark true o e = rw e refl
 gone_mark false o e = rw e refl
 
@@ -148,13 +148,13 @@ module _ (B : Records) (c : ℕ) (old : List (Act × Tag)) (octets written : Lis
   gone_tag L Failed e = cc
   gone_tag L NoMemory e = cc
 
-  gone_so : (L : Log) (lent : ℕ → ℕ) (o : Outcome) → IsOutcome (trace_of B L) lent (event.Gone c) o → mark_of o ≡ cond (is_open (trace_of B L) c) (Tagged Done) event.Ignored
+  gone_so : (L : Log) (lent : ℕ → ℕ) (o : Outcome) → IsOutcome (trace_of B L) lent (event.Gone c) o → event_tag_of o ≡ cond (is_open (trace_of B L) c) (Tagged Done) event.Ignored
   gone_so L lent o h =
       gone_mark (is_open (trace_of B L) c) o
       (h.is ∙ ap (λ t. or_ignored (ignored (trace_of B L) lent (event.Gone c)) (shown_at B L (history (trace_of B L)) (event.Gone c) t)) (gone_tag L h.tag h.may))
 
   pub goes : (L : Log) (lent : ℕ → ℕ) (o : Outcome) → IsOutcome (trace_of B L) lent (event.Gone c) o
-      → GoneActs L ((event.Gone c, mark_of o) ∷ L) × (is_open (trace_of B ((event.Gone c, mark_of o) ∷ L)) c ≡ false)
+      → GoneActs L ((event.Gone c, event_tag_of o) ∷ L) × (is_open (trace_of B ((event.Gone c, event_tag_of o) ∷ L)) c ≡ false)
   goes L lent o h =
       let m = gone_so L lent o h in
       let b = is_open (trace_of B L) c in (

@@ -8,12 +8,12 @@ use Rattle.office.specs.History.{Act, Line, Tag, Done, Failed, NoMemory, is_no_m
 use Rattle.office.specs.Connections.{connected, closing, sent}
 use Rattle.office.specs.Replying.{is_empty}
 use Rattle.office.specs.Told.{told}
-use Rattle.office.specs.Events.{Event, Mark, Tagged, Log, Trace, given}
+use Rattle.office.specs.Events.{Event, EventTag, Tagged, Log, Trace, given}
 use Rattle.office.specs.Events as event
 use Rattle.office.specs.Log.{stream, taken}
 use Rattle.office.specs.Trace.{acts, history, rest, rest_if, is_open, untaken, next_line}
 use Rattle.office.specs.Expected.{IsOutcome, ignored, shown_at, or_ignored, reason_if, may_show, most_in_a_piece}
-use Rattle.office.specs.Outcomes.{Outcome, Reason, NoSuchConnection, NotReady, PieceTooLong, TooManyConnections, Opened, mark_of}
+use Rattle.office.specs.Outcomes.{Outcome, Reason, NoSuchConnection, NotReady, PieceTooLong, TooManyConnections, Opened, event_tag_of}
 use Rattle.office.specs.Outcomes as outcome
 use Rattle.converse.specs.Talk.{may_be}
 use Rattle.converse.specs.Talked.{trace_of}
@@ -30,7 +30,7 @@ is_lack _ = false
 
 -- what isn't ignored shows its tag
 pub record Shows (t : Tag) (o : Outcome) : Type 0 where
-  pub mark : mark_of o ≡ Tagged t
+  pub event_tag : event_tag_of o ≡ Tagged t
   pub lack : is_lack o ≡ is_no_memory t
   pub failed : t ≡ Failed → o ≡ outcome.Failed
 
@@ -38,13 +38,13 @@ pub shows : (s : Tag → Outcome) → s Done ≡ outcome.Done → s Failed ≡ o
     → o ≡ or_ignored r (s t) → Shows t o
 shows s d f n r none Done o e =
     let k : o ≡ outcome.Done = e ∙ (ap (λ q. or_ignored q (s Done)) none ∙ d) in
-    record { mark = rw k refl; lack = rw k refl; failed = λ w. cc }
+    record { event_tag = rw k refl; lack = rw k refl; failed = λ w. cc }
 shows s d f n r none Failed o e =
     let k : o ≡ outcome.Failed = e ∙ (ap (λ q. or_ignored q (s Failed)) none ∙ f) in
-    record { mark = rw k refl; lack = rw k refl; failed = λ w. k }
+    record { event_tag = rw k refl; lack = rw k refl; failed = λ w. k }
 shows s d f n r none NoMemory o e =
     let k : o ≡ outcome.NoMemory = e ∙ (ap (λ q. or_ignored q (s NoMemory)) none ∙ n) in
-    record { mark = rw k refl; lack = rw k refl; failed = λ w. cc }
+    record { event_tag = rw k refl; lack = rw k refl; failed = λ w. cc }
 
 -- ---- open, and ready
 
@@ -219,13 +219,13 @@ module _ (B : Records) (c : ℕ) (old : List (Act × Tag)) (octets written piece
 
   -- by its outcome
   pub hears_on : Waits B c old octets written L → nat_lt most_in_a_piece (length piece) ≡ false → (lent : ℕ → ℕ) (o : Outcome) → IsOutcome (trace_of B L) lent (event.Bytes c piece) o
-      → is_lack o ≡ false → GoesOn B c old (octets ++ piece) written ((event.Bytes c piece, mark_of o) ∷ L)
+      → is_lack o ≡ false → GoesOn B c old (octets ++ piece) written ((event.Bytes c piece, event_tag_of o) ∷ L)
   hears_on w short lent o h kept =
       let s = bytes_shows w short lent o h in
-      subst (λ m. GoesOn B c old (octets ++ piece) written ((event.Bytes c piece, m) ∷ L)) (sym s.mark) (bytes_goes_on w h.tag (sym s.lack ∙ kept) h.may)
+      subst (λ m. GoesOn B c old (octets ++ piece) written ((event.Bytes c piece, m) ∷ L)) (sym s.event_tag) (bytes_goes_on w h.tag (sym s.lack ∙ kept) h.may)
 
   pub hears_last : Waits B c old octets written L → nat_lt most_in_a_piece (length piece) ≡ false → (lent : ℕ → ℕ) (o : Outcome) → IsOutcome (trace_of B L) lent (event.Bytes c piece) o
-      → Breaks B c old (octets ++ piece) written true ((event.Bytes c piece, mark_of o) ∷ L)
+      → Breaks B c old (octets ++ piece) written true ((event.Bytes c piece, event_tag_of o) ∷ L)
   hears_last w short lent o h =
       let s = bytes_shows w short lent o h in
-      subst (λ m. Breaks B c old (octets ++ piece) written true ((event.Bytes c piece, m) ∷ L)) (sym s.mark) (bytes_break w h.tag h.may)
+      subst (λ m. Breaks B c old (octets ++ piece) written true ((event.Bytes c piece, m) ∷ L)) (sym s.event_tag) (bytes_break w h.tag h.may)

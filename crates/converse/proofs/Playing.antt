@@ -11,12 +11,12 @@ use Rattle.office.specs.Events.{Event, Log, Trace, given}
 use Rattle.office.specs.Events as event
 use Rattle.office.specs.Expected.{IsOutcome, ignored, or_ignored, shown_at, reason_if}
 use Rattle.office.specs.Kept.{Kept}
-use Rattle.office.specs.Outcomes.{Outcome, NoSuchConnection, NotReady, mark_of}
+use Rattle.office.specs.Outcomes.{Outcome, NoSuchConnection, NotReady, event_tag_of}
 use Rattle.office.specs.Outcomes as outcome
 use Rattle.office.specs.Stands.{StandsFor, Seen, IsKeptFor, is_seen_open, untaken_of, seen, length_of_lent, lent_by, vault_of}
 use Rattle.office.specs.Stands.{Keeps as Kept_by}
 use Rattle.office.specs.Trace.{history, is_open_at, rest, rest_if, IsLent, most_lent}
-use Rattle.office.specs.Shown.{outcome_seen}
+use Rattle.office.specs.Seen.{outcome_seen}
 use Rattle.office.specs.declared.event.Outcome.{Outcome as Shown}
 use Rattle.office.specs.declared.office.Office.{Office}
 use Rattle.office.specs.declared.output.Source.{Source}
@@ -114,17 +114,17 @@ takes_none T c = ([], record { are = tt; last = refl; behind = refl }, refl)
 
 takes_next : (T : Trace) (c : ℕ) (os : List Outcome) (p : Outcome) → AreTakings c T os → 0 < owed_by (drained c T os) c
     → IsOutcome (drained c T os) (owed_by (drained c T os)) (event.Took c (owed_by (drained c T os) c)) p
-    → TakesSoFar T c p (escaped (drained_octets c T os) ++ escaped (lent_at (drained c T os) c)) (given (drained c T os) (event.Took c (owed_by (drained c T os) c)) (mark_of p))
+    → TakesSoFar T c p (escaped (drained_octets c T os) ++ escaped (lent_at (drained c T os) c)) (given (drained c T os) (event.Took c (owed_by (drained c T os) c)) (event_tag_of p))
 takes_next T c os p are some is =
     (p ∷ os, record { are = (are, some, is); last = refl; behind = refl }, sym (flat_map-append escape (drained_octets c T os) (lent_at (drained c T os) c)))
 
 -- one taking more
 pub takes_more : (T : Trace) (c : ℕ) (o p : Outcome) (printed : List ℕ) (U : Trace) → TakesSoFar T c o printed U → 0 < owed_by U c
-    → IsOutcome U (owed_by U) (event.Took c (owed_by U c)) p → TakesSoFar T c p (printed ++ escaped (lent_at U c)) (given U (event.Took c (owed_by U c)) (mark_of p))
+    → IsOutcome U (owed_by U) (event.Took c (owed_by U c)) p → TakesSoFar T c p (printed ++ escaped (lent_at U c)) (given U (event.Took c (owed_by U c)) (event_tag_of p))
 takes_more T c o p printed U (os, t, e) =
-    subst (λ (w : List ℕ). 0 < owed_by U c → IsOutcome U (owed_by U) (event.Took c (owed_by U c)) p → TakesSoFar T c p (w ++ escaped (lent_at U c)) (given U (event.Took c (owed_by U c)) (mark_of p)))
+    subst (λ (w : List ℕ). 0 < owed_by U c → IsOutcome U (owed_by U) (event.Took c (owed_by U c)) p → TakesSoFar T c p (w ++ escaped (lent_at U c)) (given U (event.Took c (owed_by U c)) (event_tag_of p)))
     (sym e)
-    (subst (λ X. 0 < owed_by X c → IsOutcome X (owed_by X) (event.Took c (owed_by X c)) p → TakesSoFar T c p (escaped (drained_octets c T os) ++ escaped (lent_at X c)) (given X (event.Took c (owed_by X c)) (mark_of p)))
+    (subst (λ X. 0 < owed_by X c → IsOutcome X (owed_by X) (event.Took c (owed_by X c)) p → TakesSoFar T c p (escaped (drained_octets c T os) ++ escaped (lent_at X c)) (given X (event.Took c (owed_by X c)) (event_tag_of p)))
     (sym t.behind) (takes_next T c os p t.are))
 
 pub some_owed : (b : Bool) (xs : List ℕ) → b ≡ false → b ≡ (length xs == 0) → 0 < length xs
@@ -132,9 +132,9 @@ some_owed b [] f e = cc
 some_owed b (x ∷ xs) f e = omega (arith)
 
 pub takes_lent : (T : Trace) (c : ℕ) (o p : Outcome) (printed : List ℕ) (U : Trace) (lent : List ℕ) → lent ≡ lent_at U c → TakesSoFar T c o printed U → 0 < length lent
-    → IsOutcome U (owed_by U) (event.Took c (length lent)) p → TakesSoFar T c p (printed ++ escaped lent) (given U (event.Took c (length lent)) (mark_of p))
+    → IsOutcome U (owed_by U) (event.Took c (length lent)) p → TakesSoFar T c p (printed ++ escaped lent) (given U (event.Took c (length lent)) (event_tag_of p))
 takes_lent T c o p printed U lent e s =
-    subst (λ (r : List ℕ). 0 < length r → IsOutcome U (owed_by U) (event.Took c (length r)) p → TakesSoFar T c p (printed ++ escaped r) (given U (event.Took c (length r)) (mark_of p)))
+    subst (λ (r : List ℕ). 0 < length r → IsOutcome U (owed_by U) (event.Took c (length r)) p → TakesSoFar T c p (printed ++ escaped r) (given U (event.Took c (length r)) (event_tag_of p)))
     (sym e) (takes_more T c o p printed U s)
 
 owed_none : (T U : Trace) (c : ℕ) → U ≡ T → rest U c ≡ [] → 0 < owed_by T c → ⊥
@@ -151,7 +151,7 @@ drains_all T c o printed U (p ∷ os, t, e, f) some = (p ∷ os, t, e, ap (λ (w
 pub caused_none : (first now : ℕ) (T : Trace) → Caused first now T T
 caused_none first now T lt = absurd (omega (arith, lt))
 
-pub caused_one : (first now : ℕ) (T : Trace) (e : Event) (o : Outcome) → HasCause first now o → Caused first now T (given T e (mark_of o))
+pub caused_one : (first now : ℕ) (T : Trace) (e : Event) (o : Outcome) → HasCause first now o → Caused first now T (given T e (event_tag_of o))
 caused_one first now T e (outcome.Opened c) h lt = absurd (omega (arith, lt))
 caused_one first now T e outcome.Done h lt = absurd (omega (arith, lt))
 caused_one first now T e outcome.Failed h lt = h
@@ -170,20 +170,20 @@ caused_more a b c T M U h k p q lt = caused_at a b c T M U h k p q lt (nat_lt (f
 
 -- one event more
 pub caused_next : (first was now : ℕ) (T : Trace) (L : Log) (e : Event) (o : Outcome) → first ≤ was → was ≤ now → Caused first was T (trace_of T.base L) → HasCause was now o
-    → Caused first now T (trace_of T.base ((e, mark_of o) ∷ L))
+    → Caused first now T (trace_of T.base ((e, event_tag_of o) ∷ L))
 caused_next first was now T L e o a b k h =
-    caused_more first was now T (trace_of T.base L) (trace_of T.base ((e, mark_of o) ∷ L)) a b k (caused_one was now (trace_of T.base L) e o h)
+    caused_more first was now T (trace_of T.base L) (trace_of T.base ((e, event_tag_of o) ∷ L)) a b k (caused_one was now (trace_of T.base L) e o h)
 
 -- ---- what comes of a line
 
 module _ {V : Type 0} (Holds : V → Contents → Type 0) (new : Office V) (T : Trace) (first now : ℕ) where
   -- one event in front of which nothing is printed
   pub did_one : (old : Office V) (line : ScriptLine) (e : Event) (o : Outcome) (known : Option (List ℕ)) → line ≡ Does e → sent_before T e ≡ [] → StandsFor Holds old T
-      → IsOutcome T (lent_by old) e o → HasCause first now o → StandsFor Holds new (given T e (mark_of o)) → ComesTo Holds new known known (WithCause first now T (Acts T line (Some o)))
+      → IsOutcome T (lent_by old) e o → HasCause first now o → StandsFor Holds new (given T e (event_tag_of o)) → ComesTo Holds new known known (WithCause first now T (Acts T line (Some o)))
   did_one old line e o known s none st is cause stands =
       subst (λ (l : ScriptLine). ComesTo Holds new known known (WithCause first now T (Acts T l (Some o)))) (sym s) (record {
         printed = [];
-        trace = given T e (mark_of o);
+        trace = given T e (event_tag_of o);
         appends = Appends-nil known;
         stands = stands;
         is = ((by_owed Holds old T st e o is, refl, sym none), caused_one first now T e o cause);

@@ -8,12 +8,12 @@ use Rattle.office.specs.History.{Act, Line, Gone, Tag, Done, Failed, NoMemory, E
 use Rattle.office.specs.Connections.{connected, closing, acted, serving, sent}
 use Rattle.office.specs.Replying.{is_empty}
 use Rattle.office.specs.Told.{told}
-use Rattle.office.specs.Events.{Event, Mark, Tagged, Log, Trace, given}
+use Rattle.office.specs.Events.{Event, EventTag, Tagged, Log, Trace, given}
 use Rattle.office.specs.Events as event
 use Rattle.office.specs.Log.{stream, taken}
 use Rattle.office.specs.Trace.{acts, history, rest, rest_if, is_open, is_open_by, is_left, untaken, rest_at, next_line, act_of_part, acts_of_took, most_lent, IsLent}
 use Rattle.office.specs.Expected.{IsOutcome, ignored, shown_at, reason_if, may_show, took_may, next_may_fail}
-use Rattle.office.specs.Outcomes.{Outcome, Reason, NoSuchConnection, NotReady, mark_of}
+use Rattle.office.specs.Outcomes.{Outcome, Reason, NoSuchConnection, NotReady, event_tag_of}
 use Rattle.office.specs.Outcomes as outcome
 use Rattle.converse.specs.Talk.{may_be, AreInTurn, TalksInPart}
 use Rattle.converse.specs.Talked.{trace_of}
@@ -315,18 +315,18 @@ module _ (B : Records) (c : ℕ) (old : List (Act × Tag)) (octets written : Lis
 
   -- it goes on, or a later part of a message can't be read
   pub takes_on : Takes → (lends : ℕ → ℕ) → length lent ≡ lends c → (o : Outcome) → IsOutcome (trace_of B L) lends (event.Took c n) o → is_lack o ≡ false
-      → GoesOn B c old octets Written ((event.Took c n, mark_of o) ∷ L)
-      ⊎ (TalksInPart B c octets Written old (acts (trace_of B ((event.Took c n, mark_of o) ∷ L))) × (o ≡ outcome.Failed))
+      → GoesOn B c old octets Written ((event.Took c n, event_tag_of o) ∷ L)
+      ⊎ (TalksInPart B c octets Written old (acts (trace_of B ((event.Took c n, event_tag_of o) ∷ L))) × (o ≡ outcome.Failed))
   takes_on k lends count o h kept =
       let s = took_shows k lends count o h in
       ⊎_elim
-      (λ (g : GoesOn B c old octets Written (After h.tag)). inl (subst (λ m. GoesOn B c old octets Written ((event.Took c n, m) ∷ L)) (sym s.mark) g))
+      (λ (g : GoesOn B c old octets Written (After h.tag)). inl (subst (λ m. GoesOn B c old octets Written ((event.Took c n, m) ∷ L)) (sym s.event_tag) g))
       (λ (g : TalksInPart B c octets Written old (acts (trace_of B (After h.tag))) × (h.tag ≡ Failed)).
-      inr (subst (λ m. TalksInPart B c octets Written old (acts (trace_of B ((event.Took c n, m) ∷ L)))) (sym s.mark) g.0, s.failed g.1))
+      inr (subst (λ m. TalksInPart B c octets Written old (acts (trace_of B ((event.Took c n, m) ∷ L)))) (sym s.event_tag) g.0, s.failed g.1))
       (next_by_tag k h.tag (sym s.lack ∙ kept) h.may)
 
   pub takes_last : Takes → (lends : ℕ → ℕ) → length lent ≡ lends c → (o : Outcome) → IsOutcome (trace_of B L) lends (event.Took c n) o → is_lack o ≡ true
-      → Breaks B c old octets Written true ((event.Took c n, mark_of o) ∷ L)
+      → Breaks B c old octets Written true ((event.Took c n, event_tag_of o) ∷ L)
   takes_last k lends count o h lack =
       let s = took_shows k lends count o h in
-      subst (λ m. Breaks B c old octets Written true ((event.Took c n, m) ∷ L)) (sym s.mark) (breaks_by_tag k h.tag (sym s.lack ∙ lack) h.may)
+      subst (λ m. Breaks B c old octets Written true ((event.Took c n, m) ∷ L)) (sym s.event_tag) (breaks_by_tag k h.tag (sym s.lack ∙ lack) h.may)

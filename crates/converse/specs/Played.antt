@@ -3,11 +3,11 @@ use Rattle.std.specs.Prelude.{◌≡◌, ℕ, Bool, true, false, ◌+◌, ◌<�
 use Rattle.std.specs.Io.KnownBytes.{Appends}
 use Rattle.vault.specs.Calls.{has_grown}
 use Rattle.vault.specs.Changes.{Contents}
-use Rattle.office.specs.Events.{Event, Mark, Tagged, Log, Took, Trace, given}
+use Rattle.office.specs.Events.{Event, EventTag, Tagged, Log, Took, Trace, given}
 use Rattle.office.specs.History.{Failed}
 use Rattle.office.specs.Expected.{IsOutcome}
 use Rattle.office.specs.Trace.{most_lent, is_open, rest}
-use Rattle.office.specs.Outcomes.{Outcome, Opened, Done, mark_of}
+use Rattle.office.specs.Outcomes.{Outcome, Opened, Done, event_tag_of}
 use Rattle.office.specs.Stands.{Keeps, StandsFor}
 use Rattle.office.specs.declared.office.Office.{Office}
 use Rattle.converse.specs.Escapes.{escaped}
@@ -38,7 +38,7 @@ sent_before T _ = []
 -- the trace with these takings
 abbrev pub drained : ℕ → Trace → List Outcome → Trace
 drained c T [] = T
-drained c T (o ∷ os) = given (drained c T os) (Took c (owed_by (drained c T os) c)) (mark_of o)
+drained c T (o ∷ os) = given (drained c T os) (Took c (owed_by (drained c T os) c)) (event_tag_of o)
 
 -- the octets that they took
 abbrev pub drained_octets : ℕ → Trace → List Outcome → List ℕ
@@ -75,7 +75,8 @@ TakesAll T c o printed U = (outcomes : List Outcome) × Takes T c outcomes o U �
 
 -- What a line does to T: what is printed before an outcome is told, that outcome, and the trace behind it. A text that is no policy is no event.
 abbrev pub Acts : Trace → ScriptLine → Option Outcome → (printed : List ℕ) → Trace → Type 0
-Acts T (Does e) (Some o) printed U = IsOutcome T (owed_by T) e o × (U ≡ given T e (mark_of o)) × (printed ≡ sent_before T e)
+Acts T (Does e) (Some o) printed U = IsOutcome T (owed_by T) e o
+  × (U ≡ given T e (event_tag_of o)) × (printed ≡ sent_before T e)
 Acts T (Drains c) (Some o) printed U = (outcomes : List Outcome) × Takes T c outcomes o U × (rest U c ≡ []) × (printed ≡ drained_text c T outcomes)
 Acts T (NoPolicy f) None printed U = (U ≡ T) × (printed ≡ no_policy_line f)
 Acts T _ _ printed U = ⊥
@@ -125,7 +126,8 @@ HasPlayed T lines printed U = (known : List ℕ) × Plays (point T []) lines pri
 
 -- What a line that was broken off did to T: nothing, or its event; of a `drain` some of its takings, or all.
 abbrev pub Begun : Trace → ScriptLine → Trace → Type 0
-Begun T (Does e) U = (U ≡ T) ⊎ ((o : Outcome) × IsOutcome T (owed_by T) e o × (U ≡ given T e (mark_of o)))
+Begun T (Does e) U = (U ≡ T) ⊎ ((o : Outcome) × IsOutcome T (owed_by T) e o
+  × (U ≡ given T e (event_tag_of o)))
 Begun T (Drains c) U = (outcomes : List Outcome) × AreTakings c T outcomes × (U ≡ drained c T outcomes)
 Begun T (NoPolicy f) U = U ≡ T
 
@@ -136,7 +138,7 @@ PlaysInPart P (line ∷ lines) U = Begun P.trace line U ⊎ ((M : Point) × (pri
 
 -- ---- what failed
 
-abbrev pub is_failed : Mark → Bool
+abbrev pub is_failed : EventTag → Bool
 is_failed (Tagged Failed) = true
 is_failed _ = false
 

@@ -12,7 +12,7 @@ use Rattle.policy.specs.declared.fault.PolicyFault.TheVariants.{NotToml}
 use Rattle.office.specs.Answers.{AdminCommand, ListMaildrops, ShowMaildrop, AddMaildrop, DropMaildrop, ShowClerk, PutClerk, DropClerk, ShowPolicy, SetPolicy, ListGroups, ListSessions, EndSession, Explain}
 use Rattle.office.specs.Events.{Event, Connect, Bytes, Took, Gone, Tick, Deposit, Admin, Restart}
 use Rattle.office.specs.Numbers.{number_of}
-use Rattle.office.specs.Shown.{command_seen}
+use Rattle.office.specs.Seen.{command_seen}
 use Rattle.converse.specs.Escapes.{unescaped}
 use Rattle.converse.specs.declared.script.Line.{Line}
 use Rattle.converse.specs.declared.script.Line.TheVariants as line

@@ -4,7 +4,7 @@ use Rattle.std.specs.List.{list_all}
 use Rattle.vault.specs.Records.{Records}
 use Rattle.vault.specs.Changes.{Contents}
 use Rattle.office.specs.History.{Act, Tag, NoMemory}
-use Rattle.office.specs.Events.{Event, Mark, Tagged, Log, Trace}
+use Rattle.office.specs.Events.{Event, EventTag, Tagged, Log, Trace}
 use Rattle.office.specs.Events as event
 use Rattle.office.specs.Trace.{acts, is_open}
 use Rattle.office.specs.Expected.{is_full}
@@ -20,7 +20,7 @@ abbrev pub trace_of : Records → Log → Trace
 trace_of B L = record { base = B; log = L }
 
 -- an event of connection c, behind its opening
-abbrev pub is_own : ℕ → Event × Mark → Bool
+abbrev pub is_own : ℕ → Event × EventTag → Bool
 is_own c (event.Bytes number piece, m) = number == c
 is_own c (event.Took number octets, m) = number == c
 is_own c (event.Gone number, m) = number == c
@@ -28,7 +28,7 @@ is_own c _ = false
 
 -- a log is an older one, an opening (or one that was refused), and events of connection c alone
 pub record Extends (c : ℕ) (older L : Log) : Type 0 where
-  pub opening : Mark
+  pub opening : EventTag
   pub own : Log
   pub each : list_all (is_own c) own ≡ true
   pub is : L ≡ own ++ (event.Connect, opening) ∷ older
@@ -60,7 +60,8 @@ MetLack L = (e : Event) × (before : Log) × (L ≡ (e, Tagged NoMemory) ∷ bef
 
 -- the last event is the connection's end, and the one before it found no memory
 abbrev pub MetLackBefore : ℕ → Log → Type 0
-MetLackBefore c L = (m : Mark) × (before : Log) × (L ≡ (event.Gone c, m) ∷ before) × MetLack before
+MetLackBefore c L = (m : EventTag) × (before : Log) × (L ≡ (event.Gone c, m) ∷ before)
+  × MetLack before
 
 -- the connection isn't open, and of the acts this holds
 abbrev pub Leaves : Records → ℕ → Log → (List (Act × Tag) → Type 0) → Type 0

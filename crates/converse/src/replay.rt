@@ -7,7 +7,7 @@ ghost use Rattle.std.specs.Io.KnownBytes.{Appends, IsAtEnd, Keeps as Unchanged};
 ghost use Rattle.std.specs.List.{filter};
 ghost use Rattle.creds.specs.Names.{is_host};
 ghost use Rattle.office.specs.Events.{Trace, Took};
-ghost use Rattle.office.specs.Shown.{outcome_seen, reason_seen};
+ghost use Rattle.office.specs.Seen.{outcome_seen, reason_seen};
 ghost use Rattle.office.specs.Stands.{Keeps, StandsFor, vault_of};
 ghost use Rattle.office.specs.Trace.{is_open};
 ghost use Rattle.converse.specs.declared.fault.Fault.TheVariants.{CannotWrite, OutOfMemory};

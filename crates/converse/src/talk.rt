@@ -7,7 +7,7 @@ ghost use Rattle.office.specs.Events.{Trace};
 ghost use Rattle.office.specs.Log.{next_number};
 ghost use Rattle.office.specs.Trace.{acts};
 ghost use Rattle.office.specs.Expected.{most_in_a_piece};
-ghost use Rattle.office.specs.Shown.{outcome_seen};
+ghost use Rattle.office.specs.Seen.{outcome_seen};
 ghost use Rattle.office.specs.Stands.{StandsFor, vault_of};
 ghost use Rattle.converse.specs.Streams.{Reads, Writes, reads_failed, writes_failed};
 ghost use Rattle.converse.specs.Talked.{StandsSo, ComesOut, HasFailed};

@@ -7,7 +7,7 @@ use Rattle.vault.specs.Changes.{Contents, records_of}
 use Rattle.vault.specs.Plain.{no_contents}
 use Rattle.office.specs.Events.{Trace, Event, Limits, Start, Tagged, given}
 use Rattle.office.specs.History.{Done}
-use Rattle.office.specs.Shown.{followed_by}
+use Rattle.office.specs.Seen.{followed_by}
 use Rattle.office.specs.Stands.{begun}
 use Rattle.office.specs.declared.event.Outcome.{Outcome}
 use Rattle.sqlvault.specs.Opened.{Opened}

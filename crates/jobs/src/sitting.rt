@@ -1,7 +1,7 @@
 //! An office that is opened over a store for one event.
 ghost use Rattle.std.specs.Prelude.{IfOk, IfErr};
 ghost use Rattle.office.specs.Events.{Trace};
-ghost use Rattle.office.specs.Shown.{event_seen};
+ghost use Rattle.office.specs.Seen.{event_seen};
 ghost use Rattle.office.specs.Stands.{Keeps};
 ghost use Rattle.jobs.specs.Sittings.{sat};
 

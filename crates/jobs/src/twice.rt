@@ -1,7 +1,7 @@
 //! A store in two files in memory, over which an office is opened twice.
 ghost use Rattle.std.specs.Prelude.{IfOk};
 ghost use Rattle.office.specs.Events.{Trace};
-ghost use Rattle.office.specs.Shown.{event_seen};
+ghost use Rattle.office.specs.Seen.{event_seen};
 ghost use Rattle.office.specs.Stands.{Keeps, StandsFor};
 ghost use Rattle.jobs.specs.Sittings.{holds, unused, opened, sat};
 

@@ -12,7 +12,7 @@ use Rattle.sqlite_schema.specs.declared.schema.Keys.TheVariants.{Enforced}
 use Rattle.sqlite_rules.specs.Edit.{Edit, Applies, IsNoIndex}
 use Rattle.mailsql.specs.Tables.{schema_of, mail_tree, last_indexes}
 use Rattle.mailsql.specs.Columns.{is_carried}
-use Rattle.mailsql.specs.Rows.{rows_in, IsKept, AreKept, text_at, mark_of, clerk_of, maildrop_of, count_of, deposit_of, rule_of, sheet_of, group_of, member_of, body_of, bodies_at}
+use Rattle.mailsql.specs.Rows.{rows_in, IsKept, AreKept, text_at, meta_row_of, clerk_of, maildrop_of, count_of, deposit_of, rule_of, sheet_of, group_of, member_of, body_of, bodies_at}
 
 -- another tree than mail's
 pub not_mail : (carried : Bool) (at : ℕ) → at ≢ 10 → at ≢ 22 → mail_tree carried ≢ at
@@ -90,8 +90,8 @@ kept_framed db next after is same all =
     let kept : IsKept it = (ap schema_of (sym same), subst (λ c. AreKept (schema_of c).tables next) (sym same) all) in
     subst IsKept (sym is) kept
 
-pub marks_alone : (db next : Trees) → Frame (is_carried db) 0 db next → rows_in next ≡ record (rows_in db) { marks = map mark_of (next 0) }
-marks_alone db next h =
+pub meta_rows_alone : (db next : Trees) → Frame (is_carried db) 0 db next → rows_in next ≡ record (rows_in db) { meta_rows = map meta_row_of (next 0) }
+meta_rows_alone db next h =
     let clerks : next 2 ≡ db 2 = h.clerks (λ e. absurd (omega arith)) in
     let maildrops : next 4 ≡ db 4 = h.maildrops (λ e. absurd (omega arith)) in
     let counts : next 6 ≡ db 6 = h.counts (λ e. absurd (omega arith)) in

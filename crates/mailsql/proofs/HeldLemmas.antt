@@ -22,7 +22,7 @@ use Rattle.sqlite_rules.proofs.ListLemmas.{all_has}
 use Rattle.sqlite.specs.Values.{IsInt}
 use Rattle.sqlite.specs.Effect.{Database, IsDatabase}
 use Rattle.mailsql.specs.Tables.{schema_of, mail_tree, meta_at, clerks_at, maildrops_at, counts_at, deposits_at, mail_at, rules_at, sheets_at, groups_at, members_at}
-use Rattle.mailsql.specs.Rows.{IsOurs, is_carried, AreKeyed, HoldsOctets, HoldsNumber, HoldsMark, HoldsClerk, HoldsName, HoldsCount, HoldsDeposit, HoldsMessage, HoldsSheet, HoldsRule, HoldsGroup, HoldsMember}
+use Rattle.mailsql.specs.Rows.{IsOurs, is_carried, AreKeyed, HoldsOctets, HoldsNumber, HoldsMetaRow, HoldsClerk, HoldsName, HoldsCount, HoldsDeposit, HoldsMessage, HoldsSheet, HoldsRule, HoldsGroup, HoldsMember}
 use Rattle.mailsql.proofs.TypedLemmas.{IsText}
 
 abbrev pub IsBlob : Value → Type 0
@@ -151,8 +151,8 @@ module _ (db : Database) (ours : IsOurs db) (sound : IsDatabase db) where
       → (r : Row) → Has (db.trees t.tree) r → Holds t.key 0 t.columns r
   row_in t required typed present r = all_has _ (db.trees t.tree) r (both (λ row. row_held (schema_of (is_carried db.trees)) db.trees t row required) (db.trees t.tree) typed present)
 
-  pub marks_held : (r : Row) → Has (db.trees 0) r → HoldsMark r
-  marks_held r has = let it = row_in (meta_at 0) refl (obeys.rules Datatype).0 (obeys.rules NotNull).0 r has in (text_octets r 1 it.0, it.1.0)
+  pub meta_rows_held : (r : Row) → Has (db.trees 0) r → HoldsMetaRow r
+  meta_rows_held r has = let it = row_in (meta_at 0) refl (obeys.rules Datatype).0 (obeys.rules NotNull).0 r has in (text_octets r 1 it.0, it.1.0)
 
   pub clerks_held : (r : Row) → Has (db.trees 2) r → HoldsClerk r
   clerks_held r has = let it = row_in (clerks_at 2) refl (obeys.rules Datatype).1.0 (obeys.rules NotNull).1.0 r has in (text_octets r 1 it.0, it.1.0, blob_octets r 3 it.1.1.0)

@@ -29,8 +29,8 @@ use Rattle.sqlite.specs.Effect.{Database, IsDatabase}
 use Rattle.sqlite.specs.State.{State, IsLive}
 use Rattle.mailsql.specs.Apart.{are_apart, AreRising, AreApart}
 use Rattle.mailsql.specs.Tables.{schema_of, mail_tree, meta_at, clerks_at, maildrops_at, counts_at, deposits_at, mail_at, rules_at, sheets_at, groups_at, members_at, key_of, clerks_key_of, plain_order, to_maildrops, to_mail, to_groups}
-use Rattle.mailsql.specs.Rows.{IsOurs, is_carried, IsReady, AreKeyed, AreKept, same_int, has_name, Mark, Clerk, Count, Deposit, Message, Sheet, Rule, Group, Member, Body, bodies_at, rows_in, mark_of, clerk_of, maildrop_of, count_of, deposit_of, message_of, sheet_of, rule_of, group_of, member_of, body_of, text_at, number_at}
-use Rattle.mailsql.proofs.TypedLemmas.{IsText, IsInt, marks_typed, clerks_typed, names_typed, counts_typed, deposits_typed, messages_typed, sheets_typed}
+use Rattle.mailsql.specs.Rows.{IsOurs, is_carried, IsReady, AreKeyed, AreKept, same_int, has_name, MetaRow, Clerk, Count, Deposit, Message, Sheet, Rule, Group, Member, Body, bodies_at, rows_in, meta_row_of, clerk_of, maildrop_of, count_of, deposit_of, message_of, sheet_of, rule_of, group_of, member_of, body_of, text_at, number_at}
+use Rattle.mailsql.proofs.TypedLemmas.{IsText, IsInt, meta_rows_typed, clerks_typed, names_typed, counts_typed, deposits_typed, messages_typed, sheets_typed}
 use Rattle.mailsql.proofs.HeldLemmas.{row_in, members_in, messages_in}
 use Rattle.mailsql.proofs.HeadLemmas.{mail_keyed}
 use Rattle.sqlite_schema.specs.declared.schema.Schema.{Schema}
@@ -189,12 +189,12 @@ module _ (db : Database) (ours : IsOurs db) (sound : IsDatabase db) (kept : AreK
   obeys : Obeys (schema_of (is_carried db.trees)) db.trees
   obeys = subst (λ s. Obeys s db.trees) ours sound.obeys
 
-  marks_apart : are_apart (λ (a b : Mark). bytes_eq a.name b.name) (map mark_of (db.trees 0)) ≡ true
-  marks_apart =
-      apart_keys mark_of (λ (a b : Mark). bytes_eq a.name b.name) (meta_at 0) (key_of (codes "meta") 0 (1 ∷ [])) (schema_of c) db.trees (inl refl) refl kept.0 (obeys.rules Unique).0
+  meta_rows_apart : are_apart (λ (a b : MetaRow). bytes_eq a.name b.name) (map meta_row_of (db.trees 0)) ≡ true
+  meta_rows_apart =
+      apart_keys meta_row_of (λ (a b : MetaRow). bytes_eq a.name b.name) (meta_at 0) (key_of (codes "meta") 0 (1 ∷ [])) (schema_of c) db.trees (inl refl) refl kept.0 (obeys.rules Unique).0
       (λ a b ha hb.
-      let x = marks_typed db ours sound a ha in
-      let y = marks_typed db ours sound b hb in
+      let x = meta_rows_typed db ours sound a ha in
+      let y = meta_rows_typed db ours sound b hb in
       one_agrees 1 1 a b _ (same_text (column a 1) (column b 1) x y))
 
   clerks_apart : are_apart (λ (a b : Clerk). bytes_eq a.name b.name) (map clerk_of (db.trees 2)) ≡ true
@@ -322,7 +322,7 @@ module _ (db : Database) (ours : IsOurs db) (sound : IsDatabase db) (kept : AreK
 
   records_apart : AreApart (rows_in db.trees)
   records_apart = record {
-    marks = marks_apart;
+    meta_rows = meta_rows_apart;
     clerks = clerks_apart;
     maildrops = maildrops_apart;
     counts = counts_apart;

@@ -45,4 +45,4 @@ pub mod PlaceLemmas
 pub mod ListedLemmas
 pub mod BodyLemmas
 pub mod CompleteLemmas
-pub mod MarkedLemmas
+pub mod MetaTableLemmas

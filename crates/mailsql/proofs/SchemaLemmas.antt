@@ -4,7 +4,7 @@ use Rattle.sqlite_schema.specs.Names.{same_name}
 use Rattle.sqlite_schema.specs.declared.schema.Table.{Table}
 use Rattle.sqlite_schema.specs.declared.schema.Schema.{Schema}
 use Rattle.mailsql.specs.Tables.{schema_of, old_schema, second_schema, first_schema, meta_at}
-use Rattle.mailsql.specs.Names.{is_taken, has_marks, has_columns, has_first_columns, has_second_columns}
+use Rattle.mailsql.specs.Names.{is_taken, has_meta_rows, has_columns, has_first_columns, has_second_columns}
 
 pub ours_taken : (c : Bool) → is_taken (schema_of c) ≡ true
 unfolding same_name
@@ -35,7 +35,7 @@ unfolding same_name
 old_taken false = refl
 old_taken true = refl
 
-pub old_marked : (c : Bool) → has_marks (old_schema c).tables ≡ true
+pub old_marked : (c : Bool) → has_meta_rows (old_schema c).tables ≡ true
 old_marked false = refl
 old_marked true = refl
 
@@ -43,11 +43,11 @@ pub old_lacks : (c : Bool) → has_columns (old_schema c).tables ≡ false
 old_lacks false = refl
 old_lacks true = refl
 
--- ---- of a store whose first table is that of the marks
+-- ---- of a store whose first table is `meta`
 
 pub first_taken : (schema : Schema) (others : List Table) → schema.tables ≡ meta_at 0 ∷ others → is_taken schema ≡ true
 unfolding same_name
 first_taken schema others is = ap (λ (ts : List Table). is_taken (record schema { tables = ts })) is
 
-pub first_marked : (tables others : List Table) → tables ≡ meta_at 0 ∷ others → has_marks tables ≡ true
-first_marked tables others is = ap has_marks is
+pub first_marked : (tables others : List Table) → tables ≡ meta_at 0 ∷ others → has_meta_rows tables ≡ true
+first_marked tables others is = ap has_meta_rows is

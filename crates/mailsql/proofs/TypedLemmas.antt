@@ -90,10 +90,10 @@ message_typed schema tree db (i ∷ a ∷ b ∷ rest) t p =
     let typed = and_parts _ _ (and_parts _ _ t).0 in
     is_text b (and_parts _ _ typed.1).0 (and_parts _ _ p).0
 
-mark_typed : (schema : Schema) (db : Trees) (row : Row) → passes Datatype schema db (meta_at 0) row ≡ true → passes NotNull schema db (meta_at 0) row ≡ true → IsText (column row 1)
-mark_typed schema db [] t p = absurd (true≢false (sym p))
-mark_typed schema db (i ∷ []) t p = absurd (true≢false (sym p))
-mark_typed schema db (i ∷ a ∷ rest) t p = is_text a (and_parts _ _ (and_parts _ _ t).0).0 (and_parts _ _ p).0
+meta_row_typed : (schema : Schema) (db : Trees) (row : Row) → passes Datatype schema db (meta_at 0) row ≡ true → passes NotNull schema db (meta_at 0) row ≡ true → IsText (column row 1)
+meta_row_typed schema db [] t p = absurd (true≢false (sym p))
+meta_row_typed schema db (i ∷ []) t p = absurd (true≢false (sym p))
+meta_row_typed schema db (i ∷ a ∷ rest) t p = is_text a (and_parts _ _ (and_parts _ _ t).0).0 (and_parts _ _ p).0
 
 clerk_typed : (schema : Schema) (db : Trees) (row : Row) → passes Datatype schema db (clerks_at 2) row ≡ true → passes NotNull schema db (clerks_at 2) row ≡ true → IsText (column row 1)
 clerk_typed schema db [] t p = absurd (true≢false (sym p))
@@ -114,22 +114,22 @@ mail_typed false db obeys = both (message_typed (schema_of false) 10 db) (db 10)
 mail_typed true db obeys = both (message_typed (schema_of true) 22 db) (db 22) (obeys.rules Datatype).1.1.1.1.1.1.1.1.1.1.1.0 (obeys.rules NotNull).1.1.1.1.1.1.1.1.1.1.1.0
 
 -- in an older store
-pub old_marks_typed : (c : Bool) (db : Trees) → Obeys (old_schema c) db → (r : Row) → Has (db 0) r → IsText (column r 1)
-old_marks_typed false db obeys r = all_has _ (db 0) r (both (mark_typed (old_schema false) db) (db 0) (obeys.rules Datatype).0 (obeys.rules NotNull).0)
-old_marks_typed true db obeys r = all_has _ (db 0) r (both (mark_typed (old_schema true) db) (db 0) (obeys.rules Datatype).0 (obeys.rules NotNull).0)
+pub old_meta_rows_typed : (c : Bool) (db : Trees) → Obeys (old_schema c) db → (r : Row) → Has (db 0) r → IsText (column r 1)
+old_meta_rows_typed false db obeys r = all_has _ (db 0) r (both (meta_row_typed (old_schema false) db) (db 0) (obeys.rules Datatype).0 (obeys.rules NotNull).0)
+old_meta_rows_typed true db obeys r = all_has _ (db 0) r (both (meta_row_typed (old_schema true) db) (db 0) (obeys.rules Datatype).0 (obeys.rules NotNull).0)
 
 -- in a store of any version
-pub first_marks_typed : (schema : Schema) (db : Trees) (others : List Table) → schema.tables ≡ meta_at 0 ∷ others → Obeys schema db → (r : Row) → Has (db 0) r → IsText (column r 1)
-first_marks_typed schema db others is obeys r =
+pub first_meta_rows_typed : (schema : Schema) (db : Trees) (others : List Table) → schema.tables ≡ meta_at 0 ∷ others → Obeys schema db → (r : Row) → Has (db 0) r → IsText (column r 1)
+first_meta_rows_typed schema db others is obeys r =
     let held : (rule : Constraint) → AllByRecursion (λ row. passes rule schema db (meta_at 0) row ≡ true) (db 0) = λ rule. (subst (AllByRecursion (λ t. AllByRecursion (λ row. passes rule schema db t row ≡ true) (db t.tree))) is (obeys.rules rule)).0 in
-    all_has _ (db 0) r (both (mark_typed schema db) (db 0) (held Datatype) (held NotNull))
+    all_has _ (db 0) r (both (meta_row_typed schema db) (db 0) (held Datatype) (held NotNull))
 
 module _ (db : Database) (ours : IsOurs db) (sound : IsDatabase db) where
   obeys : Obeys (schema_of (is_carried db.trees)) db.trees
   obeys = subst (λ s. Obeys s db.trees) ours sound.obeys
 
-  pub marks_typed : (r : Row) → Has (db.trees 0) r → IsText (column r 1)
-  marks_typed r = all_has _ (db.trees 0) r (both (mark_typed (schema_of (is_carried db.trees)) db.trees) (db.trees 0) (obeys.rules Datatype).0 (obeys.rules NotNull).0)
+  pub meta_rows_typed : (r : Row) → Has (db.trees 0) r → IsText (column r 1)
+  meta_rows_typed r = all_has _ (db.trees 0) r (both (meta_row_typed (schema_of (is_carried db.trees)) db.trees) (db.trees 0) (obeys.rules Datatype).0 (obeys.rules NotNull).0)
 
   pub clerks_typed : (r : Row) → Has (db.trees 2) r → IsText (column r 1)
   clerks_typed r = all_has _ (db.trees 2) r (both (clerk_typed (schema_of (is_carried db.trees)) db.trees) (db.trees 2) (obeys.rules Datatype).1.0 (obeys.rules NotNull).1.0)

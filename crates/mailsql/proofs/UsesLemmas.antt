@@ -3,23 +3,23 @@ use Rattle.std.proofs.Common.{◌≡◌, ℤ, pos, true, false, List, [], ◌∷
 use Rattle.sqlite.specs.Effect.{Database}
 use Rattle.sqlite.specs.State.{State, Shows, IsUnchanged}
 use Rattle.sqlite.specs.Steps.{IsEmpty}
-use Rattle.mailsql.specs.Rows.{Rows, Mark, rows_in, no_rows, IsKept, IsReady, IsBegun, MakesTables, Changes, is_in, is_sheet}
-use Rattle.mailsql.specs.Changes.{AddsMark}
+use Rattle.mailsql.specs.Rows.{Rows, MetaRow, rows_in, no_rows, IsKept, IsReady, IsBegun, MakesTables, Changes, is_in, is_sheet}
+use Rattle.mailsql.specs.Changes.{AddsMetaRow}
 use Rattle.mailsql.specs.Uses.{Stands, orders, marked, sample_message, sheet_at_place, arrived, with_sheets, left_of}
 use Rattle.mailsql.proofs.EqualLemmas.{same_itself}
 
 pub begun : (old new : State) → IsEmpty old → Shows old new old.now old.committed true → IsBegun new
 begun old new empty shows = record { is_open = shows.is_open; inside = shows.mode; bare = (ap (λ (d : Database). d.schema) shows.now_is ∙ empty.2, tt) }
 
-pub stands_new : (first made marked new : State) (mark : Mark) → MakesTables first made → (IsReady made → Changes (AddsMark mark) made marked) → Shows marked new marked.now marked.now false
-    → Stands new (record no_rows { marks = mark ∷ [] })
-stands_new first made marked new mark m does shows =
+pub stands_new : (first made marked new : State) (meta_row : MetaRow) → MakesTables first made → (IsReady made → Changes (AddsMetaRow meta_row) made marked) → Shows marked new marked.now marked.now false
+    → Stands new (record no_rows { meta_rows = meta_row ∷ [] })
+stands_new first made marked new meta_row m does shows =
     let it = does (m.on.is_open, m.kept) in
     record {
       is_open = shows.is_open;
       autocommit = shows.mode;
       kept = subst IsKept (sym shows.now_is) it.kept;
-      rows_are = ap (λ (d : Database). rows_in d.trees) shows.now_is ∙ it.change ∙ ap (λ (r : Rows). let x : Rows = record r { marks = r.marks ++ mark ∷ [] } in x) m.rows;
+      rows_are = ap (λ (d : Database). rows_in d.trees) shows.now_is ∙ it.change ∙ ap (λ (r : Rows). let x : Rows = record r { meta_rows = r.meta_rows ++ meta_row ∷ [] } in x) m.rows;
     }
 
 pub step : (Change : Rows → Rows → Type 0) (old new : State) (rows after : Rows) → (IsReady old → Changes Change old new) → (Change rows (rows_in new.now.trees) → rows_in new.now.trees ≡ after) → Stands old rows

@@ -1,7 +1,7 @@
 -- What the tables' keys and references ensure of the rows in every store of ours.
 use Rattle.std.specs.Prelude.{◌≡◌, ⊤, ◌<ℤ◌, Bool, true, not, ◌&&◌, List, [], ◌∷◌, bytes_eq}
 use Rattle.std.specs.List.{list_any, list_all, AllByRecursion}
-use Rattle.mailsql.specs.Columns.{Mark, Clerk, Count, Deposit, Message, Sheet, Rule, Group, Member, Body, Rows}
+use Rattle.mailsql.specs.Columns.{MetaRow, Clerk, Count, Deposit, Message, Sheet, Rule, Group, Member, Body, Rows}
 use Rattle.mailsql.specs.Rows.{same_int, has_name}
 
 -- no two elements are the same by the test
@@ -17,7 +17,7 @@ AreRising (b ∷ bodies) = AllByRecursion (λ (x : Body). b.head.key <ℤ x.head
 -- No two rows of a table have one key; each message's maildrop, each sheet's message and each
 -- member's group is there.
 pub record AreApart (rows : Rows) : Type 0 where
-  pub marks : are_apart (λ (a b : Mark). bytes_eq a.name b.name) rows.marks ≡ true
+  pub meta_rows : are_apart (λ (a b : MetaRow). bytes_eq a.name b.name) rows.meta_rows ≡ true
   pub clerks : are_apart (λ (a b : Clerk). bytes_eq a.name b.name) rows.clerks ≡ true
   pub maildrops : are_apart bytes_eq rows.maildrops ≡ true
   pub counts : are_apart (λ (a b : Count). bytes_eq a.maildrop b.maildrop && bytes_eq a.class b.class) rows.counts ≡ true

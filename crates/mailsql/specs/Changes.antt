@@ -1,20 +1,26 @@
 -- The changes that the statements make, each of one table or two: a new row comes after the others.
 use Rattle.std.specs.Prelude.{◌≡◌, ◌≤◌, ℕ, ℤ, List, [], ◌∷◌, ◌++◌, fold, pos, ◌+ℤ◌, ◌<ℤ◌, bytes_eq, filter, not}
 use Rattle.std.specs.List.{AllByRecursion}
-use Rattle.mailsql.specs.Rows.{Name, Mark, Clerk, Count, Deposit, Message, Sheet, Rule, Group, Member, Rows, is_mark, is_clerk, is_count, is_message, is_sheet_of}
+use Rattle.mailsql.specs.Rows.{Name, MetaRow, Clerk, Count, Deposit, Message, Sheet, Rule, Group, Member, Rows, is_meta_row, is_clerk, is_count, is_message, is_sheet_of}
 use Rattle.mailsql.specs.Sheets.{first_sheets, sheets_of, sheet_count}
 
--- adds a mark
-abbrev pub AddsMark : Mark → Rows → Rows → Type 0
-AddsMark mark old new = new ≡ record old { marks = old.marks ++ mark ∷ [] }
+-- adds a row of `meta`
+abbrev pub AddsMetaRow : MetaRow → Rows → Rows → Type 0
+AddsMetaRow meta_row old new = new ≡ record old { meta_rows = old.meta_rows ++ meta_row ∷ [] }
 
--- drops the mark of this name
-abbrev pub DropsMark : Name → Rows → Rows → Type 0
-DropsMark name old new = new ≡ record old { marks = filter (λ m. not (is_mark name m)) old.marks }
+-- drops the row of `meta` of this name
+abbrev pub DropsMetaRow : Name → Rows → Rows → Type 0
+DropsMetaRow name old new = new ≡ record old {
+  meta_rows =
+      filter (λ m. not (is_meta_row name m)) old.meta_rows;
+}
 
--- adds the mark, or replaces the one of its name
-abbrev pub PutsMark : Mark → Rows → Rows → Type 0
-PutsMark mark old new = new ≡ record old { marks = filter (λ m. not (is_mark mark.name m)) old.marks ++ mark ∷ [] }
+-- adds the row of `meta`, or replaces the one of its name
+abbrev pub PutsMetaRow : MetaRow → Rows → Rows → Type 0
+PutsMetaRow meta_row old new = new ≡ record old {
+  meta_rows =
+      filter (λ m. not (is_meta_row meta_row.name m)) old.meta_rows ++ meta_row ∷ [];
+}
 
 -- adds a clerk
 abbrev pub AddsClerk : Clerk → Rows → Rows → Type 0

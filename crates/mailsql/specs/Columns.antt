@@ -10,7 +10,7 @@ use Rattle.sqlite_catalog.specs.Listing.{is_table_row}
 use Rattle.sqlite_rules.specs.Edit.{id_in}
 use Rattle.sqlite.specs.Values.{IsInt}
 use Rattle.mailsql.specs.Tables.{mail_tree}
-pub use Rattle.mailsql.specs.declared.rows.Mark.{Mark}
+pub use Rattle.mailsql.specs.declared.rows.MetaRow.{MetaRow}
 pub use Rattle.mailsql.specs.declared.rows.Clerk.{Clerk}
 pub use Rattle.mailsql.specs.declared.rows.Count.{Count}
 pub use Rattle.mailsql.specs.declared.rows.Deposit.{Deposit}
@@ -42,12 +42,12 @@ abbrev pub HoldsNumber : Row → ℕ → Type 0
 HoldsNumber row at = IsInt (column row at)
 
 -- a row of meta
-abbrev pub mark_of : Row → Mark
-mark_of row = record { name = text_at row 1; value = number_at row 2 }
+abbrev pub meta_row_of : Row → MetaRow
+meta_row_of row = record { name = text_at row 1; value = number_at row 2 }
 
--- the columns that mark_of reads have their types
-abbrev pub HoldsMark : Row → Type 0
-HoldsMark row = HoldsOctets row 1 × HoldsNumber row 2
+-- the columns that meta_row_of reads have their types
+abbrev pub HoldsMetaRow : Row → Type 0
+HoldsMetaRow row = HoldsOctets row 1 × HoldsNumber row 2
 
 -- a row of clerks
 abbrev pub clerk_of : Row → Clerk
@@ -131,7 +131,7 @@ HoldsBody row = HoldsMessage row × HoldsOctets row 6
 
 -- the records of every table, in the order of rowids; only a store that was carried over has bodies
 pub record Rows : Type 0 where
-  pub marks : List Mark
+  pub meta_rows : List MetaRow
   pub clerks : List Clerk
   pub maildrops : List Name
   pub counts : List Count
@@ -151,7 +151,7 @@ bodies_at true db = map body_of (db 10)
 -- the records that the trees hold; `carried` says that the store was carried over from version 1
 abbrev pub rows_at : (carried : Bool) → Trees → Rows
 rows_at carried db = record {
-  marks = map mark_of (db 0);
+  meta_rows = map meta_row_of (db 0);
   clerks = map clerk_of (db 2);
   maildrops = map maildrop_of (db 4);
   counts = map count_of (db 6);
@@ -174,4 +174,16 @@ rows_in db = rows_at (is_carried db) db
 
 -- no table has a row
 abbrev pub no_rows : Rows
-no_rows = record { marks = []; clerks = []; maildrops = []; counts = []; deposits = []; messages = []; rules = []; sheets = []; groups = []; members = []; bodies = [] }
+no_rows = record {
+  meta_rows = [];
+  clerks = [];
+  maildrops = [];
+  counts = [];
+  deposits = [];
+  messages = [];
+  rules = [];
+  sheets = [];
+  groups = [];
+  members = [];
+  bodies = [];
+}

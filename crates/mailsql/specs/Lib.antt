@@ -8,4 +8,4 @@ pub mod Errors
 pub mod Uses
 pub mod Apart
 pub mod Names
-pub mod Marked
+pub mod MetaTable

@@ -60,9 +60,9 @@ keeps_apart ours t = list_all (λ unique. has_keys ours.primary unique t) ours.u
 abbrev pub is_table : Table → Table → Bool
 is_table ours t = bytes_eq t.name ours.name && are_columns ours.columns t.columns && keeps_apart ours t
 
--- the table of marks is among the tables
-abbrev pub has_marks : List Table → Bool
-has_marks tables = list_any (is_table (meta_at 0)) tables
+-- the table `meta` is among the tables
+abbrev pub has_meta_rows : List Table → Bool
+has_meta_rows tables = list_any (is_table (meta_at 0)) tables
 
 -- the tables that stores of every version have are among the tables
 abbrev pub has_common_columns : List Table → Bool

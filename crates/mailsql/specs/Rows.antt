@@ -12,7 +12,7 @@ use Rattle.sqlite_value.specs.Order.{Row}
 use Rattle.sqlite.specs.Effect.{Database}
 use Rattle.sqlite.specs.State.{State, Shows, IsUnchanged, IsRolledBack}
 use Rattle.mailsql.specs.Tables.{schema_of, old_schema, no_schema}
-pub use Rattle.mailsql.specs.Columns.{Mark, Clerk, Count, Deposit, Message, Sheet, Rule, Group, Member, Body, Name, text_at, number_at, mark_of, clerk_of, maildrop_of, count_of, deposit_of, message_of, sheet_of, rule_of, group_of, member_of, body_of, HoldsOctets, HoldsNumber, HoldsMark, HoldsClerk, HoldsName, HoldsCount, HoldsDeposit, HoldsMessage, HoldsSheet, HoldsRule, HoldsGroup, HoldsMember, HoldsBody, Rows, rows_at, bodies_at, is_carried, rows_in, no_rows}
+pub use Rattle.mailsql.specs.Columns.{MetaRow, Clerk, Count, Deposit, Message, Sheet, Rule, Group, Member, Body, Name, text_at, number_at, meta_row_of, clerk_of, maildrop_of, count_of, deposit_of, message_of, sheet_of, rule_of, group_of, member_of, body_of, HoldsOctets, HoldsNumber, HoldsMetaRow, HoldsClerk, HoldsName, HoldsCount, HoldsDeposit, HoldsMessage, HoldsSheet, HoldsRule, HoldsGroup, HoldsMember, HoldsBody, Rows, rows_at, bodies_at, is_carried, rows_in, no_rows}
 
 -- ---- a store of ours
 
@@ -134,9 +134,9 @@ pub record CompletesTables (old new : State) : Type 0 where
 abbrev pub same_int : ℤ → ℤ → Bool
 same_int a b = is_eq (int_cmp a b)
 
--- the mark has this name
-abbrev pub is_mark : Name → Mark → Bool
-is_mark name mark = bytes_eq mark.name name
+-- the row of `meta` has this name
+abbrev pub is_meta_row : Name → MetaRow → Bool
+is_meta_row name meta_row = bytes_eq meta_row.name name
 
 -- the clerk has this name
 abbrev pub is_clerk : Name → Clerk → Bool

@@ -17,21 +17,21 @@ rollback_text = codes "ROLLBACK"
 
 -- ---- meta
 
--- adds a mark
-abbrev pub add_mark_text : List ℕ
-add_mark_text = codes "INSERT INTO meta (name, value) VALUES (?1, ?2)"
+-- adds a row of `meta`
+abbrev pub add_meta_row_text : List ℕ
+add_meta_row_text = codes "INSERT INTO meta (name, value) VALUES (?1, ?2)"
 
--- drops the mark of a name
-abbrev pub drop_mark_text : List ℕ
-drop_mark_text = codes "DELETE FROM meta WHERE name = ?1"
+-- drops the row of `meta` of a name
+abbrev pub drop_meta_row_text : List ℕ
+drop_meta_row_text = codes "DELETE FROM meta WHERE name = ?1"
 
--- reads the mark of a name
-abbrev pub find_mark_text : List ℕ
-find_mark_text = codes "SELECT name, value FROM meta WHERE name = ?1 ORDER BY rowid"
+-- reads the row of `meta` of a name
+abbrev pub find_meta_row_text : List ℕ
+find_meta_row_text = codes "SELECT name, value FROM meta WHERE name = ?1 ORDER BY rowid"
 
--- reads every mark
-abbrev pub all_marks_text : List ℕ
-all_marks_text = codes "SELECT name, value FROM meta ORDER BY rowid"
+-- reads every row of `meta`
+abbrev pub all_meta_rows_text : List ℕ
+all_meta_rows_text = codes "SELECT name, value FROM meta ORDER BY rowid"
 
 -- ---- clerks
 

@@ -44,7 +44,7 @@ plain_order = record { digits = 0 }
 abbrev pub keyed_table : List ℕ → ℕ → List Column → List ℕ → Table
 keyed_table name tree columns key = table_of name tree columns None key (key ∷ []) (plain_order ∷ []) [] false
 
--- the marks of the store
+-- the rows of `meta` of the store
 abbrev pub meta_text : List ℕ
 meta_text = codes "CREATE TABLE meta (name TEXT PRIMARY KEY, value INTEGER NOT NULL) STRICT"
 

@@ -10,7 +10,9 @@ use Rattle.std.specs.Prelude.{◌≡◌, ◌⊎◌, Some, None, ℤ, pos, List, 
 use Rattle.mailsql.specs.declared.uses.Seen.{Seen}
 use Rattle.mailsql.specs.Rows.{Name, Rows, Deposit, Message, Sheet, no_rows, is_message, is_sheet_of, rows_in, IsKept, IsReady, IsBegun}
 use Rattle.mailsql.specs.Errors.{IsWantOfMemory, FailsToRun, FailsToRead, FailsToCreate}
-use Rattle.mailsql.specs.Statements.{begin_text, commit_text, add_mark_text, add_maildrop_text, add_deposit_text, add_message_text, add_sheet_text, heads_text, find_sheet_text, remove_message_text}
+use Rattle.mailsql.specs.Statements.{begin_text, commit_text, add_meta_row_text, add_maildrop_text}
+use Rattle.mailsql.specs.Statements.{add_deposit_text, add_message_text, add_sheet_text, heads_text}
+use Rattle.mailsql.specs.Statements.{find_sheet_text, remove_message_text}
 
 -- the connection is open, no transaction is under way, and its rows are these
 pub record Stands (s : State) (rows : Rows) : Type 0 where
@@ -23,9 +25,12 @@ pub record Stands (s : State) (rows : Rows) : Type 0 where
 abbrev pub orders : Name
 orders = codes "orders"
 
--- a store with the mark of its version alone
+-- a store with its version row alone
 abbrev pub marked : ℤ → Rows
-marked version = record no_rows { marks = record { name = codes "popbox"; value = version } ∷ [] }
+marked version = record no_rows {
+  meta_rows = record { name = codes "popbox"; value = version }
+      ∷ [];
+}
 
 -- the sample's message
 abbrev pub sample_message : ℤ → Message
@@ -76,13 +81,14 @@ IsMetAtRest = IsMet (λ s. IsReady s × (s.in_transaction ≡ false))
 abbrev FailsToMakeTables : Error → Type 0
 FailsToMakeTables e = (old : Held MemStore) × (new : Held MemStore) × IsBegun (state over_memory old) × FailsToCreate over_memory old new e
 
--- there was no memory for the store, or BEGIN, the tables, the mark or COMMIT met this error
+-- there was no memory for the store, or BEGIN, the tables, the version row or COMMIT met this error
 abbrev pub FailsToOpenNew : ℤ → Error → Type 0
 FailsToOpenNew version e =
     IsWantOfMemory e
     ⊎ (IsMet IsEmpty (FailsToRun begin_text []) e
     ⊎ (FailsToMakeTables e
-    ⊎ (IsMet (λ s. IsReady s × (rows_in s.now.trees ≡ no_rows)) (FailsToRun add_mark_text (Text (codes "popbox") ∷ Int version ∷ [])) e
+    ⊎ (IsMet (λ s. IsReady s × (rows_in s.now.trees ≡ no_rows))
+    (FailsToRun add_meta_row_text (Text (codes "popbox") ∷ Int version ∷ [])) e
     ⊎ IsMet (λ s. IsReady s × IsTrue s.in_transaction) (FailsToRun commit_text []) e)))
 
 -- adding the maildrop, the deposit or the message met this error

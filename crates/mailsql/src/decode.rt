@@ -9,7 +9,7 @@ ghost use Rattle.sqlite_rules.specs.Edit.{id_in};
 ghost use Rattle.mailsql.specs.Rows.{HoldsOctets, HoldsNumber};
 ghost use Rattle.mailsql.specs.Errors.{IsWantOfMemory};
 
-use crate::rows::{Body, Clerk, Count, Deposit, Group, Mark, Member, Message, Rule, Sheet};
+use crate::rows::{Body, Clerk, Count, Deposit, Group, Member, Message, MetaRow, Rule, Sheet};
 use sqlite::types::Type;
 use sqlite::{Error, Row};
 use sqlite_value::value::{Bytes, ValueRef};
@@ -48,17 +48,17 @@ pub(crate) trait Stored: Sized + Drop {
         ensures memory { holds row.now → IfErr result IsWantOfMemory };
 }
 
-impl Stored for Mark {
+impl Stored for MetaRow {
     ghost use Rattle.std.specs.Prelude.{◌∷◌};
     ghost use Rattle.sqlite_value.specs.declared.value.Value.TheVariants.{Null};
-    ghost use Rattle.mailsql.specs.Rows.{mark_of, HoldsMark};
+    ghost use Rattle.mailsql.specs.Rows.{meta_row_of, HoldsMetaRow};
 
-    ghost stored = { λ row. mark_of (Null ∷ row) };
+    ghost stored = { λ row. meta_row_of (Null ∷ row) };
 
-    ghost holds = { λ row. HoldsMark (Null ∷ row) };
+    ghost holds = { λ row. HoldsMetaRow (Null ∷ row) };
 
-    fn read(alloc: Global, row: &Row) -> Result<Mark, Error> {
-        Ok(Mark {
+    fn read(alloc: Global, row: &Row) -> Result<MetaRow, Error> {
+        Ok(MetaRow {
             value: number(row, 1)?,
             name: octets(alloc, row, 0)?,
         })

@@ -1,4 +1,5 @@
-//! The marks of a store: named numbers. The one named `popbox` is the version of the layout.
+//! The rows of `meta` of a store: named numbers. The one named `popbox` is the version of the
+//! layout.
 
 ghost use Rattle.std.specs.Prelude.{◌≡◌, ◌⊎◌, IsTrue, IfOk, IfErr, OnOk, OnErr, [], ◌∷◌};
 ghost use Rattle.std.specs.List.{find};
@@ -9,29 +10,34 @@ ghost use Rattle.mailsql.specs.Rows as rows;
 ghost use Rattle.mailsql.specs.Rows.{IsOurs, IsReady, HasTables, HasOldTables, IsOldSchema};
 ghost use Rattle.mailsql.specs.Rows.{MayLeave, Changes, IsUndone, IsHalted, rows_in};
 ghost use Rattle.sqlite_value.specs.declared.value.Value.TheVariants.{Int, Text};
-ghost use Rattle.mailsql.specs.Marked.{HasMarks};
+ghost use Rattle.mailsql.specs.MetaTable.{HasMetaRows};
 ghost use Rattle.mailsql.specs.Errors.{FailsToRun, FailsAfter, FailsToRead};
-ghost use Rattle.mailsql.specs.Statements.{add_mark_text, drop_mark_text, find_mark_text};
-ghost use Rattle.mailsql.specs.Statements.{all_marks_text};
+ghost use Rattle.mailsql.specs.Statements.{add_meta_row_text, drop_meta_row_text};
+ghost use Rattle.mailsql.specs.Statements.{find_meta_row_text};
+ghost use Rattle.mailsql.specs.Statements.{all_meta_rows_text};
 
-use crate::rows::Mark;
+use crate::rows::MetaRow;
 use crate::run::{first, list, run};
 use sqlite::{Alter, Connection, Error};
 use sqlite_value::value::ValueRef;
 use std::alloc::Global;
 
-/// Adds a mark. The table refuses a name that is there.
-pub fn add_mark<S: Alter>(conn: &mut Connection<S>, name: &[u8], value: i64) -> Result<(), Error>
+/// Adds a row of `meta`. The table refuses a name that is there.
+pub fn add_meta_row<S: Alter>(
+    conn: &mut Connection<S>,
+    name: &[u8],
+    value: i64,
+) -> Result<(), Error>
     ensures ok { HasCleanDisk (state S.Store conn.new) → IsReady (state S.Store conn.old)
-        → OnOk result (Changes (changes.AddsMark (record { name = name.now; value = value }))
+        → OnOk result (Changes (changes.AddsMetaRow (record { name = name.now; value = value }))
         (state S.Store conn.old) (state S.Store conn.new)) }
     ensures err { HasCleanDisk (state S.Store conn.new)
         → OnErr result (IsUndone (state S.Store conn.old) (state S.Store conn.new)) }
     ensures cause { HasCleanDisk (state S.Store conn.new)
-        → IfErr result (FailsToRun add_mark_text (Text name.now ∷ Int value ∷ [])
+        → IfErr result (FailsToRun add_meta_row_text (Text name.now ∷ Int value ∷ [])
         (state S.Store conn.old) (state S.Store conn.new)) }
     ensures survives { Survives (state S.Store conn.old) (state S.Store conn.new)
-        (MayLeave (changes.AddsMark (record { name = name.now; value = value }))
+        (MayLeave (changes.AddsMetaRow (record { name = name.now; value = value }))
         (state S.Store conn.old)) }
 {
     run(
@@ -41,18 +47,18 @@ pub fn add_mark<S: Alter>(conn: &mut Connection<S>, name: &[u8], value: i64) -> 
     )
 }
 
-/// Removes the mark of this name, if there is one.
-pub fn drop_mark<S: Alter>(conn: &mut Connection<S>, name: &[u8]) -> Result<(), Error>
+/// Removes the row of `meta` of this name, if there is one.
+pub fn drop_meta_row<S: Alter>(conn: &mut Connection<S>, name: &[u8]) -> Result<(), Error>
     ensures ok { HasCleanDisk (state S.Store conn.new) → IsReady (state S.Store conn.old)
-        → OnOk result (Changes (changes.DropsMark name.now) (state S.Store conn.old)
+        → OnOk result (Changes (changes.DropsMetaRow name.now) (state S.Store conn.old)
         (state S.Store conn.new)) }
     ensures err { HasCleanDisk (state S.Store conn.new)
         → OnErr result (IsUndone (state S.Store conn.old) (state S.Store conn.new)) }
     ensures cause { HasCleanDisk (state S.Store conn.new)
-        → IfErr result (FailsToRun drop_mark_text (Text name.now ∷ []) (state S.Store conn.old)
+        → IfErr result (FailsToRun drop_meta_row_text (Text name.now ∷ []) (state S.Store conn.old)
         (state S.Store conn.new)) }
     ensures survives { Survives (state S.Store conn.old) (state S.Store conn.new)
-        (MayLeave (changes.DropsMark name.now) (state S.Store conn.old)) }
+        (MayLeave (changes.DropsMetaRow name.now) (state S.Store conn.old)) }
 {
     run(
         conn,
@@ -61,52 +67,57 @@ pub fn drop_mark<S: Alter>(conn: &mut Connection<S>, name: &[u8]) -> Result<(), 
     )
 }
 
-/// Adds the mark, or replaces the one of its name. It runs two statements: call it inside a
-/// transaction, so that an error between them can be rolled back.
-pub fn put_mark<S: Alter>(conn: &mut Connection<S>, name: &[u8], value: i64) -> Result<(), Error>
+/// Adds the row of `meta`, or replaces the one of its name. It runs two statements: call it inside
+/// a transaction, so that an error between them can be rolled back.
+pub fn put_meta_row<S: Alter>(
+    conn: &mut Connection<S>,
+    name: &[u8],
+    value: i64,
+) -> Result<(), Error>
     ensures ok { HasCleanDisk (state S.Store conn.new) → IsReady (state S.Store conn.old)
-        → OnOk result (Changes (changes.PutsMark (record { name = name.now; value = value }))
+        → OnOk result (Changes (changes.PutsMetaRow (record { name = name.now; value = value }))
         (state S.Store conn.old) (state S.Store conn.new)) }
     ensures err { HasCleanDisk (state S.Store conn.new) → IsReady (state S.Store conn.old)
         → IsTrue (state S.Store conn.old).in_transaction
         → OnErr result (IsHalted (state S.Store conn.old) (state S.Store conn.new)) }
     ensures cause { HasCleanDisk (state S.Store conn.new) → IsReady (state S.Store conn.old)
-        → IfErr result (λ e. FailsToRun drop_mark_text (Text name.now ∷ []) (state S.Store conn.old)
-        (state S.Store conn.new) e ⊎ FailsAfter S.Store (changes.DropsMark name.now) add_mark_text
+        → IfErr result (λ e. FailsToRun drop_meta_row_text (Text name.now ∷ [])
+        (state S.Store conn.old) (state S.Store conn.new) e
+        ⊎ FailsAfter S.Store (changes.DropsMetaRow name.now) add_meta_row_text
         (Text name.now ∷ Int value ∷ []) conn.old conn.new e) }
     ensures survives { Survives (state S.Store conn.old) (state S.Store conn.new)
-        (MayLeave (λ before after. changes.DropsMark name.now before after
-        ⊎ changes.PutsMark (record { name = name.now; value = value }) before after)
+        (MayLeave (λ before after. changes.DropsMetaRow name.now before after
+        ⊎ changes.PutsMetaRow (record { name = name.now; value = value }) before after)
         (state S.Store conn.old)) }
 {
-    match drop_mark(conn, name) {
-        Ok(()) => add_mark(conn, name, value),
+    match drop_meta_row(conn, name) {
+        Ok(()) => add_meta_row(conn, name, value),
         Err(error) => Err(error),
     }
 }
 
-/// The mark of this name, if there is one. It reads a store of any version, whatever other tables
-/// that has.
-pub fn find_mark<S: Alter>(
+/// The row of `meta` of this name, if there is one. It reads a store of any version, whatever other
+/// tables that has.
+pub fn find_meta_row<S: Alter>(
     alloc: Global,
     conn: &mut Connection<S>,
     name: &[u8],
-) -> Result<Option<Mark>, Error>
+) -> Result<Option<MetaRow>, Error>
     ensures ok { HasCleanDisk (state S.Store conn.new) → HasTables (state S.Store conn.old)
-        → IfOk result (λ found. found ≡ find (rows.is_mark name.now)
-        (rows_in (state S.Store conn.old).now.trees).marks) }
+        → IfOk result (λ found. found ≡ find (rows.is_meta_row name.now)
+        (rows_in (state S.Store conn.old).now.trees).meta_rows) }
     ensures same { HasCleanDisk (state S.Store conn.new) → HasTables (state S.Store conn.old)
         → OnOk result (IsUnchanged (state S.Store conn.old) (state S.Store conn.new)) }
     ensures err { HasCleanDisk (state S.Store conn.new) → HasTables (state S.Store conn.old)
         → OnErr result (IsUndone (state S.Store conn.old) (state S.Store conn.new)) }
     ensures cause { HasCleanDisk (state S.Store conn.new) → HasTables (state S.Store conn.old)
-        → IfErr result (FailsToRead find_mark_text (Text name.now ∷ []) (state S.Store conn.old)
+        → IfErr result (FailsToRead find_meta_row_text (Text name.now ∷ []) (state S.Store conn.old)
         (state S.Store conn.new)) }
     ensures survives { Survives (state S.Store conn.old) (state S.Store conn.new)
         (λ _. ¬ IsOurs (state S.Store conn.old).now) }
     ensures old_ok { HasCleanDisk (state S.Store conn.new) → HasOldTables (state S.Store conn.old)
-        → IfOk result (λ found. found ≡ find (rows.is_mark name.now)
-        (rows_in (state S.Store conn.old).now.trees).marks) }
+        → IfOk result (λ found. found ≡ find (rows.is_meta_row name.now)
+        (rows_in (state S.Store conn.old).now.trees).meta_rows) }
     ensures old_same { HasCleanDisk (state S.Store conn.new) → HasOldTables (state S.Store conn.old)
         → OnOk result (IsUnchanged (state S.Store conn.old) (state S.Store conn.new)) }
     ensures old_err { HasCleanDisk (state S.Store conn.new) → HasOldTables (state S.Store conn.old)
@@ -114,17 +125,17 @@ pub fn find_mark<S: Alter>(
     ensures old_survives { Survives (state S.Store conn.old) (state S.Store conn.new)
         (λ _. IsOldSchema (state S.Store conn.old).now → ⊥) }
     ensures marked_ok { HasCleanDisk (state S.Store conn.new)
-        → HasMarks (state S.Store conn.old).now
-        → IfOk result (λ found. found ≡ find (rows.is_mark name.now)
-        (rows_in (state S.Store conn.old).now.trees).marks) }
+        → HasMetaRows (state S.Store conn.old).now
+        → IfOk result (λ found. found ≡ find (rows.is_meta_row name.now)
+        (rows_in (state S.Store conn.old).now.trees).meta_rows) }
     ensures marked_same { HasCleanDisk (state S.Store conn.new)
-        → HasMarks (state S.Store conn.old).now
+        → HasMetaRows (state S.Store conn.old).now
         → OnOk result (IsUnchanged (state S.Store conn.old) (state S.Store conn.new)) }
     ensures marked_err { HasCleanDisk (state S.Store conn.new)
-        → HasMarks (state S.Store conn.old).now
+        → HasMetaRows (state S.Store conn.old).now
         → OnErr result (IsUndone (state S.Store conn.old) (state S.Store conn.new)) }
     ensures marked_survives { Survives (state S.Store conn.old) (state S.Store conn.new)
-        (λ _. HasMarks (state S.Store conn.old).now → ⊥) }
+        (λ _. HasMetaRows (state S.Store conn.old).now → ⊥) }
 {
     first(
         alloc,
@@ -134,21 +145,24 @@ pub fn find_mark<S: Alter>(
     )
 }
 
-/// Every mark, in the order of adding. It reads an older store too.
-pub fn all_marks<S: Alter>(alloc: Global, conn: &mut Connection<S>) -> Result<Vec<Mark>, Error>
+/// Every row of `meta`, in the order of adding. It reads an older store too.
+pub fn all_meta_rows<S: Alter>(
+    alloc: Global,
+    conn: &mut Connection<S>,
+) -> Result<Vec<MetaRow>, Error>
     ensures ok { HasCleanDisk (state S.Store conn.new) → HasTables (state S.Store conn.old)
-        → IfOk result (λ all. all.items ≡ (rows_in (state S.Store conn.old).now.trees).marks) }
+        → IfOk result (λ all. all.items ≡ (rows_in (state S.Store conn.old).now.trees).meta_rows) }
     ensures same { HasCleanDisk (state S.Store conn.new) → HasTables (state S.Store conn.old)
         → OnOk result (IsUnchanged (state S.Store conn.old) (state S.Store conn.new)) }
     ensures err { HasCleanDisk (state S.Store conn.new) → HasTables (state S.Store conn.old)
         → OnErr result (IsUndone (state S.Store conn.old) (state S.Store conn.new)) }
     ensures cause { HasCleanDisk (state S.Store conn.new) → HasTables (state S.Store conn.old)
-        → IfErr result (FailsToRead all_marks_text [] (state S.Store conn.old)
+        → IfErr result (FailsToRead all_meta_rows_text [] (state S.Store conn.old)
         (state S.Store conn.new)) }
     ensures survives { Survives (state S.Store conn.old) (state S.Store conn.new)
         (λ _. ¬ IsOurs (state S.Store conn.old).now) }
     ensures old_ok { HasCleanDisk (state S.Store conn.new) → HasOldTables (state S.Store conn.old)
-        → IfOk result (λ all. all.items ≡ (rows_in (state S.Store conn.old).now.trees).marks) }
+        → IfOk result (λ all. all.items ≡ (rows_in (state S.Store conn.old).now.trees).meta_rows) }
     ensures old_same { HasCleanDisk (state S.Store conn.new) → HasOldTables (state S.Store conn.old)
         → OnOk result (IsUnchanged (state S.Store conn.old) (state S.Store conn.new)) }
     ensures old_err { HasCleanDisk (state S.Store conn.new) → HasOldTables (state S.Store conn.old)

@@ -5,7 +5,7 @@ use sqlite_value::value::Bytes;
 
 /// A row of `meta`: the one named `popbox` holds the version of the layout.
 #[derive(Drop)]
-pub struct Mark {
+pub struct MetaRow {
     pub name: Bytes,
     pub value: i64,
 }

@@ -4,12 +4,12 @@
 ghost use Rattle.std.specs.Prelude.{◌≡◌, true, false, ◌||◌, map, bytes_eq};
 ghost use Rattle.std.specs.List.{list_any};
 ghost use Rattle.sqlite.specs.Held.{state};
-ghost use Rattle.mailsql.specs.Marked.{HasMarks};
+ghost use Rattle.mailsql.specs.MetaTable.{HasMetaRows};
 ghost use Rattle.mailsql.specs.Apart.{AreApart};
 ghost use Rattle.mailsql.specs.Rows.{IsOurs, IsOldSchema, IsReady, rows_in};
 ghost use Rattle.mailsql.specs.Tables.{no_schema, first_schema, second_schema, members_at};
 ghost use Rattle.mailsql.specs.Names.{is_our_name, is_taken, is_kind, is_column, are_columns};
-ghost use Rattle.mailsql.specs.Names.{is_table, has_keys, are_places, has_marks};
+ghost use Rattle.mailsql.specs.Names.{is_table, has_keys, are_places, has_meta_rows};
 ghost use Rattle.mailsql.specs.Names.{has_common_columns, has_first_columns, has_second_columns};
 ghost use Rattle.mailsql.specs.Names.{has_columns, made, table_made};
 
@@ -71,7 +71,7 @@ pub fn is_taken<S: Alter>(conn: &Connection<S>) -> bool
     ensures ours { IsOurs (state S.Store conn.now).now → result ≡ true }
     ensures none { (state S.Store conn.now).now.schema ≡ no_schema → result ≡ false }
     ensures old { IsOldSchema (state S.Store conn.now).now → result ≡ true }
-    ensures marked { HasMarks (state S.Store conn.now).now → result ≡ true }
+    ensures marked { HasMetaRows (state S.Store conn.now).now → result ≡ true }
 {
     takes_our_name(conn.schema())
 }
@@ -228,17 +228,17 @@ fn has_table(
 }
 
 fn has_meta(tables: &[Table]) -> bool
-    ensures { result ≡ has_marks tables.now }
+    ensures { result ≡ has_meta_rows tables.now }
 {
     has_table(tables, b"meta", &META, &[1], &[1])
 }
 
-/// Whether the table of marks is there, with our columns and key. A store of any version has it.
-pub fn has_marks<S: Alter>(conn: &Connection<S>) -> bool
-    ensures value { result ≡ has_marks (state S.Store conn.now).now.schema.tables }
+/// Whether the table `meta` is there, with our columns and key. A store of any version has it.
+pub fn has_meta_rows<S: Alter>(conn: &Connection<S>) -> bool
+    ensures value { result ≡ has_meta_rows (state S.Store conn.now).now.schema.tables }
     ensures ours { IsOurs (state S.Store conn.now).now → result ≡ true }
     ensures old { IsOldSchema (state S.Store conn.now).now → result ≡ true }
-    ensures marked { HasMarks (state S.Store conn.now).now → result ≡ true }
+    ensures marked { HasMetaRows (state S.Store conn.now).now → result ≡ true }
 {
     has_meta(conn.schema().tables.as_slice())
 }

@@ -14,7 +14,7 @@ use crate::{deposits, mail, maildrops, meta, sheets, tables, transaction};
 use sqlite::{Connection, Error, MemStore};
 use std::alloc::Global;
 
-/// Makes a store in memory, with empty tables and the mark of its version. An error is want of
+/// Makes a store in memory, with empty tables and its version row. An error is want of
 /// memory, or what one of the statements met.
 pub fn open_new(alloc: Global, version: i64) -> Result<Connection<MemStore>, Error>
     ensures stands { IfOk result (λ conn. Stands (state over_memory conn) (marked version)) }
@@ -23,7 +23,7 @@ pub fn open_new(alloc: Global, version: i64) -> Result<Connection<MemStore>, Err
     let mut conn = Connection::open_in_memory(alloc)?;
     transaction::begin(&mut conn)?;
     tables::create_tables(&mut conn)?;
-    meta::add_mark(&mut conn, b"popbox", version)?;
+    meta::add_meta_row(&mut conn, b"popbox", version)?;
     transaction::commit(&mut conn)?;
     Ok(conn)
 }

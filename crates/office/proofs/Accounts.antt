@@ -17,10 +17,10 @@ use Rattle.office.specs.History.{Act, Line, Idle, Tag, Done, Failed, NoMemory, S
 use Rattle.office.specs.Connections.{is_quit, reading, user, serving, closing}
 use Rattle.office.specs.Sessions.{in_session}
 use Rattle.office.specs.Replying.{said_to_line, reply_to_cut}
-use Rattle.office.specs.Events.{Mark, Ignored, Tagged, Trace}
+use Rattle.office.specs.Events.{EventTag, Ignored, Tagged, Trace}
 use Rattle.office.specs.Events as event
 use Rattle.office.specs.Answers.{AdminCommand}
-use Rattle.office.specs.Outcomes.{Outcome, mark_of}
+use Rattle.office.specs.Outcomes.{Outcome, event_tag_of}
 use Rattle.office.specs.Expected.{IsOutcome, shown_at}
 use Rattle.office.specs.Trace.{history, idle_acts, idle_numbers, is_left, next_line, acts_of_piece, acts_of_took, line_act}
 use Rattle.office.specs.Kept.{LineContext, asks}
@@ -164,7 +164,7 @@ module _ (B : Records) (G : List Entry) where
   none_idle (c ∷ numbers) = behind_idle (idle_acts numbers) c
 
 module _ (T : Trace) where
-  pub opening_told : (m : Mark) → account_of T event.Connect m ≡ account.Nothing
+  pub opening_told : (m : EventTag) → account_of T event.Connect m ≡ account.Nothing
   opening_told Ignored = refl
   opening_told (Tagged Done) = refl
   opening_told (Tagged Failed) = refl
@@ -181,23 +181,23 @@ module _ (T : Trace) where
   taking_account c n outcome.Done all = refl
   taking_account c n outcome.Failed all = ap (λ (left : Bool). failed_told left (acts_told T (event.Took c n) Failed)) all
 
-  pub tick_told : (now : ℕ) (m : Mark) → account_of T (event.Tick now) m ≡ account.Nothing
+  pub tick_told : (now : ℕ) (m : EventTag) → account_of T (event.Tick now) m ≡ account.Nothing
   tick_told now Ignored = refl
   tick_told now (Tagged t) = none_idle T.base (history T) (idle_numbers T.log (history T) _)
 
-  pub deposit_told : (d class id text : List ℕ) (m : Mark) → account_of T (event.Deposit d class id text) m ≡ account.Nothing
+  pub deposit_told : (d class id text : List ℕ) (m : EventTag) → account_of T (event.Deposit d class id text) m ≡ account.Nothing
   deposit_told d class id text Ignored = refl
   deposit_told d class id text (Tagged t) = refl
 
   -- a command's account, by its outcome
-  command_shown : (command : AdminCommand) (t : Tag) → account_of T (event.Admin command) (mark_of (shown_at T.base T.log (history T) (event.Admin command) t)) ≡ outcome_told (shown_at T.base T.log (history T) (event.Admin command) t)
+  command_shown : (command : AdminCommand) (t : Tag) → account_of T (event.Admin command) (event_tag_of (shown_at T.base T.log (history T) (event.Admin command) t)) ≡ outcome_told (shown_at T.base T.log (history T) (event.Admin command) t)
   command_shown command Done = refl
   command_shown command Failed = refl
   command_shown command NoMemory = refl
 
-  pub command_told : (lent : ℕ → ℕ) (command : AdminCommand) (o : Outcome) → IsOutcome T lent (event.Admin command) o → account_of T (event.Admin command) (mark_of o) ≡ outcome_told o
-  command_told lent command o is = subst (λ (o : Outcome). account_of T (event.Admin command) (mark_of o) ≡ outcome_told o) (sym is.is) (command_shown command is.tag)
+  pub command_told : (lent : ℕ → ℕ) (command : AdminCommand) (o : Outcome) → IsOutcome T lent (event.Admin command) o → account_of T (event.Admin command) (event_tag_of o) ≡ outcome_told o
+  command_told lent command o is = subst (λ (o : Outcome). account_of T (event.Admin command) (event_tag_of o) ≡ outcome_told o) (sym is.is) (command_shown command is.tag)
 
-  pub restart_told : (boot : ℕ) (m : Mark) → account_of T (event.Restart boot) m ≡ account.Nothing
+  pub restart_told : (boot : ℕ) (m : EventTag) → account_of T (event.Restart boot) m ≡ account.Nothing
   restart_told boot Ignored = refl
   restart_told boot (Tagged t) = refl

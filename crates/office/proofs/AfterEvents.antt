@@ -15,7 +15,7 @@ use Rattle.office.specs.History.{Tag, Done, in_force}
 use Rattle.office.specs.Events.{Event, Tagged, Trace, given}
 use Rattle.office.specs.Trace.{history, is_open}
 use Rattle.office.specs.Expected.{IsOutcome, ignored}
-use Rattle.office.specs.Outcomes.{Outcome, Reason, mark_of, HasCause}
+use Rattle.office.specs.Outcomes.{Outcome, Reason, event_tag_of, HasCause}
 use Rattle.office.specs.Outcomes as outcome
 use Rattle.office.specs.Kept.{Kept}
 use Rattle.office.specs.Stands.{Matches, IsOver, IsKeptFor, Keeps, StandsFor, seen, lent_by}
@@ -55,7 +55,7 @@ no_cause before now (outcome.Answered answer) h = tt
 
 module _ {V : Type 0} (vault : Ghosts V) where
   -- what a stop leaves, by whether it is answered
-  pub stands_after : (o o' : Office V) (T : Trace) (e : Event) (w : Outcome) → StandsFor vault.holds o' (given T e (mark_of w)) → IsOutcome T (lent_by o) e w
+  pub stands_after : (o o' : Office V) (T : Trace) (e : Event) (w : Outcome) → StandsFor vault.holds o' (given T e (event_tag_of w)) → IsOutcome T (lent_by o) e w
       → HasCause (vault.faults o.vault) (vault.faults o'.vault) w → (vault.is_up o.vault → IsAnswered w → vault.is_up o'.vault)
       → (vault.is_up o.vault → (left : Contents) → vault.may_leave o'.vault left → SaysTrace left T ⊎ SaysTrace left (given T e (Tagged Done)))
       → Settles vault o'.vault → vault.is_clean o'.vault → StandsAfter vault o o' e w T
@@ -64,12 +64,12 @@ module _ {V : Type 0} (vault : Ghosts V) where
     outcome = outcome;
     cause = cause;
     up = up;
-    stop = λ was. stop_leaves T e w (either was) (λ answered. settled_leaves (given T e (mark_of w)) stands.keeps (λ d held. settles d clean (up was answered) held));
+    stop = λ was. stop_leaves T e w (either was) (λ answered. settled_leaves (given T e (event_tag_of w)) stands.keeps (λ d held. settles d clean (up was answered) held));
   }
 
   -- the store is as it was
   pub unasked_after : (o o' : Office V) (e : Event) (w : Outcome) → Settles vault o'.vault → o'.vault ≡ o.vault → IsNotFailed w
-      → ((T : Trace) → StandsFor vault.holds o T → vault.is_clean o'.vault → StandsFor vault.holds o' (given T e (mark_of w)))
+      → ((T : Trace) → StandsFor vault.holds o T → vault.is_clean o'.vault → StandsFor vault.holds o' (given T e (event_tag_of w)))
       → ((T : Trace) → StandsFor vault.holds o T → IsOutcome T (lent_by o) e w) → AfterEvent vault o o' e w
   unasked_after o o' e w settles same not_failed stands outcome = record {
     counted = subst (λ (v : V). vault.faults o.vault ≤ vault.faults v) (sym same) (omega arith);
@@ -93,7 +93,7 @@ module _ {V : Type 0} (vault : Ghosts V) where
   became_after : (o : Office V) (v : V) (policy : Policy) (e : Event) (w : Outcome) → IsQuiet e → vault.faults o.vault ≤ vault.faults v → (vault.is_clean v → vault.is_clean o.vault)
       → Settles vault v
       → ((T : Trace) (st : StandsFor vault.holds o T) → vault.is_clean v → Became (vault.holds v) st.keeps.contents T e (has_grown (vault.faults o.vault) (vault.faults v)) w)
-      → ((T : Trace) → StandsFor vault.holds o T → (t : Tag) → mark_of w ≡ Tagged t → policy ≡ in_force T.base (history (given T e (Tagged t))))
+      → ((T : Trace) → StandsFor vault.holds o T → (t : Tag) → event_tag_of w ≡ Tagged t → policy ≡ in_force T.base (history (given T e (Tagged t))))
       → ((c : Contents) → vault.holds o.vault c → vault.is_clean v → vault.is_up o.vault → IsAnswered w → vault.is_up v)
       → ((T : Trace) → StandsFor vault.holds o T → vault.is_clean v → vault.is_up o.vault → (left : Contents) → vault.may_leave v left → SaysTrace left T ⊎ SaysTrace left (given T e (Tagged Done)))
       → AfterEvent vault o (record o { vault = v; policy = policy }) e w
@@ -115,7 +115,7 @@ module _ {V : Type 0} (vault : Ghosts V) where
   -- it was answered without the store
   pub unchanged_after : (o : Office V) (e : Event) (w : Outcome) → IsQuiet e → Settles vault o.vault
       → ((T : Trace) (st : StandsFor vault.holds o T) → Became (vault.holds o.vault) st.keeps.contents T e (has_grown (vault.faults o.vault) (vault.faults o.vault)) w)
-      → ((T : Trace) → StandsFor vault.holds o T → (t : Tag) → mark_of w ≡ Tagged t → o.policy ≡ in_force T.base (history (given T e (Tagged t))))
+      → ((T : Trace) → StandsFor vault.holds o T → (t : Tag) → event_tag_of w ≡ Tagged t → o.policy ≡ in_force T.base (history (given T e (Tagged t))))
       → AfterEvent vault o o e w
   unchanged_after o e w quiet settles became rules = became_after o o.vault o.policy e w quiet (omega arith) (λ clean. clean) settles (λ T st clean. became T st) rules
       (λ c held clean up answered. up) (λ T st clean up left may. inl (settled_leaves T st.keeps (λ d held. settles d clean up held) left may))
@@ -140,10 +140,10 @@ module _ {V : Type 0} (vault : Ghosts V) where
       (done : (c : Contents) → vault.holds o.vault c → vault.is_clean v → DoneBy c (vault.holds v) answered) (settles : Settles vault v)
       (makes : (After : Contents → Type 0) (T : Trace) (st : StandsFor vault.holds o T) (grown : Bool) (r : Result A VaultFault) → DoneBy st.keeps.contents After r
       → (r ≡ Err fault.Store → grown ≡ true) → Became After st.keeps.contents T e grown (see r))
-      (store : see (Err fault.Store) ≡ outcome.Failed) (memory : see (Err fault.NoMemory) ≡ outcome.NoMemory) (marks : (x : A) → mark_of (see (Ok x)) ≡ Tagged Done) where
+      (store : see (Err fault.Store) ≡ outcome.Failed) (memory : see (Err fault.NoMemory) ≡ outcome.NoMemory) (marks : (x : A) → event_tag_of (see (Ok x)) ≡ Tagged Done) where
     -- the policy is set to this one, or stays
     pub ruled_after : (policy : Policy) → IsQuiet e
-        → ((T : Trace) → StandsFor vault.holds o T → (t : Tag) → mark_of (see answered) ≡ Tagged t → policy ≡ in_force T.base (history (given T e (Tagged t))))
+        → ((T : Trace) → StandsFor vault.holds o T → (t : Tag) → event_tag_of (see answered) ≡ Tagged t → policy ≡ in_force T.base (history (given T e (Tagged t))))
         → AfterEvent vault o (record o { vault = v; policy = policy }) e (see answered)
     ruled_after policy quiet rules = became_after o v policy e (see answered) quiet commits.counted.kept commits.clean settles
         (λ T st clean. makes (vault.holds v) T st _ answered (done st.keeps.contents st.keeps.held clean) commits.counted.cause) rules

@@ -2,7 +2,7 @@
 use Rattle.std.proofs.Common.{◌≡◌, ℕ, Bool, true, false, cond, List, [], ◌∷◌, ◌++◌, ◌+◌, drop, drop-drop, Option, refl, sym, ◌∙◌, ap, subst, Result, Ok, Err}
 use Rattle.std.specs.Result.{OnErr}
 use Rattle.std.specs.BTreeMap.{BTreeMap}
-use Rattle.popline.specs.Cutting.{Cut, Held, fed, shown, coming, through_newline, has_newline}
+use Rattle.popline.specs.Cutting.{Cut, Held, fed, whole_line, coming, through_newline, has_newline}
 use Rattle.popline.specs.Replies.{Reply}
 use Rattle.popline.proofs.Cuts.{coming-fed}
 use Rattle.policy.specs.Policy.{Policy}
@@ -42,10 +42,10 @@ rest_cut k0 k v w cut n octets piece given left e taken =
 
 -- the lines to come, where a line was answered
 pub lines_go : (k new : Kept) (p : List ℕ) (reply : Reply) (session : Option Session) (output : Output) → new ≡ replied (cut_through p k) reply session output
-    → (more : List ℕ) → coming k.held (p ++ more) ≡ shown new.held ++ coming new.held (new.pending ++ more)
+    → (more : List ℕ) → coming k.held (p ++ more) ≡ whole_line new.held ++ coming new.held (new.pending ++ more)
 lines_go k new p reply session output is more =
     coming-fed k.held new.held p (through_newline p) (ap (λ (k : Kept). k.held) is) refl more
-    ∙ ap (λ rest. shown new.held ++ coming new.held (rest ++ more)) (sym (ap (λ (k : Kept). k.pending) is))
+    ∙ ap (λ rest. whole_line new.held ++ coming new.held (rest ++ more)) (sym (ap (λ (k : Kept). k.pending) is))
 
 -- ---- an error
 
@@ -64,7 +64,7 @@ told_anew After grown c d x w v old new before now output was told a =
 
 -- ---- the line that is whole
 
-module _ (k : Kept) (x : Cut) (there : x ∷ [] ≡ shown k.held) where
+module _ (k : Kept) (x : Cut) (there : x ∷ [] ≡ whole_line k.held) where
   pub is_whole : k.held.whole ≡ true
   is_whole = shown_whole k.held.whole x (line_of k) there
 
@@ -101,10 +101,10 @@ module _ (k : Kept) (x : Cut) (there : x ∷ [] ≡ shown k.held) where
       }
 
 -- no line is whole
-pub none_next : (k : Kept) → [] ≡ shown k.held → k.held.whole ≡ false
+pub none_next : (k : Kept) → [] ≡ whole_line k.held → k.held.whole ≡ false
 none_next k none = none_shown k.held.whole (line_of k) none
 
-pub next_none : (k : Kept) → [] ≡ shown k.held → (After : Contents → Type 0) (grown : Bool) (c : Contents) (p : Policy) (locks : BTreeMap (List ℕ) ℕ) (v : Option Transaction) (was : Account) (output : Output)
+pub next_none : (k : Kept) → [] ≡ whole_line k.held → (After : Contents → Type 0) (grown : Bool) (c : Contents) (p : Policy) (locks : BTreeMap (List ℕ) ℕ) (v : Option Transaction) (was : Account) (output : Output)
     → output ≡ nothing_owed → After c → AfterNext After grown c p locks v k (record k { output = output }) outcome.Done was was
 next_none k none After grown c p locks v was output taken held =
     let part = none_next k none in

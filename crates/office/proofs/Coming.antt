@@ -17,7 +17,7 @@ use Rattle.office.specs.History.{Act, Tag, Done, NoMemory, Entry}
 use Rattle.office.specs.Connections.{setting, judging}
 use Rattle.office.specs.Sessions.{live, login, holds, holder}
 use Rattle.office.specs.Told.{told}
-use Rattle.office.specs.Events.{Limits, Event, Mark, Ignored, Tagged, Trace, given}
+use Rattle.office.specs.Events.{Limits, Event, EventTag, Ignored, Tagged, Trace, given}
 use Rattle.office.specs.Events as event
 use Rattle.office.specs.Log.{opened, idle_seconds, moment, stream, taken, clock, next_number}
 use Rattle.office.specs.Trace.{acts, history}
@@ -100,12 +100,12 @@ abbrev log : Trace → ℕ → Log
 log T q = record { octets = stream T.log q; took = taken T.log q; clock = clock T.log q; number = (opened T.log, moment T.log); idle = idle_seconds T.log }
 
 -- no act, and the connections gave and took what they did
-pub record Nothing (T : Trace) (e : Event) (m : Mark) : Type 0 where
+pub record Nothing (T : Trace) (e : Event) (m : EventTag) : Type 0 where
   pub acts : acts (given T e m) ≡ acts T
   pub log : (q : ℕ) → log (given T e m) q ≡ log T q
   pub formed : are_formed (given T e m).log ≡ true
 
-pub nothing_stands : {V : Type 0} (Holds : V → Contents → Type 0) (o o' : Office V) (T : Trace) (e : Event) (m : Mark) → (st : StandsFor Holds o T)
+pub nothing_stands : {V : Type 0} (Holds : V → Contents → Type 0) (o o' : Office V) (T : Trace) (e : Event) (m : EventTag) → (st : StandsFor Holds o T)
     → Nothing T e m → ((k : Contents) → Holds o.vault k → Holds o'.vault k) → o'.policy ≡ o.policy → o'.boot ≡ o.boot → string_bytes o'.host ≡ string_bytes o.host
     → o'.limits ≡ o.limits → counters o' ≡ counters o → ((q : ℕ) → get nat_cmp o'.connections q ≡ get nat_cmp o.connections q)
     → ((d : List ℕ) → get name_cmp o'.locks d ≡ get name_cmp o.locks d) → StandsFor Holds o' (given T e m)

@@ -19,7 +19,7 @@ use Rattle.office.specs.Sessions.{live, login, in_session, holder, marks, view, 
 use Rattle.office.specs.Formed.{is_formed}
 use Rattle.office.specs.Replying.{is_empty, reply_to_cut, said_to_line, stamp}
 use Rattle.office.specs.Told.{told}
-use Rattle.office.specs.Events.{Limits, Trace, Event, Bytes, Took, Mark, Tagged, given}
+use Rattle.office.specs.Events.{Limits, Trace, Event, Bytes, Took, EventTag, Tagged, given}
 use Rattle.office.specs.Log.{opened, idle_seconds, moment, stream, taken, clock}
 use Rattle.office.specs.Trace.{acts, history, line_act, act_of_part, acts_of_piece, acts_of_took, next_line, is_left, is_open, untaken}
 use Rattle.office.specs.Expected.{most_in_a_piece, ignored}
@@ -27,7 +27,7 @@ use Rattle.office.specs.Output.{Output, nothing_owed, reads_text, Owes}
 use Rattle.office.specs.Kept.{Kept, clocked}
 use Rattle.office.specs.Answered.{name_cmp, tag_of, shown_of}
 use Rattle.vault.specs.Calls.{has_grown}
-use Rattle.office.specs.Outcomes.{Outcome, NotReady, PieceTooLong, mark_of, HasCause}
+use Rattle.office.specs.Outcomes.{Outcome, NotReady, PieceTooLong, event_tag_of, HasCause}
 use Rattle.office.specs.Stands.{Seen, seen, Matches, IsSession, IsOver, IsKeptFor, is_seen_open, untaken_of, StandsFor}
 use Rattle.office.specs.declared.office.Office.{Office}
 use Rattle.office.specs.declared.login_state.LineOutcome.{LineOutcome}
@@ -276,7 +276,7 @@ moved_so Holds o o' T e t c st formed p b h l n same idle number there others co
     }
 
 -- where only one connection changes, it is enough to look at that
-pub moved : {V : Type 0} (Holds : V → Contents → Type 0) (o o' : Office V) (T : Trace) (e : Event) (m : Mark) (t : Tag) (c : ℕ) → m ≡ Tagged t → (st : StandsFor Holds o T) → is_formed T.log e ≡ true
+pub moved : {V : Type 0} (Holds : V → Contents → Type 0) (o o' : Office V) (T : Trace) (e : Event) (m : EventTag) (t : Tag) (c : ℕ) → m ≡ Tagged t → (st : StandsFor Holds o T) → is_formed T.log e ≡ true
     → o'.policy ≡ o.policy → o'.boot ≡ o.boot → string_bytes o'.host ≡ string_bytes o.host → o'.limits ≡ o.limits → counters o' ≡ counters o
     → whole T.base (acts (given T e (Tagged t))) ≡ whole T.base (acts T) → idle_seconds (given T e (Tagged t)).log ≡ idle_seconds T.log
     → counted (given T e (Tagged t)).log ≡ counted T.log → IsSome (get nat_cmp o.connections c)
@@ -286,7 +286,7 @@ moved Holds o o' T e m t c mark st formed p b h l n same idle number there other
     rw mark (moved_so Holds o o' T e t c st formed p b h l n same idle number there others connections moves)
 
 -- what a line's event shows
-pub marked : (w : LineOutcome) (o : Outcome) → o ≡ shown_of w → mark_of o ≡ Tagged (tag_of w)
+pub marked : (w : LineOutcome) (o : Outcome) → o ≡ shown_of w → event_tag_of o ≡ Tagged (tag_of w)
 marked outcome.Done o e = rw e refl
 marked outcome.Failed o e = rw e refl
 

@@ -19,7 +19,7 @@ use Rattle.office.specs.History.{Act, Open, Gone, Idle, Deposit, Administer, Res
 use Rattle.office.specs.Connections.{setting, setting_after, judging, serving, closing}
 use Rattle.office.specs.Told.{told, said_to}
 use Rattle.office.specs.Answers.{AdminCommand}
-use Rattle.office.specs.Events.{Event, Mark, Ignored, Tagged, Log, Trace}
+use Rattle.office.specs.Events.{Event, EventTag, Ignored, Tagged, Log, Trace}
 use Rattle.office.specs.Events as event
 use Rattle.office.specs.Log.{opened, opened_after, next_number, moment}
 use Rattle.office.specs.Trace.{acts_at, acts_from, act_of_part, acts_of_took, acts_of_piece, line_act, idle_acts, idle_numbers, next_line, is_left}
@@ -269,7 +269,7 @@ new_boot b bs h = let p = and_parts (not (list_any (differ b) bs)) (are_distinct
 fits_u64 : (n : ℕ) → is_u64 n ≡ true → n < 2 ^ 64
 fits_u64 n h = ltb-true n (2 ^ 64) h
 
-next : (B : Records) (T : Log) (e : Event) (m : Mark) → (are_formed T ≡ true → are_distinct differ (boots T) ≡ true → AreGreeted B T)
+next : (B : Records) (T : Log) (e : Event) (m : EventTag) → (are_formed T ≡ true → are_distinct differ (boots T) ≡ true → AreGreeted B T)
     → are_formed ((e, m) ∷ T) ≡ true → are_distinct differ (boots ((e, m) ∷ T)) ≡ true → AreGreeted B ((e, m) ∷ T)
 next B T e Ignored rest f d =
     let d' = rw (ignored_boots e (boots T)) at d in
@@ -307,7 +307,7 @@ next B T (event.Admin command) (Tagged t) rest f d =
     let p = and_parts (is_formed T (event.Admin command)) (are_formed T) f in
     quietly B ((Administer command, t) ∷ []) (acts_from B T) (boots T) (opened T) (quiet_admin command t) (rest p.1 d)
 
-first : (B : Records) (e : Event) (m : Mark) → IsStart e m → are_formed ((e, m) ∷ []) ≡ true → AreGreeted B ((e, m) ∷ [])
+first : (B : Records) (e : Event) (m : EventTag) → IsStart e m → are_formed ((e, m) ∷ []) ≡ true → AreGreeted B ((e, m) ∷ [])
 first B (event.Start host boot limits) (Tagged t) s f =
     let p = and_parts (is_formed [] (event.Start host boot limits)) true f in
     let a = and_parts (is_host host && is_u64 boot && nat_le 600 limits.idle) (nat_le limits.idle 86400) p.0 in

@@ -3,7 +3,7 @@ use Rattle.std.proofs.Common.{◌≡◌, ℕ, zero, suc, ◌+◌, ◌≤◌, Boo
 use Rattle.std.proofs.lemmas.Bool.Decides.{nat_tests}
 use Rattle.std.proofs.lemmas.List.{drop-append-le, length-take}
 use Rattle.std.specs.Bool.{if◌then◌else◌}
-use Rattle.popline.specs.Cutting.{Cut, cut_of, cut, pieces, onto_first, begun, prefixed, fed, shown, coming, through_newline, has_newline, before_newline}
+use Rattle.popline.specs.Cutting.{Cut, cut_of, cut, pieces, onto_first, begun, prefixed, fed, whole_line, coming, through_newline, has_newline, before_newline}
 use Rattle.popline.specs.Replies.{Reply, Greeting, LineTooLong, UnknownCommand, WrongState, BadArguments, Capabilities, SendPass, LoginFailed, LoginFailedClosing, DeniedBy, NoSuchMaildrop, InUse, MaildropHas, DropListing, ScanListing, ScanLine, UidListing, UidLine, Message, TopPart, Marked, Okay, NoSuchMessage, AlreadyMarked, Bye, RemovalDenied, RemovalFailed, StoreFailed, bytes_of}
 use Rattle.office.specs.History.{Says}
 use Rattle.office.specs.Connections.{reading, closes, is_quit, user_after_line, is_failure, has_message}
@@ -155,7 +155,7 @@ pub record Awaits (c : Contents) (s : Seen) (k : Kept) (octets : List ℕ) : Typ
 
 -- `answer` is the reply to the line that is whole, if one is
 module _ (c : Contents) (s : Seen) (k k' : Kept) (p : List ℕ) (answer : Reply) (m : Awaits c s k p) (e : k' ≡ answered k p answer k'.session k'.output)
-    (law : (more : List ℕ) → coming k.held (p ++ more) ≡ shown k'.held ++ coming k'.held (k'.pending ++ more)) where
+    (law : (more : List ℕ) → coming k.held (p ++ more) ≡ whole_line k'.held ++ coming k'.held (k'.pending ++ more)) where
   line_fits : length k'.held.octets ≤ most_in_a_line
   line_fits = rw e (omega (arith, length-take most_in_a_line (begun k.held ++ before_newline p)))
 
@@ -170,7 +170,7 @@ module _ (c : Contents) (s : Seen) (k k' : Kept) (p : List ℕ) (answer : Reply)
   quiet_yet h = absurd (true≢false (sym h ∙ m.open_yet))
 
   -- the lines that are left, before and after
-  left : (more : List ℕ) → drop s.acted (cut (s.stream ++ more)) ≡ shown k'.held ++ coming k'.held (k'.pending ++ more)
+  left : (more : List ℕ) → drop s.acted (cut (s.stream ++ more)) ≡ whole_line k'.held ++ coming k'.held (k'.pending ++ more)
   left more = m.lines more ∙ law more
 
   pub part_heard : has_newline p ≡ false → k'.session ≡ k.session → k'.output ≡ nothing_owed → Matches c s k'
@@ -190,7 +190,7 @@ module _ (c : Contents) (s : Seen) (k k' : Kept) (p : List ℕ) (answer : Reply)
         judged = ap (λ (k : Kept). k.state.removals) e' ∙ m.judged;
         stamp = ap (λ (k : Kept). k.stamp) e ∙ m.stamp;
         clock = ap (λ (k : Kept). k.clock) e ∙ m.clock;
-        lines = λ more. left more ∙ ap (λ xs. xs ++ coming k'.held (k'.pending ++ more)) (let q : shown k'.held ≡ [] = rw w refl in q);
+        lines = λ more. left more ∙ ap (λ xs. xs ++ coming k'.held (k'.pending ++ more)) (let q : whole_line k'.held ≡ [] = rw w refl in q);
         cut_whole = λ _. ap (λ (k : Kept). k.pending) e ∙ through_all p h;
         line_kept = line_fits;
         piece_kept = piece_fits;
@@ -207,7 +207,7 @@ module _ (c : Contents) (s : Seen) (k k' : Kept) (p : List ℕ) (answer : Reply)
   acting_is : acting ≡ line_after k p
   acting_is = ap (λ (k : Kept). cut_of k.held.octets) e
 
-  shown_is : has_newline p ≡ true → shown k'.held ≡ acting ∷ []
+  shown_is : has_newline p ≡ true → whole_line k'.held ≡ acting ∷ []
   shown_is h = let w : k'.held.whole ≡ true = whole_is ∙ h in rw w refl
 
   next : has_newline p ≡ true → (more : List ℕ) → drop s.acted (cut (s.stream ++ more)) ≡ acting ∷ coming k'.held (k'.pending ++ more)

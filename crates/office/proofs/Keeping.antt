@@ -1,7 +1,7 @@
 -- Whether octets make a line whole, by what a cutter shows.
 use Rattle.std.proofs.Common.{◌≡◌, ℕ, Bool, true, false, cond, List, [], ◌∷◌, drop, length, refl, sym, ◌∙◌, ap}
 use Rattle.std.proofs.Math.Seq.{drop-length}
-use Rattle.popline.specs.Cutting.{Cut, cut_of, Held, fed, shown, has_newline}
+use Rattle.popline.specs.Cutting.{Cut, cut_of, Held, fed, whole_line, has_newline}
 use Rattle.office.specs.Kept.{Kept, line_after}
 
 pub shown_whole : (b : Bool) (x y : Cut) → x ∷ [] ≡ cond b (y ∷ []) [] → b ≡ true
@@ -12,7 +12,7 @@ pub shown_line : (b : Bool) (x y : Cut) → b ≡ true → x ∷ [] ≡ cond b (
 shown_line true x y t e = cc
 shown_line false x y t e = cc
 
-module _ (k : Kept) (w : Held) (p : List ℕ) (x : Cut) (e : w ≡ fed k.held p) (there : x ∷ [] ≡ shown w) where
+module _ (k : Kept) (w : Held) (p : List ℕ) (x : Cut) (e : w ≡ fed k.held p) (there : x ∷ [] ≡ whole_line w) where
   whole : w.whole ≡ true
   whole = shown_whole w.whole x (cut_of w.octets) there
 
@@ -27,7 +27,7 @@ none_shown true y e = cc
 none_shown false y e = refl
 
 -- octets without a whole line
-module _ (k : Kept) (w : Held) (p : List ℕ) (e : w ≡ fed k.held p) (none : [] ≡ shown w) where
+module _ (k : Kept) (w : Held) (p : List ℕ) (e : w ≡ fed k.held p) (none : [] ≡ whole_line w) where
   pub none_whole : w.whole ≡ false
   none_whole = none_shown w.whole (cut_of w.octets) none
 

@@ -7,12 +7,12 @@ use Rattle.office.specs.Events.{Limits, Event, Trace, Tagged, given}
 use Rattle.office.specs.Events as event
 use Rattle.office.specs.Trace.{history, rest, rest_if, is_open, untaken, most_lent}
 use Rattle.office.specs.Expected.{IsOutcome}
-use Rattle.office.specs.Outcomes.{Outcome, mark_of}
+use Rattle.office.specs.Outcomes.{Outcome, event_tag_of}
 use Rattle.office.specs.Outcomes as outcome
 use Rattle.office.specs.Kept.{Kept}
 use Rattle.office.proofs.Owing.{owes_within}
 use Rattle.std.proofs.lemmas.List.{length-take}
-use Rattle.office.specs.Shown.{event_seen, outcome_seen, followed_by}
+use Rattle.office.specs.Seen.{event_seen, outcome_seen, followed_by}
 use Rattle.office.specs.Stands.{StandsFor, IsKeptFor, seen, untaken_of, lent_by, length_of_lent}
 use Rattle.office.specs.Taken.{IsAdmitted, AreAdmitted, IsSentExactly}
 use Rattle.office.specs.Runs.{Step, AreSteps, followed}
@@ -37,8 +37,8 @@ pub lends_owed : {V : Type 0} {Holds : V → Contents → Type 0} (o : Office V)
 lends_owed o T st c = lends st.keeps.contents T c (get nat_cmp o.connections c) (st.connections c)
 
 pub admitted : {V : Type 0} {Holds : V → Contents → Type 0} (o : Office V) (T : Trace) (e : Event) (w : Outcome) → StandsFor Holds o T → IsOutcome T (lent_by o) e w
-    → IsAdmitted T e (mark_of w)
-admitted o T e w st is = record { lent = lent_by o; owed = lends_owed o T st; outcome = w; is = is; mark = refl }
+    → IsAdmitted T e (event_tag_of w)
+admitted o T e w st is = record { lent = lent_by o; owed = lends_owed o T st; outcome = w; is = is; event_tag = refl }
 
 -- an opening
 pub start_admitted : (T : Trace) (host : List ℕ) (boot : ℕ) (limits : Limits) → IsAdmitted T (event.Start host boot limits) (Tagged Done)
@@ -47,7 +47,7 @@ start_admitted T host boot limits = record {
   owed = λ c. omega arith;
   outcome = outcome.Done;
   is = record { tag = Done; may = refl; is = refl };
-  mark = refl;
+  event_tag = refl;
 }
 
 -- the events of a run
@@ -62,5 +62,5 @@ steps_admitted H T (e ∷ es) (s ∷ ss) are a =
 -- ---- sent exactly
 
 pub sent_so : {V : Type 0} {Holds : V → Contents → Type 0} (o : Office V) (T : Trace) (e : Event) (w : Outcome) → StandsFor Holds o T → IsOutcome T (lent_by o) e w
-    → AreAdmitted T → (c : ℕ) → IsSentExactly (given T e (mark_of w)) c
-sent_so o T e w st is a c = taken_is_sent (given T e (mark_of w)) (admitted o T e w st is, a) c
+    → AreAdmitted T → (c : ℕ) → IsSentExactly (given T e (event_tag_of w)) c
+sent_so o T e w st is a c = taken_is_sent (given T e (event_tag_of w)) (admitted o T e w st is, a) c

@@ -5,7 +5,7 @@ use Rattle.std.proofs.lemmas.Slice.Eq.{bytes_eq-Decides}
 use Rattle.std.specs.BTreeMap.{BTreeMap, get}
 use Rattle.std.specs.Str.{bytes_eq}
 use Rattle.creds.specs.declared.login_name.LoginName.{LoginName}
-use Rattle.popline.specs.Cutting.{Cut, cut, coming, shown, has_newline}
+use Rattle.popline.specs.Cutting.{Cut, cut, coming, whole_line, has_newline}
 use Rattle.popline.specs.Commands.{Command, Quit}
 use Rattle.popline.specs.declared.command.LineFault.{LineFault}
 use Rattle.popline.specs.Replies.{Reply, bytes_of}
@@ -163,7 +163,7 @@ module _ {Before : Contents → Type 0} (T : Trace) (n : ℕ) (keeps : Keeps Bef
     module _ (e : Event) (w : LineOutcome) (k' : Kept) (locks' : BTreeMap (List ℕ) ℕ)
         (may : w ≡ outcome.Failed → (has_newline p ≡ true) × (asks policy k.state judges.transaction (reading (line_after k p)) ≡ true))
         (is : k' ≡ answered k p (reply w) k'.session k'.output)
-        (law : (more : List ℕ) → coming k.held (p ++ more) ≡ shown k'.held ++ coming k'.held (k'.pending ++ more))
+        (law : (more : List ℕ) → coming k.held (p ++ more) ≡ whole_line k'.held ++ coming k'.held (k'.pending ++ more))
         (became : BecomesIf (has_newline p) store_now policy k.state (line_after k p) (reply w) k.session k'.session)
         (follow : LocksFollow n k.session k'.session locks locks')
         (owes : OwesIf (has_newline p) store_now k'.session k'.output (reply w))

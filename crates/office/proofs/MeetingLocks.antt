@@ -6,7 +6,7 @@ use Rattle.std.proofs.Common.{refl, sym, ◌∙◌, ap, ap₂}
 use Rattle.std.specs.Bool.{if◌then◌else◌}
 use Rattle.std.specs.BTreeMap.{BTreeMap, get}
 use Rattle.creds.specs.declared.login_name.LoginName.{LoginName}
-use Rattle.popline.specs.Cutting.{Cut, cut_of, cut, begun, prefixed, fed, shown, coming}
+use Rattle.popline.specs.Cutting.{Cut, cut_of, cut, begun, prefixed, fed, whole_line, coming}
 use Rattle.popline.specs.Cutting.{through_newline, has_newline}
 use Rattle.popline.proofs.Cuts.{coming-fed}
 use Rattle.vault.specs.Changes.{Contents}

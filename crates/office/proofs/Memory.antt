@@ -9,7 +9,7 @@ use Rattle.office.specs.Expected.{IsOutcome, may_show, shown_at, or_ignored, ign
 use Rattle.office.specs.Output.{is_feeding}
 use Rattle.office.specs.Kept.{Kept}
 use Rattle.office.specs.Stands.{Matches, seen, untaken_of, lent_by}
-use Rattle.office.specs.Shown.{event_seen, outcome_seen, followed_by}
+use Rattle.office.specs.Seen.{event_seen, outcome_seen, followed_by}
 use Rattle.office.specs.Runs.{Step, AreSteps, HaveMemory}
 use Rattle.office.specs.declared.event.Event.{Event as Given}
 use Rattle.office.specs.Trace.{history, rest, rest_if, most_lent}

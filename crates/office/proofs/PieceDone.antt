@@ -1,7 +1,7 @@
 -- A piece of octets on a trace: what it leaves, and what its event is answered.
 use Rattle.std.proofs.Common.{◌≡◌, ℕ, ◌≤◌, Bool, true, false, List, ◌++◌, length, Option, Some, refl, ◌∙◌, ap, nat_cmp, eqb}
 use Rattle.std.specs.BTreeMap.{BTreeMap, get}
-use Rattle.popline.specs.Cutting.{coming, shown, has_newline}
+use Rattle.popline.specs.Cutting.{coming, whole_line, has_newline}
 use Rattle.popline.specs.Replies.{Reply}
 use Rattle.policy.specs.Policy.{Policy}
 use Rattle.vault.specs.Changes.{Contents, AreSound, records_of}

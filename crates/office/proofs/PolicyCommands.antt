@@ -15,7 +15,7 @@ use Rattle.office.specs.Events.{Trace, Tagged, given}
 use Rattle.office.specs.Events as event
 use Rattle.office.specs.Trace.{history}
 use Rattle.office.specs.Outcomes as outcome
-use Rattle.office.specs.Outcomes.{mark_of}
+use Rattle.office.specs.Outcomes.{event_tag_of}
 use Rattle.office.specs.Stands.{Keeps}
 use Rattle.office.specs.VaultAnswers as by_vault
 use Rattle.office.proofs.Quiet.{Became, Carries, called, done, lacked, keeps_with, keeps_same}
@@ -70,7 +70,7 @@ module _ {Before : Contents → Type 0} (After : Contents → Type 0) (T : Trace
   policy_set_lacked held = lacked T set_command grown tt sound k held
 
 -- a refusal isn't done
-refused_mark : (f : VaultFault) → mark_of (by_vault.refused f) ≡ Tagged Done → ⊥
+refused_mark : (f : VaultFault) → event_tag_of (by_vault.refused f) ≡ Tagged Done → ⊥
 refused_mark fault.Store e = cc
 refused_mark fault.NoMemory e = cc
 refused_mark fault.NoMaildrop e = cc
@@ -82,7 +82,7 @@ refused_mark fault.OldVersion e = cc
 refused_mark fault.NoClerk e = cc
 
 -- what isn't done leaves the rules in force
-pub refused_rules : (T : Trace) (p : Policy) (f : VaultFault) (t : Tag) → mark_of (by_vault.refused f) ≡ Tagged t
+pub refused_rules : (T : Trace) (p : Policy) (f : VaultFault) (t : Tag) → event_tag_of (by_vault.refused f) ≡ Tagged t
     → in_force T.base (history (given T (event.Admin (SetPolicy p)) (Tagged t))) ≡ in_force T.base (history T)
 refused_rules T p f Done e = absurd (refused_mark f e)
 refused_rules T p f Failed e = refl

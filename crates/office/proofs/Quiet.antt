@@ -17,13 +17,13 @@ use Rattle.office.specs.Sessions.{live, login, marks, view, holder, records}
 use Rattle.office.specs.Replying.{stamp}
 use Rattle.office.specs.Answered.{name_cmp}
 use Rattle.office.specs.Told.{told}
-use Rattle.office.specs.Events.{Limits, Event, Mark, Tagged, Trace, given}
+use Rattle.office.specs.Events.{Limits, Event, EventTag, Tagged, Trace, given}
 use Rattle.office.specs.Events as event
 use Rattle.office.specs.Log.{opened, idle_seconds, moment, stream, taken, clock}
 use Rattle.office.specs.Trace.{acts, history}
 use Rattle.office.specs.Formed.{is_formed, are_formed}
 use Rattle.office.specs.Expected.{IsOutcome, shown_at, may_show, outcome_of}
-use Rattle.office.specs.Outcomes.{Outcome, mark_of, HasCause}
+use Rattle.office.specs.Outcomes.{Outcome, event_tag_of, HasCause}
 use Rattle.office.specs.Outcomes as outcome
 use Rattle.office.specs.Stands.{Seen, seen, Keeps, StandsFor}
 use Rattle.office.specs.declared.office.Office.{Office}
@@ -244,7 +244,7 @@ pub record Became (After : Contents → Type 0) (before : Contents) (T : Trace) 
   pub carries : Carries After before T e tag
   pub cause : tag ≡ Failed → grown ≡ true
 
-pub mark-shown : (T : Trace) (e : Event) (t : Tag) → IsQuiet e → mark_of (shown_at T.base T.log (history T) e t) ≡ Tagged t
+pub mark-shown : (T : Trace) (e : Event) (t : Tag) → IsQuiet e → event_tag_of (shown_at T.base T.log (history T) e t) ≡ Tagged t
 mark-shown T (event.Deposit d class id text) Done h = refl
 mark-shown T (event.Deposit d class id text) Failed h = refl
 mark-shown T (event.Deposit d class id text) NoMemory h = refl
@@ -299,12 +299,12 @@ still_quiet _ h = absurd h
 module _ {V : Type 0} (Holds : V → Contents → Type 0) (o o' : Office V) (T : Trace) (e : Event) (grown : Bool) (w : Outcome) where
   -- whatever rules are in force then
   pub became-ruled : IsQuiet e → (st : StandsFor Holds o T) → Became (Holds o'.vault) st.keeps.contents T e grown w
-      → ((t : Tag) → mark_of w ≡ Tagged t → o'.policy ≡ in_force T.base (history (given T e (Tagged t)))) → o'.boot ≡ o.boot
+      → ((t : Tag) → event_tag_of w ≡ Tagged t → o'.policy ≡ in_force T.base (history (given T e (Tagged t)))) → o'.boot ≡ o.boot
       → string_bytes o'.host ≡ string_bytes o.host → o'.limits ≡ o.limits → counters o' ≡ counters o → ((q : ℕ) → get nat_cmp o'.connections q ≡ get nat_cmp o.connections q)
-      → ((d : List ℕ) → get name_cmp o'.locks d ≡ get name_cmp o.locks d) → StandsFor Holds o' (given T e (mark_of w))
+      → ((d : List ℕ) → get name_cmp o'.locks d ≡ get name_cmp o.locks d) → StandsFor Holds o' (given T e (event_tag_of w))
   became-ruled h st b p boot host l n connections locks =
-      let m = ap mark_of b.is ∙ mark-shown T e b.tag h in
-      subst (λ (m : Mark). StandsFor Holds o' (given T e m)) (sym m) (quiet Holds o o' T e b.tag h st b.carries (p b.tag m) boot host l n connections locks)
+      let m = ap event_tag_of b.is ∙ mark-shown T e b.tag h in
+      subst (λ (m : EventTag). StandsFor Holds o' (given T e m)) (sym m) (quiet Holds o o' T e b.tag h st b.carries (p b.tag m) boot host l n connections locks)
 
 module _ {After : Contents → Type 0} {before : Contents} (T : Trace) (e : Event) (grown : Bool) (w : Outcome) (h : IsQuiet e) (b : Became After before T e grown w) where
   pub became-outcome : (lent : ℕ → ℕ) → IsOutcome T lent e w

@@ -39,7 +39,7 @@ use Rattle.office.specs.Sessions.{present, view, marks, login, live, holder}
 use Rattle.office.specs.Replying.{Transaction, LineState, InAuthorization, InTransaction, transaction_at, state_at, stamp, login_failed, maildrop_has, opening, logging_in, deleted_if, served_if, quit_says, authorization_says, session_says, is_permitted, when_permitted, refusal, name_or_nobody, obeyed, reply_to_command, reply_to_reading, reply_to, reply_to_cut, said_to_line}
 use Rattle.office.specs.Told.{told, said_to, answers_if_done, deposited, administered}
 use Rattle.office.specs.Answers.{Answer}
-use Rattle.office.specs.Events.{Event, Mark, Ignored, Tagged, Log, Trace}
+use Rattle.office.specs.Events.{Event, EventTag, Ignored, Tagged, Log, Trace}
 use Rattle.office.specs.Events as event
 use Rattle.office.specs.Log.{moment}
 use Rattle.office.specs.Trace.{acts_at, acts_from, line_act, act_of_part, acts_of_took, acts_of_piece, idle_acts, idle_numbers, next_line, is_left}

@@ -5,7 +5,7 @@ use Rattle.vault.specs.Calls.{greatest_count, has_grown}
 use Rattle.vault.specs.Changes.{Contents}
 use Rattle.vault.specs.declared.vault.Vault.{Ghosts}
 use Rattle.office.specs.Events.{Trace}
-use Rattle.office.specs.Shown.{event_seen, outcome_seen, followed_by}
+use Rattle.office.specs.Seen.{event_seen, outcome_seen, followed_by}
 use Rattle.office.specs.Outcomes.{HasCause}
 use Rattle.office.specs.Outcomes as outcomes
 use Rattle.office.specs.Stands.{vault_of}

@@ -21,9 +21,9 @@ use Rattle.office.specs.Answers.{body_of}
 use Rattle.office.specs.History.{Done}
 use Rattle.office.specs.Sessions.{present}
 use Rattle.office.specs.Replying.{is_empty}
-use Rattle.office.specs.Events.{Event, Start, Connect, Bytes, Took, Deposit, Mark, Log, Trace}
+use Rattle.office.specs.Events.{Event, Start, Connect, Bytes, Took, Deposit, EventTag, Log, Trace}
 use Rattle.office.specs.Events as events
-use Rattle.office.specs.Outcomes.{Outcome, Answered, mark_of}
+use Rattle.office.specs.Outcomes.{Outcome, Answered, event_tag_of}
 use Rattle.office.specs.Trace.{history, rest}
 use Rattle.office.specs.Expected.{outcome_of, octets_taken}
 
@@ -93,7 +93,7 @@ abbrev pub outcome : Trace → Event → Outcome
 outcome T e = outcome_of T (lent T) e Done
 
 abbrev pub given : Trace → Event → Trace
-given T e = events.given T e (mark_of (outcome T e))
+given T e = events.given T e (event_tag_of (outcome T e))
 
 -- an event, takings of all that is owed until nothing is, or one of so many octets, or of what is owed if that is less
 pub data Step : Type 0 where
@@ -149,7 +149,7 @@ abbrev pub says : ℕ → List (List ℕ) → List Step
 says c ls = flat_map (λ l. gives c (l ++ line_end)) ls
 
 -- what a connection took
-abbrev pub taken_of : ℕ → Trace → Event → Mark → List ℕ
+abbrev pub taken_of : ℕ → Trace → Event → EventTag → List ℕ
 taken_of c T (Took n octets) m = if n == c then octets_taken T (Took n octets) m else []
 taken_of c T e m = []
 

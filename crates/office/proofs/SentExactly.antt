@@ -11,9 +11,9 @@ use Rattle.office.specs.Connections.{opens, connected, sent, sent_after, octets_
 use Rattle.office.specs.Replying.{is_empty}
 use Rattle.office.specs.Answers.{AdminCommand}
 use Rattle.office.specs.Told.{told, said_to}
-use Rattle.office.specs.Events.{Limits, Event, Mark, Tagged, Ignored, Log, Trace, given}
+use Rattle.office.specs.Events.{Limits, Event, EventTag, Tagged, Ignored, Log, Trace, given}
 use Rattle.office.specs.Events as event
-use Rattle.office.specs.Outcomes.{Outcome, Reason, NoSuchConnection, NotReady, PieceTooLong, mark_of}
+use Rattle.office.specs.Outcomes.{Outcome, Reason, NoSuchConnection, NotReady, PieceTooLong, event_tag_of}
 use Rattle.office.specs.Log.{next_number, taken, moment}
 use Rattle.office.specs.Trace.{acts_from, acts_at, acts_of_piece, acts_of_took, act_of_part, act_of_all, line_act, idle_acts, idle_numbers, history, rest, rest_if, is_open, is_open_by, is_left, untaken, next_line}
 use Rattle.office.specs.Expected.{ignored, shown_at, or_ignored, reason_if, most_in_a_piece}
@@ -88,7 +88,7 @@ record Begins (B : Records) (L : Log) (d : ℕ) : Type 0 where
   is : all_taken_by B L d ≡ take (taken L d) (sent (history (trace_of B L)) d)
   fits : taken L d ≤ length (sent (history (trace_of B L)) d)
 
-begins_still : (B : Records) (L : Log) (e : Event) (m : Mark) (d : ℕ) → OpensNone (acts_at L (history (trace_of B L)) e m) d
+begins_still : (B : Records) (L : Log) (e : Event) (m : EventTag) (d : ℕ) → OpensNone (acts_at L (history (trace_of B L)) e m) d
     → taken ((e, m) ∷ L) d ≡ taken L d → all_taken_by B ((e, m) ∷ L) d ≡ all_taken_by B L d → Begins B L d → Begins B ((e, m) ∷ L) d
 begins_still B L e m d others t o b =
     let g = grown B (acts_at L (history (trace_of B L)) e m) (acts_from B L) d others in
@@ -101,7 +101,7 @@ begins_still B L e m d others t o b =
     }
 
 -- what isn't ignored has no reason to be
-not_ignored : (t : Tag) (r : Option Reason) (o : Outcome) → Tagged t ≡ mark_of (or_ignored r o) → r ≡ None
+not_ignored : (t : Tag) (r : Option Reason) (o : Outcome) → Tagged t ≡ event_tag_of (or_ignored r o) → r ≡ None
 not_ignored t None o e = refl
 not_ignored t (Some reason) o e = cc
 
@@ -121,7 +121,7 @@ record TakesOwed (T : Trace) (c count : ℕ) : Type 0 where
 
 takes_owed : (T : Trace) (c count : ℕ) (t : Tag) → IsAdmitted T (event.Took c count) (Tagged t) → TakesOwed T c count
 takes_owed T c count t a =
-    let none = not_ignored t (ignored T a.lent (event.Took c count)) (shown_at T.base T.log (history T) (event.Took c count) a.is.tag) (a.mark ∙ ap mark_of a.is.is) in
+    let none = not_ignored t (ignored T a.lent (event.Took c count)) (shown_at T.base T.log (history T) (event.Took c count) a.is.tag) (a.event_tag ∙ ap event_tag_of a.is.is) in
     let f = took_at (is_open T c) ((count == 0) || nat_lt (a.lent c) count) none in
     let within : count ≤ a.lent c = ltb-false (a.lent c) count (or_false (count == 0) (nat_lt (a.lent c) count) f.1) in
     let owed = a.owed c in
@@ -161,7 +161,7 @@ module _ (B : Records) (L : Log) where
       let o : all_taken_by B ((event.Took c n, Tagged t) ∷ L) d ≡ all_taken_by B L d = rw q refl in
       begins_still B L (event.Took c n) (Tagged t) d (took_opens (is_left L G c n) (serving G c) (closing G c) c t (next_line L G c []) d) k o b
 
-  begins_took : (c n d : ℕ) (m : Mark) → IsAdmitted (trace_of B L) (event.Took c n) m → Begins B L d → Begins B ((event.Took c n, m) ∷ L) d
+  begins_took : (c n d : ℕ) (m : EventTag) → IsAdmitted (trace_of B L) (event.Took c n) m → Begins B L d → Begins B ((event.Took c n, m) ∷ L) d
   begins_took c n d Ignored a b = begins_still B L (event.Took c n) Ignored d tt refl refl b
   begins_took c n d (Tagged t) a b =
       ⊎_elim
@@ -185,7 +185,7 @@ module _ (B : Records) (L : Log) where
       let o : all_taken_by B ((event.Connect, Tagged Done) ∷ L) d ≡ all_taken_by B L d = rw q refl in
       begins_still B L event.Connect (Tagged Done) d (q, tt) k o b
 
-  begins_connect : (m : Mark) (d : ℕ) → Begins B L d → Begins B ((event.Connect, m) ∷ L) d
+  begins_connect : (m : EventTag) (d : ℕ) → Begins B L d → Begins B ((event.Connect, m) ∷ L) d
   begins_connect Ignored d b = begins_still B L event.Connect Ignored d tt refl refl b
   begins_connect (Tagged Done) d b =
       ⊎_elim
@@ -195,37 +195,37 @@ module _ (B : Records) (L : Log) where
   begins_connect (Tagged Failed) d b = begins_still B L event.Connect (Tagged Failed) d tt refl refl b
   begins_connect (Tagged NoMemory) d b = begins_still B L event.Connect (Tagged NoMemory) d tt refl refl b
 
-  begins_bytes : (c : ℕ) (piece : List ℕ) (m : Mark) (d : ℕ) → Begins B L d → Begins B ((event.Bytes c piece, m) ∷ L) d
+  begins_bytes : (c : ℕ) (piece : List ℕ) (m : EventTag) (d : ℕ) → Begins B L d → Begins B ((event.Bytes c piece, m) ∷ L) d
   begins_bytes c piece Ignored d b = begins_still B L (event.Bytes c piece) Ignored d tt refl refl b
   begins_bytes c piece (Tagged t) d b =
       begins_still B L (event.Bytes c piece) (Tagged t) d (piece_opens (has_newline piece) c t (next_line L (history (trace_of B L)) c piece) d) refl refl b
 
-  begins_tick : (now : ℕ) (m : Mark) (d : ℕ) → Begins B L d → Begins B ((event.Tick now, m) ∷ L) d
+  begins_tick : (now : ℕ) (m : EventTag) (d : ℕ) → Begins B L d → Begins B ((event.Tick now, m) ∷ L) d
   begins_tick now Ignored d b = begins_still B L (event.Tick now) Ignored d tt refl refl b
   begins_tick now (Tagged t) d b =
       begins_still B L (event.Tick now) (Tagged t) d (idle_opens (idle_numbers L (history (trace_of B L)) (max (moment L) now)) d) refl refl b
 
-  begins_gone : (c : ℕ) (m : Mark) (d : ℕ) → Begins B L d → Begins B ((event.Gone c, m) ∷ L) d
+  begins_gone : (c : ℕ) (m : EventTag) (d : ℕ) → Begins B L d → Begins B ((event.Gone c, m) ∷ L) d
   begins_gone c Ignored d b = begins_still B L (event.Gone c) Ignored d tt refl refl b
   begins_gone c (Tagged t) d b = begins_still B L (event.Gone c) (Tagged t) d (refl, tt) refl refl b
 
-  begins_start : (host : List ℕ) (boot : ℕ) (limits : Limits) (m : Mark) (d : ℕ) → Begins B L d → Begins B ((event.Start host boot limits, m) ∷ L) d
+  begins_start : (host : List ℕ) (boot : ℕ) (limits : Limits) (m : EventTag) (d : ℕ) → Begins B L d → Begins B ((event.Start host boot limits, m) ∷ L) d
   begins_start host boot limits Ignored d b = begins_still B L (event.Start host boot limits) Ignored d tt refl refl b
   begins_start host boot limits (Tagged t) d b = begins_still B L (event.Start host boot limits) (Tagged t) d (refl, tt) refl refl b
 
-  begins_restart : (boot : ℕ) (m : Mark) (d : ℕ) → Begins B L d → Begins B ((event.Restart boot, m) ∷ L) d
+  begins_restart : (boot : ℕ) (m : EventTag) (d : ℕ) → Begins B L d → Begins B ((event.Restart boot, m) ∷ L) d
   begins_restart boot Ignored d b = begins_still B L (event.Restart boot) Ignored d tt refl refl b
   begins_restart boot (Tagged t) d b = begins_still B L (event.Restart boot) (Tagged t) d (refl, tt) refl refl b
 
-  begins_deposit : (name class id text : List ℕ) (m : Mark) (d : ℕ) → Begins B L d → Begins B ((event.Deposit name class id text, m) ∷ L) d
+  begins_deposit : (name class id text : List ℕ) (m : EventTag) (d : ℕ) → Begins B L d → Begins B ((event.Deposit name class id text, m) ∷ L) d
   begins_deposit name class id text Ignored d b = begins_still B L (event.Deposit name class id text) Ignored d tt refl refl b
   begins_deposit name class id text (Tagged t) d b = begins_still B L (event.Deposit name class id text) (Tagged t) d (refl, tt) refl refl b
 
-  begins_admin : (command : AdminCommand) (m : Mark) (d : ℕ) → Begins B L d → Begins B ((event.Admin command, m) ∷ L) d
+  begins_admin : (command : AdminCommand) (m : EventTag) (d : ℕ) → Begins B L d → Begins B ((event.Admin command, m) ∷ L) d
   begins_admin command Ignored d b = begins_still B L (event.Admin command) Ignored d tt refl refl b
   begins_admin command (Tagged t) d b = begins_still B L (event.Admin command) (Tagged t) d (refl, tt) refl refl b
 
-  begins_on : (e : Event) (m : Mark) (d : ℕ) → IsAdmitted (trace_of B L) e m → Begins B L d → Begins B ((e, m) ∷ L) d
+  begins_on : (e : Event) (m : EventTag) (d : ℕ) → IsAdmitted (trace_of B L) e m → Begins B L d → Begins B ((e, m) ∷ L) d
   begins_on (event.Start host boot limits) m d a b = begins_start host boot limits m d b
   begins_on event.Connect m d a b = begins_connect m d b
   begins_on (event.Bytes c piece) m d a b = begins_bytes c piece m d b
@@ -338,13 +338,13 @@ bytes_at false rested past e = cc
 piece_open : (T : Trace) (c : ℕ) (piece : List ℕ) (t : Tag) → IsAdmitted T (event.Bytes c piece) (Tagged t) → is_open T c ≡ true
 piece_open T c piece t a =
     bytes_at (is_open T c) (is_empty (rest T c)) (nat_lt most_in_a_piece (length piece))
-    (not_ignored t (ignored T a.lent (event.Bytes c piece)) (shown_at T.base T.log (history T) (event.Bytes c piece) a.is.tag) (a.mark ∙ ap mark_of a.is.is))
+    (not_ignored t (ignored T a.lent (event.Bytes c piece)) (shown_at T.base T.log (history T) (event.Bytes c piece) a.is.tag) (a.event_tag ∙ ap event_tag_of a.is.is))
 
 module _ (B : Records) (L : Log) (c : ℕ) where
   abbrev front : List Entry
   front = history (trace_of B L)
 
-  done_still : (e : Event) (m : Mark) → ConcernNone (acts_at L front e m) c → taken ((e, m) ∷ L) c ≡ taken L c → IsDone L front c
+  done_still : (e : Event) (m : EventTag) → ConcernNone (acts_at L front e m) c → taken ((e, m) ∷ L) c ≡ taken L c → IsDone L front c
       → IsDone ((e, m) ∷ L) (history (trace_of B ((e, m) ∷ L))) c
   done_still e m none t d =
       let new = acts_at L front e m in
@@ -370,12 +370,12 @@ module _ (B : Records) (L : Log) (c : ℕ) where
       let same : taken ((event.Took n count, Tagged t) ∷ L) c ≡ taken L c = rw q refl in
       done_still (event.Took n count) (Tagged t) (none_took (is_left L front n count) (serving front n) (closing front n) n t (next_line L front n []) c ne) same d
 
-  done_tick : (now : ℕ) (m : Mark) → IsDone L front c → IsDone ((event.Tick now, m) ∷ L) (history (trace_of B ((event.Tick now, m) ∷ L))) c
+  done_tick : (now : ℕ) (m : EventTag) → IsDone L front c → IsDone ((event.Tick now, m) ∷ L) (history (trace_of B ((event.Tick now, m) ∷ L))) c
   done_tick now Ignored d = done_still (event.Tick now) Ignored tt refl d
   done_tick now (Tagged t) d = done_still (event.Tick now) (Tagged t) (none_idle (idle_numbers L front (max (moment L) now)) c) refl d
 
   -- what an event other than its opening leaves
-  done_on : (e : Event) (m : Mark) → IsAdmitted (trace_of B L) e m → (e ≡ event.Connect → ⊥) → IsDone L front c → IsDone ((e, m) ∷ L) (history (trace_of B ((e, m) ∷ L))) c
+  done_on : (e : Event) (m : EventTag) → IsAdmitted (trace_of B L) e m → (e ≡ event.Connect → ⊥) → IsDone L front c → IsDone ((e, m) ∷ L) (history (trace_of B ((e, m) ∷ L))) c
   unfolding concerns
   done_on (event.Start host boot limits) Ignored a ne d = done_still (event.Start host boot limits) Ignored tt refl d
   done_on (event.Start host boot limits) (Tagged t) a ne d = done_still (event.Start host boot limits) (Tagged t) (refl, tt) refl d
@@ -407,7 +407,7 @@ now_or : (now before : Bool) {P : Type 0} → (now ≡ true → P) → (before �
 now_or true before f g e = f refl
 now_or false before f g e = g e
 
-done_connect : (B : Records) (L : Log) (c : ℕ) (m : Mark) → (has_closed_by B L c ≡ true → IsDone L (history (trace_of B L)) c) → has_closed_by B ((event.Connect, m) ∷ L) c ≡ true
+done_connect : (B : Records) (L : Log) (c : ℕ) (m : EventTag) → (has_closed_by B L c ≡ true → IsDone L (history (trace_of B L)) c) → has_closed_by B ((event.Connect, m) ∷ L) c ≡ true
     → IsDone ((event.Connect, m) ∷ L) (history (trace_of B ((event.Connect, m) ∷ L))) c
 done_connect B L c Ignored on h =
     now_or (closes_at ((event.Connect, Ignored) ∷ L) (history (trace_of B ((event.Connect, Ignored) ∷ L))) c) (has_closed_by B L c)
@@ -428,14 +428,14 @@ done_connect B L c (Tagged NoMemory) on h =
     now_or (closes_at ((event.Connect, Tagged NoMemory) ∷ L) (history (trace_of B ((event.Connect, Tagged NoMemory) ∷ L))) c) (has_closed_by B L c)
     (closes_now ((event.Connect, Tagged NoMemory) ∷ L) (history (trace_of B ((event.Connect, Tagged NoMemory) ∷ L))) c) (λ k. done_still B L c event.Connect (Tagged NoMemory) tt refl (on k)) h
 
-done_other : (B : Records) (L : Log) (c : ℕ) (e : Event) (m : Mark) → IsAdmitted (trace_of B L) e m → (e ≡ event.Connect → ⊥)
+done_other : (B : Records) (L : Log) (c : ℕ) (e : Event) (m : EventTag) → IsAdmitted (trace_of B L) e m → (e ≡ event.Connect → ⊥)
     → (has_closed_by B L c ≡ true → IsDone L (history (trace_of B L)) c) → (closes_at ((e, m) ∷ L) (history (trace_of B ((e, m) ∷ L))) c || has_closed_by B L c) ≡ true
     → IsDone ((e, m) ∷ L) (history (trace_of B ((e, m) ∷ L))) c
 done_other B L c e m a ne on h =
     now_or (closes_at ((e, m) ∷ L) (history (trace_of B ((e, m) ∷ L))) c) (has_closed_by B L c) (closes_now ((e, m) ∷ L) (history (trace_of B ((e, m) ∷ L))) c)
     (λ k. done_on B L c e m a ne (on k)) h
 
-done_event : (B : Records) (L : Log) (c : ℕ) (e : Event) (m : Mark) → IsAdmitted (trace_of B L) e m
+done_event : (B : Records) (L : Log) (c : ℕ) (e : Event) (m : EventTag) → IsAdmitted (trace_of B L) e m
     → (has_closed_by B L c ≡ true → IsDone L (history (trace_of B L)) c) → has_closed_by B ((e, m) ∷ L) c ≡ true → IsDone ((e, m) ∷ L) (history (trace_of B ((e, m) ∷ L))) c
 done_event B L c event.Connect m a on h = done_connect B L c m on h
 done_event B L c (event.Start host boot limits) m a on h = done_other B L c (event.Start host boot limits) m a (λ q. cc) on h

@@ -17,7 +17,7 @@ use Rattle.office.specs.History.{Tag, Done, Failed, NoMemory}
 use Rattle.office.specs.Sessions.{records}
 use Rattle.office.specs.Events.{Event, Tagged, Trace, given}
 use Rattle.office.specs.Trace.{history}
-use Rattle.office.specs.Outcomes.{Outcome, mark_of}
+use Rattle.office.specs.Outcomes.{Outcome, event_tag_of}
 use Rattle.office.specs.Outcomes as outcome
 use Rattle.office.specs.Stands.{Keeps}
 use Rattle.office.specs.Stopping.{SaysTrace, LeavesTrace, IsAnswered, StopLeaves, LeavesHeld}
@@ -47,7 +47,7 @@ says_itself left T k = agree_through (records_of left) (records_of k.contents) (
 
 pub stop_leaves : {MayLeave : Contents → Type 0} (T : Trace) (e : Event) (w : Outcome)
     → ((left : Contents) → MayLeave left → SaysTrace left T ⊎ SaysTrace left (given T e (Tagged Done)))
-    → (IsAnswered w → LeavesTrace MayLeave (given T e (mark_of w))) → StopLeaves MayLeave T e w
+    → (IsAnswered w → LeavesTrace MayLeave (given T e (event_tag_of w))) → StopLeaves MayLeave T e w
 stop_leaves T e (outcome.Opened c) either with_it left may = with_it tt left may
 stop_leaves T e outcome.Done either with_it left may = with_it tt left may
 stop_leaves T e outcome.Failed either with_it left may = either left may
@@ -82,10 +82,10 @@ same_tag Failed e = cc
 same_tag NoMemory e = cc
 
 -- what a call makes of the store when it is done, if a stop leaves that
-pub became_left : (left before : Contents) (T : Trace) (e : Event) (grown : Bool) (w : Outcome) → IsQuiet e → mark_of w ≡ Tagged Done
+pub became_left : (left before : Contents) (T : Trace) (e : Event) (grown : Bool) (w : Outcome) → IsQuiet e → event_tag_of w ≡ Tagged Done
     → Became (SaySame left) before T e grown w → SaysTrace left (given T e (Tagged Done))
 became_left left before T e grown w h m b =
-    let d : b.tag ≡ Done = same_tag b.tag (sym (mark-shown T e b.tag h) ∙ (ap mark_of (sym b.is) ∙ m)) in
+    let d : b.tag ≡ Done = same_tag b.tag (sym (mark-shown T e b.tag h) ∙ (ap event_tag_of (sym b.is) ∙ m)) in
     subst (λ (t : Tag). SaysTrace left (given T e (Tagged t))) d (says_itself left (given T e (Tagged b.tag)) b.carries.stored)
 
 -- what a stop leaves by a call that changes records
@@ -100,11 +100,11 @@ pub before_left : {Holds MayLeave : Contents → Type 0} (T : Trace) (e : Event)
     → LeavesBefore MayLeave k.contents → (left : Contents) → MayLeave left → SaysTrace left T ⊎ SaysTrace left (given T e (Tagged Done))
 before_left T e k leaves left may = inl (says_kept left T k (leaves left may))
 
-pub new_mark : (x : Deposited) → mark_of (by_vault.deposited (Ok x)) ≡ Tagged Done
+pub new_mark : (x : Deposited) → event_tag_of (by_vault.deposited (Ok x)) ≡ Tagged Done
 new_mark (stored.New uid) = refl
 new_mark (stored.Known uid) = refl
 
-pub put_mark : (there : Answer) (x : Bool) → mark_of (by_vault.put there (Ok x)) ≡ Tagged Done
+pub put_mark : (there : Answer) (x : Bool) → event_tag_of (by_vault.put there (Ok x)) ≡ Tagged Done
 put_mark there true = refl
 put_mark there false = refl
 

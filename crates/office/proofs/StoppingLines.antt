@@ -9,10 +9,10 @@ use Rattle.vault.specs.Changes.{Contents, AreSound, records_of}
 use Rattle.office.specs.History.{Done}
 use Rattle.office.specs.Connections.{reading}
 use Rattle.office.specs.Sessions.{records}
-use Rattle.office.specs.Events.{Event, Mark, Ignored, Tagged, Log, Trace, given}
+use Rattle.office.specs.Events.{Event, EventTag, Ignored, Tagged, Log, Trace, given}
 use Rattle.office.specs.Formed.{are_formed}
 use Rattle.office.specs.Trace.{history}
-use Rattle.office.specs.Outcomes.{Outcome, mark_of}
+use Rattle.office.specs.Outcomes.{Outcome, event_tag_of}
 use Rattle.office.specs.Outcomes as outcome
 use Rattle.office.specs.Kept.{LineContext, Kept, answered, line_after}
 use Rattle.office.specs.Answered.{shown_of, held_after, held_if}
@@ -67,13 +67,13 @@ module _ {Before : Contents → Type 0} (T : Trace) (n : ℕ) (keeps : Keeps Bef
 pub keeps_left : {Before Holds : Contents → Type 0} (left : Contents) (T : Trace) → Keeps Before T → Holds left → SaysTrace left T → Keeps Holds T
 keeps_left left T k held says = record { contents = left; held = held; agree = says; sound = k.sound; formed = k.formed; began = k.began }
 
-formed_done : (T : Log) (e : Event) (m : Mark) → are_formed ((e, m) ∷ T) ≡ true → are_formed ((e, taken_as_done m) ∷ T) ≡ true
+formed_done : (T : Log) (e : Event) (m : EventTag) → are_formed ((e, m) ∷ T) ≡ true → are_formed ((e, taken_as_done m) ∷ T) ≡ true
 formed_done T e Ignored f = f
 formed_done T e (Tagged t) f = f
 
-pub keeps_with_it : {Before Holds : Contents → Type 0} (left : Contents) (T : Trace) (e : Event) (w : Outcome) → Keeps Before (given T e (mark_of w)) → Holds left
+pub keeps_with_it : {Before Holds : Contents → Type 0} (left : Contents) (T : Trace) (e : Event) (w : Outcome) → Keeps Before (given T e (event_tag_of w)) → Holds left
     → SaysTrace left (with_it_done T e w) → Keeps Holds (with_it_done T e w)
-keeps_with_it left T e w k held says = record { contents = left; held = held; agree = says; sound = k.sound; formed = formed_done T.log e (mark_of w) k.formed; began = begun_done e (mark_of w) T.log k.began }
+keeps_with_it left T e w k held says = record { contents = left; held = held; agree = says; sound = k.sound; formed = formed_done T.log e (event_tag_of w) k.formed; began = begun_done e (event_tag_of w) T.log k.began }
 
 pub either_so : (w : Outcome) {A B C D : Type 0} → (A → C) → (B → D) → EitherOrWith w A B → EitherOrWith w C D
 either_so (outcome.Opened c) f g h = g h

@@ -1,7 +1,7 @@
 -- A taking of all that is lent, on a trace: what the next line leaves, and what the event is answered.
 use Rattle.std.proofs.Common.{◌≡◌, ℕ, Bool, true, false, List, [], ◌++◌, Option, Some, None, refl, sym, ◌∙◌, ap, nat_cmp, eqb}
 use Rattle.std.specs.BTreeMap.{BTreeMap, get}
-use Rattle.popline.specs.Cutting.{coming, shown, has_newline}
+use Rattle.popline.specs.Cutting.{coming, whole_line, has_newline}
 use Rattle.popline.specs.Replies.{Reply}
 use Rattle.policy.specs.Policy.{Policy}
 use Rattle.vault.specs.Changes.{Contents, AreSound, records_of}
@@ -44,7 +44,7 @@ module _ {Before : Contents → Type 0} (T : Trace) (n octets : ℕ) (keeps : Ke
 
   module _ {After : Contents → Type 0} {grown : Bool} {was told : Account} (w : LineOutcome) (k' : Kept)
       (did : AfterNext After grown keeps.contents policy locks judged.transaction (cut_through p k) k' w was told) where
-    law : (more : List ℕ) → coming k.held (p ++ more) ≡ shown k'.held ++ coming k'.held (k'.pending ++ more)
+    law : (more : List ℕ) → coming k.held (p ++ more) ≡ whole_line k'.held ++ coming k'.held (k'.pending ++ more)
     law = lines_go k k' p (replied w) k'.session k'.output did.kept
 
     none : has_newline p ≡ false → next_line T.log (history T) n [] ≡ None

@@ -248,13 +248,13 @@ module _ {Before : Contents → Type 0} (After : Contents → Type 0) (T : Trace
       (λ h. keeps_same T (event.Admin ListMaildrops) Done k h refl refl) cause
 
   pub maildrop_shown : (d : List ℕ) (answered : Result (List Head) VaultFault) → AreHeads After k.contents d answered → (answered ≡ Err fault.Store → grown ≡ true)
-      → Became After k.contents T (event.Admin (ShowMaildrop d)) grown (by_vault.shown answered)
+      → Became After k.contents T (event.Admin (ShowMaildrop d)) grown (by_vault.maildrop_shown answered)
   maildrop_shown d answered did cause =
-      called T (event.Admin (ShowMaildrop d)) grown tt refl k by_vault.shown (λ r. After (if is_ok r then k.contents else k.contents)) (heads_result d k.contents) answered
+      called T (event.Admin (ShowMaildrop d)) grown tt refl k by_vault.maildrop_shown (λ r. After (if is_ok r then k.contents else k.contents)) (heads_result d k.contents) answered
       did.answer did.held (λ h. h) (λ h. h) refl refl (at (is_one_of d k.contents.maildrops) (exists T.base (history T) d) (is_there T k d))
       (λ h. keeps_same T (event.Admin (ShowMaildrop d)) Done k (still_there After (is_ok (heads_result d k.contents)) k.contents h) refl refl) cause
     where
-      at : (b c : Bool) → b ≡ c → by_vault.shown (if b then Ok (heads d k.contents) else Err fault.NoMaildrop)
+      at : (b c : Bool) → b ≡ c → by_vault.maildrop_shown (if b then Ok (heads d k.contents) else Err fault.NoMaildrop)
           ≡ outcome.Answered (if c then answer.Messages (map row_of (present T.base (history T) d)) else answer.NoSuchMaildrop)
       at true true e = ap (λ rows. outcome.Answered (answer.Messages rows)) (rows_at d k.contents.messages ∙ ap (map row_of) (are_present T k d))
       at true false e = absurd (true≢false e)

@@ -20,9 +20,9 @@ use Rattle.office.specs.History.{in_force, is_done}
 use Rattle.office.specs.Connections.{is_quit, reading, user}
 use Rattle.office.specs.Sessions.{in_session, marks, view}
 use Rattle.office.specs.Replying.{said_to_line}
-use Rattle.office.specs.Events.{Event, Mark, Ignored, Tagged, Trace}
+use Rattle.office.specs.Events.{Event, EventTag, Ignored, Tagged, Trace}
 use Rattle.office.specs.Events as event
-use Rattle.office.specs.Outcomes.{Outcome, Answered, mark_of}
+use Rattle.office.specs.Outcomes.{Outcome, Answered, event_tag_of}
 use Rattle.office.specs.Answers.{Answer}
 use Rattle.office.specs.Answers as answer
 use Rattle.office.specs.Told.{administered}
@@ -149,14 +149,14 @@ account_at T (event.Admin command) Done =
     answer_told (administered T.base (history T) command)
 account_at T e t = acts_told T e t
 
--- the account of a trace's next event, which got this mark
-abbrev pub account_of : Trace → Event → Mark → Account
+-- the account of a trace's next event, which got this tag
+abbrev pub account_of : Trace → Event → EventTag → Account
 account_of T e Ignored = account.Nothing
 account_of T e (Tagged t) = account_at T e t
 
 -- this is the account of an event with this outcome
 abbrev pub IsAccount : Trace → Event → Outcome → Account → Type 0
-IsAccount T e o told = told ≡ account_of T e (mark_of o)
+IsAccount T e o told = told ≡ account_of T e (event_tag_of o)
 
 -- the account of octets that make a line whole, or none
 abbrev pub account_if : (has_line : Bool) → Account → Account

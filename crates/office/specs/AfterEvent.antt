@@ -3,7 +3,7 @@ use Rattle.std.specs.Prelude.{◌≤◌}
 use Rattle.vault.specs.declared.vault.Vault.{Ghosts}
 use Rattle.office.specs.Events.{Event, Trace, given}
 use Rattle.office.specs.Expected.{IsOutcome}
-use Rattle.office.specs.Outcomes.{Outcome, mark_of, HasCause}
+use Rattle.office.specs.Outcomes.{Outcome, event_tag_of, HasCause}
 use Rattle.office.specs.Stands.{StandsFor, OfEachTrace, lent_by, vault_of}
 use Rattle.office.specs.Stopping.{StaysUpUnless, StopLeaves}
 use Rattle.office.specs.declared.office.Office.{Office}
@@ -14,7 +14,7 @@ use Rattle.office.specs.declared.office.Office.{Office}
 -- or what it says with the event, as the outcome tells.
 pub record StandsAfter {V : Type 0} (vault : Ghosts V) (old new : Office V) (e : Event)
     (o : Outcome) (T : Trace) : Type 0 where
-  pub stands : StandsFor vault.holds new (given T e (mark_of o))
+  pub stands : StandsFor vault.holds new (given T e (event_tag_of o))
   pub outcome : IsOutcome T (lent_by old) e o
   pub cause : HasCause (vault.faults (vault_of old)) (vault.faults (vault_of new)) o
   pub up : StaysUpUnless (vault.is_up (vault_of old)) (vault.is_up (vault_of new)) o

@@ -24,13 +24,13 @@ pub data Event : Type 0 where
   Restart : (boot : ℕ) → Event
 
 -- what a trace records of an event's outcome: that it was ignored, or a tag
-pub data Mark : Type 0 where
-  Ignored : Mark
-  Tagged : Tag → Mark
+pub data EventTag : Type 0 where
+  Ignored : EventTag
+  Tagged : Tag → EventTag
 
--- events with their marks, the newest first
+-- events with their tags, the newest first
 abbrev pub Log : Type 0
-Log = List (Event × Mark)
+Log = List (Event × EventTag)
 
 -- the records of a store at first (`base`), and what its office was given since (`log`)
 pub record Trace : Type 0 where
@@ -38,5 +38,5 @@ pub record Trace : Type 0 where
   pub log : Log
 
 -- a trace with one more event
-abbrev pub given : Trace → Event → Mark → Trace
+abbrev pub given : Trace → Event → EventTag → Trace
 given T e m = record { base = T.base; log = (e, m) ∷ T.log }

@@ -8,7 +8,7 @@ use Rattle.office.specs.History.{Tag, Done, Failed, NoMemory, Entry}
 use Rattle.office.specs.Connections.{closing, serving}
 use Rattle.office.specs.Replying.{line_may_fail, is_empty}
 use Rattle.office.specs.Told.{deposited, administered}
-use Rattle.office.specs.Events.{Event, Mark, Tagged, Log, Trace}
+use Rattle.office.specs.Events.{Event, EventTag, Tagged, Log, Trace}
 use Rattle.office.specs.Outcomes.{Outcome, Reason, NoSuchConnection, NotReady, PieceTooLong}
 use Rattle.office.specs.Outcomes.{TooManyConnections}
 use Rattle.office.specs.Log.{next_number}
@@ -153,6 +153,6 @@ Succeeds _ o = ⊤
 -- ---- transcripts
 
 -- the octets that an event takes: only a Took that wasn't ignored takes some
-abbrev pub octets_taken : Trace → Event → Mark → List ℕ
+abbrev pub octets_taken : Trace → Event → EventTag → List ℕ
 octets_taken T (event.Took c octets) (Tagged t) = take octets (rest T c)
 octets_taken T _ m = []

@@ -22,7 +22,7 @@ use Rattle.office.specs.Told.{told}
 use Rattle.office.specs.Replying.{name_or_nobody}
 use Rattle.session.specs.declared.removals.Removals.{Removals}
 use Rattle.session.specs.declared.removals.Removals.TheVariants.{JudgedAtDele, JudgedAtQuit}
-use Rattle.office.specs.Events.{Event, Mark, Limits, Log, Trace, Tagged}
+use Rattle.office.specs.Events.{Event, EventTag, Limits, Log, Trace, Tagged}
 use Rattle.office.specs.Trace.{history}
 use Rattle.office.specs.Formed.{are_formed}
 use Rattle.office.specs.Taken.{IsAdmitted, AreAdmitted, IsSentExactly}
@@ -71,7 +71,7 @@ DepositIdsActOnce = (B : Records) → IsSound B → (H : List (Act × Tag)) (d :
 -- ---- greetings
 
 -- the boot numbers that a trace's openings and restarts set, the newest first
-abbrev pub boots_after : Event → Mark → List ℕ → List ℕ
+abbrev pub boots_after : Event → EventTag → List ℕ → List ℕ
 boots_after (event.Start host boot limits) (Tagged t) before = boot ∷ before
 boots_after (event.Restart boot) (Tagged t) before = boot ∷ before
 boots_after _ m before = before
@@ -92,7 +92,7 @@ stamps [] = []
 stamps (e ∷ G) = stamps_after e.act e.said (stamps G)
 
 -- an event is an office's opening
-abbrev pub IsStart : Event → Mark → Type 0
+abbrev pub IsStart : Event → EventTag → Type 0
 IsStart (event.Start host boot limits) (Tagged t) = ⊤
 IsStart _ m = ⊥
 
@@ -204,12 +204,12 @@ OwnRecordsAgree = (B : Records) → Agree B (records B [])
 
 -- ---- sent exactly
 
--- where each event has a mark that it may have, each connection is sent exactly what the history
+-- where each event has a tag that it may have, each connection is sent exactly what the history
 -- sends it
 abbrev pub TakenIsSent : Type 0
 TakenIsSent = (T : Trace) → AreAdmitted T → (c : ℕ) → IsSentExactly T c
 
--- an office's opening may always have the mark Done
+-- an office's opening may always have the tag Done
 abbrev pub OpeningsAreAdmitted : Type 0
 OpeningsAreAdmitted = (T : Trace) (host : List ℕ) (boot : ℕ) (limits : Limits)
     → IsAdmitted T (event.Start host boot limits) (Tagged Done)

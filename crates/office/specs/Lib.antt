@@ -30,7 +30,7 @@ pub mod Buffered
 pub mod Stands
 pub mod Laws
 pub mod Served
-pub mod Shown
+pub mod Seen
 pub mod Output
 pub mod PutPages
 pub mod Kept

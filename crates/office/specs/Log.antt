@@ -2,13 +2,13 @@
 use Rattle.std.specs.Prelude.{ℕ, not, ◌&&◌, ◌+◌, ◌==◌, List, [], ◌∷◌, ◌++◌, max, if◌then◌else◌}
 use Rattle.popline.specs.Cutting.{has_newline}
 use Rattle.office.specs.History.{Done, is_no_memory}
-use Rattle.office.specs.Events.{Event, Mark, Tagged, Log}
+use Rattle.office.specs.Events.{Event, EventTag, Tagged, Log}
 use Rattle.office.specs.Events as event
 
 -- ---- what the events alone say
 
 -- how many connections were opened since the last restart
-abbrev pub opened_after : Event → Mark → ℕ → ℕ
+abbrev pub opened_after : Event → EventTag → ℕ → ℕ
 opened_after (event.Start host boot limits) (Tagged t) before = 0
 opened_after (event.Restart boot) (Tagged t) before = 0
 opened_after event.Connect (Tagged Done) before = before + 1
@@ -24,7 +24,7 @@ abbrev pub next_number : Log → ℕ
 next_number T = opened T + 1
 
 -- the idle seconds after an event: an opening sets them
-abbrev pub idle_after : Event → Mark → ℕ → ℕ
+abbrev pub idle_after : Event → EventTag → ℕ → ℕ
 idle_after (event.Start host boot limits) (Tagged t) before = limits.idle
 idle_after _ m before = before
 
@@ -34,7 +34,7 @@ idle_seconds [] = 600
 idle_seconds ((e, m) ∷ T) = idle_after e m (idle_seconds T)
 
 -- the moment after an event: the greatest tick since the last restart, or 0
-abbrev pub moment_after : Event → Mark → ℕ → ℕ
+abbrev pub moment_after : Event → EventTag → ℕ → ℕ
 moment_after (event.Start host boot limits) (Tagged t) before = 0
 moment_after (event.Restart boot) (Tagged t) before = 0
 moment_after (event.Tick now) (Tagged t) before = max before now
@@ -48,7 +48,7 @@ moment ((e, m) ∷ T) = moment_after e m (moment T)
 -- The facts of one connection since its opening; `next` is the number that an opening gets.
 
 -- the octets that were accepted from it; a piece without LF that met want of memory isn't
-abbrev pub stream_after : Event → Mark → (next c : ℕ) → List ℕ → List ℕ
+abbrev pub stream_after : Event → EventTag → (next c : ℕ) → List ℕ → List ℕ
 stream_after event.Connect (Tagged Done) next c before = if next == c then [] else before
 stream_after (event.Bytes n piece) (Tagged t) next c before =
     if n == c && not (is_no_memory t && not (has_newline piece)) then before ++ piece else before
@@ -60,7 +60,7 @@ stream [] c = []
 stream ((e, m) ∷ T) c = stream_after e m (next_number T) c (stream T c)
 
 -- how many octets it took
-abbrev pub taken_after : Event → Mark → (next c : ℕ) → ℕ → ℕ
+abbrev pub taken_after : Event → EventTag → (next c : ℕ) → ℕ → ℕ
 taken_after event.Connect (Tagged Done) next c before = if next == c then 0 else before
 taken_after (event.Took n octets) (Tagged t) next c before =
     if n == c then before + octets else before
@@ -72,7 +72,7 @@ taken [] c = 0
 taken ((e, m) ∷ T) c = taken_after e m (next_number T) c (taken T c)
 
 -- its clock: the moment of its opening, of its last line that acted or of its last taking
-abbrev pub clock_after : Event → Mark → (next now c : ℕ) → ℕ → ℕ
+abbrev pub clock_after : Event → EventTag → (next now c : ℕ) → ℕ → ℕ
 clock_after event.Connect (Tagged Done) next now c before = if next == c then now else before
 clock_after (event.Bytes n piece) (Tagged t) next now c before =
     if n == c && has_newline piece then now else before

@@ -2,7 +2,7 @@
 use Rattle.std.specs.Prelude.{◌≡◌, ℕ, true, ⊤}
 use Rattle.vault.specs.Calls.{has_grown}
 use Rattle.office.specs.Answers.{Answer}
-use Rattle.office.specs.Events.{Mark, Tagged}
+use Rattle.office.specs.Events.{EventTag, Tagged}
 use Rattle.office.specs.History as history
 use Rattle.office.specs.Events as event
 
@@ -22,14 +22,14 @@ pub data Outcome : Type 0 where
   Ignored : Reason → Outcome
   Answered : Answer → Outcome
 
--- an outcome's mark in a trace
-abbrev pub mark_of : Outcome → Mark
-mark_of (Opened c) = Tagged history.Done
-mark_of Done = Tagged history.Done
-mark_of Failed = Tagged history.Failed
-mark_of NoMemory = Tagged history.NoMemory
-mark_of (Ignored reason) = event.Ignored
-mark_of (Answered answer) = Tagged history.Done
+-- an outcome's tag in a trace
+abbrev pub event_tag_of : Outcome → EventTag
+event_tag_of (Opened c) = Tagged history.Done
+event_tag_of Done = Tagged history.Done
+event_tag_of Failed = Tagged history.Failed
+event_tag_of NoMemory = Tagged history.NoMemory
+event_tag_of (Ignored reason) = event.Ignored
+event_tag_of (Answered answer) = Tagged history.Done
 
 -- the outcome isn't want of memory
 abbrev pub HasMemory : Outcome → Type 0

@@ -8,9 +8,9 @@ use Rattle.office.specs.AfterEvent.{StandsAfter}
 use Rattle.office.specs.Events.{Event, Trace}
 use Rattle.office.specs.Expected.{IsOutcome, may_show, octets_taken}
 use Rattle.office.specs.History as history
-use Rattle.office.specs.Outcomes.{mark_of, HasCause, HasMemory}
+use Rattle.office.specs.Outcomes.{event_tag_of, HasCause, HasMemory}
 use Rattle.office.specs.Outcomes as outcomes
-use Rattle.office.specs.Shown.{event_seen, outcome_seen, followed_by}
+use Rattle.office.specs.Seen.{event_seen, outcome_seen, followed_by}
 use Rattle.office.specs.Stands.{StandsFor, lent_by, vault_of}
 use Rattle.office.specs.Stopping.{IsAnswered, LeavesTrace, StopLeaves}
 use Rattle.office.specs.Taken.{AreAdmitted}
@@ -32,11 +32,11 @@ pub record IsStep {V : Type 0} (Holds : V → Contents
   pub office : Office V
   pub stood : StandsFor Holds office T
   pub outcome : IsOutcome T (lent_by office) e (outcome_seen s.outcome)
-  pub octets : s.octets ≡ octets_taken T e (mark_of (outcome_seen s.outcome))
+  pub octets : s.octets ≡ octets_taken T e (event_tag_of (outcome_seen s.outcome))
 
 -- ---- a list of events
 
--- a trace with these events, and the marks of their steps
+-- a trace with these events, and the tags of their steps
 abbrev pub followed : Trace → List Given → List Step → Trace
 followed T (e ∷ es) (s ∷ ss) = followed (followed_by T (event_seen e) s.outcome) es ss
 followed T _ _ = T
@@ -60,7 +60,8 @@ pub record Enters {V : Type 0} (vault : Ghosts V) (event : Given) (before after 
     (old new : Office V) (T : Trace) : Type 0 where
   pub step : Step
   pub entered : after ≡ before ++ step ∷ []
-  pub octets : step.octets ≡ octets_taken T (event_seen event) (mark_of (outcome_seen step.outcome))
+  pub octets : step.octets
+      ≡ octets_taken T (event_seen event) (event_tag_of (outcome_seen step.outcome))
   pub done : StandsAfter vault old new (event_seen event) (outcome_seen step.outcome) T
 
 -- how many events were done before a run stopped

@@ -11,9 +11,9 @@ use Rattle.office.specs.declared.login_state.LineOutcome.{LineOutcome}
 use Rattle.office.specs.declared.login_state.LineOutcome.TheVariants as line_outcome
 use Rattle.office.specs.History.{Done}
 use Rattle.office.specs.Sessions.{records}
-use Rattle.office.specs.Events.{Event, Mark, Ignored, Tagged, Trace, given}
+use Rattle.office.specs.Events.{Event, EventTag, Ignored, Tagged, Trace, given}
 use Rattle.office.specs.Trace.{history}
-use Rattle.office.specs.Outcomes.{Outcome, mark_of}
+use Rattle.office.specs.Outcomes.{Outcome, event_tag_of}
 use Rattle.office.specs.Outcomes as outcome
 
 -- contents say what a trace says: their records are those of the trace's history
@@ -30,14 +30,14 @@ IsAnswered outcome.Failed = ⊥
 IsAnswered outcome.NoMemory = ⊥
 IsAnswered _ = ⊤
 
--- the mark of an event that is taken as done; an ignored event stays ignored
-abbrev pub taken_as_done : Mark → Mark
+-- the tag of an event that is taken as done; an ignored event stays ignored
+abbrev pub taken_as_done : EventTag → EventTag
 taken_as_done Ignored = Ignored
 taken_as_done (Tagged t) = Tagged Done
 
 -- a trace with an event that got this outcome, taken as done
 abbrev pub with_it_done : Trace → Event → Outcome → Trace
-with_it_done T e o = given T e (taken_as_done (mark_of o))
+with_it_done T e o = given T e (taken_as_done (event_tag_of o))
 
 -- where an event was answered Failed or NoMemory, one of the two holds; else the one with the event
 abbrev pub EitherOrWith : Outcome → (without with_it : Type 0) → Type 0

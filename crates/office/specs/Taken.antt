@@ -1,4 +1,4 @@
--- All that a connection took since its opening, and what the history sends it; and which marks the
+-- All that a connection took since its opening, and what the history sends it; and which tags the
 -- events of a log may have.
 use Rattle.std.specs.Prelude.{◌≡◌, ℕ, Bool, true, false, ◌&&◌, ◌||◌, ◌≤◌, ◌==◌, List, [], ◌∷◌, ◌++◌}
 use Rattle.std.specs.Prelude.{length, ⊤, if◌then◌else◌}
@@ -6,9 +6,9 @@ use Rattle.vault.specs.Records.{Records}
 use Rattle.office.specs.History.{Done, Entry}
 use Rattle.office.specs.Connections.{connected, closing, sent}
 use Rattle.office.specs.Replying.{is_empty}
-use Rattle.office.specs.Events.{Event, Mark, Tagged, Log, Trace}
+use Rattle.office.specs.Events.{Event, EventTag, Tagged, Log, Trace}
 use Rattle.office.specs.Events as event
-use Rattle.office.specs.Outcomes.{Outcome, mark_of}
+use Rattle.office.specs.Outcomes.{Outcome, event_tag_of}
 use Rattle.office.specs.Log.{next_number}
 use Rattle.office.specs.Trace.{history, rest, is_open, untaken}
 use Rattle.office.specs.Expected.{IsOutcome, octets_taken}
@@ -21,7 +21,7 @@ trace_of B L = record { base = B; log = L }
 
 -- an opening begins anew, and each taking that wasn't ignored adds its octets; `next` is the number
 -- that an opening gets
-abbrev pub all_taken_after : Event → Mark → (next c : ℕ) → (octets before : List ℕ) → List ℕ
+abbrev pub all_taken_after : Event → EventTag → (next c : ℕ) → (octets before : List ℕ) → List ℕ
 all_taken_after event.Connect (Tagged Done) next c octets before = if next == c then [] else before
 all_taken_after (event.Took n count) (Tagged t) next c octets before =
     if n == c then before ++ octets else before
@@ -45,7 +45,7 @@ closes_at L G c = connected G c && closing G c && is_empty (untaken L G c)
 
 -- an opening begins anew; a connection that closed stays so; `now` says whether it closes by the
 -- event, and `next` is the number that an opening gets
-abbrev pub closed_after : Event → Mark → (next c : ℕ) → (now before : Bool) → Bool
+abbrev pub closed_after : Event → EventTag → (next c : ℕ) → (now before : Bool) → Bool
 closed_after event.Connect (Tagged Done) next c now before = if next == c then false else before
 closed_after _ m next c now before = now || before
 
@@ -59,16 +59,16 @@ has_closed_by B ((e, m) ∷ L) c = closed_after e m (next_number L) c
 abbrev pub has_closed : Trace → ℕ → Bool
 has_closed T c = has_closed_by T.base T.log c
 
--- ---- which marks a log may have
+-- ---- which tags a log may have
 
--- An event's mark is that of an outcome that it may have, where each connection is lent some number
+-- An event's tag is that of an outcome that it may have, where each connection is lent some number
 -- of the octets that it is owed.
-pub record IsAdmitted (T : Trace) (e : Event) (m : Mark) : Type 0 where
+pub record IsAdmitted (T : Trace) (e : Event) (m : EventTag) : Type 0 where
   pub lent : ℕ → ℕ
   pub owed : (c : ℕ) → lent c ≤ length (rest T c)
   pub outcome : Outcome
   pub is : IsOutcome T lent e outcome
-  pub mark : m ≡ mark_of outcome
+  pub event_tag : m ≡ event_tag_of outcome
 
 -- each event of a log over these records
 abbrev pub AreAdmittedBy : Records → Log → Type 0

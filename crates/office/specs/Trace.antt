@@ -10,7 +10,7 @@ use Rattle.office.specs.History.{Done, Failed, NoMemory, Entry}
 use Rattle.office.specs.Connections.{setting, judging, connected, closing, acted, serving, sent}
 use Rattle.office.specs.Told.{told}
 use Rattle.office.specs.Replying.{is_empty}
-use Rattle.office.specs.Events.{Event, Mark, Ignored, Tagged, Log, Trace}
+use Rattle.office.specs.Events.{Event, EventTag, Ignored, Tagged, Log, Trace}
 use Rattle.office.specs.Log.{opened, clock, idle_seconds, next_number, taken, stream, moment}
 use Rattle.office.specs.Events as event
 
@@ -102,7 +102,7 @@ acts_of T G (event.Admin command) t = (Administer command, t) ∷ []
 acts_of T G (event.Restart boot) t = (Restart boot (setting G).1 (judging G), t) ∷ []
 
 -- the acts of an event, none where it was ignored
-abbrev pub acts_at : Log → List Entry → Event → Mark → List (Act × Tag)
+abbrev pub acts_at : Log → List Entry → Event → EventTag → List (Act × Tag)
 acts_at T G e Ignored = []
 acts_at T G e (Tagged t) = acts_of T G e t
 

@@ -45,10 +45,10 @@ abbrev pub row_of_head : Head → Uid × ℕ
 row_of_head head = (record { class = head.class; k = head.k }, head.octets)
 
 -- the look at a maildrop
-abbrev pub shown : Result (List Head) VaultFault → Outcome
-shown (Ok heads) = Answered (answer.Messages (map row_of_head heads))
-shown (Err fault.NoMaildrop) = Answered answer.NoSuchMaildrop
-shown (Err e) = refused e
+abbrev pub maildrop_shown : Result (List Head) VaultFault → Outcome
+maildrop_shown (Ok heads) = Answered (answer.Messages (map row_of_head heads))
+maildrop_shown (Err fault.NoMaildrop) = Answered answer.NoSuchMaildrop
+maildrop_shown (Err e) = refused e
 
 -- a name that was put; `there_already` answers one that was there
 abbrev pub put : (there_already : Answer) → Result Bool VaultFault → Outcome

@@ -5,7 +5,7 @@ ghost use Rattle.vault.specs.Records.{is_sound_credential};
 ghost use Rattle.vault.specs.Calls.{seen_as};
 ghost use Rattle.office.specs.Events as event;
 ghost use Rattle.office.specs.Answers as asked;
-ghost use Rattle.office.specs.Shown.{outcome_seen, command_seen, row_seen};
+ghost use Rattle.office.specs.Seen.{outcome_seen, command_seen, row_seen};
 ghost use Rattle.office.specs.Outcomes as outcomes;
 ghost use Rattle.office.specs.AfterEvent.{AfterEvent};
 ghost use Rattle.office.specs.VaultAnswers as by_vault;
@@ -78,8 +78,8 @@ fn rows_of(alloc: Global, heads: &[Head]) -> Result<Vec<MessageRow>, AllocError>
 }
 
 /// The answer to a look at a maildrop, by the vault's answer; or want of memory.
-fn shown(alloc: Global, answered: Result<Vec<Head>, VaultFault>) -> Outcome
-    ensures { (outcome_seen result ≡ by_vault.shown (seen_as answered (λ v. v.items)))
+fn maildrop_shown(alloc: Global, answered: Result<Vec<Head>, VaultFault>) -> Outcome
+    ensures { (outcome_seen result ≡ by_vault.maildrop_shown (seen_as answered (λ v. v.items)))
         ⊎ (outcome_seen result ≡ outcomes.NoMemory) }
 {
     match answered {
@@ -165,7 +165,7 @@ impl<V: Vault> Office<V> {
         ensures { AfterEvent V.Vault self.old self.new
             (event.Admin (asked.ShowMaildrop maildrop.now)) (outcome_seen result) }
     {
-        shown(self.alloc, self.vault.heads(maildrop))
+        maildrop_shown(self.alloc, self.vault.heads(maildrop))
     }
 
     /// Adds a maildrop.

@@ -4,7 +4,7 @@ ghost use Rattle.std.specs.Prelude.{◌≡◌, IfOk, map};
 ghost use Rattle.office.specs.Answers.{body_of, body_line, body_lines, total_text, message_text};
 ghost use Rattle.office.specs.Answers.{session_text, group_line, New, Known, Explained, PolicyIs};
 ghost use Rattle.office.specs.Answers.{RuleCount};
-ghost use Rattle.office.specs.Shown.{answer_seen, row_seen, session_seen};
+ghost use Rattle.office.specs.Seen.{answer_seen, row_seen, session_seen};
 
 use crate::answer::{Answer, MessageRow, SessionRow};
 use creds::Uid;

@@ -2,7 +2,7 @@
 ghost use Rattle.std.specs.Prelude.{◌≡◌, true};
 ghost use Rattle.creds.specs.Names.{is_name, is_deposit_id};
 ghost use Rattle.office.specs.Events as event;
-ghost use Rattle.office.specs.Shown.{outcome_seen};
+ghost use Rattle.office.specs.Seen.{outcome_seen};
 ghost use Rattle.office.specs.AfterEvent.{AfterEvent};
 ghost use Rattle.office.specs.VaultAnswers.{refused as refused_of, not_kept as not_kept_of};
 ghost use Rattle.office.specs.VaultAnswers.{deposited as deposited_of};

@@ -2,12 +2,12 @@
 ghost use Rattle.std.specs.Prelude.{◌≡◌, ◌⊎◌, ◌<◌, ◌≤◌, ◌↔◌, not, true, false, ℕ, List, length};
 ghost use Rattle.std.specs.Prelude.{take, min, None, IfOk, IfErr, OnOk, OnErr, MatchResult};
 ghost use Rattle.office.specs.Events.{Trace, given};
-ghost use Rattle.office.specs.Shown.{event_seen, command_seen, outcome_seen, followed_by};
+ghost use Rattle.office.specs.Seen.{event_seen, command_seen, outcome_seen, followed_by};
 ghost use Rattle.office.specs.Events as event;
 ghost use Rattle.office.specs.Trace.{history, rest, is_open, is_ready, IsLent, most_lent};
 ghost use Rattle.office.specs.Expected.{IsOutcome, is_full, octets_taken, asks_no_store, may_show};
 ghost use Rattle.office.specs.Expected.{Succeeds};
-ghost use Rattle.office.specs.Outcomes.{mark_of, HasCause, HasMemory};
+ghost use Rattle.office.specs.Outcomes.{event_tag_of, HasCause, HasMemory};
 ghost use Rattle.creds.specs.Names.{is_host};
 ghost use Rattle.vault.specs.Changes.{Contents};
 ghost use Rattle.vault.specs.Calls.{has_grown};
@@ -74,7 +74,7 @@ pub struct Office<V: Vault> {
 }
 
 /// The outcome of the event in which a line acted.
-fn shown(line_outcome: LineOutcome) -> Outcome
+fn outcome_of(line_outcome: LineOutcome) -> Outcome
     ensures { outcome_seen result ≡ shown_of line_outcome }
 {
     match line_outcome {
@@ -248,7 +248,7 @@ impl<V: Vault> Office<V> {
             self.moment,
             account,
         ) {
-            Ok(line_outcome) => shown(line_outcome),
+            Ok(line_outcome) => outcome_of(line_outcome),
             Err(_) => {
                 cut_off_without_memory(&mut self.connections, &mut self.locks, c, held, account);
                 Outcome::NoMemory
@@ -300,7 +300,7 @@ impl<V: Vault> Office<V> {
             c,
             account,
         ) {
-            Ok(line_outcome) => shown(line_outcome),
+            Ok(line_outcome) => outcome_of(line_outcome),
             Err(_) => {
                 cut_off_without_memory(&mut self.connections, &mut self.locks, c, held, account);
                 Outcome::NoMemory
@@ -383,7 +383,7 @@ impl<V: Vault> Office<V> {
             V.is_up (vault_of self.old) → StopLeaves (V.may_leave (vault_of self.new)) T
             (event_seen event.entry) (outcome_seen result)) }
         ensures admitted { OfEachTrace V.Vault self.old self.new (λ T.
-            IsAdmitted T (event_seen event.entry) (mark_of (outcome_seen result))) }
+            IsAdmitted T (event_seen event.entry) (event_tag_of (outcome_seen result))) }
         // Where each event so far was answered as it may be, each connection is sent exactly what
         // the history sends it.
         ensures sent { OfEachTrace V.Vault self.old self.new (λ T.
@@ -429,7 +429,7 @@ impl<V: Vault> Office<V> {
             V.is_up (vault_of self.old) → StopLeaves (V.may_leave (vault_of self.new)) T
             (event_seen event.entry) (outcome_seen result)) }
         ensures admitted { OfEachTrace V.Vault self.old self.new (λ T.
-            IsAdmitted T (event_seen event.entry) (mark_of
+            IsAdmitted T (event_seen event.entry) (event_tag_of
             (outcome_seen result))) }
         ensures sent { OfEachTrace V.Vault self.old self.new (λ T.
             AreAdmitted T → (c : ℕ) → IsSentExactly (followed_by T
@@ -516,7 +516,7 @@ impl<V: Vault> Office<V> {
         ensures { IfOk result (λ octets. (T : Trace) (outcome : Outcome)
             → StandsFor V.holds self.now T → IsOutcome T (lent_by self.now) (event_seen event.entry)
             (outcome_seen outcome) → octets.items ≡ octets_taken T (event_seen event.entry)
-            (mark_of (outcome_seen outcome))) }
+            (event_tag_of (outcome_seen outcome))) }
     {
         let mut octets = Vec::new(self.alloc);
         if let Event::Took(c, count) = event {

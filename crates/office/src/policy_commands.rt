@@ -1,7 +1,7 @@
 //! Commands about the policy in force.
 ghost use Rattle.office.specs.Events as event;
 ghost use Rattle.office.specs.Answers as asked;
-ghost use Rattle.office.specs.Shown.{outcome_seen};
+ghost use Rattle.office.specs.Seen.{outcome_seen};
 ghost use Rattle.office.specs.AfterEvent.{AfterEvent};
 
 use crate::deposits::refused;

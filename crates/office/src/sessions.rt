@@ -5,7 +5,7 @@ ghost use Rattle.std.specs.Ordering.{nat_cmp};
 ghost use Rattle.std.specs.BTreeMap.{get, IsOrdered};
 ghost use Rattle.office.specs.Events as event;
 ghost use Rattle.office.specs.Answers as asked;
-ghost use Rattle.office.specs.Shown.{outcome_seen, session_seen};
+ghost use Rattle.office.specs.Seen.{outcome_seen, session_seen};
 ghost use Rattle.office.specs.Stands.{vault_of};
 ghost use Rattle.office.specs.AfterEvent.{AfterEvent};
 ghost use Rattle.office.specs.InSession.{name_at, kept_row};

@@ -5,7 +5,7 @@ ghost use Rattle.vault.specs.Changes.{Contents};
 ghost use Rattle.office.specs.Events.{Trace, Tagged, given};
 ghost use Rattle.office.specs.Events as events;
 ghost use Rattle.office.specs.History.{Done};
-ghost use Rattle.office.specs.Shown.{event_seen, outcome_seen};
+ghost use Rattle.office.specs.Seen.{event_seen, outcome_seen};
 ghost use Rattle.office.specs.Stands.{StandsFor, vault_of};
 ghost use Rattle.office.specs.Stopping.{EitherOrWith, with_it_done, SaysTrace};
 

@@ -5,7 +5,7 @@ ghost use Rattle.std.specs.BTreeMap.{get};
 ghost use Rattle.office.specs.Answered.{name_cmp};
 ghost use Rattle.office.specs.Idle.{unless_idle, lock_of_kept};
 ghost use Rattle.office.specs.Events as event;
-ghost use Rattle.office.specs.Shown.{outcome_seen};
+ghost use Rattle.office.specs.Seen.{outcome_seen};
 ghost use Rattle.office.specs.Stands.{vault_of};
 ghost use Rattle.office.specs.AfterEvent.{AfterEvent};
 

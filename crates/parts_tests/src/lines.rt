@@ -445,13 +445,6 @@ fn replies_octet_by_octet(rt: HostRuntime) -> Result<(), Fail> {
             octets: 21,
         },
         Reply::UidLine { number: 2, uid },
-        Reply::Message {
-            octets: 3,
-            stuffed_lines: b"..\r\n",
-        },
-        Reply::TopPart {
-            stuffed_lines: b"x\r\n",
-        },
         Reply::Marked(1),
         Reply::AlreadyMarked(1),
         Reply::RemovalDenied(name(b"freeze-pay")?),
@@ -473,7 +466,7 @@ fn replies_octet_by_octet(rt: HostRuntime) -> Result<(), Fail> {
         reply.put(rt.alloc(), &mut out)?;
     }
     let wanted =
-        b"-ERR denied by rule default\r\n-ERR [IN-USE] maildrop is in use\r\n+OK maildrop has 4 messages (80 octets)\r\n+OK 3 61\r\n+OK 1 21\r\n+OK 2 note.2\r\n+OK 3 octets\r\n..\r\n.\r\n+OK top follows\r\nx\r\n.\r\n+OK message 1 deleted\r\n-ERR message 1 is deleted\r\n-ERR some deleted messages not removed, denied by rule freeze-pay\r\n-ERR line too long\r\n-ERR unknown command\r\n-ERR wrong state\r\n-ERR bad arguments\r\n+OK send PASS\r\n-ERR login failed\r\n-ERR login failed, closing\r\n-ERR no such maildrop\r\n+OK\r\n-ERR no such message\r\n-ERR some deleted messages not removed\r\n-ERR store failed\r\n";
+        b"-ERR denied by rule default\r\n-ERR [IN-USE] maildrop is in use\r\n+OK maildrop has 4 messages (80 octets)\r\n+OK 3 61\r\n+OK 1 21\r\n+OK 2 note.2\r\n+OK message 1 deleted\r\n-ERR message 1 is deleted\r\n-ERR some deleted messages not removed, denied by rule freeze-pay\r\n-ERR line too long\r\n-ERR unknown command\r\n-ERR wrong state\r\n-ERR bad arguments\r\n+OK send PASS\r\n-ERR login failed\r\n-ERR login failed, closing\r\n-ERR no such maildrop\r\n+OK\r\n-ERR no such message\r\n-ERR some deleted messages not removed\r\n-ERR store failed\r\n";
     assert!(rt; out.as_slice() == wanted.as_slice());
     Ok(())
 }

@@ -229,8 +229,8 @@ fn a_message_and_its_deposit(rt: HostRuntime) -> Result<(), Fail> {
 
 // Whether the mark is of version 2, and the only one.
 fn is_marked(alloc: Global, store: &mut Store) -> Result<bool, Error> {
-    let is_one = meta::all_marks(alloc, store)?.len() == 1;
-    match meta::find_mark(alloc, store, b"popbox")? {
+    let is_one = meta::all_meta_rows(alloc, store)?.len() == 1;
+    match meta::find_meta_row(alloc, store, b"popbox")? {
         Some(mark) => Ok(is_one && mark.value == 2),
         None => Ok(false),
     }

@@ -9,7 +9,7 @@ use converse::export::{Folder, export};
 use converse::{Fault, Noted, tell_fault};
 use creds::Name;
 use jobs::check_all;
-use mailsql::meta::find_mark;
+use mailsql::meta::find_meta_row;
 use sqlite::{Alter, Connection, Error, ErrorCode, Wary};
 use sqlvault::SqlVault;
 use std::alloc::Global;
@@ -204,12 +204,12 @@ pub fn adopt<A: Alter + Drop>(alloc: Global, conn: Connection<A>) -> Result<SqlV
     }
 }
 
-/// Refuses a database without our mark, which an adoption might make a store of, and a store of
-/// another version.
+/// Refuses a database without our version row, which an adoption might make a store of, and a store
+/// of another version.
 fn judge_mark<A: Alter>(alloc: Global, conn: &mut Connection<A>) -> Result<(), Closed> {
-    match find_mark(alloc, conn, b"popbox") {
-        Ok(Some(mark)) if mark.value == VERSION => Ok(()),
-        Ok(Some(mark)) if mark.value == 1 || mark.value == 2 => Err(Closed::Older(mark.value)),
+    match find_meta_row(alloc, conn, b"popbox") {
+        Ok(Some(row)) if row.value == VERSION => Ok(()),
+        Ok(Some(row)) if row.value == 1 || row.value == 2 => Err(Closed::Older(row.value)),
         Ok(Some(_)) => Err(Closed::Refused(VaultFault::OldVersion)),
         Ok(None) => Err(Closed::Refused(VaultFault::NotOurs)),
         Err(error) => Err(Closed::Refused(read_fault_of(&error))),

@@ -4,7 +4,7 @@ use Rattle.std.proofs.lemmas.List.{length-take}
 use Rattle.std.proofs.Math.Seq.{drop-length}
 use Rattle.std.proofs.lemmas.Bool.{cases_lt}
 use Rattle.popline.specs.Cutting.{cut_of, pieces, onto_first}
-use Rattle.popline.specs.Cutting.{Held, begun, shown, coming, prefixed, before_newline, has_newline, through_newline, fed, taken, shown_by, nothing_held, cut, CutsAnyPieces}
+use Rattle.popline.specs.Cutting.{Held, begun, whole_line, coming, prefixed, before_newline, has_newline, through_newline, fed, taken, whole_lines, nothing_held, cut, CutsAnyPieces}
 use Rattle.std.specs.List.{flat_map, concat}
 
 -- octets past the first 255 make no difference
@@ -39,7 +39,7 @@ after s p = record { octets = take 255 (s ++ before_newline p); whole = has_newl
 abbrev Through : List ℕ → List (List ℕ) → List ℕ → Bool → List ℕ → Type 0
 Through s ps first whole rest =
     let w : Held = record { octets = take 255 (s ++ first); whole = whole } in
-    map cut_of (prefixed s ps) ≡ shown w ++ coming w rest
+    map cut_of (prefixed s ps) ≡ whole_line w ++ coming w rest
 
 one_more : (s : List ℕ) (b : ℕ) (bs m : List ℕ) (t : Bool)
     → Through (s ++ b ∷ []) (pieces (bs ++ m)) (before_newline bs) (has_newline bs) (drop (through_newline bs) bs ++ m)
@@ -53,7 +53,7 @@ cuts-through s [] m = cuts-take s (pieces m) ∙ rw (append-nil s) refl
 cuts-through s (b ∷ bs) m = one_more s b bs m (b == 10) (cuts-through (s ++ b ∷ []) bs m)
 
 -- However a stream goes on behind a piece, its lines are the one that is whole after the piece and those to come.
-pub coming-fed : (v w : Held) (p : List ℕ) (n : ℕ) → w ≡ fed v p → n ≡ through_newline p → (m : List ℕ) → coming v (p ++ m) ≡ shown w ++ coming w (drop n p ++ m)
+pub coming-fed : (v w : Held) (p : List ℕ) (n : ℕ) → w ≡ fed v p → n ≡ through_newline p → (m : List ℕ) → coming v (p ++ m) ≡ whole_line w ++ coming w (drop n p ++ m)
 coming-fed v w p n e f m = rw (e, f) (cuts-through (begun v) p m)
 
 -- ---- pieces one after another
@@ -95,12 +95,12 @@ fed-taken : (v : Held) (p : List ℕ) → fed v (taken p) ≡ fed v p
 fed-taken v p = rw (before-taken p, has-taken p) refl
 
 -- a cutter that is fed these portions shows the lines of what it takes of them, and no others
-coming-portions : (v : Held) (ps : List (List ℕ)) → shown_by v ps ≡ coming v (flat_map taken ps)
+coming-portions : (v : Held) (ps : List (List ℕ)) → whole_lines v ps ≡ coming v (flat_map taken ps)
 coming-portions v [] = refl
 coming-portions v (p ∷ ps) =
     let step = coming-fed v (fed v p) (taken p) (length (taken p)) (sym (fed-taken v p)) (sym (through-taken p)) (flat_map taken ps) in
     let rest = coming-portions (fed v p) ps in
-    ap (λ x. shown (fed v p) ++ x) rest ∙ sym (step ∙ ap (λ x. shown (fed v p) ++ coming (fed v p) (x ++ flat_map taken ps)) (drop-length (taken p)))
+    ap (λ x. whole_line (fed v p) ++ x) rest ∙ sym (step ∙ ap (λ x. whole_line (fed v p) ++ coming (fed v p) (x ++ flat_map taken ps)) (drop-length (taken p)))
 
 coming-nothing : (s : List ℕ) → coming nothing_held s ≡ cut s
 coming-nothing s = ap (map cut_of) (prefixed-nil (pieces s))

@@ -50,8 +50,8 @@ abbrev pub begun : Held → List ℕ
 begun held = if held.whole then [] else held.octets
 
 -- the complete line that is held, if any
-abbrev pub shown : Held → List Cut
-shown held = if held.whole then cut_of held.octets ∷ [] else []
+abbrev pub whole_line : Held → List Cut
+whole_line held = if held.whole then cut_of held.octets ∷ [] else []
 
 -- the pieces with octets put in front of the first piece, if any
 abbrev pub prefixed : List ℕ → List (List ℕ) → List (List ℕ)
@@ -90,11 +90,12 @@ abbrev pub taken : List ℕ → List ℕ
 taken piece = take (through_newline piece) piece
 
 -- the lines that a cutter shows, one after another, as it is fed these pieces
-abbrev pub shown_by : Held → List (List ℕ) → List Cut
-shown_by held [] = []
-shown_by held (piece ∷ more) = shown (fed held piece) ++ shown_by (fed held piece) more
+abbrev pub whole_lines : Held → List (List ℕ) → List Cut
+whole_lines held [] = []
+whole_lines held (piece ∷ more) = whole_line (fed held piece) ++ whole_lines (fed held piece) more
 
 -- a new cutter that is fed any portions, and takes of them just the joined stream, shows the lines
 -- of the joined stream, in whatever pieces the stream came
 abbrev pub CutsAnyPieces : Type 0
-CutsAnyPieces = (stream portions : List (List ℕ)) → flat_map taken portions ≡ concat stream → shown_by nothing_held portions ≡ cut (concat stream)
+CutsAnyPieces = (stream portions : List (List ℕ)) → flat_map taken portions ≡ concat stream
+    → whole_lines nothing_held portions ≡ cut (concat stream)

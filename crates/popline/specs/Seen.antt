@@ -55,7 +55,7 @@ abbrev pub reading_seen : Result Command LineFault → Result commands.Command L
 reading_seen (Ok c) = Ok (command_seen c)
 reading_seen (Err fault) = Err fault
 
--- a reply; the code has no value for whole listings, which it puts line by line
+-- a reply; the code has no value for whole listings and messages, which it puts in parts
 abbrev pub reply_seen : Reply → replies.Reply
 reply_seen (reply.Greeting number boot host) = replies.Greeting number boot host.now
 reply_seen reply.LineTooLong = replies.LineTooLong
@@ -73,8 +73,6 @@ reply_seen (reply.MaildropHas messages octets) = replies.MaildropHas messages oc
 reply_seen (reply.DropListing messages octets) = replies.DropListing messages octets
 reply_seen (reply.ScanLine number octets) = replies.ScanLine number octets
 reply_seen (reply.UidLine number uid) = replies.UidLine number uid
-reply_seen (reply.Message octets stuffed_lines) = replies.Message octets stuffed_lines.now
-reply_seen (reply.TopPart stuffed_lines) = replies.TopPart stuffed_lines.now
 reply_seen (reply.Marked number) = replies.Marked number
 reply_seen reply.Okay = replies.Okay
 reply_seen reply.NoSuchMessage = replies.NoSuchMessage

@@ -34,7 +34,7 @@ impl Model for Cutter {
 }
 
 impl Cutter {
-    ghost use Rattle.popline.specs.Cutting.{coming, shown, fed, through_newline, nothing_held};
+    ghost use Rattle.popline.specs.Cutting.{coming, whole_line, fed, through_newline, nothing_held};
     ghost use Rattle.popline.specs.Seen.{cuts_seen};
 
     /// A cutter at the beginning of a stream.
@@ -68,7 +68,7 @@ impl Cutter {
         ensures held { self.new ≡ fed self.old piece.now }
         // Whatever comes after the piece: the next lines are the one that is whole now, if any,
         // and those of the octets that weren't taken.
-        ensures stream { (more : List ℕ) → coming self.old (piece.now ++ more) ≡ shown self.new
+        ensures stream { (more : List ℕ) → coming self.old (piece.now ++ more) ≡ whole_line self.new
             ++ coming self.new (drop result piece.now ++ more) }
     {
         if self.whole {
@@ -98,7 +98,7 @@ impl Cutter {
 
     /// The complete line that is held, if any. The next `feed` drops it.
     pub fn line(&self) -> Option<Cut<'_>>
-        ensures { cuts_seen result ≡ shown self.now }
+        ensures { cuts_seen result ≡ whole_line self.now }
     {
         if !self.whole {
             return None;

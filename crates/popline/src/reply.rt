@@ -1,7 +1,6 @@
 //! What a POP3 server says, octet by octet (RFC 1939, 3 to 7; RFC 2449, 5 and 8).
 
 ghost use Rattle.std.specs.Prelude.{◌≡◌, ◌++◌, ℕ, List, IfOk, OnOk, OnErr, codes, string_bytes};
-ghost use Rattle.std.specs.Prelude.{take, vec_len};
 ghost use Rattle.popline.specs.Replies.{bytes_of};
 ghost use Rattle.popline.specs.Seen.{reply_seen};
 
@@ -9,8 +8,8 @@ use crate::texts;
 use creds::{Name, Uid};
 use std::alloc::{AllocError, Global};
 
-/// A reply. The listings of a whole maildrop aren't here: they are put line by line, without a copy
-/// (`begin_scan_listing`, `begin_uid_listing`).
+/// A reply. The listings of a whole maildrop and messages aren't here: they are put in parts,
+/// without a copy (`begin_scan_listing`, `begin_uid_listing`, `begin_message`).
 #[derive(Clone, Copy)]
 pub enum Reply<'a> {
     /// The first line of a connection, with the timestamp that APOP signs (RFC 1939, 4 and 7).
@@ -72,18 +71,6 @@ pub enum Reply<'a> {
         /// Its unique-id.
         uid: Uid,
     },
-    /// A message (RFC 1939, 5).
-    Message {
-        /// Its octets, added dots not counted.
-        octets: u64,
-        /// Its lines as they are sent, dots added, each with its CRLF.
-        stuffed_lines: &'a [u8],
-    },
-    /// A message's header and the first lines of its body (RFC 1939, 7).
-    TopPart {
-        /// The lines as they are sent, dots added, each with its CRLF.
-        stuffed_lines: &'a [u8],
-    },
     /// The message of this number is to be removed at QUIT.
     Marked(u64),
     /// NOOP's reply.
@@ -140,15 +127,6 @@ impl Reply<'_> {
                 texts::scan_line(alloc, *number, *octets),
             ),
             Reply::UidLine { number, uid } => put_text(out, texts::uid_line(alloc, *number, *uid)),
-            Reply::Message {
-                octets,
-                stuffed_lines,
-            } => put_message(out, texts::message_follows(alloc, *octets), *stuffed_lines),
-            Reply::TopPart { stuffed_lines } => put_lines(
-                out,
-                b"+OK top follows\r\n",
-                *stuffed_lines,
-            ),
             Reply::Marked(number) => put_text(out, texts::marked(alloc, *number)),
             Reply::Okay => put_octets(out, b"+OK\r\n"),
             Reply::NoSuchMessage => put_octets(out, b"-ERR no such message\r\n"),
@@ -176,42 +154,4 @@ fn put_text(out: &mut Vec<u8>, text: Result<String, AllocError>) -> Result<(), A
     ensures err { OnErr result (out.new.items ≡ out.old.items) }
 {
     out.extend_from_slice(text?.as_bytes())
-}
-
-/// Appends a message's first line, its other lines and the line of the dot, or returns the first
-/// line's error.
-fn put_message(
-    out: &mut Vec<u8>,
-    first: Result<String, AllocError>,
-    lines: &[u8],
-) -> Result<(), AllocError>
-    ensures ok { (line : List ℕ) → IfOk first (λ t. string_bytes t ≡ line) → OnOk result (out.new.items ≡ out.old.items ++ (line ++ lines.now ++ codes ".\r\n")) }
-    ensures err { OnErr result (out.new.items ≡ out.old.items) }
-{
-    put_lines(out, first?.as_bytes(), lines)
-}
-
-/// Appends a first line, other lines and the line of the dot. On an error nothing is appended.
-fn put_lines(out: &mut Vec<u8>, first: &[u8], lines: &[u8]) -> Result<(), AllocError>
-    ensures ok { OnOk result (out.new.items ≡ out.old.items ++ (first.now ++ lines.now ++ codes ".\r\n")) }
-    ensures err { OnErr result (out.new.items ≡ out.old.items) }
-{
-    let before = out.len();
-    match append_lines(out, first, lines) {
-        Ok(()) => Ok(()),
-        Err(error) => {
-            out.truncate(before);
-            Err(error)
-        }
-    }
-}
-
-/// Appends them as `put_lines` does, but on an error some octets may have been appended.
-fn append_lines(out: &mut Vec<u8>, first: &[u8], lines: &[u8]) -> Result<(), AllocError>
-    ensures ok { OnOk result (out.new.items ≡ out.old.items ++ (first.now ++ lines.now ++ codes ".\r\n")) }
-    ensures err { OnErr result (take (vec_len out.old) out.new.items ≡ out.old.items) }
-{
-    out.extend_from_slice(first)?;
-    out.extend_from_slice(lines)?;
-    out.extend_from_slice(b".\r\n")
 }

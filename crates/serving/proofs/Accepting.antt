@@ -4,13 +4,13 @@ use Rattle.std.specs.Bool.{⊤, if◌then◌else◌}
 use Rattle.std.proofs.lemmas.Bool.{cases_eq}
 use Rattle.vault.specs.Records.{Records}
 use Rattle.office.specs.History.{Tag, Done, Failed, NoMemory, Entry}
-use Rattle.office.specs.Events.{Event, Mark, Tagged, Ignored, Log, Trace}
+use Rattle.office.specs.Events.{Event, EventTag, Tagged, Ignored, Log, Trace}
 use Rattle.office.specs.Events as event
 use Rattle.office.specs.Log.{next_number, opened}
 use Rattle.office.specs.Trace.{history, is_open}
 use Rattle.office.specs.Taken.{trace_of, all_taken_by}
 use Rattle.office.specs.Expected.{IsOutcome, ignored, shown_at, or_ignored}
-use Rattle.office.specs.Outcomes.{Outcome, Reason, mark_of}
+use Rattle.office.specs.Outcomes.{Outcome, Reason, event_tag_of}
 use Rattle.serving.specs.Wires.{Told, has_accepted, has_closed, begun_at, opened_by}
 use Rattle.serving.specs.Spools.{FileAct}
 use Rattle.serving.specs.Served.{given_by, Owners, IsServed, AreServed, IsOwnEvent, AreOwnEvents, Adds, IsCommand, Beside}
@@ -20,13 +20,13 @@ use Rattle.serving.proofs.Staying.{frame_connect}
 -- ---- outcomes
 
 -- what shows no opening
-abbrev pub IsRefusal : Mark → Type 0
+abbrev pub IsRefusal : EventTag → Type 0
 IsRefusal (Tagged Done) = ⊥
 IsRefusal _ = ⊤
 
 abbrev pub Comes : Log → Outcome → Option ℕ → Type 0
-Comes L o None = IsRefusal (mark_of o)
-Comes L o (Some c) = (mark_of o ≡ Tagged Done) × (c ≡ next_number L)
+Comes L o None = IsRefusal (event_tag_of o)
+Comes L o (Some c) = (event_tag_of o ≡ Tagged Done) × (c ≡ next_number L)
 
 comes_if : (B : Records) (L : Log) (G : List Entry) (q : Option Reason) (t : Tag) → Comes L (or_ignored q (shown_at B L G event.Connect t)) (opened_by (or_ignored q (shown_at B L G event.Connect t)))
 comes_if B L G (Some r) t = tt
@@ -59,20 +59,20 @@ some_none c e = cc
 -- ---- a link that got none
 
 module _ (told : Told) (owner : Owners) (B : Records) (L : Log) where
-  refused_stays : (m : Mark) → IsRefusal m → (d : ℕ) → (given_by ((event.Connect, m) ∷ L) d ≡ given_by L d) × (all_taken_by B ((event.Connect, m) ∷ L) d ≡ all_taken_by B L d)
+  refused_stays : (m : EventTag) → IsRefusal m → (d : ℕ) → (given_by ((event.Connect, m) ∷ L) d ≡ given_by L d) × (all_taken_by B ((event.Connect, m) ∷ L) d ≡ all_taken_by B L d)
   refused_stays Ignored r d = (refl, refl)
   refused_stays (Tagged Done) r d = absurd r
   refused_stays (Tagged Failed) r d = (refl, refl)
   refused_stays (Tagged NoMemory) r d = (refl, refl)
 
-  refused_opened : (m : Mark) → IsRefusal m → opened ((event.Connect, m) ∷ L) ≡ opened L
+  refused_opened : (m : EventTag) → IsRefusal m → opened ((event.Connect, m) ∷ L) ≡ opened L
   refused_opened Ignored r = refl
   refused_opened (Tagged Done) r = absurd r
   refused_opened (Tagged Failed) r = refl
   refused_opened (Tagged NoMemory) r = refl
 
   -- so none is opened
-  pub refused_same : (m : Mark) → IsRefusal m → (d : ℕ) → is_open (trace_of B ((event.Connect, m) ∷ L)) d ≡ is_open (trace_of B L) d
+  pub refused_same : (m : EventTag) → IsRefusal m → (d : ℕ) → is_open (trace_of B ((event.Connect, m) ∷ L)) d ≡ is_open (trace_of B L) d
   refused_same Ignored r d = refl
   refused_same (Tagged Done) r d = absurd r
   refused_same (Tagged Failed) r d = refl
@@ -96,7 +96,7 @@ module _ (told : Told) (owner : Owners) (B : Records) (L : Log) where
   pub next_free : AreServed told owner B L → owner told.accepted ≡ None
   next_free a = none_of (owner told.accepted) (λ c e. (let h = a.accepted told.accepted c e in omega (arith, h)))
 
-  pub served_refused : (m : Mark) → IsRefusal m → AreServed told owner B L → AreServed (has_accepted told) owner B ((event.Connect, m) ∷ L)
+  pub served_refused : (m : EventTag) → IsRefusal m → AreServed told owner B L → AreServed (has_accepted told) owner B ((event.Connect, m) ∷ L)
   served_refused m r a = record {
     each = λ j. stays B L event.Connect m (owner j) (told.read j) (told.written j) (a.each j) (λ d e. refused_stays m r d);
     own = a.own;
@@ -107,7 +107,7 @@ module _ (told : Told) (owner : Owners) (B : Records) (L : Log) where
   }
 
   -- and it is closed
-  pub served_unseated : (m : Mark) → IsRefusal m → AreServed told owner B L → AreServed (has_closed (has_accepted told) told.accepted) owner B ((event.Connect, m) ∷ L)
+  pub served_unseated : (m : EventTag) → IsRefusal m → AreServed told owner B L → AreServed (has_closed (has_accepted told) told.accepted) owner B ((event.Connect, m) ∷ L)
   served_unseated m r a =
       served_closed (has_accepted told) owner B ((event.Connect, m) ∷ L) told.accepted (λ d e. absurd (some_none d (sym e ∙ next_free a))) (served_refused m r a)
 

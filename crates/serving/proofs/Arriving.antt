@@ -8,10 +8,10 @@ use Rattle.std.proofs.lemmas.List.Elements.{All-nil, All-cons, filter_map-append
 use Rattle.vault.specs.Records.{Records}
 use Rattle.vault.specs.Changes.{Contents}
 use Rattle.office.specs.History.{Done, Failed, NoMemory}
-use Rattle.office.specs.Events.{Mark, Tagged, Ignored, Log, Trace}
+use Rattle.office.specs.Events.{EventTag, Tagged, Ignored, Log, Trace}
 use Rattle.office.specs.Events as event
 use Rattle.office.specs.Trace.{is_open}
-use Rattle.office.specs.Outcomes.{Outcome, mark_of}
+use Rattle.office.specs.Outcomes.{Outcome, event_tag_of}
 use Rattle.office.specs.Outcomes as outcome
 use Rattle.office.specs.Taken.{trace_of}
 use Rattle.office.specs.Stands.{StandsFor, vault_of}
@@ -27,7 +27,7 @@ use Rattle.serving.proofs.Working.{none_joined, count_joined, any_right, none_of
 
 -- ---- one link
 
-pub done_mark : (o : Outcome) (c : ℕ) → opened_by o ≡ Some c → mark_of o ≡ Tagged Done
+pub done_mark : (o : Outcome) (c : ℕ) → opened_by o ≡ Some c → event_tag_of o ≡ Tagged Done
 done_mark (outcome.Opened n) c e = refl
 done_mark outcome.Done c e = refl
 done_mark outcome.Failed c e = cc
@@ -35,7 +35,7 @@ done_mark outcome.NoMemory c e = cc
 done_mark (outcome.Ignored r) c e = cc
 done_mark (outcome.Answered a) c e = refl
 
-pub refusal_so : (m : Mark) → IsRefusal m → is_refusal (event.Connect, m) ≡ true
+pub refusal_so : (m : EventTag) → IsRefusal m → is_refusal (event.Connect, m) ≡ true
 refusal_so Ignored r = refl
 refusal_so (Tagged Done) r = absurd r
 refusal_so (Tagged Failed) r = refl
@@ -79,7 +79,7 @@ module _ {V : Type 0} (Holds : V → Contents → Type 0) (IsClean : V → Type 
     all = λ e. inl refl;
   }
 
-  pub accepted_seated : (o o1 : Office V) (seats seats_then : List Seat) (link : Link) (c : ℕ) (m : Mark) → m ≡ Tagged Done → seats_then ≡ seats ++ record { link = link; connection = c } ∷ []
+  pub accepted_seated : (o o1 : Office V) (seats seats_then : List Seat) (link : Link) (c : ℕ) (m : EventTag) → m ≡ Tagged Done → seats_then ≡ seats ++ record { link = link; connection = c } ∷ []
       → AreAccepted Holds IsClean o o1 seats seats_then 1 true ((event.Connect, m) ∷ []) (Accepted Pop (Some link) ∷ [])
   accepted_seated o o1 seats seats_then link c m e is = record {
     came = record { link = link; connection = Some c } ∷ [];
@@ -98,7 +98,7 @@ module _ {V : Type 0} (Holds : V → Contents → Type 0) (IsClean : V → Type 
     all = λ e. cc;
   }
 
-  pub accepted_unseated : (o o1 : Office V) (seats : List Seat) (link : Link) (m : Mark) → ((T : Trace) → StandsFor Holds o T → IsClean (vault_of o1) → is_refusal (event.Connect, m) ≡ true)
+  pub accepted_unseated : (o o1 : Office V) (seats : List Seat) (link : Link) (m : EventTag) → ((T : Trace) → StandsFor Holds o T → IsClean (vault_of o1) → is_refusal (event.Connect, m) ≡ true)
       → AreAccepted Holds IsClean o o1 seats seats 1 true ((event.Connect, m) ∷ []) (Accepted Pop (Some link) ∷ Closed Pop link ∷ [])
   accepted_unseated o o1 seats link m r = record {
     came = record { link = link; connection = None } ∷ [];

@@ -4,11 +4,11 @@ use Rattle.std.specs.Bool.{if◌then◌else◌}
 use Rattle.vault.specs.Records.{Records}
 use Rattle.vault.specs.Changes.{Contents}
 use Rattle.office.specs.History.{Tag, Done, Failed, NoMemory, Entry}
-use Rattle.office.specs.Events.{Mark, Tagged, Log, Trace}
+use Rattle.office.specs.Events.{EventTag, Tagged, Log, Trace}
 use Rattle.office.specs.Events as event
 use Rattle.office.specs.Trace.{history}
 use Rattle.office.specs.Expected.{IsOutcome, shown_at}
-use Rattle.office.specs.Outcomes.{Outcome, mark_of}
+use Rattle.office.specs.Outcomes.{Outcome, event_tag_of}
 use Rattle.office.specs.Stands.{StandsFor}
 use Rattle.office.specs.Laws.{TakenIsSent}
 use Rattle.office.specs.declared.office.Office.{Office}
@@ -30,7 +30,7 @@ use Rattle.serving.proofs.Staying.{deposit_same, fewer_command}
 
 module _ (B : Records) (L : Log) (G : List Entry) (d class id text : List ℕ) where
   -- a deposit is never ignored
-  pub deposit_mark : (t : Tag) → mark_of (shown_at B L G (event.Deposit d class id text) t) ≡ Tagged t
+  pub deposit_mark : (t : Tag) → event_tag_of (shown_at B L G (event.Deposit d class id text) t) ≡ Tagged t
   deposit_mark Done = refl
   deposit_mark Failed = refl
   deposit_mark NoMemory = refl
@@ -49,12 +49,12 @@ module _ {V S : Type 0} (Holds : V → Contents → Type 0) (Tells : S → List 
   -- a deposit was answered, and what this says became of its file, or couldn't be done
   pub tried_one : (office : Office V) (spool : S) (lent : ℕ → ℕ) (n : FileName) (text read : List ℕ) (o : Outcome) (d : Disposal) (acts_then : List FileAct) → text ≡ read → d ≡ disposal_of o
       → IsOutcome T lent (event.Deposit n.maildrop n.class n.id text) o
-      → StandsFor Holds office (trace_of T.base ((event.Deposit n.maildrop n.class n.id text, mark_of o) ∷ T.log))
-      → IsAdmitted T (event.Deposit n.maildrop n.class n.id text) (mark_of o)
+      → StandsFor Holds office (trace_of T.base ((event.Deposit n.maildrop n.class n.id text, event_tag_of o) ∷ T.log))
+      → IsAdmitted T (event.Deposit n.maildrop n.class n.id text) (event_tag_of o)
       → Tells spool acts_then → IsFiled n read d acts acts_then → IsTried Holds Tells T acts office spool
   tried_one office spool lent n text read o d acts_then same fate h s a k f =
       let e = event.Deposit n.maildrop n.class n.id text in
-      let m : mark_of o ≡ Tagged h.tag = ap mark_of h.is ∙ deposit_mark T.base T.log (history T) n.maildrop n.class n.id text h.tag in
+      let m : event_tag_of o ≡ Tagged h.tag = ap event_tag_of h.is ∙ deposit_mark T.base T.log (history T) n.maildrop n.class n.id text h.tag in
       let disposal_is : d ≡ disposal_of (shown_at T.base T.log (history T) e h.tag) = fate ∙ ap disposal_of h.is in
       record {
         log = (e, Tagged h.tag) ∷ T.log;

@@ -6,7 +6,7 @@ use Rattle.std.proofs.lemmas.List.{append-nil}
 use Rattle.std.proofs.lemmas.List.Elements.{All-nil, All-cons, All-head, All-tail, All-append, All-weaker, filter_map-append, filter_agree}
 use Rattle.vault.specs.Records.{Records}
 use Rattle.vault.specs.Changes.{Contents}
-use Rattle.office.specs.Events.{Event, Mark, Tagged, Ignored, Log, Trace}
+use Rattle.office.specs.Events.{Event, EventTag, Tagged, Ignored, Log, Trace}
 use Rattle.office.specs.Events as event
 use Rattle.office.specs.Trace.{is_open}
 use Rattle.office.specs.Taken.{trace_of}
@@ -54,7 +54,7 @@ deposits_quiet ((event.Tick now, m) ∷ given) a = absurd a
 deposits_quiet ((event.Admin command, m) ∷ given) a = absurd a
 deposits_quiet ((event.Restart boot, m) ∷ given) a = absurd a
 
-same_one : (B : Records) (L : Log) (d class id text : List ℕ) (m : Mark) (c : ℕ) → is_open (trace_of B ((event.Deposit d class id text, m) ∷ L)) c ≡ is_open (trace_of B L) c
+same_one : (B : Records) (L : Log) (d class id text : List ℕ) (m : EventTag) (c : ℕ) → is_open (trace_of B ((event.Deposit d class id text, m) ∷ L)) c ≡ is_open (trace_of B L) c
 same_one B L d class id text Ignored c = refl
 same_one B L d class id text (Tagged t) c = deposit_same B L d class id text t c
 
@@ -228,7 +228,7 @@ module _ {V W S : Type 0} (Holds : V → Contents → Type 0) (IsClean : V → T
       let caused_r : AreCaused seats2 C5 gr = caused_more [] seats2 cr C5 gr none (λ l h. seen_fifth cp ca cq cl cr cx (is_cut_of l) h) reqs.facts.0.caused in
       let caused_l : AreCaused seats2 C5 gl = caused_more seats2 seats2 cl C5 gl (λ q h. h) cut served.facts.0.turns.of_seats.caused in
       let caused_a : AreCaused seats2 C5 ga = caused_more [] seats2 ca C5 ga none (λ l h. seen_second cp ca cq cl cr cx (is_cut_of l) h) come.caused in
-      let caused_p : AreCaused seats2 C5 gp = subst (AreCaused seats2 C5) (sym pass.facts.given_is) (All-cons (HasCause seats2 C5) (event.Tick now, pass.facts.mark) [] tt (All-nil (HasCause seats2 C5))) in
+      let caused_p : AreCaused seats2 C5 gp = subst (AreCaused seats2 C5) (sym pass.facts.given_is) (All-cons (HasCause seats2 C5) (event.Tick now, pass.facts.event_tag) [] tt (All-nil (HasCause seats2 C5))) in
       let P = HasCause seats2 C5 in
       let Q = HasCauseInTurn now links seats2 C5 in
       let by_cause : (g : Log) → All P g → All Q g = λ g h. All-weaker P Q (λ y p. inl p) g h in
@@ -299,11 +299,11 @@ module _ {V W S : Type 0} (Holds : V → Contents → Type 0) (IsClean : V → T
           waited_first = (((((ca ++ cq) ++ cl) ++ cr) ++ cx), ap (λ p. ((((p ++ ca) ++ cq) ++ cl) ++ cr) ++ cx) pass.facts.calls_are);
           told_first = (
             gx ++ (gr ++ (gl ++ ga)),
-            pass.facts.mark,
+            pass.facts.event_tag,
             ap (λ p. gx ++ (gr ++ (gl ++ (ga ++ p)))) pass.facts.given_is
-                ∙ (ap (λ g. gx ++ (gr ++ g)) (sym (append_assoc gl ga ((event.Tick now, pass.facts.mark) ∷ [])))
-                ∙ (ap (λ g. gx ++ g) (sym (append_assoc gr (gl ++ ga) ((event.Tick now, pass.facts.mark) ∷ [])))
-                ∙ sym (append_assoc gx (gr ++ (gl ++ ga)) ((event.Tick now, pass.facts.mark) ∷ [])))),
+                ∙ (ap (λ g. gx ++ (gr ++ g)) (sym (append_assoc gl ga ((event.Tick now, pass.facts.event_tag) ∷ [])))
+                ∙ (ap (λ g. gx ++ g) (sym (append_assoc gr (gl ++ ga) ((event.Tick now, pass.facts.event_tag) ∷ [])))
+                ∙ sym (append_assoc gx (gr ++ (gl ++ ga)) ((event.Tick now, pass.facts.event_tag) ∷ [])))),
           );
           told = only_last moment_of gx G3 (none_joined moment_of gs gz quiet.quiet.no_moments hush.no_moments)
               ∙ (only_last moment_of gr G2 rq.no_moments ∙ (only_last moment_of gl G1 lq.no_moments ∙ (only_last moment_of ga gp come.no_moments ∙ moments_p)));

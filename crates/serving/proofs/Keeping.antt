@@ -4,7 +4,7 @@ use Rattle.std.specs.Bool.{if◌then◌else◌}
 use Rattle.std.proofs.lemmas.Bool.{cases_eq}
 use Rattle.vault.specs.Records.{Records}
 use Rattle.office.specs.History.{Tag}
-use Rattle.office.specs.Events.{Event, Mark, Tagged, Ignored, Log, Trace}
+use Rattle.office.specs.Events.{Event, EventTag, Tagged, Ignored, Log, Trace}
 use Rattle.office.specs.Events as event
 use Rattle.office.specs.Trace.{rest, history, is_open}
 use Rattle.office.specs.Taken.{trace_of, all_taken_by}
@@ -37,7 +37,7 @@ more_none k j f = none_if (j == k) (f j)
 -- ---- one link
 
 -- what is said of a link stays, where the event isn't its connection's
-pub stays : (B : Records) (L : Log) (e : Event) (m : Mark) (o : Option ℕ) (r w : List ℕ) → IsServed B L o r w
+pub stays : (B : Records) (L : Log) (e : Event) (m : EventTag) (o : Option ℕ) (r w : List ℕ) → IsServed B L o r w
     → ((d : ℕ) → o ≡ Some d → (given_by ((e, m) ∷ L) d ≡ given_by L d) × (all_taken_by B ((e, m) ∷ L) d ≡ all_taken_by B L d)) → IsServed B ((e, m) ∷ L) o r w
 stays B L e m None r w s h = s
 stays B L e m (Some d) r w s h = let k = h d refl in (s.0 ∙ sym k.0, s.1 ∙ sym k.1)
@@ -252,7 +252,7 @@ module _ (told : Told) (owner : Owners) (B : Records) (L : Log) (k c : ℕ) wher
 
 module _ (told : Told) (owner : Owners) (B : Records) (L : Log) where
   -- time passed
-  pub served_tick : (now : ℕ) (m : Mark) → AreServed told owner B L → AreServed told owner B ((event.Tick now, m) ∷ L)
+  pub served_tick : (now : ℕ) (m : EventTag) → AreServed told owner B L → AreServed told owner B ((event.Tick now, m) ∷ L)
   served_tick now m a = record {
     each = λ j. stays B L (event.Tick now) m (owner j) (told.read j) (told.written j) (a.each j) (λ d e. (refl, refl));
     own = a.own;
@@ -276,7 +276,7 @@ module _ (told : Told) (owner : Owners) (B : Records) (L : Log) where
 -- ---- events
 
 -- one that is no opening and no deposit leaves files alone
-events_one : (owner : Owners) (B : Records) (older L : Log) (acts : List FileAct) (calls : ℕ) (e : Event) (m : Mark) → IsOwnEvent owner e
+events_one : (owner : Owners) (B : Records) (older L : Log) (acts : List FileAct) (calls : ℕ) (e : Event) (m : EventTag) → IsOwnEvent owner e
     → ((l : Log) (Before : List FileAct → Type 0) → Before acts → IsFiledBy B l e m Before acts) → ((l : Log) → connects ((e, m) ∷ l) ≡ connects l)
     → AddsEvents owner B older L acts calls → AddsEvents owner B older ((e, m) ∷ L) acts calls
 events_one owner B older L acts calls e m i none same a = record {
@@ -288,7 +288,7 @@ events_one owner B older L acts calls e m i none same a = record {
 }
 
 -- an opening was asked for
-events_connect : (owner : Owners) (B : Records) (older L : Log) (acts : List FileAct) (calls : ℕ) (m : Mark)
+events_connect : (owner : Owners) (B : Records) (older L : Log) (acts : List FileAct) (calls : ℕ) (m : EventTag)
     → AddsEvents owner B older L acts calls → AddsEvents owner B older ((event.Connect, m) ∷ L) acts (calls + 1)
 events_connect owner B older L acts calls m a = record {
   more = (event.Connect, m) ∷ a.more;
@@ -323,7 +323,7 @@ own_no_command owner (event.Deposit d class id text) i k = k
 own_no_command owner (event.Admin command) i k = i
 own_no_command owner (event.Restart boot) i k = k
 
-pub adds_one : (owner : Owners) (B : Records) (older L : Log) (beside : Beside) (calls : ℕ) (e : Event) (m : Mark) → IsOwnEvent owner e
+pub adds_one : (owner : Owners) (B : Records) (older L : Log) (beside : Beside) (calls : ℕ) (e : Event) (m : EventTag) → IsOwnEvent owner e
     → ((l : Log) (Before : List FileAct → Type 0) → Before beside.acts → IsFiledBy B l e m Before beside.acts) → ((l : Log) → connects ((e, m) ∷ l) ≡ connects l)
     → Adds owner B older L beside calls → Adds owner B older ((e, m) ∷ L) beside calls
 adds_one owner B older L beside calls e m i none same a = record {
@@ -331,7 +331,7 @@ adds_one owner B older L beside calls e m i none same a = record {
   requests = exchanged_more beside.admin beside.x B (length older) L e m (own_no_command owner e i) a.requests;
 }
 
-pub adds_connect : (owner : Owners) (B : Records) (older L : Log) (beside : Beside) (calls : ℕ) (m : Mark)
+pub adds_connect : (owner : Owners) (B : Records) (older L : Log) (beside : Beside) (calls : ℕ) (m : EventTag)
     → Adds owner B older L beside calls → Adds owner B older ((event.Connect, m) ∷ L) beside (calls + 1)
 adds_connect owner B older L beside calls m a = record {
   events = events_connect owner B older L beside.acts calls m a.events;
@@ -347,7 +347,7 @@ adds_deposit owner B older L beside acts_then calls d class id text t f a = reco
 }
 
 -- a command was given
-module _ (told : Told) (owner : Owners) (B : Records) (L : Log) (command : AdminCommand) (m : Mark) where
+module _ (told : Told) (owner : Owners) (B : Records) (L : Log) (command : AdminCommand) (m : EventTag) where
   pub served_command : AreServed told owner B L → AreServed told owner B ((event.Admin command, m) ∷ L)
   served_command a = record {
     each = λ j. stays B L (event.Admin command) m (owner j) (told.read j) (told.written j) (a.each j) (λ d e. (refl, refl));
@@ -358,7 +358,7 @@ module _ (told : Told) (owner : Owners) (B : Records) (L : Log) (command : Admin
     straight = a.straight;
   }
 
-pub events_command : (owner : Owners) (B : Records) (older L : Log) (acts : List FileAct) (calls : ℕ) (command : AdminCommand) (m : Mark)
+pub events_command : (owner : Owners) (B : Records) (older L : Log) (acts : List FileAct) (calls : ℕ) (command : AdminCommand) (m : EventTag)
     → AddsEvents owner B older L acts calls → AddsEvents owner B older ((event.Admin command, m) ∷ L) acts calls
 events_command owner B older L acts calls command m a = record {
   more = (event.Admin command, m) ∷ a.more;

@@ -5,7 +5,7 @@ use Rattle.std.proofs.lemmas.Bool.{cases_Bool}
 use Rattle.serving.specs.declared.newcomers.Newcomer.{Newcomer}
 use Rattle.serving.specs.Newcomers.{newcomer, others, is_late_by, noted}
 use Rattle.serving.specs.Works.{is_late, AreNoMoreLate, IsLateGone}
-use Rattle.office.specs.Events.{Event, Mark}
+use Rattle.office.specs.Events.{Event, EventTag}
 use Rattle.office.specs.Events as event
 
 -- ---- who is found
@@ -134,7 +134,7 @@ late_next now seconds seconds0 xs ys zs is a b = late_then now seconds0 xs ys zs
 -- ---- connections that went
 
 -- whoever is late was so before
-pub late_gone_one : (now seconds : ℕ) (xs ys : List Newcomer) → AreNoMoreLate now seconds xs ys → (x : Event × Mark) → IsLateGone now seconds ys x → IsLateGone now seconds xs x
+pub late_gone_one : (now seconds : ℕ) (xs ys : List Newcomer) → AreNoMoreLate now seconds xs ys → (x : Event × EventTag) → IsLateGone now seconds ys x → IsLateGone now seconds xs x
 late_gone_one now seconds xs ys less (event.Gone c, m) h = less c h
 late_gone_one now seconds xs ys less (event.Start host boot idle, m) h = absurd h
 late_gone_one now seconds xs ys less (event.Connect, m) h = absurd h

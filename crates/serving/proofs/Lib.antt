@@ -1,5 +1,5 @@
 pub mod Requesting
-pub mod Marks
+pub mod EventTags
 pub mod Staying
 pub mod Keeping
 pub mod Accepting

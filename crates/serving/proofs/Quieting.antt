@@ -5,7 +5,7 @@ use Rattle.std.proofs.lemmas.List.Elements.{All-nil, All-cons}
 use Rattle.vault.specs.Records.{Records}
 use Rattle.vault.specs.Changes.{Contents}
 use Rattle.office.specs.Answers.{AdminCommand}
-use Rattle.office.specs.Events.{Mark, Log}
+use Rattle.office.specs.Events.{EventTag, Log}
 use Rattle.office.specs.Events as event
 use Rattle.office.specs.Taken.{trace_of}
 use Rattle.office.specs.Stands.{StandsFor, vault_of}
@@ -73,7 +73,7 @@ module _ {V : Type 0} (Holds : V → Contents → Type 0) (IsClean : V → Type 
     facts = record { quiet = quiet_none; caused = All-nil (HasCause [] []); did = λ B L s k. did B L };
   }
 
-  pub gives_command : (o o1 : Office V) (command : AdminCommand) (m : Mark) (Did : Records → Log → Log → List Call → Type 0) → WasGiven Holds IsClean Faults o o1 ((event.Admin command, m) ∷ [])
+  pub gives_command : (o o1 : Office V) (command : AdminCommand) (m : EventTag) (Did : Records → Log → Log → List Call → Type 0) → WasGiven Holds IsClean Faults o o1 ((event.Admin command, m) ∷ [])
       → ((B : Records) (L : Log) → StandsFor Holds o (trace_of B L) → IsClean (vault_of o1) → Did B L ((event.Admin command, m) ∷ []) [])
       → Giving Holds IsClean Faults o o1 (λ given. DidApart Holds IsClean o o1 Did given [])
   gives_command o o1 command m Did is did = record {

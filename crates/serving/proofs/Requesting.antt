@@ -15,10 +15,10 @@ use Rattle.vault.specs.Changes.{Contents}
 use Rattle.policy.specs.declared.fault.PolicyFault.{PolicyFault}
 use Rattle.office.specs.History.{Tag, Done, Failed, NoMemory, Entry}
 use Rattle.office.specs.Answers.{AdminCommand}
-use Rattle.office.specs.Events.{Event, Mark, Tagged, Log, Trace}
+use Rattle.office.specs.Events.{Event, EventTag, Tagged, Log, Trace}
 use Rattle.office.specs.Events as event
 use Rattle.office.specs.Trace.{history}
-use Rattle.office.specs.Outcomes.{Outcome, mark_of}
+use Rattle.office.specs.Outcomes.{Outcome, event_tag_of}
 use Rattle.office.specs.Expected.{IsOutcome, shown_at}
 use Rattle.office.specs.Taken.{trace_of, AreAdmittedBy, IsAdmitted}
 use Rattle.office.specs.Stands.{StandsFor}
@@ -53,16 +53,16 @@ answer_of B L command Done response h = h
 answer_of B L command Failed response h = h
 answer_of B L command NoMemory response h = h
 
-command_mark : (B : Records) (L : Log) (G : List Entry) (command : AdminCommand) (t : Tag) → mark_of (shown_at B L G (event.Admin command) t) ≡ Tagged t
+command_mark : (B : Records) (L : Log) (G : List Entry) (command : AdminCommand) (t : Tag) → event_tag_of (shown_at B L G (event.Admin command) t) ≡ Tagged t
 command_mark B L G command Done = refl
 command_mark B L G command Failed = refl
 command_mark B L G command NoMemory = refl
 
 pub asked_one : {V : Type 0} (Holds : V → Contents → Type 0) (B : Records) (L : Log) (read : List ℕ) (office : Office V) (lent : ℕ → ℕ) (command : AdminCommand) (o : Outcome) (response : List ℕ)
-    → IsOutcome (trace_of B L) lent (event.Admin command) o → StandsFor Holds office (trace_of B ((event.Admin command, mark_of o) ∷ L))
-    → IsAdmitted (trace_of B L) (event.Admin command) (mark_of o) → IsRequest read (Ok command) → IsToldBy o response → HasAsked Holds B L read office (Some response)
+    → IsOutcome (trace_of B L) lent (event.Admin command) o → StandsFor Holds office (trace_of B ((event.Admin command, event_tag_of o) ∷ L))
+    → IsAdmitted (trace_of B L) (event.Admin command) (event_tag_of o) → IsRequest read (Ok command) → IsToldBy o response → HasAsked Holds B L read office (Some response)
 asked_one Holds B L read office lent command o response h s a q r =
-    let m : mark_of o ≡ Tagged h.tag = ap mark_of h.is ∙ command_mark B L (history (trace_of B L)) command h.tag in
+    let m : event_tag_of o ≡ Tagged h.tag = ap event_tag_of h.is ∙ command_mark B L (history (trace_of B L)) command h.tag in
     record {
       log = (event.Admin command, Tagged h.tag) ∷ L;
       place = Some (length L);
@@ -73,9 +73,9 @@ asked_one Holds B L read office lent command o response h s a q r =
 
 -- the octets that ask for it come to this response
 pub comes_to : (B : Records) (L : Log) (read : List ℕ) (lent : ℕ → ℕ) (command : AdminCommand) (o : Outcome) (response : List ℕ)
-    → IsOutcome (trace_of B L) lent (event.Admin command) o → IsRequest read (Ok command) → IsToldBy o response → ComesTo B L read ((event.Admin command, mark_of o) ∷ []) (Some response)
+    → IsOutcome (trace_of B L) lent (event.Admin command) o → IsRequest read (Ok command) → IsToldBy o response → ComesTo B L read ((event.Admin command, event_tag_of o) ∷ []) (Some response)
 comes_to B L read lent command o response h q r =
-    let m : mark_of o ≡ Tagged h.tag = ap mark_of h.is ∙ command_mark B L (history (trace_of B L)) command h.tag in
+    let m : event_tag_of o ≡ Tagged h.tag = ap event_tag_of h.is ∙ command_mark B L (history (trace_of B L)) command h.tag in
     record {
       place = Some (length L);
       is = subst (λ x. IsGiven B L read ((event.Admin command, x) ∷ L) (Some (length L)) (Some response)) (sym m)
@@ -94,14 +94,14 @@ to_fault B L read response fault q (inr e) = subst (IsResponse B L read None) (s
 
 -- ---- a log with one event more
 
-response_grows : (B : Records) (L : Log) (e : Event) (m : Mark) (read : List ℕ) (place : Option ℕ) (response : List ℕ) → IsResponse B L read place response → IsResponse B ((e, m) ∷ L) read place response
+response_grows : (B : Records) (L : Log) (e : Event) (m : EventTag) (read : List ℕ) (place : Option ℕ) (response : List ℕ) → IsResponse B L read place response → IsResponse B ((e, m) ∷ L) read place response
 response_grows B L e m read _ _ (ToRefusal refusal q) = ToRefusal refusal q
 response_grows B L e m read _ _ (ToFault fault q) = ToFault fault q
 response_grows B L e m read _ _ ForMemory = ForMemory
 response_grows B L e m read _ _ (ToCommand command t newer older response q is a) =
     ToCommand command t ((e, m) ∷ newer) older response q (ap (λ l. (e, m) ∷ l) is) a
 
-pub exchange_grows : (B : Records) (L : Log) (e : Event) (m : Mark) (r : Option (List ℕ)) (place : Option ℕ) (read written : List ℕ) → IsExchange B L r place read written → IsExchange B ((e, m) ∷ L) r place read written
+pub exchange_grows : (B : Records) (L : Log) (e : Event) (m : EventTag) (r : Option (List ℕ)) (place : Option ℕ) (read written : List ℕ) → IsExchange B L r place read written → IsExchange B ((e, m) ∷ L) r place read written
 exchange_grows B L e m None place read written x = x
 exchange_grows B L e m (Some response) place read written x = (response_grows B L e m read place response x.0, x.1)
 
@@ -112,12 +112,12 @@ one_rest : {A : Type 0} {x y : A} {xs ys : List A} → x ∷ xs ≡ y ∷ ys →
 one_rest e = cc
 
 -- which commands' events there are behind one that is no command's
-no_command : (L : Log) (e : Event) (m : Mark) → (IsCommand e → ⊥) → (newer older : Log) (command : AdminCommand) (m2 : Mark) → (e, m) ∷ L ≡ newer ++ (event.Admin command, m2) ∷ older
+no_command : (L : Log) (e : Event) (m : EventTag) → (IsCommand e → ⊥) → (newer older : Log) (command : AdminCommand) (m2 : EventTag) → (e, m) ∷ L ≡ newer ++ (event.Admin command, m2) ∷ older
     → (newer2 : Log) × (L ≡ newer2 ++ (event.Admin command, m2) ∷ older)
-no_command L e m none [] older command m2 is = absurd (none (subst IsCommand (sym (ap (λ (p : Event × Mark). p.0) (one_first is))) tt))
+no_command L e m none [] older command m2 is = absurd (none (subst IsCommand (sym (ap (λ (p : Event × EventTag). p.0) (one_first is))) tt))
 no_command L e m none (y ∷ newer) older command m2 is = (newer, one_rest is)
 
-pub exchanged_more : (told : Told) (x : Exchanges) (B : Records) (start : ℕ) (L : Log) (e : Event) (m : Mark) → (IsCommand e → ⊥) → AreExchanged told x B start L → AreExchanged told x B start ((e, m) ∷ L)
+pub exchanged_more : (told : Told) (x : Exchanges) (B : Records) (start : ℕ) (L : Log) (e : Event) (m : EventTag) → (IsCommand e → ⊥) → AreExchanged told x B start L → AreExchanged told x B start ((e, m) ∷ L)
 exchanged_more told x B start L e m none a = record {
   each = λ k. exchange_grows B L e m (x.response k) (x.place k) (told.read k) (told.written k) (a.each k);
   own = a.own;
@@ -128,7 +128,7 @@ exchanged_more told x B start L e m none a = record {
 }
 
 -- no event is newer than the log that one began with
-pub none_newer : (L newer older : Log) (command : AdminCommand) (m : Mark) → L ≡ newer ++ (event.Admin command, m) ∷ older → length L ≤ length older → ⊥
+pub none_newer : (L newer older : Log) (command : AdminCommand) (m : EventTag) → L ≡ newer ++ (event.Admin command, m) ∷ older → length L ≤ length older → ⊥
 none_newer L newer older command m is late = omega (arith, ap length is, late, length-append newer ((event.Admin command, m) ∷ older))
 
 -- ---- what comes of a piece
@@ -162,7 +162,7 @@ heads : {A : Type 0} {x y : A} {xs ys : List A} → x ∷ xs ≡ y ∷ ys → xs
 heads e = cc
 
 given_events : (B : Records) (L M : Log) (whole : List ℕ) (p : Option ℕ) (r : Option (List ℕ)) → IsGiven B L whole M p r
-    → (newer older : Log) (command : AdminCommand) (m : Mark) → M ≡ newer ++ (event.Admin command, m) ∷ older
+    → (newer older : Log) (command : AdminCommand) (m : EventTag) → M ≡ newer ++ (event.Admin command, m) ∷ older
     → (p ≡ Some (length older)) ⊎ ((newer2 : Log) × (L ≡ newer2 ++ (event.Admin command, m) ∷ older))
 given_events B L _ whole _ _ (NotYet short) newer older command m e = inr (newer, e)
 given_events B L _ whole _ _ (NoCommand response is) newer older command m e = inr (newer, e)

@@ -10,7 +10,7 @@ use Rattle.office.specs.Told.{told, said_to, answers_if_done}
 use Rattle.office.specs.Sessions.{live}
 use Rattle.office.specs.Answers as answer
 use Rattle.office.specs.Answers.{AdminCommand, ListMaildrops, ShowMaildrop, AddMaildrop, DropMaildrop, ShowClerk, PutClerk, DropClerk, ShowPolicy, SetPolicy, ListGroups, ListSessions, EndSession, Explain}
-use Rattle.office.specs.Events.{Event, Mark, Tagged, Ignored, Log}
+use Rattle.office.specs.Events.{Event, EventTag, Tagged, Ignored, Log}
 use Rattle.office.specs.Events as event
 use Rattle.office.specs.Log.{next_number, taken, moment}
 use Rattle.office.specs.Trace.{acts_from, acts_at, acts_of_piece, acts_of_took, act_of_part, act_of_all, line_act, idle_acts, idle_numbers, history, is_open, is_open_by, is_left, untaken, next_line}
@@ -91,7 +91,7 @@ open_by : (a a' b b' : Bool) (n n' : ℕ) (s s' : List ℕ) → a ≡ a' → b �
 open_by a a' b b' n n' s s' p q r t = rw (p, q, r, t) refl
 
 -- acts of others, and as many octets taken, leave a connection as it was
-leaves : (B : Records) (L : Log) (e : Event) (m : Mark) (d : ℕ) → AreOthers (acts_at L (history (trace_of B L)) e m) d → taken ((e, m) ∷ L) d ≡ taken L d
+leaves : (B : Records) (L : Log) (e : Event) (m : EventTag) (d : ℕ) → AreOthers (acts_at L (history (trace_of B L)) e m) d → taken ((e, m) ∷ L) d ≡ taken L d
     → is_open (trace_of B ((e, m) ∷ L)) d ≡ is_open (trace_of B L) d
 leaves B L e m d o t =
     let new = acts_at L (history (trace_of B L)) e m in
@@ -231,7 +231,7 @@ fewer_by false true b b' n s s' h q r e = let z = h refl in cc
 fewer_by false false b b' n s s' h q r e = e
 
 module _ (B : Records) (L : Log) where
-  pub fewer_tick : (now : ℕ) (m : Mark) → Fewer B L ((event.Tick now, m) ∷ L)
+  pub fewer_tick : (now : ℕ) (m : EventTag) → Fewer B L ((event.Tick now, m) ∷ L)
   fewer_tick now Ignored d e = e
   fewer_tick now (Tagged t) d e =
       let new = idle_acts (idle_numbers L (history (trace_of B L)) (max (moment L) now)) in
@@ -267,7 +267,7 @@ command_connected B G ListSessions t d b e = e
 command_connected B G (EndSession n) t d b e = end_connected t (live G n) n d b e
 command_connected B G (Explain c m class a) t d b e = e
 
-pub fewer_command : (B : Records) (L : Log) (command : AdminCommand) (m : Mark) → Fewer B L ((event.Admin command, m) ∷ L)
+pub fewer_command : (B : Records) (L : Log) (command : AdminCommand) (m : EventTag) → Fewer B L ((event.Admin command, m) ∷ L)
 fewer_command B L command Ignored d e = e
 fewer_command B L command (Tagged t) d e =
     let H = acts_from B L in

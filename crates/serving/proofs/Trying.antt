@@ -1,11 +1,11 @@
 -- One file of a spool is tried.
 use Rattle.std.proofs.Common.{◌≡◌, ◌||◌, ℕ, Bool, true, false, List, [], ◌∷◌, ◌++◌, Option, Some, None, append_assoc, refl, sym, ◌∙◌, ap, subst}
 use Rattle.vault.specs.Changes.{Contents}
-use Rattle.office.specs.Events.{Mark, Tagged, Log, Trace}
+use Rattle.office.specs.Events.{EventTag, Tagged, Log, Trace}
 use Rattle.office.specs.Events as event
 use Rattle.office.specs.Trace.{history}
 use Rattle.office.specs.Expected.{IsOutcome, shown_at}
-use Rattle.office.specs.Outcomes.{Outcome, mark_of}
+use Rattle.office.specs.Outcomes.{Outcome, event_tag_of}
 use Rattle.office.specs.Stands.{StandsFor, vault_of}
 use Rattle.office.specs.declared.office.Office.{Office}
 use Rattle.serving.specs.declared.file_name.FileName.{FileName}
@@ -26,10 +26,10 @@ dealt_so b = none_more b
 
 -- what was to become of a file is what its answer says
 trying_so : (T : Trace) (lent : ℕ → ℕ) (n : FileName) (text read : List ℕ) (o : Outcome) (d : Disposal) (is_done : Bool) → text ≡ read → d ≡ disposal_of o
-    → IsOutcome T lent (deposit_of n text) o → IsTrying n T ((deposit_of n text, mark_of o) ∷ []) (Read n (Some read) ∷ disposing n is_done d)
+    → IsOutcome T lent (deposit_of n text) o → IsTrying n T ((deposit_of n text, event_tag_of o) ∷ []) (Read n (Some read) ∷ disposing n is_done d)
 trying_so T lent n text read o d is_done same fate h =
     let e = deposit_of n text in
-    let m : mark_of o ≡ Tagged h.tag = ap mark_of h.is ∙ deposit_mark T.base T.log (history T) n.maildrop n.class n.id text h.tag in
+    let m : event_tag_of o ≡ Tagged h.tag = ap event_tag_of h.is ∙ deposit_mark T.base T.log (history T) n.maildrop n.class n.id text h.tag in
     let disposal_is : d ≡ disposal_of (shown_at T.base T.log (history T) e h.tag) = fate ∙ ap disposal_of h.is in
     subst (λ x. IsTrying n T ((e, x) ∷ []) (Read n (Some read) ∷ disposing n is_done d)) (sym m)
     (subst (λ x. IsTrying n T ((e, Tagged h.tag) ∷ []) (Read n (Some x) ∷ disposing n is_done d)) same
@@ -62,13 +62,13 @@ module _ {V S : Type 0} (Holds : V → Contents → Type 0) (IsClean : V → Typ
 
   -- a file was read and deposited, and these further calls were made
   pub tries_read : (o o1 : Office V) (s s1 s2 : S) (lent : ℕ → ℕ) (name : FileName) (text read : List ℕ) (out : Outcome) (d : Disposal) (is_done dealt : Bool) → dealt ≡ has_dealt (disposing name is_done d) → text ≡ read → d ≡ disposal_of out
-      → WasGiven Holds IsClean Faults o o1 ((deposit_of name text, mark_of out) ∷ [])
+      → WasGiven Holds IsClean Faults o o1 ((deposit_of name text, event_tag_of out) ∷ [])
       → ((T : Trace) → StandsFor Holds o T → IsClean (vault_of o1) → IsOutcome T lent (deposit_of name text) out)
       → ((before : List FileCall) → Asked s before → Asked s1 (before ++ Read name (Some read) ∷ []))
       → ((before : List FileCall) → Asked s1 before → Asked s2 (before ++ disposing name is_done d))
       → SpoolPart Holds IsClean Faults Asked o s o1 s2 (λ T given calls. IsTrying name T given calls × (dealt ≡ has_dealt calls))
   tries_read o o1 s s1 s2 lent name text read out d is_done dealt is_dealt same fate given outcome a b = record {
-    given = (deposit_of name text, mark_of out) ∷ [];
+    given = (deposit_of name text, event_tag_of out) ∷ [];
     calls = Read name (Some read) ∷ disposing name is_done d;
     was_given = given;
     was_asked = two_calls s s1 s2 (Read name (Some read)) (disposing name is_done d) a b;

@@ -8,10 +8,10 @@ use Rattle.std.proofs.lemmas.List.Elements.{All-nil, All-cons, All-head, All-app
 use Rattle.vault.specs.Records.{Records}
 use Rattle.vault.specs.Changes.{Contents}
 use Rattle.office.specs.History.{Tag, Done}
-use Rattle.office.specs.Events.{Event, Mark, Tagged, Ignored, Log, Trace}
+use Rattle.office.specs.Events.{Event, EventTag, Tagged, Ignored, Log, Trace}
 use Rattle.office.specs.Events as event
 use Rattle.office.specs.Trace.{history, is_open, is_ready, rest, rest_if, untaken}
-use Rattle.office.specs.Outcomes.{Outcome, mark_of}
+use Rattle.office.specs.Outcomes.{Outcome, event_tag_of}
 use Rattle.office.specs.Outcomes as outcome
 use Rattle.office.specs.Taken.{trace_of, IsAdmitted}
 use Rattle.office.specs.Stands.{StandsFor, vault_of}
@@ -68,7 +68,7 @@ kept_more T c piece wait may may2 more h =
     h
 
 module _ {V : Type 0} (Holds : V → Contents → Type 0) (IsClean : V → Type 0) (Faults : V → ℕ) where
-  pub wrote_some : (o o1 : Office V) (seat : Seat) (n : ℕ) (octets : List ℕ) (m : Mark) → 0 < n
+  pub wrote_some : (o o1 : Office V) (seat : Seat) (n : ℕ) (octets : List ℕ) (m : EventTag) → 0 < n
       → IsWritten Holds IsClean o o1 seat (if n == 0 then 0 else 1) n (not (n == 0)) ((event.Took seat.connection n, m) ∷ []) (Wrote Pop seat.link (Count n) octets ∷ [])
   wrote_some o o1 seat n octets m some =
       let z = not_zero n some in
@@ -96,7 +96,7 @@ module _ {V : Type 0} (Holds : V → Contents → Type 0) (IsClean : V → Type 
     ends = λ e. inl (or_none (seat.link.number == seat.link.number) (same_number seat.link.number));
   }
 
-  pub wrote_cut : (o o1 : Office V) (seat : Seat) (io : Io) (octets : List ℕ) (m : Mark) → is_fault io ≡ true → OwesNothing Holds IsClean o o1 seat.connection ((event.Gone seat.connection, m) ∷ [])
+  pub wrote_cut : (o o1 : Office V) (seat : Seat) (io : Io) (octets : List ℕ) (m : EventTag) → is_fault io ≡ true → OwesNothing Holds IsClean o o1 seat.connection ((event.Gone seat.connection, m) ∷ [])
       → IsWritten Holds IsClean o o1 seat 0 0 false ((event.Gone seat.connection, m) ∷ []) (Wrote Pop seat.link io octets ∷ [])
   wrote_cut o o1 seat io octets m fault owes = record {
     of_seat = record {
@@ -116,7 +116,7 @@ module _ {V : Type 0} (Holds : V → Contents → Type 0) (IsClean : V → Type 
 
   -- one read
   module _ (o : Office V) (seat : Seat) (room : ℕ) where
-    pub read_some : (io : Io) (octets piece : List ℕ) (m : Mark) → IsReadOnce Holds o seat room ((event.Bytes seat.connection piece, m) ∷ []) (Read Pop seat.link room io octets ∷ [])
+    pub read_some : (io : Io) (octets piece : List ℕ) (m : EventTag) → IsReadOnce Holds o seat room ((event.Bytes seat.connection piece, m) ∷ []) (Read Pop seat.link room io octets ∷ [])
     read_some io octets piece m = WasRead io octets ((event.Bytes seat.connection piece, m) ∷ []) (record {
       quiet = record { no_moments = refl; no_openings = refl; no_refusals = refl; no_waits = refl; no_arrivals = refl; no_closings = refl };
       apart = refl;
@@ -130,7 +130,7 @@ module _ {V : Type 0} (Holds : V → Contents → Type 0) (IsClean : V → Type 
       caused = All-nil (HasCause (seat ∷ []) (Read Pop seat.link room io octets ∷ []));
     })
 
-    pub read_cut : (io : Io) (octets : List ℕ) (m : Mark) → is_fault io ≡ true → IsReadOnce Holds o seat room ((event.Gone seat.connection, m) ∷ []) (Read Pop seat.link room io octets ∷ [])
+    pub read_cut : (io : Io) (octets : List ℕ) (m : EventTag) → is_fault io ≡ true → IsReadOnce Holds o seat room ((event.Gone seat.connection, m) ∷ []) (Read Pop seat.link room io octets ∷ [])
     read_cut io octets m fault = WasRead io octets ((event.Gone seat.connection, m) ∷ []) (record {
       quiet = record { no_moments = refl; no_openings = refl; no_refusals = refl; no_waits = refl; no_arrivals = refl; no_closings = refl };
       apart = refl;

@@ -11,11 +11,11 @@ use Rattle.vault.specs.Calls.{greatest_count, has_grown}
 use Rattle.vault.specs.Changes.{Contents}
 use Rattle.office.specs.History.{Tag, Done, Failed, NoMemory}
 use Rattle.office.specs.Replying.{is_empty}
-use Rattle.office.specs.Events.{Event, Mark, Tagged, Ignored, Log, Trace}
+use Rattle.office.specs.Events.{Event, EventTag, Tagged, Ignored, Log, Trace}
 use Rattle.office.specs.Events as event
 use Rattle.office.specs.Trace.{history, is_open, is_ready, rest, rest_if, untaken}
 use Rattle.office.specs.Expected.{or_ignored, reason_if, shown_at, most_in_a_piece}
-use Rattle.office.specs.Outcomes.{Outcome, Reason, NoSuchConnection, NotReady, PieceTooLong, mark_of, HasCause as HasItsCause}
+use Rattle.office.specs.Outcomes.{Outcome, Reason, NoSuchConnection, NotReady, PieceTooLong, event_tag_of, HasCause as HasItsCause}
 use Rattle.office.specs.Outcomes as outcome
 use Rattle.office.specs.Taken.{trace_of, IsAdmitted}
 use Rattle.office.specs.Stands.{StandsFor, vault_of}
@@ -57,7 +57,7 @@ grown_more a b c d low high h =
     (or_cases (nat_lt b c) (nat_le greatest_count c) h)
 
 -- one event that failed
-failed_one : (e : Event) (m : Mark) (o : Outcome) (a b : ℕ) → m ≡ mark_of o → HasItsCause a b o → list_any is_failed ((e, m) ∷ []) ≡ true → has_grown a b ≡ true
+failed_one : (e : Event) (m : EventTag) (o : Outcome) (a b : ℕ) → m ≡ event_tag_of o → HasItsCause a b o → list_any is_failed ((e, m) ∷ []) ≡ true → has_grown a b ≡ true
 failed_one e m (outcome.Opened n) a b is h f = let k : list_any is_failed ((e, Tagged Done) ∷ []) ≡ true = subst (λ x. list_any is_failed ((e, x) ∷ []) ≡ true) is f in cc
 failed_one e m outcome.Done a b is h f = let k : list_any is_failed ((e, Tagged Done) ∷ []) ≡ true = subst (λ x. list_any is_failed ((e, x) ∷ []) ≡ true) is f in cc
 failed_one e m outcome.Failed a b is h f = h
@@ -86,17 +86,17 @@ module _ {V : Type 0} (Holds : V → Contents → Type 0) (IsClean : V → Type 
 
   -- one event
   pub given_one : (o o1 : Office V) (e : Event) (out : Outcome) → (IsClean (vault_of o1) → IsClean (vault_of o))
-      → ((T : Trace) → StandsFor Holds o T → IsClean (vault_of o1) → StandsFor Holds o1 (trace_of T.base ((e, mark_of out) ∷ T.log)))
-      → ((T : Trace) → StandsFor Holds o T → IsClean (vault_of o1) → IsAdmitted T e (mark_of out))
+      → ((T : Trace) → StandsFor Holds o T → IsClean (vault_of o1) → StandsFor Holds o1 (trace_of T.base ((e, event_tag_of out) ∷ T.log)))
+      → ((T : Trace) → StandsFor Holds o T → IsClean (vault_of o1) → IsAdmitted T e (event_tag_of out))
       → Faults (vault_of o) ≤ Faults (vault_of o1)
       → ((T : Trace) → StandsFor Holds o T → IsClean (vault_of o1) → HasItsCause (Faults (vault_of o)) (Faults (vault_of o1)) out)
-      → WasGiven Holds IsClean Faults o o1 ((e, mark_of out) ∷ [])
+      → WasGiven Holds IsClean Faults o o1 ((e, event_tag_of out) ∷ [])
   given_one o o1 e out clean stands admitted counted cause = record {
     clean = clean;
     stands = λ B L s k. stands (trace_of B L) s k;
     admitted = λ B L s k. (admitted (trace_of B L) s k, tt);
     counted = counted;
-    failed = λ B L s k f. failed_one e (mark_of out) out (Faults (vault_of o)) (Faults (vault_of o1)) refl (cause (trace_of B L) s k) f;
+    failed = λ B L s k f. failed_one e (event_tag_of out) out (Faults (vault_of o)) (Faults (vault_of o1)) refl (cause (trace_of B L) s k) f;
   }
 
 module _ {W : Type 0} (Asked : W → List Call → Type 0) where
@@ -179,7 +179,7 @@ quiet_none = record { no_moments = refl; no_openings = refl; no_refusals = refl;
 
 -- more calls and more seats are causes too
 pub cause_more : (seats more : List Seat) (calls calls_then : List Call) → ((s : Seat) → Contains seats s → Contains more s) → ((l : Link) → is_cut l calls ≡ true → is_cut l calls_then ≡ true)
-    → (x : Event × Mark) → HasCause seats calls x → HasCause more calls_then x
+    → (x : Event × EventTag) → HasCause seats calls x → HasCause more calls_then x
 cause_more seats more calls calls_then has cut (event.Start host boot idle, m) h = h
 cause_more seats more calls calls_then has cut (event.Connect, m) h = tt
 cause_more seats more calls calls_then has cut (event.Bytes c piece, m) h = tt
@@ -358,34 +358,34 @@ turned_right way B L g1 g2 c1 c2 s (inr (inr u)) = inr (inr (unread_right B L wa
 
 -- ---- what is open
 
-not_ignored : (r : Reason) (s o : Outcome) (t : Tag) → o ≡ or_ignored (Some r) s → Tagged t ≡ mark_of o → ⊥
-not_ignored r s o t is e = let k : Tagged t ≡ Ignored = e ∙ ap mark_of is in cc
+not_ignored : (r : Reason) (s o : Outcome) (t : Tag) → o ≡ or_ignored (Some r) s → Tagged t ≡ event_tag_of o → ⊥
+not_ignored r s o t is e = let k : Tagged t ≡ Ignored = e ∙ ap event_tag_of is in cc
 
 -- what isn't ignored for want of a connection has an open one
-open_else : (b : Bool) (more : Option Reason) (s o : Outcome) (t : Tag) → o ≡ or_ignored (if not b then Some NoSuchConnection else more) s → Tagged t ≡ mark_of o → b ≡ true
+open_else : (b : Bool) (more : Option Reason) (s o : Outcome) (t : Tag) → o ≡ or_ignored (if not b then Some NoSuchConnection else more) s → Tagged t ≡ event_tag_of o → b ≡ true
 open_else true more s o t is e = refl
 open_else false more s o t is e = absurd (not_ignored NoSuchConnection s o t is e)
 
-open_gone : (b : Bool) (s o : Outcome) (t : Tag) → o ≡ or_ignored (reason_if (not b) NoSuchConnection) s → Tagged t ≡ mark_of o → b ≡ true
+open_gone : (b : Bool) (s o : Outcome) (t : Tag) → o ≡ or_ignored (reason_if (not b) NoSuchConnection) s → Tagged t ≡ event_tag_of o → b ≡ true
 open_gone true s o t is e = refl
 open_gone false s o t is e = absurd (not_ignored NoSuchConnection s o t is e)
 
 module _ (B : Records) (L : Log) where
-  pub fewer_gone_one : (c : ℕ) (m : Mark) → IsAdmitted (trace_of B L) (event.Gone c) m → Fewer B L ((event.Gone c, m) ∷ L)
+  pub fewer_gone_one : (c : ℕ) (m : EventTag) → IsAdmitted (trace_of B L) (event.Gone c) m → Fewer B L ((event.Gone c, m) ∷ L)
   fewer_gone_one c Ignored a = λ d o. o
   fewer_gone_one c (Tagged t) a =
-      fewer_framed B L c ((event.Gone c, Tagged t) ∷ L) (open_gone (is_open (trace_of B L) c) _ a.outcome t a.is.is a.mark) (frame_gone B L c t)
+      fewer_framed B L c ((event.Gone c, Tagged t) ∷ L) (open_gone (is_open (trace_of B L) c) _ a.outcome t a.is.is a.event_tag) (frame_gone B L c t)
 
   -- an event that isn't an opening opens nothing
-  fewer_one : (e : Event) (m : Mark) (seats : List Seat) (calls : List Call) → IsAdmitted (trace_of B L) e m → HasCause seats calls (e, m) → is_opening (e, m) ≡ false → Fewer B L ((e, m) ∷ L)
+  fewer_one : (e : Event) (m : EventTag) (seats : List Seat) (calls : List Call) → IsAdmitted (trace_of B L) e m → HasCause seats calls (e, m) → is_opening (e, m) ≡ false → Fewer B L ((e, m) ∷ L)
   fewer_one (event.Start host boot idle) m seats calls a h n = absurd h
   fewer_one event.Connect m seats calls a h n = cc
   fewer_one (event.Bytes c piece) Ignored seats calls a h n = λ d o. o
   fewer_one (event.Bytes c piece) (Tagged t) seats calls a h n =
-      fewer_framed B L c ((event.Bytes c piece, Tagged t) ∷ L) (open_else (is_open (trace_of B L) c) _ _ a.outcome t a.is.is a.mark) (frame_read B L c piece t)
+      fewer_framed B L c ((event.Bytes c piece, Tagged t) ∷ L) (open_else (is_open (trace_of B L) c) _ _ a.outcome t a.is.is a.event_tag) (frame_read B L c piece t)
   fewer_one (event.Took c k) Ignored seats calls a h n = λ d o. o
   fewer_one (event.Took c k) (Tagged t) seats calls a h n =
-      fewer_framed B L c ((event.Took c k, Tagged t) ∷ L) (open_else (is_open (trace_of B L) c) _ _ a.outcome t a.is.is a.mark) (frame_took B L c k t)
+      fewer_framed B L c ((event.Took c k, Tagged t) ∷ L) (open_else (is_open (trace_of B L) c) _ _ a.outcome t a.is.is a.event_tag) (frame_took B L c k t)
   fewer_one (event.Gone c) m seats calls a h n = fewer_gone_one c m a
   fewer_one (event.Tick now) m seats calls a h n = fewer_tick B L now m
   fewer_one (event.Deposit d class id text) Ignored seats calls a h n = λ c o. o
@@ -393,7 +393,7 @@ module _ (B : Records) (L : Log) where
   fewer_one (event.Admin command) m seats calls a h n = fewer_command B L command m
   fewer_one (event.Restart boot) m seats calls a h n = absurd h
 
-  no_first : (x : Event × Mark) (given : Log) → openings (x ∷ given) ≡ 0 → (is_opening x ≡ false) × (openings given ≡ 0)
+  no_first : (x : Event × EventTag) (given : Log) → openings (x ∷ given) ≡ 0 → (is_opening x ≡ false) × (openings given ≡ 0)
   no_first (event.Start host boot idle, m) given e = (refl, e)
   no_first (event.Connect, m) given e = cc
   no_first (event.Bytes c piece, m) given e = (refl, e)

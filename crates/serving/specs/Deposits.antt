@@ -3,7 +3,7 @@ use Rattle.std.specs.Prelude.{◌≡◌, ℕ, List, [], ◌∷◌, ◌++◌}
 use Rattle.vault.specs.Records.{Records}
 use Rattle.vault.specs.Changes.{Contents}
 use Rattle.office.specs.History.{Tag}
-use Rattle.office.specs.Events.{Event, Mark, Tagged, Log, Trace}
+use Rattle.office.specs.Events.{Event, EventTag, Tagged, Log, Trace}
 use Rattle.office.specs.Events as event
 use Rattle.office.specs.Trace.{history}
 use Rattle.office.specs.Expected.{shown_at}
@@ -18,7 +18,8 @@ abbrev pub named : (maildrop class id : List ℕ) → FileName
 named d class id = record { maildrop = d; class = class; id = id }
 
 -- a deposit is of a file that was tried, and its answer says what was to become of it; any other event leaves files alone
-abbrev pub IsFiledBy : Records → Log → Event → Mark → (Before : List FileAct → Type 0) → List FileAct → Type 0
+abbrev pub IsFiledBy : Records → Log → Event → EventTag → (Before : List FileAct → Type 0)
+    → List FileAct → Type 0
 IsFiledBy B L (event.Deposit d class id text) (Tagged t) Before acts =
     (before : List FileAct) × Before before × IsFiled (named d class id) text (disposal_of (shown_at B L (history (trace_of B L)) (event.Deposit d class id text) t)) before acts
 IsFiledBy B L e m Before acts = Before acts

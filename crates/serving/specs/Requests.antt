@@ -7,7 +7,7 @@ use Rattle.vault.specs.Changes.{Contents}
 use Rattle.policy.specs.declared.fault.PolicyFault.{PolicyFault}
 use Rattle.office.specs.History.{Tag, Done, Failed, NoMemory}
 use Rattle.office.specs.Answers.{AdminCommand}
-use Rattle.office.specs.Events.{Mark, Tagged, Log}
+use Rattle.office.specs.Events.{EventTag, Tagged, Log}
 use Rattle.office.specs.Events as event
 use Rattle.office.specs.Outcomes.{Outcome}
 use Rattle.office.specs.Outcomes as outcome
@@ -64,7 +64,8 @@ pub record AreExchanged (told : Told) (x : Exchanges) (B : Records) (start : ℕ
   pub each : (k : ℕ) → IsExchange B L (x.response k) (x.place k) (told.read k) (told.written k)
   pub own : (j k n : ℕ) → x.place j ≡ Some n → x.place k ≡ Some n → j ≡ k
   pub before : (k n : ℕ) → x.place k ≡ Some n → n < length L
-  pub asked : (newer older : Log) (command : AdminCommand) (m : Mark) → L ≡ newer ++ (event.Admin command, m) ∷ older → start ≤ length older
+  pub asked : (newer older : Log) (command : AdminCommand) (m : EventTag)
+      → L ≡ newer ++ (event.Admin command, m) ∷ older → start ≤ length older
       → (k : ℕ) × (x.place k ≡ Some (length older))
   pub still : (k : ℕ) → told.accepted ≤ k → (told.read k ≡ []) × (x.response k ≡ None)
   pub straight : told.strayed ≡ false
@@ -117,7 +118,8 @@ AreOthersHeld told x number held = All (λ e. (e.link.number ≡ number → ⊥)
 -- a log with events of commands more
 pub data Asks (L : Log) : Log → Type 0 where
   AsksNone : Asks L L
-  AsksMore : (command : AdminCommand) (m : Mark) (M : Log) → Asks L M → Asks L ((event.Admin command, m) ∷ M)
+  AsksMore : (command : AdminCommand) (m : EventTag) (M : Log) → Asks L M
+      → Asks L ((event.Admin command, m) ∷ M)
 
 -- ---- the invariant
 

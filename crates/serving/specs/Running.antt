@@ -42,7 +42,7 @@ pub record HasGoneOn {V W S : Type 0} (Holds : V → Contents → Type 0) (Fault
   pub turns : AreTurns Holds Faults Asked AskedFiles T links office wire spool
       moments given links_then office_then wire_then spool_then
   pub stands : StandsFor Holds office_then (trace_of T.base (given ++ T.log))
-  -- each event has a mark that it may have
+  -- each event has a tag that it may have
   pub admitted : AreNewlyAdmitted T.base T.log given
   -- the store's count of faults never falls, and an event failed only where it grew
   pub counted : Faults (vault_of office) ≤ Faults (vault_of office_then)

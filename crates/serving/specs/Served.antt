@@ -4,7 +4,7 @@ use Rattle.std.specs.List.{All, AllPairs, Contains}
 use Rattle.vault.specs.Records.{Records}
 use Rattle.vault.specs.Changes.{Contents}
 use Rattle.office.specs.History.{Done}
-use Rattle.office.specs.Events.{Event, Mark, Tagged, Log, Trace}
+use Rattle.office.specs.Events.{Event, EventTag, Tagged, Log, Trace}
 use Rattle.office.specs.Events as event
 use Rattle.office.specs.Log.{next_number, opened}
 use Rattle.office.specs.Trace.{is_open}
@@ -21,7 +21,7 @@ use Rattle.serving.specs.declared.links.Seat.{Seat}
 -- ---- what a connection gave since its opening
 
 -- after an event; `next` is the number that an opening gets
-abbrev pub given_after : Event → Mark → (next c : ℕ) → List ℕ → List ℕ
+abbrev pub given_after : Event → EventTag → (next c : ℕ) → List ℕ → List ℕ
 given_after event.Connect (Tagged Done) next c before = if next == c then [] else before
 given_after (event.Bytes n piece) (Tagged t) next c before = if n == c then before ++ piece else before
 given_after _ m next c before = before

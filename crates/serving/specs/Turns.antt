@@ -4,7 +4,7 @@ use Rattle.std.specs.Prelude.{length, map, filter, filter_map, Option, Some, if�
 use Rattle.std.specs.List.{All, list_any}
 use Rattle.vault.specs.Calls.{has_grown}
 use Rattle.vault.specs.Changes.{Contents}
-use Rattle.office.specs.Events.{Event, Mark, Log, Trace}
+use Rattle.office.specs.Events.{Event, EventTag, Log, Trace}
 use Rattle.office.specs.Events as event
 use Rattle.office.specs.Taken.{trace_of}
 use Rattle.office.specs.Stands.{StandsFor, vault_of}
@@ -37,7 +37,8 @@ way_of links links_then count freed =
     way_by (settings links) count freed (millis_of links_then == 0)
 
 -- an event has a cause: no connection goes but by its link's end, or because its client is late
-abbrev pub HasCauseInTurn : (now : ℕ) → Links → (seats : List Seat) → List Call → Event × Mark → Type 0
+abbrev pub HasCauseInTurn : (now : ℕ) → Links → (seats : List Seat) → List Call
+    → Event × EventTag → Type 0
 HasCauseInTurn now links seats calls x =
     HasCause seats calls x ⊎ IsLateGone now links.clients.newcomers.seconds links.clients.newcomers.newcomers.items x
 
@@ -45,14 +46,14 @@ HasCauseInTurn now links seats calls x =
 pub record IsTurn (T after : Trace) (now : ℕ) (links links_then : Links) (came : List Came) (seats : List Seat) (given : Log) (calls : List Call) : Type 0 where
   -- the seats at the start, and those of the links that came
   pub seats_are : seats ≡ links.clients.seats.items ++ filter_map seat_of came
-  -- each event has a mark that it may have
+  -- each event has a tag that it may have
   pub admitted : AreNewlyAdmitted T.base T.log given
   -- it waited once, before all else
   pub waited : waits calls ≡ millis_of links ∷ []
   pub waited_first : (later : List Call) × (calls ≡ Waited (millis_of links) ∷ later)
   -- the office was told this moment and no other, before all else
   pub told : moments given ≡ now ∷ []
-  pub told_first : (later : Log) × (m : Mark) × (given ≡ later ++ (event.Tick now, m) ∷ [])
+  pub told_first : (later : Log) × (m : EventTag) × (given ≡ later ++ (event.Tick now, m) ∷ [])
   -- links were accepted until none waited, 64 came, or all places were taken
   pub accepted : HasAccepted (length seats) calls ⊎ (most_links ≤ length came)
   pub arrived : arrivals calls ≡ map link_of came

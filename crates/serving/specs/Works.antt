@@ -5,7 +5,7 @@ use Rattle.vault.specs.Records.{Records}
 use Rattle.vault.specs.Calls.{has_grown}
 use Rattle.vault.specs.Changes.{Contents}
 use Rattle.office.specs.History.{Done, Failed}
-use Rattle.office.specs.Events.{Event, Mark, Ignored, Tagged, Log, Trace}
+use Rattle.office.specs.Events.{Event, EventTag, Ignored, Tagged, Log, Trace}
 use Rattle.office.specs.Events as event
 use Rattle.office.specs.Trace.{history, is_open, is_ready, rest}
 use Rattle.office.specs.Sessions.{live}
@@ -158,7 +158,7 @@ Also Facts More given calls = Facts given calls × More calls
 -- ---- what is seen of the events of an office, the newest first
 
 -- each moment that it was told
-abbrev pub moment_of : Event × Mark → Option ℕ
+abbrev pub moment_of : Event × EventTag → Option ℕ
 moment_of (event.Tick now, m) = Some now
 moment_of _ = None
 
@@ -166,7 +166,7 @@ abbrev pub moments : Log → List ℕ
 moments given = filter_map moment_of given
 
 -- each opening that was asked for
-abbrev pub is_opening : Event × Mark → Bool
+abbrev pub is_opening : Event × EventTag → Bool
 is_opening (event.Connect, m) = true
 is_opening _ = false
 
@@ -174,7 +174,7 @@ abbrev pub openings : Log → ℕ
 openings given = length (filter is_opening given)
 
 -- an opening wasn't done: it was ignored, or wanted memory
-abbrev pub is_refusal : Event × Mark → Bool
+abbrev pub is_refusal : Event × EventTag → Bool
 is_refusal (event.Connect, Tagged Done) = false
 is_refusal (event.Connect, m) = true
 is_refusal _ = false
@@ -183,7 +183,7 @@ abbrev pub refusals : Log → ℕ
 refusals given = length (filter is_refusal given)
 
 -- an event failed
-abbrev pub is_failed : Event × Mark → Bool
+abbrev pub is_failed : Event × EventTag → Bool
 is_failed (e, Tagged Failed) = true
 is_failed _ = false
 
@@ -195,7 +195,7 @@ is_late now seconds newcomers c = not (seconds == 0) && is_late_by now seconds (
 abbrev pub AreNoMoreLate : (now seconds : ℕ) → (newcomers newcomers_then : List Newcomer) → Type 0
 AreNoMoreLate now seconds newcomers newcomers_then = (c : ℕ) → is_late now seconds newcomers_then c ≡ true → is_late now seconds newcomers c ≡ true
 
--- each event behind an older log has a mark that it may have there
+-- each event behind an older log has a tag that it may have there
 abbrev pub AreNewlyAdmitted : Records → (older given : Log) → Type 0
 AreNewlyAdmitted B older [] = ⊤
 AreNewlyAdmitted B older ((e, m) ∷ given) = IsAdmitted (trace_of B (given ++ older)) e m × AreNewlyAdmitted B older given
@@ -203,7 +203,7 @@ AreNewlyAdmitted B older ((e, m) ∷ given) = IsAdmitted (trace_of B (given ++ o
 -- ---- why a connection ends
 
 -- A connection goes only where its link told its end or that it is broken; and nothing starts anew.
-abbrev pub HasCause : List Seat → List Call → Event × Mark → Type 0
+abbrev pub HasCause : List Seat → List Call → Event × EventTag → Type 0
 HasCause seats calls (event.Gone c, m) = (s : Seat) × Contains seats s × (s.connection ≡ c) × (is_cut s.link calls ≡ true)
 HasCause seats calls (event.Restart boot, m) = ⊥
 HasCause seats calls (event.Start host boot idle, m) = ⊥
@@ -213,7 +213,7 @@ abbrev pub AreCaused : List Seat → List Call → Log → Type 0
 AreCaused seats calls given = All (HasCause seats calls) given
 
 -- a connection goes because its client is late, and nothing else is done
-abbrev pub IsLateGone : (now seconds : ℕ) → List Newcomer → Event × Mark → Type 0
+abbrev pub IsLateGone : (now seconds : ℕ) → List Newcomer → Event × EventTag → Type 0
 IsLateGone now seconds newcomers (event.Gone c, m) = is_late now seconds newcomers c ≡ true
 IsLateGone now seconds newcomers _ = ⊥
 
@@ -307,8 +307,8 @@ pub record IsQuietFor (seats : List Seat) (given : Log) (calls : List Call) : Ty
 
 -- the moment
 pub record IsPassed (millis now : ℕ) (given : Log) (calls : List Call) : Type 0 where
-  pub mark : Mark
-  pub given_is : given ≡ (event.Tick now, mark) ∷ []
+  pub event_tag : EventTag
+  pub given_is : given ≡ (event.Tick now, event_tag) ∷ []
   pub calls_are : calls ≡ Waited millis ∷ []
 
 -- a link that came, and the connection that was opened for it, if one was

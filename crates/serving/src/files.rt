@@ -1,7 +1,7 @@
 //! One file of a spool in a turn.
 ghost use Rattle.std.specs.Prelude.{◌≡◌, ◌||◌, List, Option};
 ghost use Rattle.office.specs.Events.{Trace};
-ghost use Rattle.office.specs.Shown.{outcome_seen};
+ghost use Rattle.office.specs.Seen.{outcome_seen};
 ghost use Rattle.office.specs.Stands.{StandsFor, vault_of};
 ghost use Rattle.serving.specs.Spools.{FileAct, disposal_of};
 ghost use Rattle.serving.specs.Deposits.{IsTried};

@@ -5,7 +5,7 @@ ghost use Rattle.std.specs.Prelude.{not, if◌then◌else◌, OnErr};
 ghost use Rattle.vault.specs.Records.{Records};
 ghost use Rattle.office.specs.Events.{Log};
 ghost use Rattle.office.specs.Taken.{trace_of};
-ghost use Rattle.office.specs.Shown.{answer_seen, command_seen, outcome_seen};
+ghost use Rattle.office.specs.Seen.{answer_seen, command_seen, outcome_seen};
 ghost use Rattle.office.specs.Stands.{StandsFor, vault_of};
 ghost use Rattle.adminhttp.specs.Request.{IsRequest};
 ghost use Rattle.adminhttp.specs.Responses.{answer_response, refusal_response, fault_response};

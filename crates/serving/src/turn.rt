@@ -7,7 +7,7 @@ ghost use Rattle.office.specs.Trace.{is_open, history};
 ghost use Rattle.office.specs.Sessions.{live};
 ghost use Rattle.office.specs.Taken.{AreAdmitted};
 ghost use Rattle.office.specs.Stands.{StandsFor, vault_of};
-ghost use Rattle.office.specs.Shown.{outcome_seen};
+ghost use Rattle.office.specs.Seen.{outcome_seen};
 ghost use Rattle.serving.specs.Wires.{ToldOfPorts, AreFresh, opened_by};
 ghost use Rattle.serving.specs.Served.{StillServes, StillServesOne, Serves};
 ghost use Rattle.office.specs.Logins.{refusals};

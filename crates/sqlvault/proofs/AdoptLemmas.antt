@@ -16,19 +16,19 @@ use Rattle.vault.specs.declared.record.Receipt.{Receipt}
 use Rattle.vault.specs.Records.{is_sound_message}
 use Rattle.vault.specs.Changes.{Contents}
 use Rattle.vault.proofs.ListLemmas.{bytes_are}
-use Rattle.mailsql.specs.declared.rows.Mark.{Mark}
-use Rattle.mailsql.specs.Rows.{is_mark}
-use Rattle.sqlvault.specs.Keeps.{Keeps, our_mark, version}
+use Rattle.mailsql.specs.declared.rows.MetaRow.{MetaRow}
+use Rattle.mailsql.specs.Rows.{is_meta_row}
+use Rattle.sqlvault.specs.Keeps.{Keeps, our_meta_row, version}
 use Rattle.sqlvault.specs.Parts.{Finds, ClerksAre, MaildropsAre, PolicyIs, DepositsAre, MessagesAre, records_with, messages_of}
 use Rattle.vault.specs.declared.fault.VaultFault.{VaultFault}
 use Rattle.vault.specs.declared.fault.VaultFault.TheVariants as fault
-use Rattle.mailsql.specs.Names.{is_taken, has_marks}
+use Rattle.mailsql.specs.Names.{is_taken, has_meta_rows}
 use Rattle.mailsql.specs.Rows.{IsReady}
 use Rattle.mailsql.proofs.ResultLemmas.{on_err_then}
 use Rattle.std.specs.Prelude.{OnErr}
 use Rattle.sqlvault.specs.declared.refusal.Refusal.{Refusal}
 use Rattle.sqlvault.specs.declared.refusal.Refusal.TheVariants.{Answered}
-use Rattle.sqlvault.specs.Adopts.{StaysAs, IsBlank, IsKnown, IsRefused, IsAdoptFault, JudgesMarks}
+use Rattle.sqlvault.specs.Adopts.{StaysAs, IsBlank, IsKnown, IsRefused, IsAdoptFault, JudgesVersion}
 use Rattle.sqlvault.specs.Adopts.{Adopts, IsForeign, Settles}
 use Rattle.sqlvault.specs.Refusals.{is_memory, fault_of, answer_of, told}
 use Rattle.sqlvault.specs.Stands.{LeavesNoMore}
@@ -118,15 +118,15 @@ module _ (rows : Rows) where
 pub own_maildrops : (rows : Rows) (ms : List (List ℕ)) → MaildropsAre rows ms → MaildropsAre rows rows.maildrops
 own_maildrops rows ms is = subst (MaildropsAre rows) (sym is.same) is
 
-pub whole : (rows : Rows) → rows.marks ≡ our_mark ∷ [] → (xy : Lists rows × Mail rows) → ListsAre rows xy.0 × MailIs rows xy.1 → (c : Contents) × Keeps rows c
-whole rows marks xy both =
+pub whole : (rows : Rows) → rows.meta_rows ≡ our_meta_row ∷ [] → (xy : Lists rows × Mail rows) → ListsAre rows xy.0 × MailIs rows xy.1 → (c : Contents) × Keeps rows c
+whole rows meta_rows xy both =
     let clerks = both.0.0.0 in
     let maildrops = own_maildrops rows xy.0.0.1 both.0.0.1 in
     let deposits = both.1.0 in
     let messages = both.1.1 in (
       record { clerks = xy.0.0.0; maildrops = rows.maildrops; messages = xy.1.1; deposits = xy.1.0; policy = xy.0.1 },
       record {
-        mark = marks;
+        meta_row = meta_rows;
         clerks = clerks.same;
         maildrops = refl;
         counts = deposits.counts;
@@ -184,15 +184,15 @@ parts rows c k =
       ),
     )
 
--- ---- the mark
+-- ---- the version row
 
-pub one_mark : (marks : List Mark) (mark : Mark) → find (is_mark (codes "popbox")) marks ≡ Some mark → mark.value ≡ version → length marks ≡ 1 → marks ≡ our_mark ∷ []
-one_mark [] mark found value one = cc
-one_mark (x ∷ y ∷ more) mark found value one = absurd (omega (arith, one))
-one_mark (x ∷ []) mark found value one = at (is_mark (codes "popbox") x) refl found
+pub one_meta_row : (meta_rows : List MetaRow) (meta_row : MetaRow) → find (is_meta_row (codes "popbox")) meta_rows ≡ Some meta_row → meta_row.value ≡ version → length meta_rows ≡ 1 → meta_rows ≡ our_meta_row ∷ []
+one_meta_row [] meta_row found value one = cc
+one_meta_row (x ∷ y ∷ more) meta_row found value one = absurd (omega (arith, one))
+one_meta_row (x ∷ []) meta_row found value one = at (is_meta_row (codes "popbox") x) refl found
   where
-    at : (b : Bool) → is_mark (codes "popbox") x ≡ b → cond b (Some x) None ≡ Some mark → x ∷ [] ≡ our_mark ∷ []
-    at true e same = let is : x ≡ mark = cc in let name : x.name ≡ codes "popbox" = bytes_are x.name (codes "popbox") e in let v : x.value ≡ version = ap (λ (m : Mark). m.value) is ∙ value in rw (name, v) refl
+    at : (b : Bool) → is_meta_row (codes "popbox") x ≡ b → cond b (Some x) None ≡ Some meta_row → x ∷ [] ≡ our_meta_row ∷ []
+    at true e same = let is : x ≡ meta_row = cc in let name : x.name ≡ codes "popbox" = bytes_are x.name (codes "popbox") e in let v : x.value ≡ version = ap (λ (m : MetaRow). m.value) is ∙ value in rw (name, v) refl
     at false e same = cc
 
 -- ---- a connection outside a transaction
@@ -223,10 +223,10 @@ kinds_met e = at (is_memory e)
     at true = tt
     at false = tt
 
-pub marks_met : (rows : Rows) (e : Error) → JudgesMarks rows (fault_of e)
-marks_met rows e = at (is_memory e)
+pub meta_rows_met : (rows : Rows) (e : Error) → JudgesVersion rows (fault_of e)
+meta_rows_met rows e = at (is_memory e)
   where
-    at : (b : Bool) → JudgesMarks rows (cond b fault.NoMemory fault.Store)
+    at : (b : Bool) → JudgesVersion rows (cond b fault.NoMemory fault.Store)
     at true = tt
     at false = tt
 
@@ -258,9 +258,9 @@ pub own_untaken : (s : State) → s.in_transaction ≡ false → is_taken s.now.
 own_untaken s out none (inl inside) = true≢false (sym inside ∙ out)
 own_untaken s out none (inr it) = true≢false (sym it.1 ∙ none)
 
-pub own_marked : (s : State) → s.in_transaction ≡ false → has_marks s.now.schema.tables ≡ true → IsForeign s → ⊥
-own_marked s out marks (inl inside) = true≢false (sym inside ∙ out)
-own_marked s out marks (inr it) = true≢false (sym marks ∙ it.2)
+pub own_marked : (s : State) → s.in_transaction ≡ false → has_meta_rows s.now.schema.tables ≡ true → IsForeign s → ⊥
+own_marked s out meta_rows (inl inside) = true≢false (sym inside ∙ out)
+own_marked s out meta_rows (inr it) = true≢false (sym meta_rows ∙ it.2)
 
 -- it is given back
 pub given_back : {A C : Type 0} {now conn : C} (refusal : Refusal) (f : VaultFault) → (let r : Result (Unit {0}) Refusal = Err refusal in r ≡ Err (Answered fault.NotOurs)) → f ≡ told refusal → now ≡ conn

@@ -8,9 +8,9 @@ use Rattle.sqlite.specs.State.{State, HasCleanDisk}
 use Rattle.vault.specs.declared.fault.VaultFault.{VaultFault}
 use Rattle.vault.specs.declared.fault.VaultFault.TheVariants as fault
 use Rattle.vault.specs.Changes.{Contents}
-use Rattle.mailsql.specs.declared.rows.Mark.{Mark}
-use Rattle.mailsql.specs.Rows.{Rows, rows_in, is_mark}
-use Rattle.sqlvault.specs.Keeps.{Keeps, our_mark}
+use Rattle.mailsql.specs.declared.rows.MetaRow.{MetaRow}
+use Rattle.mailsql.specs.Rows.{Rows, rows_in, is_meta_row}
+use Rattle.sqlvault.specs.Keeps.{Keeps, our_meta_row}
 use Rattle.sqlvault.specs.Adopts.{IsAdopted, IsRefused, IsKnown, Adopts, IsOfAnotherVersion}
 use Rattle.sqlvault.specs.Opened.{Opened, conn_of, judged_in}
 use Rattle.sqlvault.specs.Stands.{Holds}
@@ -34,12 +34,12 @@ holds_left stopped first now f a =
 pub holds_same : (stopped first now : State) (c : Contents) → LeavesLast stopped → FindsLeft stopped first → IsAdopted first now → IsTrue stopped.is_open → Holds stopped c → Holds now c
 holds_same stopped first now c law f a up h = a.kept c (f.tables, seen_as_left stopped first c f (leaves_last stopped c law up h first.committed.trees f.left))
 
--- rows under another mark are no contents
+-- rows under another version row are no contents
 marked_otherwise : (rows : Rows) (c : Contents) → IsOfAnotherVersion rows → Keeps rows c → ⊥
-marked_otherwise rows c (mark, found, other) k =
-    let same : Some our_mark ≡ Some mark = sym (ap (find (is_mark (codes "popbox"))) k.mark) ∙ found in
-    let e : our_mark ≡ mark = cc in
-    other (sym (ap (λ (m : Mark). m.value) e))
+marked_otherwise rows c (meta_row, found, other) k =
+    let same : Some our_meta_row ≡ Some meta_row = sym (ap (find (is_meta_row (codes "popbox"))) k.meta_row) ∙ found in
+    let e : our_meta_row ≡ meta_row = cc in
+    other (sym (ap (λ (m : MetaRow). m.value) e))
 
 -- where no contents have the rows, any might be left
 none_kept : (stopped first : State) → FindsLeft stopped first → RulesOut stopped → ((c : Contents) → Keeps (rows_in first.now.trees) c → ⊥) → ⊥

@@ -7,16 +7,16 @@ use Rattle.sqlite.specs.Effect.{Database, IsDatabase}
 use Rattle.sqlite.specs.State.{State, HasCleanDisk, Survives, Shows, IsUnchanged}
 use Rattle.vault.specs.declared.fault.VaultFault.TheVariants as fault
 use Rattle.vault.specs.Changes.{Contents}
-use Rattle.mailsql.specs.Changes.{PutsMark}
+use Rattle.mailsql.specs.Changes.{PutsMetaRow}
 use Rattle.mailsql.specs.Uses.{marked}
-use Rattle.mailsql.specs.Rows.{Rows, IsOld, IsOldSchema, HasOldTables, rows_in, is_carried, completed, is_mark, IsKept, IsReady, IsBegunOn, IsHalted, GoesOn, Changes, MayLeave}
-use Rattle.sqlvault.specs.Keeps.{Keeps, our_mark, version}
-use Rattle.sqlvault.specs.Carries.{HasOlder, IsOfNoVersion, IsNoOlder, JudgesOlder, IsOfRows, IsOlder, IsCarried, IsUncarried, KeepsOlder, IsStoreOf, LeavesEither, brought, brought_in, old_mark, old_version}
+use Rattle.mailsql.specs.Rows.{Rows, IsOld, IsOldSchema, HasOldTables, rows_in, is_carried, completed, is_meta_row, IsKept, IsReady, IsBegunOn, IsHalted, GoesOn, Changes, MayLeave}
+use Rattle.sqlvault.specs.Keeps.{Keeps, our_meta_row, version}
+use Rattle.sqlvault.specs.Carries.{HasOlder, IsOfNoVersion, IsNoOlder, JudgesOlder, IsOfRows, IsOlder, IsCarried, IsUncarried, KeepsOlder, IsStoreOf, LeavesEither, brought, brought_in, old_meta_row, old_version}
 use Rattle.sqlvault.specs.Moves.{MovesOld, body_head, body_sheets}
 use Rattle.sqlvault.specs.Refusals.{is_memory, fault_of}
 use Rattle.sqlvault.specs.Adopts.{StaysAs, IsAdoptFault, IsBlank, LeavesEmptyToo}
 use Rattle.sqlvault.specs.declared.refusal.Refusal.{Refusal}
-use Rattle.mailsql.specs.declared.rows.Mark.{Mark}
+use Rattle.mailsql.specs.declared.rows.MetaRow.{MetaRow}
 use Rattle.vault.specs.declared.fault.VaultFault.{VaultFault}
 use Rattle.vault.proofs.ListLemmas.{bytes_are}
 use Rattle.sqlvault.specs.Stands.{LeavesNoMore}
@@ -63,20 +63,20 @@ more_then a b c p q db may = p db (q db may)
 
 -- ---- the rows
 
-marks_put : (carried : Bool) (old : Rows) → old.marks ≡ old_mark carried ∷ [] → filter (λ m. not (is_mark (codes "popbox") m)) old.marks ++ our_mark ∷ [] ≡ our_mark ∷ []
-marks_put carried old is = ap (λ ms. filter (λ m. not (is_mark (codes "popbox") m)) ms ++ our_mark ∷ []) is
+meta_rows_put : (carried : Bool) (old : Rows) → old.meta_rows ≡ old_meta_row carried ∷ [] → filter (λ m. not (is_meta_row (codes "popbox") m)) old.meta_rows ++ our_meta_row ∷ [] ≡ our_meta_row ∷ []
+meta_rows_put carried old is = ap (λ ms. filter (λ m. not (is_meta_row (codes "popbox") m)) ms ++ our_meta_row ∷ []) is
 
-marked_so : (carried : Bool) (old moved new : Rows) → moved.marks ≡ old.marks → old.marks ≡ old_mark carried ∷ [] → PutsMark our_mark moved new → new ≡ record moved { marks = our_mark ∷ [] }
-marked_so carried old moved new same is put = put ∙ ap (λ ms. let w : Rows = record moved { marks = ms } in w) (marks_put carried moved (same ∙ is))
+marked_so : (carried : Bool) (old moved new : Rows) → moved.meta_rows ≡ old.meta_rows → old.meta_rows ≡ old_meta_row carried ∷ [] → PutsMetaRow our_meta_row moved new → new ≡ record moved { meta_rows = our_meta_row ∷ [] }
+marked_so carried old moved new same is put = put ∙ ap (λ ms. let w : Rows = record moved { meta_rows = ms } in w) (meta_rows_put carried moved (same ∙ is))
 
-pub brought_is : (carried : Bool) (old made moved new : Rows) → made ≡ completed carried old → MovesOld carried made moved → old.marks ≡ old_mark carried ∷ [] → PutsMark our_mark moved new → new ≡ brought carried old
-brought_is false old made moved new is moves mark put =
-    marked_so false old moved new (ap (λ (r : Rows). r.marks) (moves ∙ is)) mark put
-    ∙ ap (λ (r : Rows). let w : Rows = record r { marks = our_mark ∷ [] } in w) (moves ∙ is)
-brought_is true old made moved new is moves mark put =
+pub brought_is : (carried : Bool) (old made moved new : Rows) → made ≡ completed carried old → MovesOld carried made moved → old.meta_rows ≡ old_meta_row carried ∷ [] → PutsMetaRow our_meta_row moved new → new ≡ brought carried old
+brought_is false old made moved new is moves meta_row put =
+    marked_so false old moved new (ap (λ (r : Rows). r.meta_rows) (moves ∙ is)) meta_row put
+    ∙ ap (λ (r : Rows). let w : Rows = record r { meta_rows = our_meta_row ∷ [] } in w) (moves ∙ is)
+brought_is true old made moved new is moves meta_row put =
     let all : moved ≡ record (completed true old) { messages = map body_head old.bodies; sheets = flat_map body_sheets old.bodies; bodies = [] } =
     moves ∙ ap (λ (r : Rows). let w : Rows = record r { messages = r.messages ++ map body_head r.bodies; sheets = r.sheets ++ flat_map body_sheets r.bodies; bodies = [] } in w) is in
-    marked_so true old moved new (ap (λ (r : Rows). r.marks) all) mark put ∙ ap (λ (r : Rows). let w : Rows = record r { marks = our_mark ∷ [] } in w) all
+    marked_so true old moved new (ap (λ (r : Rows). r.meta_rows) all) meta_row put ∙ ap (λ (r : Rows). let w : Rows = record r { meta_rows = our_meta_row ∷ [] } in w) all
 
 -- ---- the transaction
 
@@ -87,30 +87,30 @@ module _ (carried : Bool) (s0 s1 : State) (older : IsOlder carried s0) (shows : 
   pub order_on : is_carried s1.now.trees ≡ carried
   order_on = ap (λ (d : Database). is_carried d.trees) shows.now_is ∙ older.order
 
-  pub marked_on : (rows_in s1.now.trees).marks ≡ old_mark carried ∷ []
-  marked_on = ap (λ (d : Database). (rows_in d.trees).marks) shows.now_is ∙ older.mark
+  pub marked_on : (rows_in s1.now.trees).meta_rows ≡ old_meta_row carried ∷ []
+  marked_on = ap (λ (d : Database). (rows_in d.trees).meta_rows) shows.now_is ∙ older.meta_row
 
   -- the rows are those that were brought over
   pub brought_on : (s2 : State) → rows_in s2.now.trees ≡ brought carried (rows_in s1.now.trees) → rows_in s2.now.trees ≡ brought_in s0.now.trees
   brought_on s2 is = is ∙ ap (λ (d : Database). brought carried (rows_in d.trees)) shows.now_is ∙ ap (λ c. brought c (rows_in s0.now.trees)) (sym older.order)
 
--- the mark is ours then
-pub our_marks : (db : Trees) (rows : Rows) → rows ≡ brought_in db → rows.marks ≡ our_mark ∷ []
-our_marks db rows is = go (is_carried db) (rows_in db) is
+-- the version row is ours then
+pub our_meta_rows : (db : Trees) (rows : Rows) → rows ≡ brought_in db → rows.meta_rows ≡ our_meta_row ∷ []
+our_meta_rows db rows is = go (is_carried db) (rows_in db) is
   where
-    go : (c : Bool) (old : Rows) → rows ≡ brought c old → rows.marks ≡ our_mark ∷ []
-    go true old e = ap (λ (r : Rows). r.marks) e
-    go false old e = ap (λ (r : Rows). r.marks) e
+    go : (c : Bool) (old : Rows) → rows ≡ brought c old → rows.meta_rows ≡ our_meta_row ∷ []
+    go true old e = ap (λ (r : Rows). r.meta_rows) e
+    go false old e = ap (λ (r : Rows). r.meta_rows) e
 
--- the mark is that of the tables' version
-pub own_mark : (carried : Bool) (s : State) → IsOlder carried s → (rows_in s.now.trees).marks ≡ old_mark (is_carried s.now.trees) ∷ []
-own_mark carried s older = older.mark ∙ ap (λ c. old_mark c ∷ []) (sym older.order)
+-- the version row is that of the tables' version
+pub own_meta_row : (carried : Bool) (s : State) → IsOlder carried s → (rows_in s.now.trees).meta_rows ≡ old_meta_row (is_carried s.now.trees) ∷ []
+own_meta_row carried s older = older.meta_row ∙ ap (λ c. old_meta_row c ∷ []) (sym older.order)
 
 -- it is committed
 pub carried_at : (carried : Bool) (s0 s3 s4 : State) → IsOlder carried s0 → IsKept s3.now → rows_in s3.now.trees ≡ brought_in s0.now.trees → Shows s3 s4 s3.now s3.now false → (c : Contents) × Keeps (rows_in s3.now.trees) c → IsCarried s0 s4
 carried_at carried s0 s3 s4 older kept is shows found = record {
   is_open = shows.is_open;
-  mark = own_mark carried s0 older;
+  meta_row = own_meta_row carried s0 older;
   held = (found.0, subst (λ r. Keeps r found.0) is found.1);
   kept = λ c k. record {
     autocommit = shows.mode;
@@ -161,18 +161,18 @@ met_judged rows e = at (is_memory e)
     at true = tt
     at false = tt
 
--- the mark of an older version is of a version
-pub of_version : (carried : Bool) (rows : Rows) → rows.marks ≡ old_mark carried ∷ [] → IsOfNoVersion rows → ⊥
+-- the version row of an older version is of a version
+pub of_version : (carried : Bool) (rows : Rows) → rows.meta_rows ≡ old_meta_row carried ∷ [] → IsOfNoVersion rows → ⊥
 of_version carried rows is none =
-    let found : Some (old_mark carried) ≡ Some none.0 = sym (ap (find (is_mark (codes "popbox"))) is) ∙ none.1 in
-    let e : old_mark carried ≡ none.0 = cc in
-    none.2 carried (sym (ap (λ (m : Mark). m.value) e))
+    let found : Some (old_meta_row carried) ≡ Some none.0 = sym (ap (find (is_meta_row (codes "popbox"))) is) ∙ none.1 in
+    let e : old_meta_row carried ≡ none.0 = cc in
+    none.2 carried (sym (ap (λ (m : MetaRow). m.value) e))
 
 -- the rows are no records
 pub rows_uncarried : (carried : Bool) (s : State) (f : VaultFault) → IsOlder carried s → IsOfRows f → ((c : Contents) → KeepsOlder s c → ⊥) → IsUncarried s f
 rows_uncarried carried s fault.Store older is none = tt
 rows_uncarried carried s fault.NoMemory older is none = tt
-rows_uncarried carried s fault.NotOurs older is none = (of_version carried (rows_in s.now.trees) older.mark, λ mark. none)
+rows_uncarried carried s fault.NotOurs older is none = (of_version carried (rows_in s.now.trees) older.meta_row, λ meta_row. none)
 rows_uncarried carried s fault.OldVersion older is none = absurd is
 rows_uncarried carried s fault.NoMaildrop older is none = absurd is
 rows_uncarried carried s fault.Conflict older is none = absurd is
@@ -191,11 +191,11 @@ rows_adopt fault.Full is = absurd is
 rows_adopt fault.NotEmpty is = absurd is
 rows_adopt fault.NoClerk is = absurd is
 
--- the marks don't fit
+-- the rows of `meta` don't fit
 pub judged_uncarried : (s : State) (f : VaultFault) → JudgesOlder (rows_in s.now.trees) f → IsUncarried s f
 judged_uncarried s fault.Store is = tt
 judged_uncarried s fault.NoMemory is = tt
-judged_uncarried s fault.NotOurs is = (is.0, λ mark c k. is.1 (is_carried s.now.trees) mark)
+judged_uncarried s fault.NotOurs is = (is.0, λ meta_row c k. is.1 (is_carried s.now.trees) meta_row)
 judged_uncarried s fault.OldVersion is = is
 judged_uncarried s fault.NoMaildrop is = absurd is
 judged_uncarried s fault.Conflict is = absurd is
@@ -204,51 +204,51 @@ judged_uncarried s fault.NotEmpty is = absurd is
 judged_uncarried s fault.NoClerk is = absurd is
 
 -- the tables are those of the other older version
-pub order_uncarried : (carried : Bool) (s : State) → (rows_in s.now.trees).marks ≡ old_mark carried ∷ [] → (is_carried s.now.trees ≡ carried → ⊥) → IsUncarried s fault.NotOurs
-order_uncarried carried s is other = (of_version carried (rows_in s.now.trees) is, λ mark c k. other (one_version (is_carried s.now.trees) carried (sym mark ∙ is)))
+pub order_uncarried : (carried : Bool) (s : State) → (rows_in s.now.trees).meta_rows ≡ old_meta_row carried ∷ [] → (is_carried s.now.trees ≡ carried → ⊥) → IsUncarried s fault.NotOurs
+order_uncarried carried s is other = (of_version carried (rows_in s.now.trees) is, λ meta_row c k. other (one_version (is_carried s.now.trees) carried (sym meta_row ∙ is)))
   where
-    one_version : (a b : Bool) → old_mark a ∷ [] ≡ old_mark b ∷ [] → a ≡ b
+    one_version : (a b : Bool) → old_meta_row a ∷ [] ≡ old_meta_row b ∷ [] → a ≡ b
     one_version true true e = refl
     one_version false false e = refl
-    one_version true false e = let m : old_mark true ≡ old_mark false = cc in let v : pos 1 ≡ pos 2 = ap (λ (x : Mark). x.value) m in cc
-    one_version false true e = let m : old_mark false ≡ old_mark true = cc in let v : pos 2 ≡ pos 1 = ap (λ (x : Mark). x.value) m in cc
+    one_version true false e = let m : old_meta_row true ≡ old_meta_row false = cc in let v : pos 1 ≡ pos 2 = ap (λ (x : MetaRow). x.value) m in cc
+    one_version false true e = let m : old_meta_row false ≡ old_meta_row true = cc in let v : pos 2 ≡ pos 1 = ap (λ (x : MetaRow). x.value) m in cc
 
--- ---- the mark of an older version
+-- ---- the version row of an older version
 
-pub one_older : (carried : Bool) (marks : List Mark) (mark : Mark) → find (is_mark (codes "popbox")) marks ≡ Some mark → mark.value ≡ old_version carried → length marks ≡ 1 → marks ≡ old_mark carried ∷ []
-one_older carried [] mark found value one = cc
-one_older carried (x ∷ y ∷ more) mark found value one = absurd (omega (arith, one))
-one_older carried (x ∷ []) mark found value one = at (is_mark (codes "popbox") x) refl found
+pub one_older : (carried : Bool) (meta_rows : List MetaRow) (meta_row : MetaRow) → find (is_meta_row (codes "popbox")) meta_rows ≡ Some meta_row → meta_row.value ≡ old_version carried → length meta_rows ≡ 1 → meta_rows ≡ old_meta_row carried ∷ []
+one_older carried [] meta_row found value one = cc
+one_older carried (x ∷ y ∷ more) meta_row found value one = absurd (omega (arith, one))
+one_older carried (x ∷ []) meta_row found value one = at (is_meta_row (codes "popbox") x) refl found
   where
-    at : (b : Bool) → is_mark (codes "popbox") x ≡ b → cond b (Some x) None ≡ Some mark → x ∷ [] ≡ old_mark carried ∷ []
-    at true e same = let is : x ≡ mark = cc in let name : x.name ≡ codes "popbox" = bytes_are x.name (codes "popbox") e in let v : x.value ≡ old_version carried = ap (λ (m : Mark). m.value) is ∙ value in rw (name, v) refl
+    at : (b : Bool) → is_meta_row (codes "popbox") x ≡ b → cond b (Some x) None ≡ Some meta_row → x ∷ [] ≡ old_meta_row carried ∷ []
+    at true e same = let is : x ≡ meta_row = cc in let name : x.name ≡ codes "popbox" = bytes_are x.name (codes "popbox") e in let v : x.value ≡ old_version carried = ap (λ (m : MetaRow). m.value) is ∙ value in rw (name, v) refl
     at false e same = cc
 
--- a mark that was found is the one that is of no version, or that is there alone
-found_same : (rows : Rows) (mark other : Mark) → find (is_mark (codes "popbox")) rows.marks ≡ Some mark → find (is_mark (codes "popbox")) rows.marks ≡ Some other → mark.value ≡ other.value
-found_same rows mark other a b = let e : Some mark ≡ Some other = sym a ∙ b in let m : mark ≡ other = cc in ap (λ (x : Mark). x.value) m
+-- a version row that was found is the one that is of no version, or that is there alone
+found_same : (rows : Rows) (meta_row other : MetaRow) → find (is_meta_row (codes "popbox")) rows.meta_rows ≡ Some meta_row → find (is_meta_row (codes "popbox")) rows.meta_rows ≡ Some other → meta_row.value ≡ other.value
+found_same rows meta_row other a b = let e : Some meta_row ≡ Some other = sym a ∙ b in let m : meta_row ≡ other = cc in ap (λ (x : MetaRow). x.value) m
 
-found_alone : (carried : Bool) (rows : Rows) (mark : Mark) → find (is_mark (codes "popbox")) rows.marks ≡ Some mark → rows.marks ≡ old_mark carried ∷ [] → mark.value ≡ old_version carried
-found_alone carried rows mark a is = found_same rows mark (old_mark carried) a (ap (find (is_mark (codes "popbox"))) is)
+found_alone : (carried : Bool) (rows : Rows) (meta_row : MetaRow) → find (is_meta_row (codes "popbox")) rows.meta_rows ≡ Some meta_row → rows.meta_rows ≡ old_meta_row carried ∷ [] → meta_row.value ≡ old_version carried
+found_alone carried rows meta_row a is = found_same rows meta_row (old_meta_row carried) a (ap (find (is_meta_row (codes "popbox"))) is)
 
 not_both : (carried : Bool) → version ≢ old_version carried
 not_both true e = cc
 not_both false e = cc
 
 -- it is of no older version
-pub judged_no_older : (rows : Rows) (mark : Mark) (f : VaultFault) → find (is_mark (codes "popbox")) rows.marks ≡ Some mark → IsNoOlder mark.value f → JudgesOlder rows f
-judged_no_older rows mark fault.NotOurs found is = (
-  λ none. none.3 (found_same rows none.0 mark none.1 found ∙ is),
-  λ carried alone. not_both carried (sym is ∙ found_alone carried rows mark found alone),
+pub judged_no_older : (rows : Rows) (meta_row : MetaRow) (f : VaultFault) → find (is_meta_row (codes "popbox")) rows.meta_rows ≡ Some meta_row → IsNoOlder meta_row.value f → JudgesOlder rows f
+judged_no_older rows meta_row fault.NotOurs found is = (
+  λ none. none.3 (found_same rows none.0 meta_row none.1 found ∙ is),
+  λ carried alone. not_both carried (sym is ∙ found_alone carried rows meta_row found alone),
 )
-judged_no_older rows mark fault.OldVersion found is = (mark, found, is.0, is.1)
-judged_no_older rows mark fault.Store found is = absurd is
-judged_no_older rows mark fault.NoMemory found is = absurd is
-judged_no_older rows mark fault.NoMaildrop found is = absurd is
-judged_no_older rows mark fault.Conflict found is = absurd is
-judged_no_older rows mark fault.Full found is = absurd is
-judged_no_older rows mark fault.NotEmpty found is = absurd is
-judged_no_older rows mark fault.NoClerk found is = absurd is
+judged_no_older rows meta_row fault.OldVersion found is = (meta_row, found, is.0, is.1)
+judged_no_older rows meta_row fault.Store found is = absurd is
+judged_no_older rows meta_row fault.NoMemory found is = absurd is
+judged_no_older rows meta_row fault.NoMaildrop found is = absurd is
+judged_no_older rows meta_row fault.Conflict found is = absurd is
+judged_no_older rows meta_row fault.Full found is = absurd is
+judged_no_older rows meta_row fault.NotEmpty found is = absurd is
+judged_no_older rows meta_row fault.NoClerk found is = absurd is
 
 pub no_older_kinds : (value : ℤ) (f : VaultFault) → IsNoOlder value f → IsAdoptFault f
 no_older_kinds value fault.NotOurs is = tt
@@ -262,26 +262,26 @@ no_older_kinds value fault.NotEmpty is = absurd is
 no_older_kinds value fault.NoClerk is = absurd is
 
 -- there is none
-pub judged_none : (rows : Rows) → find (is_mark (codes "popbox")) rows.marks ≡ None → JudgesOlder rows fault.NotOurs
+pub judged_none : (rows : Rows) → find (is_meta_row (codes "popbox")) rows.meta_rows ≡ None → JudgesOlder rows fault.NotOurs
 judged_none rows none = (
   λ other. let e : None ≡ Some other.0 = sym none ∙ other.1 in cc,
-  λ carried alone. let e : None ≡ Some (old_mark carried) = sym none ∙ ap (find (is_mark (codes "popbox"))) alone in cc,
+  λ carried alone. let e : None ≡ Some (old_meta_row carried) = sym none ∙ ap (find (is_meta_row (codes "popbox"))) alone in cc,
 )
 
 -- it is there, with others
-pub judged_more : (carried : Bool) (rows : Rows) (mark : Mark) → find (is_mark (codes "popbox")) rows.marks ≡ Some mark → mark.value ≡ old_version carried → length rows.marks ≢ 1 → JudgesOlder rows fault.NotOurs
-judged_more carried rows mark found value more = (
-  λ none. none.2 carried (found_same rows none.0 mark none.1 found ∙ value),
+pub judged_more : (carried : Bool) (rows : Rows) (meta_row : MetaRow) → find (is_meta_row (codes "popbox")) rows.meta_rows ≡ Some meta_row → meta_row.value ≡ old_version carried → length rows.meta_rows ≢ 1 → JudgesOlder rows fault.NotOurs
+judged_more carried rows meta_row found value more = (
+  λ none. none.2 carried (found_same rows none.0 meta_row none.1 found ∙ value),
   λ other alone. more (ap length alone),
 )
 
 -- ---- behind queries that changed nothing
 
-pub older_on : (carried : Bool) (s0 s1 : State) → IsUnchanged s0 s1 → HasOlder s0 → is_carried s1.now.trees ≡ carried → s0.in_transaction ≡ false → (IsTrue s0.is_open → s0.now ≡ s0.committed) → (rows_in s0.now.trees).marks ≡ old_mark carried ∷ [] → IsOlder carried s1
-older_on carried s0 s1 same older order out settled mark = record {
+pub older_on : (carried : Bool) (s0 s1 : State) → IsUnchanged s0 s1 → HasOlder s0 → is_carried s1.now.trees ≡ carried → s0.in_transaction ≡ false → (IsTrue s0.is_open → s0.now ≡ s0.committed) → (rows_in s0.now.trees).meta_rows ≡ old_meta_row carried ∷ [] → IsOlder carried s1
+older_on carried s0 s1 same older order out settled meta_row = record {
   old = subst (λ (d : Database). IsOld d) (sym same.0.now_is) older;
   order = order;
-  mark = ap (λ (d : Database). (rows_in d.trees).marks) same.0.now_is ∙ mark;
+  meta_row = ap (λ (d : Database). (rows_in d.trees).meta_rows) same.0.now_is ∙ meta_row;
   autocommit = same.0.mode ∙ out;
   settled = λ up. same.0.now_is ∙ settled same.0.was_open ∙ sym same.0.committed_is;
 }
@@ -291,7 +291,7 @@ carried_on s0 s1 s2 same it =
     let rows = ap (λ (d : Database). brought_in d.trees) same.0.now_is in
     record {
       is_open = it.is_open;
-      mark = subst (λ (d : Database). (rows_in d.trees).marks ≡ old_mark (is_carried d.trees) ∷ []) same.0.now_is it.mark;
+      meta_row = subst (λ (d : Database). (rows_in d.trees).meta_rows ≡ old_meta_row (is_carried d.trees) ∷ []) same.0.now_is it.meta_row;
       held = (it.held.0, subst (λ r. Keeps r it.held.0) rows it.held.1);
       kept = λ c k. it.kept c (subst (λ r. Keeps r c) (sym rows) k);
     }
@@ -299,7 +299,7 @@ carried_on s0 s1 s2 same it =
 pub uncarried_from : (s0 s1 : State) (f : VaultFault) → IsUnchanged s0 s1 → IsUncarried s1 f → IsUncarried s0 f
 uncarried_from s0 s1 fault.Store same is = tt
 uncarried_from s0 s1 fault.NoMemory same is = tt
-uncarried_from s0 s1 fault.NotOurs same is = subst (λ (d : Database). (IsOfNoVersion (rows_in d.trees) → ⊥) × ((rows_in d.trees).marks ≡ old_mark (is_carried d.trees) ∷ [] → (c : Contents) → Keeps (brought_in d.trees) c → ⊥)) same.0.now_is is
+uncarried_from s0 s1 fault.NotOurs same is = subst (λ (d : Database). (IsOfNoVersion (rows_in d.trees) → ⊥) × ((rows_in d.trees).meta_rows ≡ old_meta_row (is_carried d.trees) ∷ [] → (c : Contents) → Keeps (brought_in d.trees) c → ⊥)) same.0.now_is is
 uncarried_from s0 s1 fault.OldVersion same is = subst (λ (d : Database). IsOfNoVersion (rows_in d.trees)) same.0.now_is is
 uncarried_from s0 s1 fault.NoMaildrop same is = absurd is
 uncarried_from s0 s1 fault.Conflict same is = absurd is

@@ -146,7 +146,7 @@ with_rows clerks rows = record rows { clerks = clerks }
 keeps_clerks : (rows : Rows) (c : Contents) (clerks : List vault.Clerk) (held : List Clerk) → Keeps rows c → IsPermutation (map clerk_row clerks) held → AreSound (with_clerks clerks c)
     → Keeps (with_rows held rows) (with_clerks clerks c)
 keeps_clerks rows c clerks held k p s = record {
-  mark = k.mark;
+  meta_row = k.meta_row;
   clerks = p;
   maildrops = k.maildrops;
   counts = k.counts;

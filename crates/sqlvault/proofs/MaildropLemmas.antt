@@ -84,7 +84,7 @@ with_names names rows = record rows { maildrops = names }
 
 keeps_names : (rows : Rows) (c : Contents) (names : List (List ℕ)) → Keeps rows c → AreSound (with_maildrops names c) → Keeps (with_names names rows) (with_maildrops names c)
 keeps_names rows c names k s = record {
-  mark = k.mark;
+  meta_row = k.meta_row;
   clerks = k.clerks;
   maildrops = refl;
   counts = k.counts;

@@ -6,7 +6,7 @@ use Rattle.sqlite.specs.Held.{Held, state}
 use Rattle.sqlite.specs.declared.error.Error.{Error}
 use Rattle.sqlite.specs.Effect.{Database}
 use Rattle.sqlite.specs.State.{State, HasCleanDisk, Survives}
-use Rattle.mailsql.specs.Changes.{AddsMark}
+use Rattle.mailsql.specs.Changes.{AddsMetaRow}
 use Rattle.mailsql.specs.Rows.{Rows, IsBegun, IsBare, IsGone, IsKept, IsUndone, MakesTables}
 use Rattle.mailsql.specs.Rows.{Changes, MayLeave, no_rows, is_carried}
 use Rattle.mailsql.specs.Names.{is_taken}
@@ -15,7 +15,7 @@ use Rattle.mailsql.proofs.SchemaLemmas.{ours_taken}
 use Rattle.mailsql.specs.Uses.{marked}
 use Rattle.sqlvault.specs.declared.refusal.Refusal.TheVariants.{Met}
 use Rattle.sqlvault.specs.Adopts.{IsBlank, LeavesEmptyToo, Settles, StaysAs}
-use Rattle.sqlvault.specs.Keeps.{our_mark, version}
+use Rattle.sqlvault.specs.Keeps.{our_meta_row, version}
 use Rattle.sqlvault.specs.Moves.{Builds, DoesPart, Part}
 use Rattle.sqlvault.specs.Older.{IsAllCommitted}
 use Rattle.sqlvault.specs.Stands.{LeavesNoMore}
@@ -26,7 +26,7 @@ use Rattle.sqlvault.proofs.FrameLemmas.{undoes_clean}
 use Rattle.sqlvault.proofs.MoveLemmas.{inside_on, part_of, then_part}
 use Rattle.sqlvault.proofs.NewLemmas.{holds_made}
 
--- ---- the tables and the mark
+-- ---- the tables and the version row
 
 pub creates_no_more : (a b : State) → IsBegun a → HasCleanDisk b → Survives a b (λ _. ¬ IsBegun a)
     → LeavesNoMore a b
@@ -42,8 +42,8 @@ AreNone old new = new ≡ no_rows
 
 pub filled : (a b c : State) (r : Result (Unit {0}) Error) → IsBegun a → HasCleanDisk b
     → MakesTables a b → Survives a b (λ _. ¬ IsBegun a) → HasCleanDisk c
-    → OnOk r (Changes (AddsMark our_mark) b c) → OnErr r (IsUndone b c)
-    → Survives b c (MayLeave (AddsMark our_mark) b) → Part IsNew a c r
+    → OnOk r (Changes (AddsMetaRow our_meta_row) b c) → OnErr r (IsUndone b c)
+    → Survives b c (MayLeave (AddsMetaRow our_meta_row) b) → Part IsNew a c r
 filled a b c r begun clean1 made s1 clean2 ok err s2 =
     let first : DoesPart AreNone a b = record {
       on = made.on;
@@ -51,11 +51,11 @@ filled a b c r begun clean1 made s1 clean2 ok err s2 =
       change = made.rows;
       stop = creates_no_more a b begun clean1 s1;
     } in
-    then_part AreNone (AddsMark our_mark) IsNew a b c r
+    then_part AreNone (AddsMetaRow our_meta_row) IsNew a b c r
     (λ from mid to none adds. adds
-    ∙ ap (λ (x : Rows). let w : Rows = record x { marks = x.marks ++ our_mark ∷ [] } in w) none)
+    ∙ ap (λ (x : Rows). let w : Rows = record x { meta_rows = x.meta_rows ++ our_meta_row ∷ [] } in w) none)
     first
-    (part_of (AddsMark our_mark) (AddsMark our_mark) b c r clean2 (inside_on AreNone a b first) ok
+    (part_of (AddsMetaRow our_meta_row) (AddsMetaRow our_meta_row) b c r clean2 (inside_on AreNone a b first) ok
     err s2)
 
 -- ---- the transaction

@@ -15,7 +15,7 @@ nothing_sound = search rules
 
 keeps_nothing : Keeps (marked (pos 3)) no_contents
 keeps_nothing = record {
-  mark = refl;
+  meta_row = refl;
   clerks = IsPermutation-refl [];
   maildrops = refl;
   counts = λ d class. refl;

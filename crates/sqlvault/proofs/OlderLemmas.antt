@@ -8,16 +8,16 @@ use Rattle.sqlite.specs.declared.error.Error.{Error}
 use Rattle.sqlite.specs.Effect.{Database, IsDatabase}
 use Rattle.sqlite.specs.State.{State, HasCleanDisk, Survives, Shows, IsUnchanged}
 use Rattle.vault.specs.Changes.{Contents}
-use Rattle.mailsql.specs.Changes.{PutsMark}
+use Rattle.mailsql.specs.Changes.{PutsMetaRow}
 use Rattle.mailsql.specs.Rows.{Rows, IsOldSchema, HasOldTables, IsKept, IsUndone, IsHalted, IsGone}
 use Rattle.mailsql.specs.Rows.{GoesOn, Changes, MayLeave, CompletesTables, completed, rows_in}
 use Rattle.mailsql.proofs.ResultLemmas.{on_ok_then, on_err_then}
 use Rattle.sqlvault.specs.declared.refusal.Refusal.{Refusal}
 use Rattle.sqlvault.specs.declared.refusal.Refusal.TheVariants.{Met}
 use Rattle.sqlvault.specs.Carries.{IsOlder, IsOfRows, KeepsOlder, CarriesOver}
-use Rattle.sqlvault.specs.Carries.{brought_in, old_mark}
+use Rattle.sqlvault.specs.Carries.{brought_in, old_meta_row}
 use Rattle.sqlvault.specs.Adopts.{StaysAs}
-use Rattle.sqlvault.specs.Keeps.{Keeps, our_mark}
+use Rattle.sqlvault.specs.Keeps.{Keeps, our_meta_row}
 use Rattle.sqlvault.specs.Moves.{MovesOld, DoesPart, HaltsPart, Part, Builds}
 use Rattle.sqlvault.specs.Older.{IsBegunOlder, Brings, AsksOlder, CarriesOlder}
 use Rattle.sqlvault.specs.Parts.{Finds}
@@ -27,7 +27,7 @@ use Rattle.sqlvault.specs.Transactions.{Begins, Undoes}
 use Rattle.sqlvault.proofs.AdoptLemmas.{unchanged_on, undone_on, rows_on, stays_gone}
 use Rattle.sqlvault.proofs.CarryLemmas.{asked_old, old_on, more_then, nothing_more, looked_on}
 use Rattle.sqlvault.proofs.CarryLemmas.{begun_on, order_on, marked_on, brought_on, brought_is}
-use Rattle.sqlvault.proofs.CarryLemmas.{our_marks, carried_at, left_at, either}
+use Rattle.sqlvault.proofs.CarryLemmas.{our_meta_rows, carried_at, left_at, either}
 use Rattle.sqlvault.proofs.CarryLemmas.{either_on, met_uncarried, rows_uncarried, carried_on}
 use Rattle.sqlvault.proofs.CarryLemmas.{uncarried_from, stays_result}
 use Rattle.sqlvault.proofs.FrameLemmas.{was_clean, undoes_clean}
@@ -123,25 +123,25 @@ module _ (carried : Bool) (s0 s1 : State) (begun : IsBegunOlder carried s0)
   pub moved_halts : (s2 : State) → HaltsPart s1 s2 → HaltsPart s0 s2
   moved_halts s2 halts = halts_behind Completes s0 s1 s2 completes halts
 
--- so that the mark is still the old one
+-- so that the version row is still the old one
 abbrev pub MovedFrom : (carried : Bool) → Rows → Rows → Type 0
-MovedFrom carried old new = (old.marks ≡ old_mark carried ∷ []) × Moved carried old new
+MovedFrom carried old new = (old.meta_rows ≡ old_meta_row carried ∷ []) × Moved carried old new
 
--- and our mark put in place of the old one
+-- and our version row put in place of the old one
 pub brought_then : (carried : Bool) (Other : Rows → Rows → Type 0) (s0 s1 s2 : State)
     (r : Result (Unit {0}) Error) → IsBegunOlder carried s0 → DoesPart (Moved carried) s0 s1
-    → HasCleanDisk s2 → OnOk r (Changes (PutsMark our_mark) s1 s2) → OnErr r (IsHalted s1 s2)
+    → HasCleanDisk s2 → OnOk r (Changes (PutsMetaRow our_meta_row) s1 s2) → OnErr r (IsHalted s1 s2)
     → Survives s1 s2 (MayLeave Other s1) → Part (Brings carried) s0 s2 r
 brought_then carried Other s0 s1 s2 r begun moved clean ok err s =
     let first : DoesPart (MovedFrom carried) s0 s1 = record {
       on = moved.on;
       tables = moved.tables;
-      change = (begun.mark, moved.change);
+      change = (begun.meta_row, moved.change);
       stop = moved.stop;
     } in
-    then_part (MovedFrom carried) (PutsMark our_mark) (Brings carried) s0 s1 s2 r
+    then_part (MovedFrom carried) (PutsMetaRow our_meta_row) (Brings carried) s0 s1 s2 r
     (λ from mid to m put. brought_is carried from m.1.made mid to m.1.rows m.1.moves m.0 put) first
-    (parts_of (PutsMark our_mark) Other s1 s2 r clean (inside_on (Moved carried) s0 s1 moved) ok
+    (parts_of (PutsMetaRow our_meta_row) Other s1 s2 r clean (inside_on (Moved carried) s0 s1 moved) ok
     err s)
 
 -- ---- the transaction
@@ -176,7 +176,7 @@ module _ (carried : Bool) (s0 s1 : State) (b : Begun carried s0 s1) where
   begun_older = record {
     begun = begun_on carried s0 s1 b.older b.shows;
     order = order_on carried s0 s1 b.older b.shows;
-    mark = marked_on carried s0 s1 b.older b.shows;
+    meta_row = marked_on carried s0 s1 b.older b.shows;
   }
 
   pub gone_stays : (s2 : State) → IsGone s1 s2 → StaysAs s0 s2
@@ -198,8 +198,8 @@ module _ (carried : Bool) (s0 s1 : State) (b : Begun carried s0 s1) where
   }
 
 module _ (carried : Bool) (s0 s1 s2 : State) (m : Midway carried s0 s1 s2) where
-  pub midway_marks : (rows_in s2.now.trees).marks ≡ our_mark ∷ []
-  midway_marks = our_marks s0.now.trees (rows_in s2.now.trees) m.rows
+  pub midway_meta_rows : (rows_in s2.now.trees).meta_rows ≡ our_meta_row ∷ []
+  midway_meta_rows = our_meta_rows s0.now.trees (rows_in s2.now.trees) m.rows
 
   -- its rows are looked at
   pub midway_on : (s3 : State) → IsUnchanged s2 s3 → LeavesNoMore s2 s3 → Midway carried s0 s1 s3

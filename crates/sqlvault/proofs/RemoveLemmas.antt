@@ -212,7 +212,7 @@ one_removed d key rows after fits change c keeps =
     let same : (x : Keyed) → In x c.messages → passes (row_key x.key) ≡ stays x = λ x i.
     ap not (ap (list_any (λ (m : Message). is_message (row_key key) d m && same_int (row_key x.key) m.key)) keeps.messages ∙ sheet_goes key d c.messages fits low_keys keeps.sound.keys x i) in
     subst (λ r. Keeps r (with_messages (without_keys d (key ∷ []) c.messages) c)) (sym change) (record {
-      mark = keeps.mark;
+      meta_row = keeps.meta_row;
       clerks = keeps.clerks;
       maildrops = keeps.maildrops;
       counts = keeps.counts;

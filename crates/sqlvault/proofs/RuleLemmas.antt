@@ -206,7 +206,7 @@ keeps_set p old new c sound s keeps =
     set.others ∙ ap (λ (m : Rows). let x : Rows = record m { rules = new.rules } in x) s.1
     ∙ ap (λ (m : Rows). let x : Rows = record old { groups = m.groups; members = m.members; rules = new.rules } in x) (sym (set.others ∙ ap (λ (m : Rows). let x : Rows = record m { rules = new.rules } in x) s.1)) in
     record {
-      mark = ap (λ (x : Rows). x.marks) all ∙ keeps.mark;
+      meta_row = ap (λ (x : Rows). x.meta_rows) all ∙ keeps.meta_row;
       clerks = subst (λ l. IsPermutation (map clerk_row c.clerks) l) (sym (ap (λ (x : Rows). x.clerks) all)) keeps.clerks;
       maildrops = ap (λ (x : Rows). x.maildrops) all ∙ keeps.maildrops;
       counts = λ d class. ap (λ (x : Rows). count_in d class x.counts) all ∙ keeps.counts d class;

@@ -16,14 +16,14 @@ use Rattle.vault.specs.declared.fault.VaultFault.{VaultFault}
 use Rattle.vault.specs.declared.fault.VaultFault.TheVariants.{Store, NoMemory, NotOurs, OldVersion}
 use Rattle.vault.specs.Changes.{Contents}
 use Rattle.vault.specs.Plain.{no_contents}
-use Rattle.mailsql.specs.declared.rows.Mark.{Mark}
+use Rattle.mailsql.specs.declared.rows.MetaRow.{MetaRow}
 use Rattle.sqlite_trees.specs.Tree.{Trees}
 use Rattle.mailsql.specs.Uses.{marked}
 use Rattle.mailsql.specs.Tables.{no_schema}
-use Rattle.mailsql.specs.Rows.{Rows, rows_in, IsKept, IsBare, is_mark}
-use Rattle.mailsql.specs.Marked.{HasMarks}
-use Rattle.mailsql.specs.Names.{is_taken, has_marks}
-use Rattle.sqlvault.specs.Keeps.{Keeps, our_mark, version}
+use Rattle.mailsql.specs.Rows.{Rows, rows_in, IsKept, IsBare, is_meta_row}
+use Rattle.mailsql.specs.MetaTable.{HasMetaRows}
+use Rattle.mailsql.specs.Names.{is_taken, has_meta_rows}
+use Rattle.sqlvault.specs.Keeps.{Keeps, our_meta_row, version}
 use Rattle.sqlvault.specs.Carries.{HasOlder, IsCarried, IsUncarried, IsOfNoVersion, IsStoreOf, LeavesEither}
 use Rattle.sqlvault.specs.Opened.{Opened}
 use Rattle.sqlvault.specs.declared.refusal.Refusal.{Refusal}
@@ -38,9 +38,11 @@ IsBlank s = IsBare no_schema s.now
 abbrev pub Stores : State → Contents → Type 0
 Stores s c = IsKept s.now × Keeps (rows_in s.now.trees) c
 
--- our mark has another version
+-- our version row has another version
 abbrev pub IsOfAnotherVersion : Rows → Type 0
-IsOfAnotherVersion rows = (mark : Mark) × (find (is_mark (codes "popbox")) rows.marks ≡ Some mark) × (mark.value ≢ version)
+IsOfAnotherVersion rows = (meta_row : MetaRow)
+    × (find (is_meta_row (codes "popbox")) rows.meta_rows ≡ Some meta_row)
+    × (meta_row.value ≢ version)
 
 -- The store is adopted: one without a table then holds nothing, and one with our tables is as it
 -- was and holds the contents of its rows.
@@ -53,7 +55,7 @@ pub record IsAdopted (old new : State) : Type 0 where
   pub kept : (c : Contents) → Stores old c → Holds new c
 
 -- Why `NotOurs`: a transaction is under way; or the store has tables, their rows are no contents,
--- and our mark in them has no other version.
+-- and our version row in them has no other version.
 pub record IsNotOurs (old : State) : Type 0 where
   pub outside : old.in_transaction ≡ false → (IsBlank old → ⊥) × ((c : Contents) → Stores old c → ⊥)
   pub version : old.in_transaction ≡ false → IsKept old.now → IsOfAnotherVersion (rows_in old.now.trees) → ⊥
@@ -101,19 +103,19 @@ pub record Settles (old new : State) (result : Result (Unit {0}) Refusal) : Type
   pub stays : OnErr result (StaysAs old new)
   pub stop : IsTrue old.is_open → LeavesEmptyToo old new
 
--- a transaction is under way, or one of our names is taken and the table of marks isn't ours
+-- a transaction is under way, or one of our names is taken and the table `meta` isn't ours
 abbrev pub IsForeign : State → Type 0
 IsForeign s =
     IsTrue s.in_transaction
     ⊎ ((s.in_transaction ≡ false) × (is_taken s.now.schema ≡ true)
-    × (has_marks s.now.schema.tables ≡ false))
+    × (has_meta_rows s.now.schema.tables ≡ false))
 
--- A store of an unknown version: no transaction is under way, the table of marks is there, whatever
--- the other tables are, and our mark has none of the versions 1, 2 and 3.
+-- A store of an unknown version: no transaction is under way, the table `meta` is there, whatever
+-- the other tables are, and our version row has none of the versions 1, 2 and 3.
 pub record IsOfUnknownVersion (s : State) : Type 0 where
   pub autocommit : s.in_transaction ≡ false
-  pub table : HasMarks s.now
-  pub mark : IsOfNoVersion (rows_in s.now.trees)
+  pub table : HasMetaRows s.now
+  pub meta_row : IsOfNoVersion (rows_in s.now.trees)
 
 -- the fault is `OldVersion`, or comes of a statement's error
 abbrev pub IsVersionFault : VaultFault → Type 0
@@ -132,18 +134,18 @@ abbrev pub IsVersionRefused : {A : Type 0} → State → State → Result A Vaul
 IsVersionRefused old new (Ok _) = ⊥
 IsVersionRefused old new (Err fault) = RefusesVersion old new fault
 
--- what the marks are where the check of the version answers this fault
-abbrev pub JudgesMarks : Rows → VaultFault → Type 0
-JudgesMarks rows Store = ⊤
-JudgesMarks rows NoMemory = ⊤
-JudgesMarks rows NotOurs = (rows.marks ≢ our_mark ∷ []) × (IsOfAnotherVersion rows → ⊥)
-JudgesMarks rows OldVersion = IsOfAnotherVersion rows
-JudgesMarks rows _ = ⊥
+-- what the rows of `meta` are where the check of the version answers this fault
+abbrev pub JudgesVersion : Rows → VaultFault → Type 0
+JudgesVersion rows Store = ⊤
+JudgesVersion rows NoMemory = ⊤
+JudgesVersion rows NotOurs = (rows.meta_rows ≢ our_meta_row ∷ []) × (IsOfAnotherVersion rows → ⊥)
+JudgesVersion rows OldVersion = IsOfAnotherVersion rows
+JudgesVersion rows _ = ⊥
 
--- the mark of our version is there alone, or the fault says why not
-abbrev pub IsMarked : {A : Type 0} → Rows → Result A VaultFault → Type 0
-IsMarked rows (Ok _) = rows.marks ≡ our_mark ∷ []
-IsMarked rows (Err fault) = JudgesMarks rows fault
+-- our version row is there alone, or the fault says why not
+abbrev pub IsOfOurVersion : {A : Type 0} → Rows → Result A VaultFault → Type 0
+IsOfOurVersion rows (Ok _) = rows.meta_rows ≡ our_meta_row ∷ []
+IsOfOurVersion rows (Err fault) = JudgesVersion rows fault
 
 -- The files held this image: the connection `first` found its database, whose version is known, and
 -- was then adopted, or carried over from an older version.

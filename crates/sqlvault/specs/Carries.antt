@@ -1,5 +1,5 @@
 -- What carrying an older store over does: its contents stay, the tables that it lacks are made, and
--- the mark becomes ours.
+-- the version row becomes ours.
 use Rattle.std.specs.Prelude.{◌≡◌, ◌≢◌, ◌⊎◌, ⊤, Bool, true, false, IsTrue, ℤ, pos, Result, Ok, Err, Some, [], ◌∷◌, map, flat_map, codes}
 use Rattle.std.specs.List.{find}
 use Rattle.sqlite_trees.specs.Tree.{Trees}
@@ -8,9 +8,9 @@ use Rattle.sqlite.specs.State.{State}
 use Rattle.vault.specs.declared.fault.VaultFault.{VaultFault}
 use Rattle.vault.specs.declared.fault.VaultFault.TheVariants.{Store, NoMemory, NotOurs, OldVersion}
 use Rattle.vault.specs.Changes.{Contents}
-use Rattle.mailsql.specs.declared.rows.Mark.{Mark}
-use Rattle.mailsql.specs.Rows.{Rows, rows_in, is_carried, completed, is_mark, IsOld, IsKept}
-use Rattle.sqlvault.specs.Keeps.{Keeps, our_mark, version}
+use Rattle.mailsql.specs.declared.rows.MetaRow.{MetaRow}
+use Rattle.mailsql.specs.Rows.{Rows, rows_in, is_carried, completed, is_meta_row, IsOld, IsKept}
+use Rattle.sqlvault.specs.Keeps.{Keeps, our_meta_row, version}
 use Rattle.sqlvault.specs.Moves.{body_head, body_sheets}
 use Rattle.sqlvault.specs.Stands.{Holds}
 
@@ -21,34 +21,42 @@ abbrev pub old_version : (carried : Bool) → ℤ
 old_version true = pos 1
 old_version false = pos 2
 
--- the mark of an older version
-abbrev pub old_mark : (carried : Bool) → Mark
-old_mark carried = record { name = codes "popbox"; value = old_version carried }
+-- the version row of an older version
+abbrev pub old_meta_row : (carried : Bool) → MetaRow
+old_meta_row carried = record { name = codes "popbox"; value = old_version carried }
 
--- The rows of an older store once it is carried over. They are the old ones but for the mark and,
--- from version 1, the messages: each has a row under its old key, and its text is in sheets.
+-- The rows of an older store once it is carried over. They are the old ones but for the version row
+-- and, from version 1, the messages: each has a row under its old key, and its text is in sheets.
 abbrev pub brought : (carried : Bool) → Rows → Rows
-brought false rows = record (completed false rows) { marks = our_mark ∷ [] }
-brought true rows = record (completed true rows) { marks = our_mark ∷ []; messages = map body_head rows.bodies; sheets = flat_map body_sheets rows.bodies; bodies = [] }
+brought false rows = record (completed false rows) { meta_rows = our_meta_row ∷ [] }
+brought true rows = record (completed true rows) {
+  meta_rows = our_meta_row ∷ [];
+  messages =
+      map body_head rows.bodies;
+  sheets = flat_map body_sheets rows.bodies;
+  bodies = [];
+}
 
 -- the rows of the older store in these trees, once it is carried over
 abbrev pub brought_in : Trees → Rows
 brought_in db = brought (is_carried db) (rows_in db)
 
--- our mark has none of the versions 1, 2 and 3
+-- our version row has none of the versions 1, 2 and 3
 abbrev pub IsOfNoVersion : Rows → Type 0
-IsOfNoVersion rows = (mark : Mark) × (find (is_mark (codes "popbox")) rows.marks ≡ Some mark) × ((carried : Bool) → mark.value ≢ old_version carried) × (mark.value ≢ version)
+IsOfNoVersion rows = (meta_row : MetaRow)
+    × (find (is_meta_row (codes "popbox")) rows.meta_rows ≡ Some meta_row)
+    × ((carried : Bool) → meta_row.value ≢ old_version carried) × (meta_row.value ≢ version)
 
 -- the tables are those of version 1 or of version 2
 abbrev pub HasOlder : State → Type 0
 HasOlder s = IsOld s.now
 
--- The tables and the one mark are those of this older version, no transaction is under way, and
--- while the connection is open all is committed.
+-- The tables and the one version row are those of this older version, no transaction is under way,
+-- and while the connection is open all is committed.
 pub record IsOlder (carried : Bool) (s : State) : Type 0 where
   pub old : IsOld s.now
   pub order : is_carried s.now.trees ≡ carried
-  pub mark : (rows_in s.now.trees).marks ≡ old_mark carried ∷ []
+  pub meta_row : (rows_in s.now.trees).meta_rows ≡ old_meta_row carried ∷ []
   pub autocommit : s.in_transaction ≡ false
   pub settled : IsTrue s.is_open → s.now ≡ s.committed
 
@@ -58,11 +66,11 @@ pub record IsOlder (carried : Bool) (s : State) : Type 0 where
 abbrev pub KeepsOlder : State → Contents → Type 0
 KeepsOlder s c = Keeps (brought_in s.now.trees) c
 
--- The store is carried over: its one mark was that of its version, and it now holds the contents
+-- The store is carried over: its one version row was its own, and it now holds the contents
 -- that its rows were.
 pub record IsCarried (old new : State) : Type 0 where
   pub is_open : IsTrue new.is_open
-  pub mark : (rows_in old.now.trees).marks ≡ old_mark (is_carried old.now.trees) ∷ []
+  pub meta_row : (rows_in old.now.trees).meta_rows ≡ old_meta_row (is_carried old.now.trees) ∷ []
   pub held : (c : Contents) × KeepsOlder old c
   pub kept : (c : Contents) → KeepsOlder old c → Holds new c
 
@@ -70,7 +78,9 @@ pub record IsCarried (old new : State) : Type 0 where
 abbrev pub IsUncarried : State → VaultFault → Type 0
 IsUncarried old Store = ⊤
 IsUncarried old NoMemory = ⊤
-IsUncarried old NotOurs = (IsOfNoVersion (rows_in old.now.trees) → ⊥) × ((rows_in old.now.trees).marks ≡ old_mark (is_carried old.now.trees) ∷ [] → (c : Contents) → KeepsOlder old c → ⊥)
+IsUncarried old NotOurs = (IsOfNoVersion (rows_in old.now.trees) → ⊥)
+    × ((rows_in old.now.trees).meta_rows ≡ old_meta_row (is_carried old.now.trees) ∷ []
+    → (c : Contents) → KeepsOlder old c → ⊥)
 IsUncarried old OldVersion = IsOfNoVersion (rows_in old.now.trees)
 IsUncarried old _ = ⊥
 
@@ -81,24 +91,25 @@ IsOfRows NoMemory = ⊤
 IsOfRows NotOurs = ⊤
 IsOfRows _ = ⊥
 
--- why a mark's number is no older version's: it is ours, or unknown
+-- why a version row's number is no older version's: it is ours, or unknown
 abbrev pub IsNoOlder : ℤ → VaultFault → Type 0
 IsNoOlder value NotOurs = value ≡ version
 IsNoOlder value OldVersion = ((carried : Bool) → value ≢ old_version carried) × (value ≢ version)
 IsNoOlder value _ = ⊥
 
--- what an older store's marks are where the check of the version answers this fault
+-- what an older store's rows of `meta` are where the check of the version answers this fault
 abbrev pub JudgesOlder : Rows → VaultFault → Type 0
 JudgesOlder rows Store = ⊤
 JudgesOlder rows NoMemory = ⊤
-JudgesOlder rows NotOurs = (IsOfNoVersion rows → ⊥) × ((carried : Bool) → rows.marks ≢ old_mark carried ∷ [])
+JudgesOlder rows NotOurs = (IsOfNoVersion rows → ⊥)
+    × ((carried : Bool) → rows.meta_rows ≢ old_meta_row carried ∷ [])
 JudgesOlder rows OldVersion = IsOfNoVersion rows
 JudgesOlder rows _ = ⊥
 
--- the mark of this older version is there alone, or the fault says why not
-abbrev pub IsMarkedOlder : Rows → Result Bool VaultFault → Type 0
-IsMarkedOlder rows (Ok carried) = rows.marks ≡ old_mark carried ∷ []
-IsMarkedOlder rows (Err fault) = JudgesOlder rows fault
+-- the version row of this older version is there alone, or the fault says why not
+abbrev pub IsOfOlderVersion : Rows → Result Bool VaultFault → Type 0
+IsOfOlderVersion rows (Ok carried) = rows.meta_rows ≡ old_meta_row carried ∷ []
+IsOfOlderVersion rows (Err fault) = JudgesOlder rows fault
 
 -- an older store is carried over after `Ok`, and refused for the fault's cause after `Err`
 abbrev pub CarriesOver : {A : Type 0} → State → State → Result A VaultFault → Type 0

@@ -21,7 +21,7 @@ use Rattle.vault.specs.declared.record.Keyed.{Keyed}
 use Rattle.vault.specs.declared.record.Receipt.{Receipt}
 use Rattle.vault.specs.Records.{receipts_of, class_count}
 use Rattle.vault.specs.Changes.{Contents, AreSound}
-use Rattle.mailsql.specs.declared.rows.Mark.{Mark}
+use Rattle.mailsql.specs.declared.rows.MetaRow.{MetaRow}
 use Rattle.mailsql.specs.declared.rows.Clerk.{Clerk}
 use Rattle.mailsql.specs.declared.rows.Count.{Count}
 use Rattle.mailsql.specs.declared.rows.Deposit.{Deposit}
@@ -38,9 +38,9 @@ use Rattle.mailsql.specs.Sheets.{sheets_of}
 abbrev pub version : ℤ
 version = pos 3
 
--- the mark of a store of ours
-abbrev pub our_mark : Mark
-our_mark = record { name = codes "popbox"; value = version }
+-- the version row of a store of ours
+abbrev pub our_meta_row : MetaRow
+our_meta_row = record { name = codes "popbox"; value = version }
 
 -- ---- clerks
 
@@ -144,7 +144,7 @@ at_place place r = record r { place = place }
 -- The rows stand for these contents, which are sound. Clerks, counts and sheets may be in any
 -- order; groups and rules may have any places that give their order.
 pub record Keeps (rows : Rows) (c : Contents) : Type 0 where
-  pub mark : rows.marks ≡ our_mark ∷ []
+  pub meta_row : rows.meta_rows ≡ our_meta_row ∷ []
   pub clerks : IsPermutation (map clerk_row c.clerks) rows.clerks
   pub maildrops : rows.maildrops ≡ c.maildrops
   pub counts : (d class : List ℕ) → count_in d class rows.counts ≡ pos (class_count class (receipts_of d c.deposits))

@@ -9,7 +9,7 @@ use Rattle.mailsql.specs.Rows.{Rows, IsOld, HasOldTables, IsBegunOn, IsUndone}
 use Rattle.mailsql.specs.Rows.{rows_in, is_carried}
 use Rattle.sqlvault.specs.declared.refusal.Refusal.{Refusal}
 use Rattle.sqlvault.specs.Adopts.{StaysAs}
-use Rattle.sqlvault.specs.Carries.{CarriesOver, LeavesEither, brought, old_mark}
+use Rattle.sqlvault.specs.Carries.{CarriesOver, LeavesEither, brought, old_meta_row}
 use Rattle.sqlvault.specs.Refusals.{answer_of}
 use Rattle.sqlvault.specs.Stands.{WasClean, LeavesNoMore}
 
@@ -17,11 +17,12 @@ use Rattle.sqlvault.specs.Stands.{WasClean, LeavesNoMore}
 abbrev pub IsAllCommitted : State → Type 0
 IsAllCommitted s = IsTrue s.is_open → s.now ≡ s.committed
 
--- a transaction is under way over a store of this older version, which has its own mark alone
+-- a transaction is under way over a store of this older version, which has its own version row
+-- alone
 pub record IsBegunOlder (carried : Bool) (s : State) : Type 0 where
   pub begun : IsBegunOn s
   pub order : is_carried s.now.trees ≡ carried
-  pub mark : (rows_in s.now.trees).marks ≡ old_mark carried ∷ []
+  pub meta_row : (rows_in s.now.trees).meta_rows ≡ old_meta_row carried ∷ []
 
 -- the rows are brought to our version
 abbrev pub Brings : (carried : Bool) → Rows → Rows → Type 0

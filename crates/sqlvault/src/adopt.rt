@@ -6,11 +6,12 @@ ghost use Rattle.sqlite.specs.State.{HasCleanDisk};
 ghost use Rattle.mailsql.specs.Uses.{marked};
 ghost use Rattle.mailsql.specs.Rows.{HasTables, IsBegun, rows_in, IsKept};
 ghost use Rattle.sqlvault.specs.Frame.{Asks};
-ghost use Rattle.sqlvault.specs.Keeps.{Keeps, our_mark, version};
+ghost use Rattle.sqlvault.specs.Keeps.{Keeps, our_meta_row, version};
 ghost use Rattle.sqlvault.specs.Parts.{Finds};
 ghost use Rattle.sqlvault.specs.Adopts.{Adopts, Settles, IsBlank, IsKnown};
 ghost use Rattle.sqlvault.specs.Moves.{Builds};
-ghost use Rattle.sqlvault.specs.Adopts.{IsAdoptFault, IsForeign, IsMarked, IsOfUnknownVersion};
+ghost use Rattle.sqlvault.specs.Adopts.{IsAdoptFault, IsForeign};
+ghost use Rattle.sqlvault.specs.Adopts.{IsOfOurVersion, IsOfUnknownVersion};
 ghost use Rattle.sqlvault.specs.Adopts.{IsVersionRefused};
 ghost use Rattle.vault.specs.declared.fault.VaultFault.TheVariants.{NotOurs};
 ghost use Rattle.sqlvault.specs.declared.refusal.Refusal.TheVariants.{Answered};
@@ -26,7 +27,7 @@ use crate::sound_deposits::are_deposits_sound;
 use crate::sound_messages::are_messages_sound;
 use crate::sound_rules::are_rules_sound;
 use crate::transaction::{begin, end, undo};
-use mailsql::schema::{has_columns, has_marks, is_taken, keys_hold};
+use mailsql::schema::{has_columns, has_meta_rows, is_taken, keys_hold};
 use mailsql::{meta, tables};
 use sqlite::{Alter, Connection, Error};
 use std::alloc::Global;
@@ -35,12 +36,12 @@ use vault::VaultFault;
 /// The version of the layout of the tables.
 pub(crate) const VERSION: i64 = 3;
 
-/// Makes the tables and the mark, inside a transaction.
+/// Makes the tables and the version row, inside a transaction.
 fn fill<S: Alter>(conn: &mut Connection<S>) -> Result<(), Error>
     ensures { Builds S.Store conn.old conn.new IsBegun (λ _ rows. rows ≡ marked version) result }
 {
     match tables::create_tables(conn) {
-        Ok(()) => meta::add_mark(conn, b"popbox", VERSION),
+        Ok(()) => meta::add_meta_row(conn, b"popbox", VERSION),
         Err(error) => Err(error),
     }
 }
@@ -68,29 +69,29 @@ fn make<S: Alter>(conn: &mut Connection<S>) -> Result<(), Refusal>
     }
 }
 
-/// Checks that the store's one mark is ours, of our version. `OldVersion` where our mark has
-/// another version, `NotOurs` where it is missing or not alone. Nothing is changed.
-fn judge_marks<S: Alter>(alloc: Global, conn: &mut Connection<S>) -> Result<(), Refusal>
+/// Checks that the store's one version row is ours, of our version. `OldVersion` where our version
+/// row has another version, `NotOurs` where it is missing or not alone. Nothing is changed.
+fn judge_meta_rows<S: Alter>(alloc: Global, conn: &mut Connection<S>) -> Result<(), Refusal>
     ensures judged { HasCleanDisk (state S.Store conn.new) → HasTables (state S.Store conn.old)
-        → IsMarked (rows_in (state S.Store conn.old).now.trees) (answer_of result) }
+        → IsOfOurVersion (rows_in (state S.Store conn.old).now.trees) (answer_of result) }
     ensures asks { Asks S.Store conn.old conn.new result }
     ensures kinds { IfErr result (λ refusal. IsAdoptFault (told refusal)) }
     ensures unknown { HasCleanDisk (state S.Store conn.new)
         → IsOfUnknownVersion (state S.Store conn.old) → IsAllCommitted (state S.Store conn.old)
         → IsVersionRefused (state S.Store conn.old) (state S.Store conn.new) (answer_of result) }
 {
-    match meta::find_mark(alloc, conn, b"popbox") {
-        Ok(Some(mark)) => {
-            if mark.value != VERSION {
+    match meta::find_meta_row(alloc, conn, b"popbox") {
+        Ok(Some(meta_row)) => {
+            if meta_row.value != VERSION {
                 return Err(Refusal::Answered(VaultFault::OldVersion));
             }
         }
         Ok(None) => return Err(Refusal::Answered(VaultFault::NotOurs)),
         Err(error) => return Err(Refusal::Met(error)),
     }
-    match meta::all_marks(alloc, conn) {
-        Ok(marks) => {
-            if marks.len() == 1 {
+    match meta::all_meta_rows(alloc, conn) {
+        Ok(meta_rows) => {
+            if meta_rows.len() == 1 {
                 Ok(())
             } else {
                 Err(Refusal::Answered(VaultFault::NotOurs))
@@ -106,7 +107,7 @@ pub(crate) fn are_rows_sound<S: Alter>(
     conn: &mut Connection<S>,
 ) -> Result<bool, Error>
     ensures judged { HasCleanDisk (state S.Store conn.new) → HasTables (state S.Store conn.old)
-        → (rows_in (state S.Store conn.old).now.trees).marks ≡ our_mark ∷ []
+        → (rows_in (state S.Store conn.old).now.trees).meta_rows ≡ our_meta_row ∷ []
         → IfOk result (Finds (Keeps (rows_in (state S.Store conn.old).now.trees))) }
     ensures asks { Asks S.Store conn.old conn.new result }
 {
@@ -133,7 +134,7 @@ pub(crate) fn are_rows_sound<S: Alter>(
     }
 }
 
-/// Checks the mark, the columns and the rows of a store that has our tables. `OldVersion` or
+/// Checks the version row, the columns and the rows of a store that has our tables. `OldVersion` or
 /// `NotOurs` where they aren't ours. Nothing is changed.
 fn judge<S: Alter>(alloc: Global, conn: &mut Connection<S>) -> Result<(), Refusal>
     ensures adopted { HasCleanDisk (state S.Store conn.new)
@@ -146,7 +147,7 @@ fn judge<S: Alter>(alloc: Global, conn: &mut Connection<S>) -> Result<(), Refusa
         → IsOfUnknownVersion (state S.Store conn.old) → IsAllCommitted (state S.Store conn.old)
         → IsVersionRefused (state S.Store conn.old) (state S.Store conn.new) (answer_of result) }
 {
-    match judge_marks(alloc, conn) {
+    match judge_meta_rows(alloc, conn) {
         Ok(()) => {}
         Err(refusal) => return Err(refusal),
     }
@@ -162,7 +163,7 @@ fn judge<S: Alter>(alloc: Global, conn: &mut Connection<S>) -> Result<(), Refusa
 
 /// Makes our tables where no name of ours is taken, carries a store of version 1 or 2 over, and
 /// checks a store that has our tables. `NotOurs` inside a transaction, and where a name of ours is
-/// taken but there is no table of marks.
+/// taken but there is no table of rows of `meta`.
 pub(crate) fn settle<S: Alter>(alloc: Global, conn: &mut Connection<S>) -> Result<(), Refusal>
     ensures known { HasCleanDisk (state S.Store conn.new) → IsKnown (state S.Store conn.old)
         → Settles (state S.Store conn.old) (state S.Store conn.new) result }
@@ -183,7 +184,7 @@ pub(crate) fn settle<S: Alter>(alloc: Global, conn: &mut Connection<S>) -> Resul
     if !is_taken(conn) {
         return make(conn);
     }
-    if !has_marks(conn) {
+    if !has_meta_rows(conn) {
         return Err(Refusal::Answered(VaultFault::NotOurs));
     }
     if !has_columns(conn) {

@@ -5,7 +5,7 @@ ghost use Rattle.sqlite.specs.State.{HasCleanDisk};
 ghost use Rattle.mailsql.specs.Tables.{old_schema};
 ghost use Rattle.mailsql.specs.Rows.{HasOldTables, rows_in};
 ghost use Rattle.sqlvault.specs.Adopts.{IsAdoptFault, IsOfUnknownVersion, IsVersionRefused};
-ghost use Rattle.sqlvault.specs.Carries.{HasOlder, IsOlder, IsOfRows, IsNoOlder, IsMarkedOlder};
+ghost use Rattle.sqlvault.specs.Carries.{HasOlder, IsOlder, IsOfRows, IsNoOlder, IsOfOlderVersion};
 ghost use Rattle.sqlvault.specs.Carries.{old_version};
 ghost use Rattle.sqlvault.specs.Moves.{Builds};
 ghost use Rattle.sqlvault.specs.Older.{IsAllCommitted, IsBegunOlder, Brings};
@@ -31,8 +31,8 @@ const FIRST: i64 = 1;
 const SECOND: i64 = 2;
 
 /// Brings a store of version 1 (`is_first`) or 2 (not `is_first`) to our version, inside a
-/// transaction: makes the tables that it lacks, moves the messages of version 1, and puts our mark
-/// in place of its own.
+/// transaction: makes the tables that it lacks, moves the messages of version 1, and puts our
+/// version row in place of its own.
 fn bring<S: Alter>(alloc: Global, conn: &mut Connection<S>, is_first: bool) -> Result<(), Error>
     ensures { Builds S.Store conn.old conn.new (IsBegunOlder is_first) (Brings is_first) result }
 {
@@ -41,7 +41,7 @@ fn bring<S: Alter>(alloc: Global, conn: &mut Connection<S>, is_first: bool) -> R
         Err(error) => return Err(error),
     }
     match move_old(alloc, conn, is_first) {
-        Ok(()) => meta::put_mark(conn, b"popbox", VERSION),
+        Ok(()) => meta::put_meta_row(conn, b"popbox", VERSION),
         Err(error) => Err(error),
     }
 }
@@ -107,28 +107,29 @@ fn version_of(value: i64) -> Result<bool, VaultFault>
     Err(VaultFault::OldVersion)
 }
 
-/// The older version of the store's one mark: true for 1, false for 2. `OldVersion` where our mark
-/// has an unknown version; `NotOurs` where it has our version, is missing or isn't alone.
+/// The older version of the store's one version row: true for 1, false for 2. `OldVersion` where
+/// our version row has an unknown version; `NotOurs` where it has our version, is missing or isn't
+/// alone.
 fn find_older<S: Alter>(alloc: Global, conn: &mut Connection<S>) -> Result<bool, Refusal>
     ensures asks { AsksOlder S.Store conn.old conn.new result }
     ensures judged { HasCleanDisk (state S.Store conn.new) → HasOldTables (state S.Store conn.old)
-        → IsMarkedOlder (rows_in (state S.Store conn.old).now.trees) (answer_of result) }
+        → IsOfOlderVersion (rows_in (state S.Store conn.old).now.trees) (answer_of result) }
     ensures kinds { IfErr result (λ refusal. IsAdoptFault (told refusal)) }
     ensures unknown { HasCleanDisk (state S.Store conn.new)
         → IsOfUnknownVersion (state S.Store conn.old) → IsAllCommitted (state S.Store conn.old)
         → IsVersionRefused (state S.Store conn.old) (state S.Store conn.new) (answer_of result) }
 {
-    let is_first = match meta::find_mark(alloc, conn, b"popbox") {
-        Ok(Some(mark)) => match version_of(mark.value) {
+    let is_first = match meta::find_meta_row(alloc, conn, b"popbox") {
+        Ok(Some(meta_row)) => match version_of(meta_row.value) {
             Ok(is_first) => is_first,
             Err(fault) => return Err(Refusal::Answered(fault)),
         },
         Ok(None) => return Err(Refusal::Answered(VaultFault::NotOurs)),
         Err(error) => return Err(Refusal::Met(error)),
     };
-    match meta::all_marks(alloc, conn) {
-        Ok(marks) => {
-            if marks.len() == 1 {
+    match meta::all_meta_rows(alloc, conn) {
+        Ok(meta_rows) => {
+            if meta_rows.len() == 1 {
                 Ok(is_first)
             } else {
                 Err(Refusal::Answered(VaultFault::NotOurs))
@@ -151,8 +152,9 @@ fn has_older_columns<S: Alter>(conn: &Connection<S>, is_first: bool) -> bool
     }
 }
 
-/// Carries a store without all our tables over, where its tables and its one mark are those of an
-/// older version. Else `OldVersion` for a mark of ours of an unknown version, or `NotOurs`.
+/// Carries a store without all our tables over, where its tables and its one version row are those
+/// of an older version. Else `OldVersion` for a version row of ours of an unknown version, or
+/// `NotOurs`.
 pub(crate) fn carry_marked<S: Alter>(alloc: Global, conn: &mut Connection<S>) -> Result<(), Refusal>
     ensures turns { HasCleanDisk (state S.Store conn.new) → HasOlder (state S.Store conn.old)
         → (state S.Store conn.old).in_transaction ≡ false

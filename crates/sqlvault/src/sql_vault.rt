@@ -145,7 +145,7 @@ fn unopened<T: Drop>(refused: (Error, T)) -> VaultFault
 impl<S: Alter> SqlVault<S> {
     ghost use Rattle.std.specs.Prelude.{true, Err};
     ghost use Rattle.vault.specs.declared.fault.VaultFault.TheVariants.{NotOurs};
-    ghost use Rattle.mailsql.specs.Names.{is_taken, has_marks};
+    ghost use Rattle.mailsql.specs.Names.{is_taken, has_meta_rows};
     ghost use Rattle.sqlvault.specs.Adopts.{Adopts, StaysAs, IsVersionRefused};
     ghost use Rattle.sqlvault.specs.Carries.{CarriesOver};
     ghost use Rattle.sqlvault.specs.Opened.{conn_of, judged_in};
@@ -158,19 +158,20 @@ impl<S: Alter> SqlVault<S> {
 
     /// Makes a connection a mail store.
     ///
-    /// - A store without a table, an index or a view of our names gets our tables and our mark, in
-    ///   one transaction, and holds nothing.
-    /// - A store with our tables and mark stays as it is. All its rows are read once.
-    /// - A store with the tables and the mark of version 1 or 2 is carried over, in one
-    ///   transaction: it gets the tables that it lacks and our mark, and holds what it held. The
-    ///   old table of messages of version 1 stays, without a row.
+    /// - A store without a table, an index or a view of our names gets our tables and our version
+    ///   row, in one transaction, and holds nothing.
+    /// - A store with our tables and version row stays as it is. All its rows are read once.
+    /// - A store with the tables and the version row of version 1 or 2 is carried over, in one
+    ///   transaction: it gets the tables that it lacks and our version row, and holds what it held.
+    ///   The old table of messages of version 1 stays, without a row.
     ///
     /// Every error gives the connection back, its tables as they were. [`VaultFault::NotOurs`]: a
-    /// transaction is under way, or one of our names is taken in a store without our mark, or our
-    /// tables have other columns, or their rows aren't sound records with counts and octets that
-    /// agree. [`VaultFault::OldVersion`]: our mark's version isn't 1, 2 or 3, whatever other tables
-    /// there are; or it is 1 or 2 in a store that has all our tables. [`VaultFault::NoMemory`]:
-    /// memory was refused. [`VaultFault::Store`]: SQLite refused a statement for another cause.
+    /// transaction is under way, or one of our names is taken in a store without our version row,
+    /// or our tables have other columns, or their rows aren't sound records with counts and octets
+    /// that agree. [`VaultFault::OldVersion`]: our version row's version isn't 1, 2 or 3, whatever
+    /// other tables there are; or it is 1 or 2 in a store that has all our tables.
+    /// [`VaultFault::NoMemory`]: memory was refused. [`VaultFault::Store`]: SQLite refused a
+    /// statement for another cause.
     pub fn adopt(
         alloc: Global,
         conn: Connection<S>,
@@ -181,7 +182,7 @@ impl<S: Alter> SqlVault<S> {
         ensures inside { IsTrue (state S.Store conn).in_transaction → result ≡ Err (NotOurs, conn) }
         ensures taken { (state S.Store conn).in_transaction ≡ false
             → is_taken (state S.Store conn).now.schema ≡ true
-            → has_marks (state S.Store conn).now.schema.tables ≡ false
+            → has_meta_rows (state S.Store conn).now.schema.tables ≡ false
             → result ≡ Err (NotOurs, conn) }
         ensures kinds { IfErr result (λ refused. IsAdoptFault refused.0) }
         ensures stays { IfErr result (λ refused. HasCleanDisk (state S.Store refused.1)

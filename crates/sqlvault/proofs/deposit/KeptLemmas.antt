@@ -342,7 +342,7 @@ kept_rows : (rows : Rows) (c : Contents) (r : Receipt) (text : List ℕ) (key : 
 kept_rows rows c r text key k a small above =
     let x : Keyed = record { key = key; message = message_of r text } in
     record {
-      mark = k.mark;
+      meta_row = k.meta_row;
       clerks = k.clerks;
       maildrops = k.maildrops;
       counts = counted_all rows.counts r c.deposits (is_new c r text a).next k.counts;

@@ -1,6 +1,6 @@
 use Rattle.std.proofs.Common.{rules, ap, refl, sym, ◌∙◌}
 use Rattle.office.specs.Events.{Bytes, Deposit}
-use Rattle.office.specs.Shown.{outcome_seen}
+use Rattle.office.specs.Seen.{outcome_seen}
 use Rattle.office.specs.Stands.{vault_of}
 use Rattle.converse.specs.Played.{Begun}
 use Rattle.converse.specs.Script.{Does, line_seen}

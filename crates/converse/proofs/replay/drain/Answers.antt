@@ -1,7 +1,7 @@
 use Rattle.std.proofs.Common.{rules, ◌≡◌, ◌<◌, [], ◌++◌, codes, length, refl, subst, sym, ◌∙◌}
 use Rattle.std.specs.Fmt.{decimal}
 use Rattle.std.proofs.KnownBytes.{Appends-nil}
-use Rattle.office.specs.Shown.{outcome_seen}
+use Rattle.office.specs.Seen.{outcome_seen}
 use Rattle.office.specs.Stands.{vault_of}
 use Rattle.office.specs.Trace.{rest}
 use Rattle.converse.proofs.Clauses.{found_empty, nothing_lent}

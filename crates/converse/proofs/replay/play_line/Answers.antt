@@ -1,6 +1,6 @@
 use Rattle.std.proofs.Common.{rules, ◌≡◌, Some}
 use Rattle.std.specs.Io.KnownBytes.{Appends}
-use Rattle.office.specs.Shown.{outcome_seen}
+use Rattle.office.specs.Seen.{outcome_seen}
 use Rattle.office.specs.Stands.{vault_of}
 use Rattle.converse.specs.Played.{Acts, Begun, ComesTo, WithCause, PlaysLine, point, told_text, still_known}
 use Rattle.converse.specs.Script.{line_seen}

@@ -1,6 +1,6 @@
 use Rattle.std.proofs.Common.{ap, refl}
 use Rattle.office.specs.Events.{Took}
-use Rattle.office.specs.Shown.{outcome_seen, followed_by}
+use Rattle.office.specs.Seen.{outcome_seen, followed_by}
 use Rattle.office.specs.Stands.{vault_of}
 use Rattle.converse.specs.Played.{taken_text}
 use Rattle.converse.proofs.Playing.{by_owed, caused_one, owed_whole}

@@ -1,7 +1,7 @@
 use Rattle.std.proofs.Common.{rules, arith, ◌≡◌, ◌++◌, [], length, sym, ◌∙◌}
 use Rattle.std.proofs.KnownBytes.{Appends-nil, Appends-trans}
 use Rattle.office.specs.Events.{Took}
-use Rattle.office.specs.Shown.{outcome_seen, followed_by}
+use Rattle.office.specs.Seen.{outcome_seen, followed_by}
 use Rattle.office.specs.Stands.{vault_of}
 use Rattle.office.specs.Trace.{rest}
 use Rattle.converse.specs.Escapes.{escaped}

@@ -1,6 +1,6 @@
 use Rattle.std.proofs.Common.{◌≤◌}
 use Rattle.office.specs.Events.{Trace}
-use Rattle.office.specs.Shown.{outcome_seen}
+use Rattle.office.specs.Seen.{outcome_seen}
 use Rattle.office.specs.Stands.{StandsFor, vault_of}
 use Rattle.converse.specs.Played.{ComesTo, WithCause}
 use Rattle.converse.proofs.Playing.{TakesSoFar}

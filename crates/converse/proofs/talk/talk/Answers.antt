@@ -4,8 +4,8 @@ use Rattle.vault.specs.Calls.{has_grown}
 use Rattle.office.specs.Events as event
 use Rattle.office.specs.Log.{next_number}
 use Rattle.office.specs.Trace.{acts}
-use Rattle.office.specs.Shown.{outcome_seen}
-use Rattle.office.specs.Outcomes.{mark_of}
+use Rattle.office.specs.Seen.{outcome_seen}
+use Rattle.office.specs.Outcomes.{event_tag_of}
 use Rattle.office.specs.Stands.{vault_of, lent_by}
 use Rattle.converse.specs.Talked.{trace_of, Extends, StandsSo, ComesOut}
 use Rattle.converse.specs.Conversing.{GoesOn, Refuses}
@@ -58,11 +58,11 @@ returns-clause-talked g c =
           let longer : first ≤ during = omega (arith, up, up2) in
           let out = comes_out AtEnd first during now c.step.ensures.counted T n d.0 d.1 r h.log (lent_by c.converse-talked.new.office) o (c.step.ensures.outcome (trace_of T.base h.log) h.stands clean) h.so in
           record {
-            log = (event.Gone n, mark_of o) ∷ h.log;
+            log = (event.Gone n, event_tag_of o) ∷ h.log;
             stands = c.step.ensures.stands (trace_of T.base h.log) h.stands clean;
-            own = subst (λ m. Extends m T.log ((event.Gone n, mark_of o) ∷ h.log)) same (one_gone n T.log h.log (mark_of o) h.own);
+            own = subst (λ m. Extends m T.log ((event.Gone n, event_tag_of o) ∷ h.log)) same (one_gone n T.log h.log (event_tag_of o) h.own);
             caused = caused_next first during now T h.log (event.Gone n) o longer c.step.ensures.counted h.caused (c.step.ensures.cause (trace_of T.base h.log) h.stands clean);
-            so = subst (λ m. ComesOut AtEnd (has_grown first now) T m d.0 d.1 r ((event.Gone n, mark_of o) ∷ h.log)) same out;
+            so = subst (λ m. ComesOut AtEnd (has_grown first now) T m d.0 d.1 r ((event.Gone n, event_tag_of o) ∷ h.log)) same out;
           }),
     )
 

@@ -1,8 +1,8 @@
 use Rattle.std.proofs.Common.{rules, false, ◌≡◌, ◌∷◌, [], ◌++◌, ◌<◌, ◌≤◌, ℕ, List, length, take, cond, MatchResult, Err, sym, ◌∙◌, ap, subst, append-nil, length, arith, true}
 use Rattle.std.proofs.lemmas.List.{length-take-le}
 use Rattle.office.specs.Events as event
-use Rattle.office.specs.Shown.{outcome_seen}
-use Rattle.office.specs.Outcomes.{mark_of}
+use Rattle.office.specs.Seen.{outcome_seen}
+use Rattle.office.specs.Outcomes.{event_tag_of}
 use Rattle.office.specs.Trace.{acts}
 use Rattle.office.specs.Stands.{lent_by, vault_of}
 use Rattle.converse.specs.Talked.{trace_of}
@@ -60,7 +60,7 @@ returns-in_err-had_memory-clause-wrote g c =
       c.in-Ok.ensures.taken.0,
       (λ q. absurd (not_ok c.from_residual.result f true e q)),
       λ before T octets written first clean w.
-          (let log = (event.Took c.args.c n, mark_of o) ∷ w.log in
+          (let log = (event.Took c.args.c n, event_tag_of o) ∷ w.log in
           let was_so = trace_of T.base w.log in
           let k = taking T.base c.args.c (acts T) octets written w.log n lent before was w.so some fits (c.owed-lent.ensures.lent was_so w.stands) in
           let m = takes T.base c.args.c (acts T) octets written w.log n lent k (lent_by c.args.office.now) c.owed-lent.ensures.count before was now first o (c.step.ensures.outcome was_so w.stands clean) (c.step.ensures.cause was_so w.stands clean) in
@@ -69,7 +69,7 @@ returns-in_err-had_memory-clause-wrote g c =
           record {
             log = log;
             stands = c.step.ensures.stands was_so w.stands clean;
-            own = one_taken c.args.c T.log w.log n (mark_of o) w.own;
+            own = one_taken c.args.c T.log w.log n (event_tag_of o) w.own;
             caused = caused_next before was now T w.log (event.Took c.args.c n) o first c.step.ensures.counted w.caused (c.step.ensures.cause was_so w.stands clean);
             so = subst (λ r. MatchResult r (λ more. cond more (Midway before now T.base c.args.c (acts T) octets (written ++ take n lent) log) (IsPaid before now T.base c.args.c (acts T) octets (written ++ take n lent) log)) (λ x. IsCut x T.base c.args.c (acts T) octets (written ++ take n lent) log)) {y = c.from_residual.result} (sym e) m2;
           }),
@@ -88,14 +88,14 @@ returns-clause-wrote g c =
       c.in-Ok.ensures.taken.0,
       (λ q. omega (arith, some, length-take-le n lent fits)),
       λ before T octets written first clean w.
-          (let log = (event.Took c.args.c n, mark_of o) ∷ w.log in
+          (let log = (event.Took c.args.c n, event_tag_of o) ∷ w.log in
           let was_so = trace_of T.base w.log in
           let k = taking T.base c.args.c (acts T) octets written w.log n lent before was w.so some fits (c.owed-lent.ensures.lent was_so w.stands) in
           let m = takes T.base c.args.c (acts T) octets written w.log n lent k (lent_by c.args.office.now) c.owed-lent.ensures.count before was now first o (c.step.ensures.outcome was_so w.stands clean) (c.step.ensures.cause was_so w.stands clean) in
           record {
             log = log;
             stands = c.step.ensures.stands was_so w.stands clean;
-            own = one_taken c.args.c T.log w.log n (mark_of o) w.own;
+            own = one_taken c.args.c T.log w.log n (event_tag_of o) w.own;
             caused = caused_next before was now T w.log (event.Took c.args.c n) o first c.step.ensures.counted w.caused (c.step.ensures.cause was_so w.stands clean);
             so = subst (λ r. MatchResult r (λ _. Midway before now T.base c.args.c (acts T) octets (written ++ take n lent) log) (λ x. IsCut x T.base c.args.c (acts T) octets (written ++ take n lent) log)) (sym c.in_ok-had_memory.ensures.is) m;
           }),

@@ -1,4 +1,4 @@
--- The table of marks, as its text makes it.
+-- The table of rows of `meta`, as its text makes it.
 use Rattle.std.proofs.Common.{rules}
 use Rattle.mailsql.proofs.schema.has_meta.Goals as goal
 

@@ -1,5 +1,5 @@
 use Rattle.std.proofs.Common.{◌≡◌, map, take}
-use Rattle.office.specs.Shown.{row_seen}
+use Rattle.office.specs.Seen.{row_seen}
 use Rattle.office.specs.VaultAnswers.{row_of_head}
 use Rattle.office.proofs.administration.rows_of.Given as goal
 

@@ -1,7 +1,7 @@
 use Rattle.std.proofs.Common.{arith, ap, map, take_all, ◌∙◌}
 use Rattle.std.proofs.lemmas.Grind.{common_steps}
 use Rattle.office.specs.Answers.{body_lines, message_text}
-use Rattle.office.specs.Shown.{row_seen}
+use Rattle.office.specs.Seen.{row_seen}
 use Rattle.office.proofs.bodies.message_lines.Goals as goal
 
 pub loop-row-preserved : goal.loop-row-preserved

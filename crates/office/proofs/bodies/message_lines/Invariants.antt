@@ -1,6 +1,6 @@
 use Rattle.std.proofs.Common.{◌≡◌, map, take}
 use Rattle.office.specs.Answers.{body_lines, message_text}
-use Rattle.office.specs.Shown.{row_seen}
+use Rattle.office.specs.Seen.{row_seen}
 use Rattle.office.proofs.bodies.message_lines.Given as goal
 
 -- the lines of the rows that came

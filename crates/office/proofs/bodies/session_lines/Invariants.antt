@@ -1,6 +1,6 @@
 use Rattle.std.proofs.Common.{◌≡◌, map, take}
 use Rattle.office.specs.Answers.{body_lines, session_text}
-use Rattle.office.specs.Shown.{session_seen}
+use Rattle.office.specs.Seen.{session_seen}
 use Rattle.office.proofs.bodies.session_lines.Given as goal
 
 -- the lines of the rows that came

@@ -1,6 +1,6 @@
 use Rattle.std.proofs.Common.{◌≡◌, ◌++◌, map}
 use Rattle.std.specs.List.{filter_map}
-use Rattle.office.specs.Shown.{session_seen}
+use Rattle.office.specs.Seen.{session_seen}
 use Rattle.office.specs.InSession.{kept_row}
 use Rattle.office.proofs.sessions.sessions_of.Given as goal
 

@@ -1,4 +1,4 @@
-use Rattle.office.specs.Shown.{event_seen, outcome_seen}
+use Rattle.office.specs.Seen.{event_seen, outcome_seen}
 use Rattle.office.specs.Stopping.{with_it_done}
 use Rattle.office.proofs.Obeying.{if_ok_so}
 use Rattle.office.proofs.StoppingLines.{keeps_left, keeps_with_it, either_so}

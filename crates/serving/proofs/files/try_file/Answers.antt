@@ -1,11 +1,11 @@
 use Rattle.std.proofs.Common.{[], ◌∷◌, ◌++◌, refl, sym, ◌∙◌, inl}
-use Rattle.office.specs.Shown.{outcome_seen}
+use Rattle.office.specs.Seen.{outcome_seen}
 use Rattle.office.specs.Stands.{lent_by}
 use Rattle.serving.specs.Spools.{WasRead, WasRemoved, WasRenamed}
 use Rattle.serving.specs.declared.files.Disposal.TheVariants as disposal
 use Rattle.serving.proofs.Depositing.{filed_if, tried_none, tried_one}
 use Rattle.std.proofs.lemmas.List.{append-nil}
-use Rattle.office.specs.Outcomes.{mark_of}
+use Rattle.office.specs.Outcomes.{event_tag_of}
 use Rattle.serving.proofs.Working.{given_one}
 use Rattle.serving.proofs.Trying.{tries_unread, tries_read, dealt_so}
 use Rattle.std.proofs.Common.{false, subst}

@@ -1,4 +1,4 @@
-use Rattle.office.specs.Shown.{command_seen, outcome_seen}
+use Rattle.office.specs.Seen.{command_seen, outcome_seen}
 use Rattle.office.specs.Stands.{lent_by}
 use Rattle.office.specs.Taken.{trace_of}
 use Rattle.serving.specs.Requests.{octets_of}
@@ -7,7 +7,7 @@ use Rattle.serving.specs.HttpWorks.{ComeTo}
 use Rattle.std.proofs.Common.{Some}
 use Rattle.serving.proofs.Quieting.{gives_command}
 use Rattle.office.specs.Events as event
-use Rattle.office.specs.Outcomes.{mark_of}
+use Rattle.office.specs.Outcomes.{event_tag_of}
 use Rattle.serving.proofs.Working.{given_one}
 use Rattle.serving.proofs.requests.command.Goals as goal
 
@@ -24,6 +24,6 @@ returns-clause-works g c = λ read asks.
     let out = outcome_seen c.step_with_account-outcome.result in
     let seen = command_seen c.args.command.now in
     let response = octets_of c.response_to-response.result.0 in
-    gives_command g.V.Vault.holds g.V.Vault.is_clean g.V.Vault.faults o o1 seen (mark_of out) (ComeTo read (Some response))
+    gives_command g.V.Vault.holds g.V.Vault.is_clean g.V.Vault.faults o o1 seen (event_tag_of out) (ComeTo read (Some response))
     (given_one g.V.Vault.holds g.V.Vault.is_clean g.V.Vault.faults o o1 (event.Admin seen) out c.step_with_account-outcome.ensures.clean c.step_with_account-outcome.ensures.stands c.step_with_account-outcome.ensures.admitted c.step_with_account-outcome.ensures.counted c.step_with_account-outcome.ensures.cause)
     (λ B L stands clean. comes_to B L read (lent_by o) seen out response (c.step_with_account-outcome.ensures.outcome (trace_of B L) stands clean) asks c.response_to-response.ensures.told))

@@ -1,5 +1,5 @@
 use Rattle.std.proofs.Common.{sym, subst}
-use Rattle.office.specs.Shown.{outcome_seen}
+use Rattle.office.specs.Seen.{outcome_seen}
 use Rattle.serving.specs.Requests.{octets_of, IsToldBy}
 use Rattle.serving.proofs.requests.response_to.Goals as goal
 

@@ -1,13 +1,13 @@
 use Rattle.std.proofs.Common.{rules, ◌≡◌, ◌∷◌, true, false, sym, refl, subst}
 use Rattle.office.specs.Events.{Tagged}
 use Rattle.office.specs.Events as event
-use Rattle.office.specs.Shown.{outcome_seen}
-use Rattle.office.specs.Outcomes.{mark_of}
+use Rattle.office.specs.Seen.{outcome_seen}
+use Rattle.office.specs.Outcomes.{event_tag_of}
 use Rattle.office.specs.Stands.{lent_by}
 use Rattle.office.specs.Taken.{trace_of}
 use Rattle.office.specs.Trace.{is_open}
 use Rattle.serving.specs.Served.{AreServed, AreSeated}
-use Rattle.serving.proofs.Marks.{gone_mark}
+use Rattle.serving.proofs.EventTags.{gone_mark}
 use Rattle.serving.proofs.Staying.{fewer_framed, frame_gone, gone_so}
 use Rattle.serving.proofs.Seating.{seat_owns, seated_one, open_so, shut_so}
 use Rattle.serving.proofs.Keeping.{served_gone, adds_one}
@@ -28,7 +28,7 @@ returns-clause-serves g c = λ seats these has before T beside s clean.
     let at_k = seat_owns s.owner seats c.args.seat has s.seated.own in
     let k = gone_mark now (lent_by c.args.office.now) connection o here (c.step.ensures.outcome now s.stands clean) in
     record {
-      log = (event.Gone connection, mark_of o) ∷ s.log;
+      log = (event.Gone connection, event_tag_of o) ∷ s.log;
       told = s.told;
       owner = s.owner;
       stands = c.step.ensures.stands now s.stands clean;
@@ -38,12 +38,12 @@ returns-clause-serves g c = λ seats these has before T beside s clean.
           (served_gone s.told s.owner T.base s.log number connection k.0 s.served here);
       seated = subst (λ m. AreSeated s.owner (trace_of T.base ((event.Gone connection, m) ∷ s.log)) seats these) (sym k.1)
           (seated_one s.owner T.base s.log seats these ((event.Gone connection, Tagged k.0) ∷ s.log) c.args.seat before (fewer_framed T.base s.log connection ((event.Gone connection, Tagged k.0) ∷ s.log) here (frame_gone T.base s.log connection k.0)) (frame_gone T.base s.log connection k.0) s.seated);
-      adds = adds_one s.owner T.base T.log s.log beside s.told.accepted (event.Gone connection) (mark_of o) (number, at_k) (λ l Before h. h) (λ l. refl) s.adds;
+      adds = adds_one s.owner T.base T.log s.log beside s.told.accepted (event.Gone connection) (event_tag_of o) (number, at_k) (λ l Before h. h) (λ l. refl) s.adds;
     })
 
 pub returns-clause-works : goal.returns-clause-works
 returns-clause-works g c = λ now seconds newcomers late.
-    (let m = mark_of (outcome_seen c.step.result) in
+    (let m = event_tag_of (outcome_seen c.step.result) in
     let e = event.Gone c.args.seat.connection in
     record {
       given = (e, m) ∷ [];

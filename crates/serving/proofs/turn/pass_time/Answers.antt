@@ -1,7 +1,7 @@
 use Rattle.std.proofs.Common.{◌∷◌, [], refl}
 use Rattle.office.specs.Events as event
-use Rattle.office.specs.Shown.{outcome_seen}
-use Rattle.office.specs.Outcomes.{mark_of}
+use Rattle.office.specs.Seen.{outcome_seen}
+use Rattle.office.specs.Outcomes.{event_tag_of}
 use Rattle.office.specs.Taken.{trace_of}
 use Rattle.serving.specs.Calls.{Waited}
 use Rattle.serving.proofs.Staying.{fewer_tick}
@@ -12,7 +12,7 @@ use Rattle.serving.proofs.turn.pass_time.Goals as goal
 
 pub returns-clause-serves : goal.returns-clause-serves
 returns-clause-serves g c = λ seats these T beside s clean.
-    (let m = mark_of (outcome_seen c.step.result) in
+    (let m = event_tag_of (outcome_seen c.step.result) in
     let now = trace_of T.base s.log in
     record {
       log = (event.Tick c.args.now, m) ∷ s.log;
@@ -28,11 +28,11 @@ returns-clause-serves g c = λ seats these T beside s clean.
 
 pub returns-clause-works : goal.returns-clause-works
 returns-clause-works g c =
-    let m = mark_of (outcome_seen c.step.result) in
+    let m = event_tag_of (outcome_seen c.step.result) in
     record {
       given = (event.Tick c.args.now, m) ∷ [];
       calls = Waited c.args.millis ∷ [];
       was_given = given_one g.V.Vault.holds g.V.Vault.is_clean g.V.Vault.faults c.args.office.now c.step.new.self (event.Tick c.args.now) (outcome_seen c.step.result) c.step.ensures.clean c.step.ensures.stands c.step.ensures.admitted c.step.ensures.counted c.step.ensures.cause;
       was_asked = asked_one g.W.Wire.asked c.args.wire.now c.wait.new.self (Waited c.args.millis) c.wait.ensures.called;
-      facts = record { mark = m; given_is = refl; calls_are = refl };
+      facts = record { event_tag = m; given_is = refl; calls_are = refl };
     }

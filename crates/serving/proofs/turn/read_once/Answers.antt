@@ -1,15 +1,15 @@
 use Rattle.std.proofs.Common.{rules, arith, ◌≡◌, ◌∷◌, [], true, false, length, take, sym, ◌∙◌, refl, subst}
 use Rattle.office.specs.Events.{Tagged}
 use Rattle.office.specs.Events as event
-use Rattle.office.specs.Shown.{outcome_seen}
-use Rattle.office.specs.Outcomes.{mark_of}
+use Rattle.office.specs.Seen.{outcome_seen}
+use Rattle.office.specs.Outcomes.{event_tag_of}
 use Rattle.office.specs.Expected.{most_in_a_piece}
 use Rattle.office.specs.Stands.{lent_by}
 use Rattle.office.specs.Taken.{trace_of}
 use Rattle.serving.specs.declared.wire.Io.TheVariants.{Count, Later}
 use Rattle.serving.specs.Wires.{ToldOfPorts, is_fault, has_read, counted}
 use Rattle.serving.specs.Served.{AreServed, AreSeated}
-use Rattle.serving.proofs.Marks.{bytes_mark, gone_mark, ready_open, short_piece}
+use Rattle.serving.proofs.EventTags.{bytes_mark, gone_mark, ready_open, short_piece}
 use Rattle.serving.proofs.Staying.{fewer_framed, frame_read, frame_gone}
 use Rattle.serving.proofs.Seating.{seat_owns, seated_one}
 use Rattle.serving.proofs.Keeping.{served_read, served_read_none, served_read_fault, fault_none, adds_one}
@@ -38,7 +38,7 @@ returns-in-Count-clause-serves g c = λ seats these has before T beside s clean.
     let at_k = seat_owns s.owner seats c.args.seat has s.seated.own in
     let k = bytes_mark now (lent_by c.args.office.now) connection piece o ready (short_piece n most_in_a_piece c.read.new.buffer (omega (arith, within.1, c.requires))) (c.step_with_account.ensures.outcome now s.stands clean) in
     record {
-      log = (event.Bytes connection piece, mark_of o) ∷ s.log;
+      log = (event.Bytes connection piece, event_tag_of o) ∷ s.log;
       told = has_read s.told number (Count n) piece;
       owner = s.owner;
       stands = c.step_with_account.ensures.stands now s.stands clean;
@@ -48,7 +48,7 @@ returns-in-Count-clause-serves g c = λ seats these has before T beside s clean.
           (served_read s.told s.owner T.base s.log number connection n piece k.0 s.served at_k here);
       seated = subst (λ m. AreSeated s.owner (trace_of T.base ((event.Bytes connection piece, m) ∷ s.log)) seats these) (sym k.1)
           (seated_one s.owner T.base s.log seats these ((event.Bytes connection piece, Tagged k.0) ∷ s.log) c.args.seat before (fewer_framed T.base s.log connection ((event.Bytes connection piece, Tagged k.0) ∷ s.log) here (frame_read T.base s.log connection piece k.0)) (frame_read T.base s.log connection piece k.0) s.seated);
-      adds = adds_one s.owner T.base T.log s.log beside s.told.accepted (event.Bytes connection piece) (mark_of o) (number, at_k) (λ l Before h. h) (λ l. refl) s.adds;
+      adds = adds_one s.owner T.base T.log s.log beside s.told.accepted (event.Bytes connection piece) (event_tag_of o) (number, at_k) (λ l Before h. h) (λ l. refl) s.adds;
     })
 
 pub returns-in-Later-clause-serves : goal.returns-in-Later-clause-serves
@@ -86,7 +86,7 @@ returns-in-End-clause-serves g c = λ seats these has before T beside s clean.
     let at_k = seat_owns s.owner seats c.args.seat has s.seated.own in
     let k = gone_mark now (lent_by c.args.office.now) connection o here (c.step_with_account-in-End.ensures.outcome now s.stands clean) in
     record {
-      log = (event.Gone connection, mark_of o) ∷ s.log;
+      log = (event.Gone connection, event_tag_of o) ∷ s.log;
       told = has_read s.told number io [];
       owner = s.owner;
       stands = c.step_with_account-in-End.ensures.stands now s.stands clean;
@@ -96,7 +96,7 @@ returns-in-End-clause-serves g c = λ seats these has before T beside s clean.
           (served_read_fault s.told s.owner T.base s.log number connection io k.0 fault s.served at_k here);
       seated = subst (λ m. AreSeated s.owner (trace_of T.base ((event.Gone connection, m) ∷ s.log)) seats these) (sym k.1)
           (seated_one s.owner T.base s.log seats these ((event.Gone connection, Tagged k.0) ∷ s.log) c.args.seat before (fewer_framed T.base s.log connection ((event.Gone connection, Tagged k.0) ∷ s.log) here (frame_gone T.base s.log connection k.0)) (frame_gone T.base s.log connection k.0) s.seated);
-      adds = adds_one s.owner T.base T.log s.log beside s.told.accepted (event.Gone connection) (mark_of o) (number, at_k) (λ l Before h. h) (λ l. refl) s.adds;
+      adds = adds_one s.owner T.base T.log s.log beside s.told.accepted (event.Gone connection) (event_tag_of o) (number, at_k) (λ l Before h. h) (λ l. refl) s.adds;
     })
 
 pub returns-then-not-ready-clause-works : goal.returns-then-not-ready-clause-works
@@ -115,7 +115,7 @@ returns-in-Count-clause-works g c =
     let room = length c.args.buffer.now in
     let n = c.in-Count.count in
     let piece = take n c.read.new.buffer in
-    let m = mark_of (outcome_seen c.step_with_account.result) in
+    let m = event_tag_of (outcome_seen c.step_with_account.result) in
     record {
       given = (event.Bytes seat.connection piece, m) ∷ [];
       calls = Read Pop seat.link room (Count n) piece ∷ [];
@@ -144,7 +144,7 @@ returns-in-End-clause-works g c =
     let seat = c.args.seat in
     let room = length c.args.buffer.now in
     let connection = seat.connection in
-    let m = mark_of (outcome_seen c.step_with_account-in-End.result) in
+    let m = event_tag_of (outcome_seen c.step_with_account-in-End.result) in
     let io = c.read.result in
     let octets = counted io c.read.new.buffer in
     let fault : is_fault io ≡ true = search rules in

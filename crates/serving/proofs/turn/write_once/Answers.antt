@@ -1,14 +1,14 @@
 use Rattle.std.proofs.Common.{rules, ◌≡◌, ◌∷◌, [], true, false, take, length, refl, sym, subst, arith}
 use Rattle.office.specs.Events.{Tagged}
 use Rattle.office.specs.Events as event
-use Rattle.office.specs.Shown.{outcome_seen}
-use Rattle.office.specs.Outcomes.{mark_of}
+use Rattle.office.specs.Seen.{outcome_seen}
+use Rattle.office.specs.Outcomes.{event_tag_of}
 use Rattle.office.specs.Stands.{lent_by}
 use Rattle.office.specs.Taken.{trace_of}
 use Rattle.serving.specs.declared.wire.Io.TheVariants.{Count, Later}
 use Rattle.serving.specs.Wires.{is_fault, has_written, counted}
 use Rattle.serving.specs.Served.{AreServed, AreSeated}
-use Rattle.serving.proofs.Marks.{took_mark, gone_mark, lent_rest, lent_open, lent_some}
+use Rattle.serving.proofs.EventTags.{took_mark, gone_mark, lent_rest, lent_open, lent_some}
 use Rattle.serving.proofs.Staying.{fewer_framed, frame_took, frame_gone}
 use Rattle.serving.proofs.Seating.{seat_owns, seated_one}
 use Rattle.serving.proofs.Keeping.{served_written, served_written_none, served_written_fault, fault_none, adds_one}
@@ -34,7 +34,7 @@ returns-in-Count-clause-serves g c = λ seats these has before T beside s clean.
     let at_k = seat_owns s.owner seats c.args.seat has s.seated.own in
     let k = took_mark now (lent_by c.args.office.now) connection n lent o is c.owed-lent.ensures.count within.0 within.1 (c.step_with_account.ensures.outcome now s.stands clean) in
     record {
-      log = (event.Took connection n, mark_of o) ∷ s.log;
+      log = (event.Took connection n, event_tag_of o) ∷ s.log;
       told = has_written s.told number (Count n) (take n lent);
       owner = s.owner;
       stands = c.step_with_account.ensures.stands now s.stands clean;
@@ -44,7 +44,7 @@ returns-in-Count-clause-serves g c = λ seats these has before T beside s clean.
           (served_written s.told s.owner T.base s.log number connection n (take n lent) k.0 (lent_rest now connection n lent is within.1) s.served at_k here);
       seated = subst (λ m. AreSeated s.owner (trace_of T.base ((event.Took connection n, m) ∷ s.log)) seats these) (sym k.1)
           (seated_one s.owner T.base s.log seats these ((event.Took connection n, Tagged k.0) ∷ s.log) c.args.seat before (fewer_framed T.base s.log connection ((event.Took connection n, Tagged k.0) ∷ s.log) here (frame_took T.base s.log connection n k.0)) (frame_took T.base s.log connection n k.0) s.seated);
-      adds = adds_one s.owner T.base T.log s.log beside s.told.accepted (event.Took connection n) (mark_of o) (number, at_k) (λ l Before h. h) (λ l. refl) s.adds;
+      adds = adds_one s.owner T.base T.log s.log beside s.told.accepted (event.Took connection n) (event_tag_of o) (number, at_k) (λ l Before h. h) (λ l. refl) s.adds;
     })
 
 pub returns-in-Later-clause-serves : goal.returns-in-Later-clause-serves
@@ -84,7 +84,7 @@ returns-in-End-clause-serves g c = λ seats these has before T beside s clean.
     let at_k = seat_owns s.owner seats c.args.seat has s.seated.own in
     let k = gone_mark now (lent_by c.args.office.now) connection o here (c.step_with_account-in-End.ensures.outcome now s.stands clean) in
     record {
-      log = (event.Gone connection, mark_of o) ∷ s.log;
+      log = (event.Gone connection, event_tag_of o) ∷ s.log;
       told = has_written s.told number io [];
       owner = s.owner;
       stands = c.step_with_account-in-End.ensures.stands now s.stands clean;
@@ -94,7 +94,7 @@ returns-in-End-clause-serves g c = λ seats these has before T beside s clean.
           (served_written_fault s.told s.owner T.base s.log number connection io k.0 fault s.served at_k here);
       seated = subst (λ m. AreSeated s.owner (trace_of T.base ((event.Gone connection, m) ∷ s.log)) seats these) (sym k.1)
           (seated_one s.owner T.base s.log seats these ((event.Gone connection, Tagged k.0) ∷ s.log) c.args.seat before (fewer_framed T.base s.log connection ((event.Gone connection, Tagged k.0) ∷ s.log) here (frame_gone T.base s.log connection k.0)) (frame_gone T.base s.log connection k.0) s.seated);
-      adds = adds_one s.owner T.base T.log s.log beside s.told.accepted (event.Gone connection) (mark_of o) (number, at_k) (λ l Before h. h) (λ l. refl) s.adds;
+      adds = adds_one s.owner T.base T.log s.log beside s.told.accepted (event.Gone connection) (event_tag_of o) (number, at_k) (λ l Before h. h) (λ l. refl) s.adds;
     })
 
 pub returns-then-is_empty-clause-works : goal.returns-then-is_empty-clause-works
@@ -114,7 +114,7 @@ returns-in-Count-clause-works g c =
     let seat = c.args.seat in
     let n = c.in-Count.count in
     let lent = c.owed-lent.result.now in
-    let m = mark_of (outcome_seen c.step_with_account.result) in
+    let m = event_tag_of (outcome_seen c.step_with_account.result) in
     record {
       given = (event.Took seat.connection n, m) ∷ [];
       calls = Wrote Pop seat.link (Count n) (take n lent) ∷ [];
@@ -149,15 +149,15 @@ returns-in-End-clause-works g c =
     let some = lent_some c.is_empty.result (length lent) c.is_empty.ensures no in
     let octets = counted io lent in
     record {
-      given = (event.Gone connection, mark_of o) ∷ [];
+      given = (event.Gone connection, event_tag_of o) ∷ [];
       calls = Wrote Pop seat.link io octets ∷ [];
       was_given = given_one Holds g.V.Vault.is_clean g.V.Vault.faults office c.step_with_account-in-End.new.self (event.Gone connection) (outcome_seen c.step_with_account-in-End.result) c.step_with_account-in-End.ensures.clean c.step_with_account-in-End.ensures.stands c.step_with_account-in-End.ensures.admitted c.step_with_account-in-End.ensures.counted c.step_with_account-in-End.ensures.cause;
       was_asked = asked_one g.W.Wire.asked c.args.wire.now c.write.new.self (Wrote Pop seat.link io octets) c.write.ensures.called;
-      facts = wrote_cut Holds g.V.Vault.is_clean g.V.Vault.faults office c.step_with_account-in-End.new.self seat io octets (mark_of o) fault
+      facts = wrote_cut Holds g.V.Vault.is_clean g.V.Vault.faults office c.step_with_account-in-End.new.self seat io octets (event_tag_of o) fault
           (λ B L s k.
           (let now = trace_of B L in
           let here = lent_open now connection (length lent) lent (c.owed-lent.ensures.lent now s) some (omega arith) in
           let t = gone_mark now (lent_by office) connection o here (c.step_with_account-in-End.ensures.outcome now s k) in
-          shut_rest (trace_of B ((event.Gone connection, mark_of o) ∷ L)) connection
+          shut_rest (trace_of B ((event.Gone connection, event_tag_of o) ∷ L)) connection
           (subst (λ m. is_open (trace_of B ((event.Gone connection, m) ∷ L)) connection ≡ false) (sym t.1) (gone_so B L connection t.0))));
     }

@@ -12,7 +12,7 @@ use Rattle.sqlvault.proofs.BehindLemmas.{said_behind, found_behind}
 use Rattle.sqlvault.proofs.adopt.are_rows_sound.Goals as goal
 
 pub returns-in-Ok-false-clause-judged : goal.returns-in-Ok-false-clause-judged
-returns-in-Ok-false-clause-judged g c clean1 h marks =
+returns-in-Ok-false-clause-judged g c clean1 h meta_rows =
     let all = rows_in (state g.S.Store c.args.conn.now).now.trees in
     let up = (c.in-Ok-false.ensures.asks.same clean1 h).0.was_open in
     let apart : AreApart all = c.keys_hold.ensures.apart (up, h up) in
@@ -21,7 +21,7 @@ returns-in-Ok-false-clause-judged g c clean1 h marks =
     λ held k. let p = parts all held k in none p.0.0.0.0 p.1.0.0.0
 
 pub returns-in-Ok-false-are_maildrops_sound-clause-judged : goal.returns-in-Ok-false-are_maildrops_sound-clause-judged
-returns-in-Ok-false-are_maildrops_sound-clause-judged g c clean2 h marks =
+returns-in-Ok-false-are_maildrops_sound-clause-judged g c clean2 h meta_rows =
     let all = rows_in (state g.S.Store c.args.conn.now).now.trees in
     let clean1 = c.are_maildrops_sound.ensures.asks.clean clean2 in
     let up = (c.in-Ok-true.ensures.asks.same clean1 h).0.was_open in
@@ -32,7 +32,7 @@ returns-in-Ok-false-are_maildrops_sound-clause-judged g c clean2 h marks =
     λ held k. let p = parts all held k in none p.0.0.0.1 p.1.0.0.1
 
 pub returns-in-Ok-false-are_rules_sound-clause-judged : goal.returns-in-Ok-false-are_rules_sound-clause-judged
-returns-in-Ok-false-are_rules_sound-clause-judged g c clean3 h marks =
+returns-in-Ok-false-are_rules_sound-clause-judged g c clean3 h meta_rows =
     let all = rows_in (state g.S.Store c.args.conn.now).now.trees in
     let clean2 = c.are_rules_sound.ensures.asks.clean clean3 in
     let asks2 = asks_then c.in-Ok-true.ensures.asks c.in-Ok-true-are_maildrops_sound.ensures.asks in
@@ -44,7 +44,7 @@ returns-in-Ok-false-are_rules_sound-clause-judged g c clean3 h marks =
     λ held k. let p = parts all held k in none p.0.0.1 p.1.0.1
 
 pub returns-in-Ok-false-are_deposits_sound-clause-judged : goal.returns-in-Ok-false-are_deposits_sound-clause-judged
-returns-in-Ok-false-are_deposits_sound-clause-judged g c clean4 h marks =
+returns-in-Ok-false-are_deposits_sound-clause-judged g c clean4 h meta_rows =
     let all = rows_in (state g.S.Store c.args.conn.now).now.trees in
     let clean3 = c.are_deposits_sound.ensures.asks.clean clean4 in
     let asks3 = asks_then (asks_then c.in-Ok-true.ensures.asks
@@ -57,7 +57,7 @@ returns-in-Ok-false-are_deposits_sound-clause-judged g c clean4 h marks =
     λ held k. let p = parts all held k in none p.0.1.0 p.1.1.0
 
 pub returns-in-Ok-true-are_deposits_sound-clause-judged : goal.returns-in-Ok-true-are_deposits_sound-clause-judged
-returns-in-Ok-true-are_deposits_sound-clause-judged g c clean5 h marks =
+returns-in-Ok-true-are_deposits_sound-clause-judged g c clean5 h meta_rows =
     let all = rows_in (state g.S.Store c.args.conn.now).now.trees in
     let r = c.are_messages_sound.result in
     let clean4 = c.are_messages_sound.ensures.asks.clean clean5 in
@@ -90,7 +90,7 @@ returns-in-Ok-true-are_deposits_sound-clause-judged g c clean5 h marks =
     → IfOk r (Finds (MessagesAre rows x))) asks4 clean4 h apart
     (c.are_messages_sound.ensures.judged x clean5) own p) in
     finds_so (λ (xy : Lists all × Mail all). ListsAre all xy.0 × MailIs all xy.1) (Keeps all) r
-    (whole all marks) (parts all)
+    (whole all meta_rows) (parts all)
     (chained_ok (ListsAre all) (λ _. MailIs all) true r lists refl (λ x p. mail))
 
 pub returns-in-Ok-false-clause-asks : goal.returns-in-Ok-false-clause-asks

@@ -7,17 +7,17 @@ pub returns-in-Ok : goal.returns-in-Ok
 returns-in-Ok g c =
     let s0 = state g.S.Store c.args.conn.now in
     let s1 = state g.S.Store c.create_tables.new.conn in
-    let before = was_clean g.S.Store c.create_tables.new.conn c.add_mark.new.conn
-    c.add_mark.ensures.survives in
+    let before = was_clean g.S.Store c.create_tables.new.conn c.add_meta_row.new.conn
+    c.add_meta_row.ensures.survives in
     record {
       clean = λ clean. was_clean g.S.Store c.args.conn.now c.create_tables.new.conn
           c.create_tables.ensures.survives (before clean);
       part = λ clean begun.
           let made = c.in-Ok.ensures.ok (before clean) begun in
-          filled s0 s1 (state g.S.Store c.add_mark.new.conn) c.add_mark.result begun (before clean)
+          filled s0 s1 (state g.S.Store c.add_meta_row.new.conn) c.add_meta_row.result begun (before clean)
           made c.create_tables.ensures.survives clean
-          (c.add_mark.ensures.ok clean (made.on.is_open, made.kept)) (c.add_mark.ensures.err clean)
-          c.add_mark.ensures.survives;
+          (c.add_meta_row.ensures.ok clean (made.on.is_open, made.kept)) (c.add_meta_row.ensures.err clean)
+          c.add_meta_row.ensures.survives;
     }
 
 pub returns-in-Err : goal.returns-in-Err

@@ -54,21 +54,21 @@ pub returns-then-not-is_taken-clause-unknown : goal.returns-then-not-is_taken-cl
 returns-then-not-is_taken-clause-unknown g c clean it =
     absurd (true≢false (sym (c.is_taken.ensures.marked it.table) ∙ c.if-not-is_taken.true))
 
--- ---- the table of marks isn't ours
+-- ---- the table `meta` isn't ours
 
-pub returns-then-not-has_marks-clause-known : goal.returns-then-not-has_marks-clause-known
-returns-then-not-has_marks-clause-known g c clean known =
-    absurd (unknown (state g.S.Store c.args.conn.now) c.is_taken.result c.has_marks.result
-    c.is_taken.ensures.none c.has_marks.ensures.ours c.if-not-is_taken.false
-    c.if-not-has_marks.true known)
+pub returns-then-not-has_meta_rows-clause-known : goal.returns-then-not-has_meta_rows-clause-known
+returns-then-not-has_meta_rows-clause-known g c clean known =
+    absurd (unknown (state g.S.Store c.args.conn.now) c.is_taken.result c.has_meta_rows.result
+    c.is_taken.ensures.none c.has_meta_rows.ensures.ours c.if-not-is_taken.false
+    c.if-not-has_meta_rows.true known)
 
-pub returns-then-not-has_marks-clause-older : goal.returns-then-not-has_marks-clause-older
-returns-then-not-has_marks-clause-older g c clean older out =
-    absurd (true≢false (sym (c.has_marks.ensures.old older.0) ∙ c.if-not-has_marks.true))
+pub returns-then-not-has_meta_rows-clause-older : goal.returns-then-not-has_meta_rows-clause-older
+returns-then-not-has_meta_rows-clause-older g c clean older out =
+    absurd (true≢false (sym (c.has_meta_rows.ensures.old older.0) ∙ c.if-not-has_meta_rows.true))
 
-pub returns-then-not-has_marks-clause-unknown : goal.returns-then-not-has_marks-clause-unknown
-returns-then-not-has_marks-clause-unknown g c clean it =
-    absurd (true≢false (sym (c.has_marks.ensures.marked it.table) ∙ c.if-not-has_marks.true))
+pub returns-then-not-has_meta_rows-clause-unknown : goal.returns-then-not-has_meta_rows-clause-unknown
+returns-then-not-has_meta_rows-clause-unknown g c clean it =
+    absurd (true≢false (sym (c.has_meta_rows.ensures.marked it.table) ∙ c.if-not-has_meta_rows.true))
 
 -- ---- a store that lacks some of our tables
 
@@ -83,7 +83,7 @@ returns-then-not-has_columns-clause-foreign g c it =
     let s0 = state g.S.Store c.args.conn.now in
     absurd (own_marked s0 (outside s0.in_transaction
     (sym c.if-not-is_autocommit.false ∙ c.is_autocommit.ensures.value))
-    (sym c.has_marks.ensures.value ∙ c.if-not-has_marks.false) it)
+    (sym c.has_meta_rows.ensures.value ∙ c.if-not-has_meta_rows.false) it)
 
 pub returns-then-not-has_columns-clause-kinds : goal.returns-then-not-has_columns-clause-kinds
 returns-then-not-has_columns-clause-kinds g c = c.carry_marked.ensures.kinds
@@ -117,7 +117,7 @@ returns-clause-foreign g c it =
     let s0 = state g.S.Store c.args.conn.now in
     absurd (own_marked s0 (outside s0.in_transaction
     (sym c.if-not-is_autocommit.false ∙ c.is_autocommit.ensures.value))
-    (sym c.has_marks.ensures.value ∙ c.if-not-has_marks.false) it)
+    (sym c.has_meta_rows.ensures.value ∙ c.if-not-has_meta_rows.false) it)
 
 pub returns-clause-kinds : goal.returns-clause-kinds
 returns-clause-kinds g c = c.judge.ensures.kinds

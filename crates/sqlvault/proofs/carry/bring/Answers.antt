@@ -1,9 +1,9 @@
 use Rattle.std.proofs.Common.{◌⊎◌, ◌∙◌}
 use Rattle.std.specs.Prelude.{codes}
 use Rattle.sqlite.specs.Held.{state}
-use Rattle.mailsql.specs.Changes.{DropsMark, PutsMark}
+use Rattle.mailsql.specs.Changes.{DropsMetaRow, PutsMetaRow}
 use Rattle.mailsql.specs.Rows.{IsReady, rows_in}
-use Rattle.sqlvault.specs.Keeps.{our_mark}
+use Rattle.sqlvault.specs.Keeps.{our_meta_row}
 use Rattle.sqlvault.proofs.CarryLemmas.{completes_no_more}
 use Rattle.sqlvault.proofs.FrameLemmas.{was_clean}
 use Rattle.sqlvault.proofs.MoveLemmas.{completed_inside, none_made}
@@ -27,9 +27,9 @@ returns-in-Ok-move_old g c =
     let s0 = state g.S.Store c.args.conn.now in
     let s1 = state g.S.Store c.complete_tables.new.conn in
     let s2 = state g.S.Store c.move_old.new.conn in
-    let s3 = state g.S.Store c.put_mark.new.conn in
-    let before = was_clean g.S.Store c.move_old.new.conn c.put_mark.new.conn
-    c.put_mark.ensures.survives in
+    let s3 = state g.S.Store c.put_meta_row.new.conn in
+    let before = was_clean g.S.Store c.move_old.new.conn c.put_meta_row.new.conn
+    c.put_meta_row.ensures.survives in
     record {
       clean = λ clean3. was_clean g.S.Store c.args.conn.now c.complete_tables.new.conn
           c.complete_tables.ensures.survives (c.move_old.ensures.clean (before clean3));
@@ -47,9 +47,9 @@ returns-in-Ok-move_old g c =
           })) in
           let ready : IsReady s2 = (moved.on.is_open, moved.tables) in
           brought_then c.args.is_first (λ before after.
-          DropsMark (codes "popbox") before after ⊎ PutsMark our_mark before after) s0 s2 s3
-          c.put_mark.result b moved clean3 (c.put_mark.ensures.ok clean3 ready)
-          (c.put_mark.ensures.err clean3 ready moved.on.mode) c.put_mark.ensures.survives;
+          DropsMetaRow (codes "popbox") before after ⊎ PutsMetaRow our_meta_row before after) s0 s2 s3
+          c.put_meta_row.result b moved clean3 (c.put_meta_row.ensures.ok clean3 ready)
+          (c.put_meta_row.ensures.err clean3 ready moved.on.mode) c.put_meta_row.ensures.survives;
     }
 
 pub returns-in-Err-move_old : goal.returns-in-Err-move_old

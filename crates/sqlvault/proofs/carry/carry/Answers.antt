@@ -5,7 +5,7 @@ use Rattle.sqlvault.proofs.CarryLemmas.{nothing_more, more_then, looked_on, rows
 use Rattle.std.proofs.Common.{inl}
 use Rattle.sqlvault.proofs.FrameLemmas.{begins_clean, undoes_clean}
 use Rattle.sqlvault.proofs.OlderLemmas.{unmoved, brought_at, halted_at, undone_older}
-use Rattle.sqlvault.proofs.OlderLemmas.{midway_on, midway_marks, midway_keeps, unsound_older}
+use Rattle.sqlvault.proofs.OlderLemmas.{midway_on, midway_meta_rows, midway_keeps, unsound_older}
 use Rattle.sqlvault.proofs.OlderLemmas.{committed_older, uncommitted_older}
 use Rattle.sqlvault.specs.Refusals.{told}
 use Rattle.sqlvault.proofs.carry.carry.Goals as goal
@@ -36,7 +36,7 @@ returns-in-Ok-false-clause-turns g c clean4 older =
     let same = c.in-Ok-false.ensures.asks.same clean3 tables in
     unsound_older c.args.is_first s0 s1 s2 mid c.in-Ok-false.field-0 s3
     (state g.S.Store c.unsound.new.conn) c.unsound.result c.in-Ok-false.field-0-test
-    (c.in-Ok-false.ensures.judged clean3 tables (midway_marks c.args.is_first s0 s1 s2 mid))
+    (c.in-Ok-false.ensures.judged clean3 tables (midway_meta_rows c.args.is_first s0 s1 s2 mid))
     (c.are_rows_sound.ensures.asks.stop clean3 (mid.on.is_open, mid.kept))
     (back.gone c.begin.new.conn clean4 (inl (looked_on s1 s2 s3 mid.on same)))
     c.unsound.ensures.kinds clean4 back.survives
@@ -71,7 +71,7 @@ returns-in-Ok-end-clause-turns g c clean4 older =
     let tables : HasTables s2 = λ _. mid.kept in
     let held = midway_keeps c.args.is_first s0 s1 s2 mid c.in-Ok-true.field-0
     c.in-Ok-true.field-0-test (c.in-Ok-true.ensures.judged clean3 tables
-    (midway_marks c.args.is_first s0 s1 s2 mid)) in
+    (midway_meta_rows c.args.is_first s0 s1 s2 mid)) in
     let looked = midway_on c.args.is_first s0 s1 s2 mid s3
     (c.in-Ok-true.ensures.asks.same clean3 tables)
     (c.are_rows_sound.ensures.asks.stop clean3 (mid.on.is_open, mid.kept)) in
@@ -90,7 +90,7 @@ returns-in-Err-end-clause-turns g c clean4 older =
     let tables : HasTables s2 = λ _. mid.kept in
     let held = midway_keeps c.args.is_first s0 s1 s2 mid c.in-Ok-true.field-0
     c.in-Ok-true.field-0-test (c.in-Ok-true.ensures.judged clean3 tables
-    (midway_marks c.args.is_first s0 s1 s2 mid)) in
+    (midway_meta_rows c.args.is_first s0 s1 s2 mid)) in
     let looked = midway_on c.args.is_first s0 s1 s2 mid s3
     (c.in-Ok-true.ensures.asks.same clean3 tables)
     (c.are_rows_sound.ensures.asks.stop clean3 (mid.on.is_open, mid.kept)) in

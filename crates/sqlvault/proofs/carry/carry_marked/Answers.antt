@@ -4,7 +4,7 @@ use Rattle.sqlite.specs.Effect.{Database}
 use Rattle.sqlite.specs.State.{IsUnchanged}
 use Rattle.mailsql.specs.Tables.{old_schema}
 use Rattle.mailsql.specs.Rows.{rows_in, is_carried, HasOldTables}
-use Rattle.sqlvault.specs.Carries.{old_mark}
+use Rattle.sqlvault.specs.Carries.{old_meta_row}
 use Rattle.sqlvault.specs.Refusals.{told}
 use Rattle.sqlvault.proofs.AdoptLemmas.{stays_undone}
 use Rattle.sqlvault.proofs.CarryLemmas.{judged_uncarried, order_uncarried, older_on, old_on, either}
@@ -28,7 +28,7 @@ returns-then-not-has_older_columns-clause-turns g c clean1 older out settled =
     let s1 = state g.S.Store c.find_older.new.conn in
     let tables : HasOldTables s0 = λ _. older in
     let u1 : IsUnchanged s0 s1 = c.in-Ok.ensures.asks.same clean1 tables in
-    let is : (rows_in s0.now.trees).marks ≡ old_mark c.in-Ok.is_first ∷ [] =
+    let is : (rows_in s0.now.trees).meta_rows ≡ old_meta_row c.in-Ok.is_first ∷ [] =
     c.in-Ok.ensures.judged clean1 tables in
     let schema : s1.now.schema ≡ old_schema (is_carried s1.now.trees) =
     (old_on s0 s1 u1 tables u1.0.is_open).0 in
@@ -48,7 +48,7 @@ returns-clause-turns g c clean2 older out settled =
     let tables : HasOldTables s0 = λ _. older in
     let clean1 = c.carry.ensures.clean clean2 in
     let u1 : IsUnchanged s0 s1 = c.in-Ok.ensures.asks.same clean1 tables in
-    let is : (rows_in s0.now.trees).marks ≡ old_mark c.in-Ok.is_first ∷ [] =
+    let is : (rows_in s0.now.trees).meta_rows ≡ old_meta_row c.in-Ok.is_first ∷ [] =
     c.in-Ok.ensures.judged clean1 tables in
     let schema : s1.now.schema ≡ old_schema (is_carried s1.now.trees) =
     (old_on s0 s1 u1 tables u1.0.is_open).0 in

@@ -85,12 +85,12 @@ returns-in-Ok-clause-after g c = record {
       let does = c.in-Ok.ensures in
       let did = does.answered ct j.transaction st.keeps.held clean j.has_transaction in
       stands_after g.V.Vault o _ T (Bytes n p) _
-      (moved g.V.Vault.holds o _ T (Bytes n p) _ (tag_of w) n (marked w _ c.shown.ensures) st refl refl refl refl refl refl (whole-bytes T n p (tag_of w)) refl refl
+      (moved g.V.Vault.holds o _ T (Bytes n p) _ (tag_of w) n (marked w _ c.outcome_of.ensures) st refl refl refl refl refl refl (whole-bytes T n p (tag_of w)) refl refl
       (rw found refl) (λ q e. seen-bytes_other T n p q (tag_of w) e) (λ q ne. updates.2 q (is_apart n q ne))
       (piece_moves T n p st.keeps sound o.policy st.policy o.locks st.locks o.moment st.moment k m nothing fits w k' did _ does.locks g.V.Vault.holds o _ kept refl did.held))
-      (piece_answered T n p st.keeps sound o.policy st.policy o.locks st.locks o.moment st.moment k m nothing fits w k' did (lent_by o) _ c.shown.ensures)
-      (line_cause (g.V.Vault.faults o.vault) (g.V.Vault.faults c.hear.new.vault) w _ c.shown.ensures did.cause)
-      (λ up answered. does.acts.up ct st.keeps.held clean up (line_answered w _ c.shown.ensures answered))
+      (piece_answered T n p st.keeps sound o.policy st.policy o.locks st.locks o.moment st.moment k m nothing fits w k' did (lent_by o) _ c.outcome_of.ensures)
+      (line_cause (g.V.Vault.faults o.vault) (g.V.Vault.faults c.hear.new.vault) w _ c.outcome_of.ensures did.cause)
+      (λ up answered. does.acts.up ct st.keeps.held clean up (line_answered w _ c.outcome_of.ensures answered))
       (λ up. line_left T n st.keeps sound (streamed (seen T n) p o.moment) (clocked o.moment p k) p (judged_at ct o.policy k.stamp o.locks) k.state ready j (Bytes n p)
       (λ h nx. records-bytes_line T n p line_outcome.Done (line_after k p) h nx) (λ h nx. records-bytes_part T n p Done h) (c.hear.ensures.acts.stop ct st.keeps.held clean up))
       (g.met.V.Vault.settled _) clean;
@@ -189,7 +189,7 @@ returns-in-Ok-clause-account g c fresh T st clean =
     let does = c.in-Ok.ensures in
     let did = does.answered ct j.transaction st.keeps.held clean j.has_transaction in
     let is = piece_told T n p st.keeps sound o.policy st.policy o.locks st.locks o.moment st.moment k m nothing fits w k' did in
-    did.account fresh ∙ (is ∙ sym (ap (account_of T (Bytes n p)) (marked w _ c.shown.ensures) ∙ piece_account T n p w))
+    did.account fresh ∙ (is ∙ sym (ap (account_of T (Bytes n p)) (marked w _ c.outcome_of.ensures) ∙ piece_account T n p w))
 
 pub returns-in-Err-clause-account : goal.returns-in-Err-clause-account
 returns-in-Err-clause-account g c fresh T st clean = c.cut_off_without_memory.ensures.account

@@ -1,7 +1,7 @@
 use Rattle.std.proofs.Common.{◌∙◌, ap, map}
 use Rattle.office.specs.Answers.{ListSessions}
 use Rattle.office.specs.Events.{Admin}
-use Rattle.office.specs.Shown.{session_seen}
+use Rattle.office.specs.Seen.{session_seen}
 use Rattle.office.proofs.SessionList.{kept_sessions, sessions_listed, list_lacked}
 use Rattle.office.proofs.AfterEvents.{answered_after}
 use Rattle.office.proofs.office.Office.list_sessions.Goals as goal

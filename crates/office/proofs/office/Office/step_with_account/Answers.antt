@@ -1,5 +1,5 @@
 use Rattle.std.proofs.Common.{refl}
-use Rattle.office.specs.Shown.{outcome_seen}
+use Rattle.office.specs.Seen.{outcome_seen}
 use Rattle.office.proofs.Lending.{admitted, sent_so}
 use Rattle.office.proofs.Memory.{has_memory}
 use Rattle.office.proofs.office.Office.step_with_account.Goals as goal

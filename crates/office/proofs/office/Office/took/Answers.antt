@@ -226,13 +226,13 @@ returns-in-Ok-resume-clause-after g c = record {
       let change = (c.get_mut.follows.holds k').3 (search rules) in
       let did = line.answered ct j.transaction held clean j.has_transaction in
       stands_after g.V.Vault o _ T (Took x n) _
-      (moved g.V.Vault.holds o _ T (Took x n) _ (tag_of w) x (marked w _ c.shown.ensures) st refl refl refl refl refl refl (whole-took T x n (tag_of w)) refl refl
+      (moved g.V.Vault.holds o _ T (Took x n) _ (tag_of w) x (marked w _ c.outcome_of.ensures) st refl refl refl refl refl refl (whole-took T x n (tag_of w)) refl refl
       (rw found refl) (λ q e. seen-took_other T x n q (tag_of w) e) (λ q ne. change.2 q (is_apart x q ne))
       (taking_moves T x n st.keeps sound o.policy st.policy o.locks st.locks o.moment st.moment k1 ready over open_yet w k' did _ line.locks g.V.Vault.holds o _ change.1 refl did.held))
-      (taking_answered T x n st.keeps sound o.policy st.policy o.locks st.locks o.moment st.moment k1 ready over open_yet w k' did (lent_by o) _ goes c.shown.ensures)
-      (line_cause (g.V.Vault.faults o.vault) (g.V.Vault.faults c.resume.new.vault) w _ c.shown.ensures
+      (taking_answered T x n st.keeps sound o.policy st.policy o.locks st.locks o.moment st.moment k1 ready over open_yet w k' did (lent_by o) _ goes c.outcome_of.ensures)
+      (line_cause (g.V.Vault.faults o.vault) (g.V.Vault.faults c.resume.new.vault) w _ c.outcome_of.ensures
       (λ f. grown_behind (g.V.Vault.faults o.vault) (g.V.Vault.faults c.take.new.vault) (g.V.Vault.faults c.resume.new.vault) c.take.ensures.looks.counted (did.cause f)))
-      (λ up answered. line.acts.up ct held clean (does.looks.up ct st.keeps.held before up yes) (line_answered w _ c.shown.ensures answered))
+      (λ up answered. line.acts.up ct held clean (does.looks.up ct st.keeps.held before up yes) (line_answered w _ c.outcome_of.ensures answered))
       (λ up. line_left T x st.keeps sound (took s n o.moment) k1 k1.pending (judged_at ct o.policy k1.stamp o.locks) k1.state ready j (Took x n)
       (λ h nx. records-took_line T x n line_outcome.Done (line_after k1 k1.pending) over open_yet (next_kept T x ∙ nx)) (λ h nx. records-took_none T x n over open_yet (next_kept T x ∙ nx))
       (c.resume.ensures.acts.stop ct held clean (does.looks.up ct st.keeps.held before up yes)))
@@ -389,7 +389,7 @@ returns-in-Ok-resume-clause-account g c fresh T st clean =
     let did = line.answered ct j.transaction held clean j.has_transaction in
     let named : k1.state.user ≡ user (history T) x = ap (λ (k : Kept). k.state.user) c.take.ensures.kept ∙ m.user in
     let is = taking_told T x n st.keeps sound o.policy st.policy o.locks st.locks o.moment st.moment k1 ready over open_yet w c.resume.new.self did named in
-    did.account fresh ∙ (is ∙ sym (ap (account_of T (Took x n)) (marked w _ c.shown.ensures) ∙ taking_account T x n w over))
+    did.account fresh ∙ (is ∙ sym (ap (account_of T (Took x n)) (marked w _ c.outcome_of.ensures) ∙ taking_account T x n w over))
 
 pub returns-in-Err-resume-clause-account : goal.returns-in-Err-resume-clause-account
 returns-in-Err-resume-clause-account g c fresh T st clean = c.cut_off_without_memory-in-Err-resume.ensures.account

@@ -35,12 +35,12 @@ returns-in-Err-clause-inside g c inside =
     given_back c.in-Err.refusal c.fault_of.result it.0 c.fault_of.ensures it.1
 
 pub returns-in-Ok-clause-taken : goal.returns-in-Ok-clause-taken
-returns-in-Ok-clause-taken g c out taken marks =
-    absurd (not_given (c.in-Ok.ensures.foreign (inr (out, taken, marks))).0)
+returns-in-Ok-clause-taken g c out taken meta_rows =
+    absurd (not_given (c.in-Ok.ensures.foreign (inr (out, taken, meta_rows))).0)
 
 pub returns-in-Err-clause-taken : goal.returns-in-Err-clause-taken
-returns-in-Err-clause-taken g c out taken marks =
-    let it = c.in-Err.ensures.foreign (inr (out, taken, marks)) in
+returns-in-Err-clause-taken g c out taken meta_rows =
+    let it = c.in-Err.ensures.foreign (inr (out, taken, meta_rows)) in
     given_back c.in-Err.refusal c.fault_of.result it.0 c.fault_of.ensures it.1
 
 -- ---- an older store

@@ -5,7 +5,7 @@ use Rattle.creds.specs.declared.uid.Uid.{Uid}
 use Rattle.office.specs.Events as events
 use Rattle.office.specs.Answers as answers
 use Rattle.office.specs.Outcomes as outcomes
-use Rattle.office.specs.Events.{Mark, Trace, given}
+use Rattle.office.specs.Events.{EventTag, Trace, given}
 use Rattle.office.specs.declared.command.AdminCommand.{AdminCommand}
 use Rattle.office.specs.declared.command.AdminCommand.TheVariants as command
 use Rattle.office.specs.declared.answer.Answer.{Answer}
@@ -98,6 +98,6 @@ outcome_seen outcome.NoMemory = outcomes.NoMemory
 outcome_seen (outcome.Ignored reason) = outcomes.Ignored (reason_seen reason)
 outcome_seen (outcome.Answered answer) = outcomes.Answered (answer_seen answer)
 
--- a trace with one more event and its outcome's mark
+-- a trace with one more event and its outcome's tag
 abbrev pub followed_by : Trace → events.Event → Outcome → Trace
-followed_by T e o = given T e (outcomes.mark_of (outcome_seen o))
+followed_by T e o = given T e (outcomes.event_tag_of (outcome_seen o))

@@ -8,11 +8,11 @@ use Rattle.office.specs.Events.{Tagged, Trace}
 use Rattle.office.specs.Events as event
 use Rattle.office.specs.Trace.{history, rest, rest_if, is_open, is_ready, untaken, IsLent}
 use Rattle.office.specs.Expected.{IsOutcome, ignored, shown_at, or_ignored, reason_if, most_in_a_piece}
-use Rattle.office.specs.Outcomes.{Outcome, Reason, NoSuchConnection, NotReady, PieceTooLong, mark_of}
+use Rattle.office.specs.Outcomes.{Outcome, Reason, NoSuchConnection, NotReady, PieceTooLong, event_tag_of}
 use Rattle.office.specs.Outcomes as outcome
 
 shown_mark : (s : Tag → Outcome) → s Done ≡ outcome.Done → s Failed ≡ outcome.Failed → s NoMemory ≡ outcome.NoMemory → (r : Option Reason) → r ≡ None → (t : Tag) (o : Outcome)
-    → o ≡ or_ignored r (s t) → mark_of o ≡ Tagged t
+    → o ≡ or_ignored r (s t) → event_tag_of o ≡ Tagged t
 shown_mark s d f n r none Done o e =
     let k : o ≡ outcome.Done = e ∙ (ap (λ q. or_ignored q (s Done)) none ∙ d) in rw k refl
 shown_mark s d f n r none Failed o e =
@@ -29,7 +29,7 @@ bytes_if : (o e s : Bool) → o ≡ true → e ≡ true → s ≡ false
 bytes_if o e s a b d = rw (a, b, d) refl
 
 pub bytes_mark : (T : Trace) (lent : ℕ → ℕ) (c : ℕ) (piece : List ℕ) (o : Outcome) → is_ready T c ≡ true → length piece ≤ most_in_a_piece
-    → IsOutcome T lent (event.Bytes c piece) o → (t : Tag) × (mark_of o ≡ Tagged t)
+    → IsOutcome T lent (event.Bytes c piece) o → (t : Tag) × (event_tag_of o ≡ Tagged t)
 bytes_mark T lent c piece o ready short h =
     let b = both_open (is_open T c) (untaken T.log (history T) c) ready in
     let s : nat_lt most_in_a_piece (length piece) ≡ false = le-ltb most_in_a_piece (length piece) short in (
@@ -52,7 +52,7 @@ amiss n l a b =
     rw (z, h) refl
 
 pub took_mark : (T : Trace) (lent_by : ℕ → ℕ) (c n : ℕ) (lent : List ℕ) (o : Outcome) → IsLent (rest T c) lent → length lent ≡ lent_by c → 0 < n → n ≤ length lent
-    → IsOutcome T lent_by (event.Took c n) o → (t : Tag) × (mark_of o ≡ Tagged t)
+    → IsOutcome T lent_by (event.Took c n) o → (t : Tag) × (event_tag_of o ≡ Tagged t)
 took_mark T lent_by c n lent o is count some fits h =
     let open_now = lent_if (is_open T c) (untaken T.log (history T) c) lent is (omega (arith, some, fits)) in (
       h.tag,
@@ -81,7 +81,7 @@ gone_if : (o : Bool) → o ≡ true → reason_if (not o) NoSuchConnection ≡ N
 gone_if o a = rw a refl
 
 -- an open connection's going isn't ignored
-pub gone_mark : (T : Trace) (lent_by : ℕ → ℕ) (c : ℕ) (o : Outcome) → is_open T c ≡ true → IsOutcome T lent_by (event.Gone c) o → (t : Tag) × (mark_of o ≡ Tagged t)
+pub gone_mark : (T : Trace) (lent_by : ℕ → ℕ) (c : ℕ) (o : Outcome) → is_open T c ≡ true → IsOutcome T lent_by (event.Gone c) o → (t : Tag) × (event_tag_of o ≡ Tagged t)
 gone_mark T lent_by c o here h = (
   h.tag,
   shown_mark (λ t. shown_at T.base T.log (history T) (event.Gone c) t) refl refl refl (ignored T lent_by (event.Gone c)) (gone_if (is_open T c) here) h.tag o h.is,
