@@ -2,7 +2,7 @@
 
 use super::unsound_row::unsound_table;
 use mailsql::meta::{all_meta_rows, find_meta_row};
-use mailsql::schema::has_marks;
+use mailsql::schema::has_meta_rows;
 use sqlite::{Alter, Connection, MemStore, Wary};
 use sqlite_schema::names::same_name;
 use sqlite_schema::schema::{Column, Schema, Table};
@@ -88,7 +88,7 @@ fn tell_tables<S: Alter, E: Write>(
 ) -> io::Result<()> {
     match fault {
         VaultFault::OldVersion => tell_version(alloc, err, conn),
-        VaultFault::NotOurs if has_marks(conn) => tell_marks(alloc, err, conn),
+        VaultFault::NotOurs if has_meta_rows(conn) => tell_meta_rows(alloc, err, conn),
         VaultFault::NotOurs => {
             let ours = SqlVault::in_memory(alloc);
             match ours {
@@ -174,7 +174,7 @@ fn tell_object<E: Write>(err: &mut E, kind: &str, name: &[u8]) -> io::Result<()>
 }
 
 /// Tells why a database with our table `meta` is no store.
-fn tell_marks<S: Alter, E: Write>(
+fn tell_meta_rows<S: Alter, E: Write>(
     alloc: Global,
     err: &mut E,
     conn: &mut Connection<S>,
