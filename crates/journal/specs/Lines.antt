@@ -79,6 +79,8 @@ cause_text (account.Ended end.Gone) = codes " cause=gone"
 cause_text (account.Ended end.NoMemory) = codes " cause=\"out of memory\""
 cause_text (account.Ended end.StoreFailed) = codes " cause=\"store failed\""
 cause_text (account.Ended end.SessionEnded) = codes " cause=\"session ended\""
+cause_text (account.Ended end.Idle) = codes " cause=idle"
+cause_text (account.Ended end.TooLate) = codes " cause=\"too late to log in\""
 cause_text (account.Login name by judged.ThirdWrongCredential) =
     codes " cause=\"login failed, closing\""
 cause_text _ = []

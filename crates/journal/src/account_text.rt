@@ -167,6 +167,8 @@ pub fn cause_text(account: &Account) -> &'static str
         Account::Ended(End::NoMemory) => " cause=\"out of memory\"",
         Account::Ended(End::StoreFailed) => " cause=\"store failed\"",
         Account::Ended(End::SessionEnded) => " cause=\"session ended\"",
+        Account::Ended(End::Idle) => " cause=idle",
+        Account::Ended(End::TooLate) => " cause=\"too late to log in\"",
         Account::Login(_, _, Verdict::ThirdWrongCredential) => " cause=\"login failed, closing\"",
         _ => "",
     }

@@ -64,6 +64,11 @@ pub enum End {
     StoreFailed,
     /// An administrator ended the session.
     SessionEnded,
+    /// Nothing came for so long that a tick ended it. A tick may end many connections, so the
+    /// office's own account of it tells none: who gave it tells each.
+    Idle,
+    /// It took too long to log in, by the seconds of who serves it; to the office it is gone.
+    TooLate,
 }
 
 /// What an office judged in an event. It takes no memory but that of a session which quit, and
