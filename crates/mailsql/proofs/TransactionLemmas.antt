@@ -43,10 +43,10 @@ unfolding understood everything
 rollback_plain schema = (refl, refl)
 
 module _ (old new : State) (count : ℕ) where
-  pub begins : Executes begin_text [] old new (Ok count) → (old.in_transaction ≡ false) × Shows old new old.now old.committed true × KeepsCounts old new × (count ≡ 0) × (new.meta_rows ≡ old.meta_rows)
+  pub begins : Executes begin_text [] old new (Ok count) → (old.in_transaction ≡ false) × Shows old new old.now old.committed true × KeepsCounts old new × (count ≡ 0) × (new.marks ≡ old.marks)
   begins h = runs_as begin_text [] old new old.now.schema refl Begin (begin_is old.now.schema) (begin_plain old.now.schema) count h
 
-  pub commits : Executes commit_text [] old new (Ok count) → IsTrue old.in_transaction × Shows old new old.now old.now false × KeepsCounts old new × (count ≡ 0) × (new.meta_rows ≡ [])
+  pub commits : Executes commit_text [] old new (Ok count) → IsTrue old.in_transaction × Shows old new old.now old.now false × KeepsCounts old new × (count ≡ 0) × (new.marks ≡ [])
   commits h = runs_as commit_text [] old new old.now.schema refl Commit (commit_is old.now.schema) (commit_plain old.now.schema) count h
 
   pub rolls_back : Executes rollback_text [] old new (Ok count) → IsTrue old.in_transaction × IsRolledBack old new × (count ≡ 0)
