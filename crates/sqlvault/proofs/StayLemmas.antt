@@ -16,7 +16,7 @@ stays_unchanged old new same = record {
   was_open = λ _. same.0.was_open;
   stays_open = λ _. same.0.is_open;
   counts = same.1;
-  meta_rows = same.2;
+  marks = same.2;
 }
 
 pub stays_self : (s : State) → Stays s s
@@ -27,7 +27,7 @@ stays_self s = record {
   was_open = λ o. o;
   stays_open = λ o. o;
   counts = record { changes = refl; last_rowid = refl };
-  meta_rows = refl;
+  marks = refl;
 }
 
 pub stays_more : (old mid new : State) → Stays old mid → Stays mid new → Stays old new
@@ -38,7 +38,7 @@ stays_more old mid new a b = record {
   was_open = λ o. a.was_open (b.was_open o);
   stays_open = λ o. b.stays_open (a.stays_open o);
   counts = record { changes = b.counts.changes ∙ a.counts.changes; last_rowid = b.counts.last_rowid ∙ a.counts.last_rowid };
-  meta_rows = b.meta_rows ∙ a.meta_rows;
+  marks = b.marks ∙ a.marks;
 }
 
 -- after an error
@@ -90,7 +90,7 @@ unchanged_stays old mid new a b = (
     mode = b.mode ∙ a.0.mode;
   },
   record { changes = b.counts.changes ∙ a.1.changes; last_rowid = b.counts.last_rowid ∙ a.1.last_rowid },
-  b.meta_rows ∙ a.2,
+  b.marks ∙ a.2,
 )
 
 pub undone_stays : (old mid new : State) → IsUnchanged old mid → Stays mid new ⊎ IsRolledBack mid new → IsUndone old new

@@ -25,7 +25,7 @@ pub record Stays (old new : State) : Type 0 where
   pub was_open : IsTrue new.is_open → IsTrue old.is_open
   pub stays_open : IsTrue old.is_open → IsTrue new.is_open
   pub counts : KeepsCounts old new
-  pub meta_rows : new.meta_rows ≡ old.meta_rows
+  pub marks : new.marks ≡ old.marks
 
 -- after `Ok` the connection sees what it saw; after `Err` also, unless its transaction is gone
 abbrev pub Goes : {A : Type 0} → State → State → Result A Error → Type 0
