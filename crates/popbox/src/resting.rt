@@ -197,7 +197,7 @@ fn run_over_connection<A: Alter + Drop, E: Write>(
 /// Adopts the store of a connection, which changes nothing in it.
 pub fn adopt<A: Alter + Drop>(alloc: Global, conn: Connection<A>) -> Result<SqlVault<A>, Closed> {
     let mut conn = conn;
-    judge_mark(alloc, &mut conn)?;
+    judge_version(alloc, &mut conn)?;
     match SqlVault::adopt(alloc, conn) {
         Ok(vault) => Ok(vault),
         Err((fault, _)) => Err(Closed::Refused(fault)),
@@ -206,7 +206,7 @@ pub fn adopt<A: Alter + Drop>(alloc: Global, conn: Connection<A>) -> Result<SqlV
 
 /// Refuses a database without our version row, which an adoption might make a store of, and a store
 /// of another version.
-fn judge_mark<A: Alter>(alloc: Global, conn: &mut Connection<A>) -> Result<(), Closed> {
+fn judge_version<A: Alter>(alloc: Global, conn: &mut Connection<A>) -> Result<(), Closed> {
     match find_meta_row(alloc, conn, b"popbox") {
         Ok(Some(row)) if row.value == VERSION => Ok(()),
         Ok(Some(row)) if row.value == 1 || row.value == 2 => Err(Closed::Older(row.value)),
