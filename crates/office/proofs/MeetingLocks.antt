@@ -72,9 +72,9 @@ module _ (c : Contents) (s : Seen) (k : Kept) (p : List ℕ) (m : Matches c s k)
       let w = fed k.held p in
       let n = through_newline p in
       let rest = coming w (drop n p ++ []) in
-      let through : coming k.held p ≡ shown w ++ rest =
+      let through : coming k.held p ≡ whole_line w ++ rest =
       ap (λ q. coming k.held q) (sym (append-nil p)) ∙ coming-fed k.held w p n refl refl [] in
-      let first : shown w ++ rest ≡ line_after k p ∷ rest =
+      let first : whole_line w ++ rest ≡ line_after k p ∷ rest =
       ap (λ b. (if b then cut_of w.octets ∷ [] else []) ++ rest) h in
       (at_drop s.acted lines (line_after k p) rest (left ∙ (through ∙ first))).0
 

@@ -50,7 +50,7 @@ module _ {Before : Contents → Type 0} (T : Trace) (n : ℕ) (p : List ℕ) (ke
 
   module _ {After : Contents → Type 0} {grown : Bool} {was told : Account} (w : LineOutcome) (k' : Kept)
       (did : AfterNext After grown keeps.contents policy locks judged.transaction (cut_through p set) k' w was told) where
-    law : (more : List ℕ) → coming k.held (p ++ more) ≡ shown k'.held ++ coming k'.held (k'.pending ++ more)
+    law : (more : List ℕ) → coming k.held (p ++ more) ≡ whole_line k'.held ++ coming k'.held (k'.pending ++ more)
     law = lines_go set k' p (replied w) k'.session k'.output did.kept
 
     module _ (locks' : BTreeMap (List ℕ) ℕ) (follow : LocksFollow n k.session k'.session locks locks') where
