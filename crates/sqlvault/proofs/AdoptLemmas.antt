@@ -1,7 +1,6 @@
--- Queries one behind the other, tests one behind the other, and what a store that is made and a store that is judged come to.
+-- Queries one behind the other, and what a store that is made and a store that is judged come to.
 use Rattle.std.proofs.Common.{◌≡◌, ◌⊎◌, inl, inr, Bool, true, false, IsTrue, List, [], ◌∷◌, length, Result, Ok, Err, refl, sym, ap, subst, ◌∙◌, true≢false}
 use Rattle.mailsql.specs.Tables.{no_schema}
-use Rattle.std.specs.Prelude.{IfOk}
 use Rattle.sqlite.specs.declared.error.Error.{Error}
 use Rattle.sqlite.specs.Effect.{Database}
 use Rattle.sqlite.specs.State.{State, Shows, IsUnchanged}
@@ -19,7 +18,8 @@ use Rattle.vault.proofs.ListLemmas.{bytes_are}
 use Rattle.mailsql.specs.declared.rows.MetaRow.{MetaRow}
 use Rattle.mailsql.specs.Rows.{is_meta_row}
 use Rattle.sqlvault.specs.Keeps.{Keeps, our_meta_row, version}
-use Rattle.sqlvault.specs.Parts.{Finds, ClerksAre, MaildropsAre, PolicyIs, DepositsAre, MessagesAre, records_with, messages_of}
+use Rattle.sqlvault.specs.Parts.{ClerksAre, MaildropsAre, PolicyIs, records_with, messages_of}
+use Rattle.sqlvault.specs.Judged.{MailIs}
 use Rattle.vault.specs.declared.fault.VaultFault.{VaultFault}
 use Rattle.vault.specs.declared.fault.VaultFault.TheVariants as fault
 use Rattle.mailsql.specs.Names.{is_taken, has_meta_rows}
@@ -64,24 +64,6 @@ undone_on s0 s1 s2 a (inr back) = inr (record {
   counts = record { changes = back.counts.changes ∙ a.1.changes; last_rowid = back.counts.last_rowid ∙ a.1.last_rowid };
 })
 
--- ---- tests
-
-pub chained : {X Y : Type 0} (P : X → Type 0) (Q : X → Y → Type 0) (b : Bool) → Finds P true → ((x : X) → P x → Finds (Q x) b) → Finds (λ (xy : X × Y). P xy.0 × Q xy.0 xy.1) b
-chained P Q true found more = let m = more found.0 found.1 in ((found.0, m.0), (found.1, m.1))
-chained P Q false found more = λ xy both. more xy.0 both.0 xy.1 both.1
-
--- a test behind one that was passed
-pub chained_ok : {X Y : Type 0} (P : X → Type 0) (Q : X → Y → Type 0) (b : Bool) (r : Result Bool Error) → Finds P b → b ≡ true → ((x : X) → P x → IfOk r (Finds (Q x)))
-    → IfOk r (Finds (λ (xy : X × Y). P xy.0 × Q xy.0 xy.1))
-chained_ok P Q b (Ok passed) found e more = chained P Q passed (subst (Finds P) e found) more
-chained_ok P Q b (Err e1) found e more = tt
-
--- the same test, said otherwise
-pub finds_so : {X Y : Type 0} (P : X → Type 0) (Q : Y → Type 0) (r : Result Bool Error) → ((x : X) → P x → (y : Y) × Q y) → ((y : Y) → Q y → (x : X) × P x) → IfOk r (Finds P) → IfOk r (Finds Q)
-finds_so P Q (Ok true) to from found = to found.0 found.1
-finds_so P Q (Ok false) to from none = λ y q. let x = from y q in none x.0 x.1
-finds_so P Q (Err e) to from found = tt
-
 -- ---- what stands after a refusal
 
 -- outside a transaction what is seen is committed
@@ -111,9 +93,6 @@ module _ (rows : Rows) where
 
   abbrev pub ListsAre : Lists → Type 0
   ListsAre x = (ClerksAre rows x.0.0 × MaildropsAre rows x.0.1) × PolicyIs rows x.1
-
-  abbrev pub MailIs : Mail → Type 0
-  MailIs y = DepositsAre rows y.0 × MessagesAre rows y.0 y.1
 
 pub own_maildrops : (rows : Rows) (ms : List (List ℕ)) → MaildropsAre rows ms → MaildropsAre rows rows.maildrops
 own_maildrops rows ms is = subst (MaildropsAre rows) (sym is.same) is
