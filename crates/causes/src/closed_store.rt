@@ -238,24 +238,25 @@ fn tell_rows<S: Alter, E: Write>(
 /// Tells of a part of the rows that isn't sound, by its tables.
 fn tell_part<E: Write>(err: &mut E, part: Part) -> io::Result<()> {
     match part {
-        Part::Clerks => tell_table(err, "clerks"),
-        Part::Maildrops => tell_table(err, "maildrops"),
-        Part::Rules => tell_joined(err, "`rules`, `groups` or `members`"),
-        Part::Deposits => tell_joined(err, "`deposits` or `counts`"),
-        Part::Messages => tell_joined(err, "`mail` or `sheets`"),
+        Part::Clerks => tell_unsound(err, "table `clerks`"),
+        Part::Maildrops => tell_unsound(err, "table `maildrops`"),
+        Part::Groups => tell_unsound(err, "tables `groups` or `members`"),
+        Part::Rules => tell_joined(err, "tables `rules`, `groups` or `members`"),
+        Part::Deposits => tell_joined(err, "tables `deposits` or `counts`"),
+        Part::Messages => tell_joined(err, "tables `mail` or `sheets`"),
     }
 }
 
-/// Tells of a table with a row that is no sound record.
-fn tell_table<E: Write>(err: &mut E, table: &str) -> io::Result<()> {
-    writeln!(err, "a row of its table `{table}` is no sound record")
+/// Tells of tables with a row that is no sound record.
+fn tell_unsound<E: Write>(err: &mut E, tables: &str) -> io::Result<()> {
+    writeln!(err, "a row of its {tables} is no sound record")
 }
 
-/// Tells of tables with a row that is no sound record, or that contradict each other.
+/// Tells of tables with a row that is no sound record by itself, or with those of the others.
 fn tell_joined<E: Write>(err: &mut E, tables: &str) -> io::Result<()> {
     writeln!(
         err,
-        "a row of its tables {tables} is no sound record, or they don't fit together"
+        "a row of its {tables} is no sound record, or they don't fit together"
     )
 }
 

@@ -11,7 +11,7 @@ ghost use Rattle.sqlvault.specs.Parts.{Finds};
 use crate::sound_clerks::{are_clerks_sound, are_maildrops_sound};
 use crate::sound_deposits::are_deposits_sound;
 use crate::sound_messages::are_messages_sound;
-use crate::sound_rules::are_rules_sound;
+use crate::sound_rules::unsound_policy;
 use mailsql::schema::keys_hold;
 use sqlite::{Alter, Connection, Error};
 use std::alloc::Global;
@@ -23,7 +23,9 @@ pub enum Part {
     Clerks,
     /// The table `maildrops`: each name has its form, and there are 1,000 at most.
     Maildrops,
-    /// The tables `groups`, `members` and `rules`: together they are a sound policy.
+    /// The tables `groups` and `members`: each name has its form.
+    Groups,
+    /// The table `rules`: with the groups the rules are a policy.
     Rules,
     /// The tables `deposits` and `counts`: each name, id and digest has its form, and the numbers
     /// of each class under a maildrop's name are 1 to its count, 1,000,000,000 at most.
@@ -57,9 +59,9 @@ pub fn unsound_part<S: Alter>(
         Ok(false) => return Ok(Some(Part::Maildrops)),
         Err(error) => return Err(error),
     }
-    match are_rules_sound(alloc, conn) {
-        Ok(true) => {}
-        Ok(false) => return Ok(Some(Part::Rules)),
+    match unsound_policy(alloc, conn) {
+        Ok(None) => {}
+        Ok(Some(part)) => return Ok(Some(part)),
         Err(error) => return Err(error),
     }
     match are_deposits_sound(alloc, conn) {
