@@ -182,6 +182,8 @@ impl<'a> Journal<'a> {
 /// Notes each connection that is opened, what the office judged of what came on it, and what the
 /// administration was asked.
 impl Listener for Journal<'_> {
+    ghost heard = { λ _ _. ⊥ };
+
     fn open(&mut self, link: Link, connection: u64) {
         if !self.is_on {
             return;

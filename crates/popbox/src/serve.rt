@@ -9,7 +9,10 @@ use journal::{
 use office::{Limits, Office};
 use proxy::ProxiedWire;
 use recent::Recent;
-use serving::{Clock, FolderSpool, NotedWire, Server, SocketWire, Wire, begin_noted, serve_while};
+use serving::{
+    Clock, FolderSpool, NotedListener, NotedWire, Server, SocketWire, Wire, begin_noted,
+    serve_while,
+};
 use std::io;
 use std::io::Write;
 use std::net::{Ipv4Addr, SocketAddr};
@@ -218,7 +221,7 @@ fn serve_turns<'a, V: Vault, W: Wire + Peers + Drop>(
     links.set_login_seconds(u64::from(login));
     links.set_slow_guesses(options.get_flag("slow-guesses"));
     let mut clock = ServerClock::start(rt, watch)?;
-    let mut listener = journal;
+    let mut listener = NotedListener::new(journal);
     serve_while(
         &mut links,
         &mut wire,

@@ -4,7 +4,7 @@ use Rattle.std.specs.Bool.{⊤, if◌then◌else◌}
 use Rattle.std.specs.List.{All, list_any, filter, filter_map, remove}
 use Rattle.std.proofs.lemmas.Bool.{cases_Bool}
 use Rattle.std.proofs.lemmas.List.{append-nil, map-append}
-use Rattle.std.proofs.lemmas.List.Elements.{All-nil, All-cons, filter_map-append}
+use Rattle.std.proofs.lemmas.List.Elements.{All-nil, All-cons, All-append, filter_map-append}
 use Rattle.vault.specs.Records.{Records}
 use Rattle.vault.specs.Changes.{Contents}
 use Rattle.office.specs.History.{Done, Failed, NoMemory}
@@ -21,7 +21,7 @@ use Rattle.serving.specs.declared.wire.Port.TheVariants.{Pop}
 use Rattle.serving.specs.Calls.{Call, Accepted, Closed}
 use Rattle.serving.specs.declared.links.Seat.{Seat}
 use Rattle.serving.specs.Wires.{opened_by}
-use Rattle.serving.specs.Works.{is_beside, waits, wait_of, arrivals, arrival_of, closings, closing_of, none_waited, tells_none, moments, moment_of, openings, is_opening, refusals, is_refusal, HasCause, AreCaused, WasGiven, Came, seat_of, unseated_of, link_of, HaveCome, HasAccepted, AreAccepted, is_open_seat, is_shut_seat, closing, IsClosed, AreClosed, has_moved}
+use Rattle.serving.specs.Works.{is_beside, waits, wait_of, arrivals, arrival_of, closings, closing_of, none_waited, tells_none, moments, moment_of, openings, is_opening, IsOpening, refusals, is_refusal, HasCause, AreCaused, WasGiven, Came, seat_of, unseated_of, link_of, HaveCome, HasAccepted, AreAccepted, is_open_seat, is_shut_seat, closing, IsClosed, AreClosed, has_moved}
 use Rattle.serving.proofs.Accepting.{IsRefusal}
 use Rattle.serving.proofs.Working.{none_joined, count_joined, any_right, none_of, caused_then}
 
@@ -55,6 +55,7 @@ module _ {V : Type 0} (Holds : V → Contents → Type 0) (IsClean : V → Type 
     closed = refl;
     seated = sym (append-nil seats);
     apart = refl;
+    only = All-nil IsOpening;
     caused = All-nil (HasCause [] []);
   }
 
@@ -73,6 +74,7 @@ module _ {V : Type 0} (Holds : V → Contents → Type 0) (IsClean : V → Type 
       closed = refl;
       seated = sym (append-nil seats);
       apart = refl;
+      only = All-nil IsOpening;
       caused = All-nil (HasCause [] (Accepted Pop None ∷ []));
     };
     enough = λ e. cc;
@@ -92,6 +94,7 @@ module _ {V : Type 0} (Holds : V → Contents → Type 0) (IsClean : V → Type 
       closed = refl;
       seated = is;
       apart = refl;
+      only = All-cons IsOpening (event.Connect, m) [] tt (All-nil IsOpening);
       caused = All-cons (HasCause [] (Accepted Pop (Some link) ∷ [])) (event.Connect, m) [] tt (All-nil (HasCause [] (Accepted Pop (Some link) ∷ [])));
     };
     enough = λ e. omega arith;
@@ -111,6 +114,7 @@ module _ {V : Type 0} (Holds : V → Contents → Type 0) (IsClean : V → Type 
       closed = refl;
       seated = sym (append-nil seats);
       apart = refl;
+      only = All-cons IsOpening (event.Connect, m) [] tt (All-nil IsOpening);
       caused = All-cons (HasCause [] (Accepted Pop (Some link) ∷ Closed Pop link ∷ [])) (event.Connect, m) [] tt (All-nil (HasCause [] (Accepted Pop (Some link) ∷ Closed Pop link ∷ [])));
     };
     enough = λ e. omega arith;
@@ -136,6 +140,7 @@ module _ {V : Type 0} (Holds : V → Contents → Type 0) (IsClean : V → Type 
     seated = b.seated
         ∙ (ap (λ xs. xs ++ filter_map seat_of came2) a.seated ∙ (append_assoc seats (filter_map seat_of came1) (filter_map seat_of came2) ∙ ap (λ xs. seats ++ xs) (sym (filter_map-append seat_of came1 came2))));
     apart = none_of is_beside c1 c2 a.apart b.apart;
+    only = All-append IsOpening g2 g1 b.only a.only;
     caused = caused_then [] g1 g2 c1 c2 a.caused b.caused;
   }
 
@@ -180,7 +185,7 @@ drop_first [] i d h = absurd (omega (arith, h))
 drop_first (x ∷ xs) zero d h = refl
 drop_first (x ∷ xs) (suc i) d h = drop_first xs i d (omega (arith, h))
 
-take_next : (xs : List Seat) (i : ℕ) (d : Seat) → i < length xs → take (suc i) xs ≡ take i xs ++ get_or xs i d ∷ []
+pub take_next : (xs : List Seat) (i : ℕ) (d : Seat) → i < length xs → take (suc i) xs ≡ take i xs ++ get_or xs i d ∷ []
 take_next [] i d h = absurd (omega (arith, h))
 take_next (x ∷ xs) zero d h = refl
 take_next (x ∷ xs) (suc i) d h = ap (λ ys. x ∷ ys) (take_next xs i d (omega (arith, h)))

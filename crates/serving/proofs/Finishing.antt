@@ -23,10 +23,12 @@ use Rattle.serving.specs.HttpWorks.{AskedApart, DidApart, HasAcceptedBeside, Had
 use Rattle.serving.specs.declared.requests.Exchange.{Exchange}
 use Rattle.serving.specs.Settings.{settings, last_tried}
 use Rattle.serving.specs.SpoolTurns.{IsSpoolTurn, has_dealt, SpoolPart}
+use Rattle.serving.specs.Hearing.{Hearing, WasTold, WithHeard, HeardApart, idle_ends, heard_of_all, late_ends}
 use Rattle.serving.specs.Turns.{way_of, millis_of, HasCauseInTurn, IsTurn, Works}
 use Rattle.serving.proofs.Staying.{Fewer, deposit_same}
 use Rattle.serving.proofs.Resting.{rests_so, waits_then, not_true, is_left}
 use Rattle.serving.proofs.Arriving.{shut_moved}
+use Rattle.serving.proofs.Hearing.{told_then, turn_heard}
 use Rattle.serving.proofs.Turns.{served_so}
 use Rattle.serving.proofs.Freeing.{freed_left, freed_right}
 use Rattle.serving.specs.Newcomers.{newcomer, AllHaveSeats, IsNewlyNoted}
@@ -148,22 +150,24 @@ no_wait links e = rw e refl
 
 -- ---- the turn
 
-module _ {V W S : Type 0} (Holds : V → Contents → Type 0) (IsClean : V → Type 0) (Faults : V → ℕ) (Asked : W → List Call → Type 0) (AskedFiles : S → List FileCall → Type 0) where
-  pub turn_done : (T : Trace) (now : ℕ) (links links_then : Links) (o o1 o2 o3 o4 o5 o6 : Office V) (w w1 w2 w3 w4 w5 w6 : W) (f f1 : S) (seats2 : List Seat) (goes : Bool) (held : List Exchange) (more freed hurrying hurried : Bool) (n1 n2 : List Newcomer)
+module _ {V W S H : Type 0} (Holds : V → Contents → Type 0) (IsClean : V → Type 0) (Faults : V → ℕ) (Asked : W → List Call → Type 0) (AskedFiles : S → List FileCall → Type 0) (Heard : H → List Hearing → Type 0) where
+  pub turn_done : (T : Trace) (now : ℕ) (links links_then : Links) (o o1 o2 o3 o4 o5 o6 : Office V) (w w1 w2 w3 w4 w5 w6 : W) (f f1 : S) (l l1 l2 l3 l4 l5 : H) (seats2 : List Seat) (goes : Bool) (held : List Exchange) (more freed hurrying hurried : Bool) (n1 n2 : List Newcomer)
       → Part Holds IsClean Faults Asked o w o1 w1 (IsPassed (millis_of links) now)
+      → ((U : Trace) → StandsFor Holds o1 U → WasTold Heard l l1 (idle_ends U links.clients.seats.items))
       → (acc : Part Holds IsClean Faults Asked o1 w1 o2 w2 (AreAccepted Holds IsClean o1 o2 links.clients.seats.items seats2 64 goes))
       → Asking Asked w2 w3 (AskedApart (HasAcceptedBeside now 64 more links.requests.exchanges.items held))
-      → Part Holds IsClean Faults Asked o2 w3 o3 w4 (Also (WereServed Holds IsClean o2 o3 (settings links) freed hurrying seats2 seats2) (HurriesBy freed hurrying))
+      → WasTold Heard l1 l2 []
+      → Part Holds IsClean Faults Asked o2 w3 o3 w4 (WithHeard Holds IsClean Heard o2 l2 o3 l3 (Also (WereServed Holds IsClean o2 o3 (settings links) freed hurrying seats2 seats2) (HurriesBy freed hurrying)))
       → (freed ≡ true → hurrying ≡ true) → (hurrying ≡ true → hurried ≡ true)
-      → Part Holds IsClean Faults Asked o3 w4 o4 w5 (Also (DidApart Holds IsClean o3 o4 (λ B L. HadHttpTurns now B L held links_then.requests.exchanges.items)) (HurriesBy false links_then.requests.hurries))
+      → Part Holds IsClean Faults Asked o3 w4 o4 w5 (Also (DidApart Holds IsClean o3 o4 (HeardApart Heard l3 l4 (λ B L. HadHttpTurns now B L held links_then.requests.exchanges.items))) (HurriesBy false links_then.requests.hurries))
       → ((c : ℕ) (n : Newcomer) → newcomer c links.clients.newcomers.newcomers.items ≡ Some n → newcomer c n1 ≡ Some n)
       → (AllHaveSeats links → (links.clients.newcomers.seconds == 0) ≡ false → All (IsNewlyNoted now links.clients.newcomers.newcomers.items n1) (filter_map seat_of acc.facts.came))
-      → Giving Holds IsClean Faults o4 o5 (λ g. AreLateGone now links.clients.newcomers.seconds links.clients.newcomers.newcomers.items g × HasEndedLate Holds IsClean o4 o5 now links.clients.newcomers.seconds n1 n2 seats2 g)
+      → Giving Holds IsClean Faults o4 o5 (λ g. AreLateGone now links.clients.newcomers.seconds links.clients.newcomers.newcomers.items g × HasEndedLate Holds IsClean o4 o5 now links.clients.newcomers.seconds n1 n2 seats2 g × WasTold Heard l4 l5 (late_ends g))
       → ((U : Trace) → StandsFor Holds o5 U → (c : ℕ) → is_open U c ≡ true → newcomer c links_then.clients.newcomers.newcomers.items ≡ newcomer c n2)
       → ((U : Trace) → StandsFor Holds o5 U → Asking Asked w5 w6 (λ calls. AreClosed U seats2 links_then.clients.seats.items calls × HurriesBy hurrying hurried calls × Releases links.clients.wait hurried calls))
       → SpoolPart Holds IsClean Faults AskedFiles o5 f o6 f1 (λ U given calls. IsSpoolTurn (last_tried links) (last_tried links_then) U given calls × (links_then.clients.hurries ≡ (hurried || has_dealt calls)))
-      → StandsFor Holds o T → IsClean (vault_of o6) → Works Holds Faults Asked AskedFiles T now links o w f o6 links_then w6 f1
-  turn_done T now links links_then o o1 o2 o3 o4 o5 o6 w w1 w2 w3 w4 w5 w6 f f1 seats2 goes held more freed hurrying hurried n1 n2 pass acc asked served freeing still reqs keeps comers late forgets close spool s k6 =
+      → StandsFor Holds o T → IsClean (vault_of o6) → Works Holds Faults Asked AskedFiles Heard T now links o w f l o6 links_then w6 f1 l5
+  turn_done T now links links_then o o1 o2 o3 o4 o5 o6 w w1 w2 w3 w4 w5 w6 f f1 l l1 l2 l3 l4 l5 seats2 goes held more freed hurrying hurried n1 n2 pass idle acc asked unheard served freeing still reqs keeps comers late forgets close spool s k6 =
       let B = T.base in
       let L = T.log in
       let seconds = links.clients.newcomers.seconds in
@@ -208,8 +212,13 @@ module _ {V W S : Type 0} (Holds : V → Contents → Type 0) (IsClean : V → T
       let C5 : List Call = ((((cp ++ ca) ++ cq) ++ cl) ++ cr) ++ cx in
       let filed = spool.facts (trace_of B ((gz ++ G3) ++ L)) (subst (λ l. StandsFor Holds o5 (trace_of B l)) (sym (append_assoc gz G3 L)) s5) k6 in
       let sleeps_not : hurried ≡ true → millis_of links_then ≡ 0 = λ e. no_wait links_then (filed.1 ∙ is_left hurried (has_dealt spool.calls) e) in
-      let had = served_so Holds IsClean Faults o2 o3 (way_by (settings links) (length seats2) freed hurrying) way seats2 seats2 gl cl refl refl (λ e. e) (λ e. ap (λ n. n == 0) (sleeps_not (still e))) served.facts.0.turns in
+      let had = served_so Holds IsClean Faults o2 o3 (way_by (settings links) (length seats2) freed hurrying) way seats2 seats2 gl cl refl refl (λ e. e) (λ e. ap (λ n. n == 0) (sleeps_not (still e))) served.facts.1.0.turns in
       let come = acc.facts.come in
+      let moment : Event × EventTag = (event.Tick now, pass.facts.event_tag) in
+      let idle_heard = idle_ends (trace_of B (moment ∷ L)) links.clients.seats.items in
+      let links_heard = heard_of_all B (G1 ++ L) gl in
+      let reqs_heard = heard_of_all B (G2 ++ L) gr in
+      let late_heard = late_ends gz in
       let came = acc.facts.came in
       let quiet = deposits_quiet gs spool.deposits in
       let hush = late_quiet now seconds newcomers gz late.facts.0 in
@@ -226,14 +235,14 @@ module _ {V W S : Type 0} (Holds : V → Contents → Type 0) (IsClean : V → T
       let none : (q : Seat) → Contains [] q → Contains seats2 q = λ q h. absurd (none_contained q h) in
       let caused_s : AreCaused seats2 C5 gs = caused_more [] seats2 [] C5 gs none (λ l h. cc) quiet.caused in
       let caused_r : AreCaused seats2 C5 gr = caused_more [] seats2 cr C5 gr none (λ l h. seen_fifth cp ca cq cl cr cx (is_cut_of l) h) reqs.facts.0.caused in
-      let caused_l : AreCaused seats2 C5 gl = caused_more seats2 seats2 cl C5 gl (λ q h. h) cut served.facts.0.turns.of_seats.caused in
+      let caused_l : AreCaused seats2 C5 gl = caused_more seats2 seats2 cl C5 gl (λ q h. h) cut served.facts.1.0.turns.of_seats.caused in
       let caused_a : AreCaused seats2 C5 ga = caused_more [] seats2 ca C5 ga none (λ l h. seen_second cp ca cq cl cr cx (is_cut_of l) h) come.caused in
       let caused_p : AreCaused seats2 C5 gp = subst (AreCaused seats2 C5) (sym pass.facts.given_is) (All-cons (HasCause seats2 C5) (event.Tick now, pass.facts.event_tag) [] tt (All-nil (HasCause seats2 C5))) in
       let P = HasCause seats2 C5 in
       let Q = HasCauseInTurn now links seats2 C5 in
       let by_cause : (g : Log) → All P g → All Q g = λ g h. All-weaker P Q (λ y p. inl p) g h in
       let caused_z : All Q gz = All-weaker (IsLateGone now seconds newcomers) Q (λ y p. inr p) gz late.facts.0 in
-      let lq = served.facts.0.turns.of_seats.quiet in
+      let lq = served.facts.1.0.turns.of_seats.quiet in
       let rq = reqs.facts.0.quiet in
       let waits_x : waits cx ≡ [] = ap waits x.facts.0.calls_are ∙ waits_of (filter (is_shut_seat trace4) seats2) in
       let arrivals_x : arrivals cx ≡ [] = ap arrivals x.facts.0.calls_are ∙ arrivals_of (filter (is_shut_seat trace4) seats2) in
@@ -261,13 +270,32 @@ module _ {V W S : Type 0} (Holds : V → Contents → Type 0) (IsClean : V → T
             (asked_then Asked w w3 w4 ((cp ++ ca) ++ cq) cl
             (asked_then Asked w w2 w3 (cp ++ ca) cq (asked_then Asked w w1 w2 cp ca pass.was_asked acc.was_asked) asked.was_asked) served.was_asked) reqs.was_asked) x.was_asked;
         asked_files = spool.was_asked;
+        heard = idle_heard ++ ((links_heard ++ reqs_heard) ++ late_heard);
+        told =
+            told_then Heard l l1 l5 idle_heard ((links_heard ++ reqs_heard) ++ late_heard) (subst (λ p. WasTold Heard l l1 (idle_ends (trace_of B (p ++ L)) links.clients.seats.items)) pass.facts.given_is (idle (trace_of B (gp ++ L)) s1))
+            (told_then Heard l1 l2 l5 [] ((links_heard ++ reqs_heard) ++ late_heard) unheard
+            (told_then Heard l2 l4 l5 (links_heard ++ reqs_heard) late_heard
+            (told_then Heard l2 l3 l4 links_heard reqs_heard (served.facts.0.is B (G1 ++ L) s2 k3) (reqs.facts.0.did B (G2 ++ L) s3 k4).0) late.facts.2));
+        is_heard = record {
+          event_tag = pass.facts.event_tag;
+          told = gr ++ (gl ++ ga);
+          late = gz;
+          deposits = gs;
+          given_are = append_assoc gs gz G3
+              ∙ ap (λ g. gs ++ (gz ++ g)) (ap (λ p. gr ++ (gl ++ (ga ++ p))) pass.facts.given_is
+              ∙ (ap (λ g. gr ++ g) (sym (append_assoc gl ga (moment ∷ []))) ∙ sym (append_assoc gr (gl ++ ga) (moment ∷ []))));
+          are_deposits = spool.deposits;
+          are_late = late.facts.0;
+          caused = All-append (HasCause seats2 C5) gr (gl ++ ga) caused_r (All-append (HasCause seats2 C5) gl ga caused_l caused_a);
+          heard_are = ap (λ h. idle_heard ++ (h ++ late_heard)) (turn_heard B L gp ga gl gr moment pass.facts.given_is come.only);
+        };
         files = record {
           deposits = gs;
           earlier = gz ++ G3;
           is = append_assoc gs gz G3;
           tries = filed.0;
         };
-        rests = λ m f d. waits_then links_then (filed.1 ∙ rests_so hurrying freed hurried (has_dealt spool.calls) (has_moved cl) (has_moved cx) (has_moved C5) served.facts.1 x.facts.1
+        rests = λ m f d. waits_then links_then (filed.1 ∙ rests_so hurrying freed hurried (has_dealt spool.calls) (has_moved cl) (has_moved cx) (has_moved C5) served.facts.1.1 x.facts.1
             (λ q. seen_fourth cp ca cq cl cr cx is_moving q) (λ q. any_right is_moving ((((cp ++ ca) ++ cq) ++ cl) ++ cr) cx q) m f d)
             (not_true links_then.requests.hurries (λ e. true≢false (sym (seen_fifth cp ca cq cl cr cx is_moving (reqs.facts.1 e)) ∙ m)));
         frees = λ e. sleeps_not (still (freeing e));
@@ -283,13 +311,13 @@ module _ {V W S : Type 0} (Holds : V → Contents → Type 0) (IsClean : V → T
           goes = more;
           calls_are = append_assoc (((cp ++ ca) ++ cq) ++ cl) cr cx ∙ (append_assoc ((cp ++ ca) ++ cq) cl (cr ++ cx) ∙ append_assoc (cp ++ ca) cq (cl ++ (cr ++ cx)));
           apart = none_of is_beside (cp ++ ca) (cl ++ cx) (none_of is_beside cp ca (ap (list_any is_beside) pass.facts.calls_are) come.apart)
-              (none_of is_beside cl cx served.facts.0.turns.of_seats.apart (ap (list_any is_beside) x.facts.0.calls_are ∙ apart_of (filter (is_shut_seat trace4) seats2)));
+              (none_of is_beside cl cx served.facts.1.0.turns.of_seats.apart (ap (list_any is_beside) x.facts.0.calls_are ∙ apart_of (filter (is_shut_seat trace4) seats2)));
           earlier = G2;
           commands = gr;
           later = gx;
           given_are = refl;
           accepted = asked.facts.1;
-          served = reqs.facts.0.did B (G2 ++ L) s3 k4;
+          served = (reqs.facts.0.did B (G2 ++ L) s3 k4).1;
         };
         is = record {
           seats_are = come.seated;
@@ -336,8 +364,8 @@ module _ {V W S : Type 0} (Holds : V → Contents → Type 0) (IsClean : V → T
               omega (arith, e5, e4, e3, e2, e1, a, b, z, d, f, refusals_p));
           freed = freed;
           ended = λ e. (
-            (served.facts.0.freed_by e).0,
-            freed_left B L G3 gx seats2 (freed_left B L G2 gr seats2 (freed_right B L G1 gl seats2 ((served.facts.0.freed_by e).1 B (G1 ++ L) s2 k3))),
+            (served.facts.1.0.freed_by e).0,
+            freed_left B L G3 gx seats2 (freed_left B L G2 gr seats2 (freed_right B L G1 gl seats2 ((served.facts.1.0.freed_by e).1 B (G1 ++ L) s2 k3))),
           );
           turns = All-weaker (HadTurn way B (G1 ++ L) gl (trace_of B (gl ++ (G1 ++ L))) cl) (HadTurn way B L G4 after C5)
               (λ q h here.

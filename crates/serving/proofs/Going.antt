@@ -12,6 +12,7 @@ use Rattle.office.specs.Stands.{StandsFor, vault_of}
 use Rattle.office.specs.declared.office.Office.{Office}
 use Rattle.serving.specs.Calls.{Call}
 use Rattle.serving.specs.Spools.{FileCall}
+use Rattle.serving.specs.Hearing.{Hearing}
 use Rattle.serving.specs.Works.{is_failed}
 use Rattle.serving.specs.HttpTurns.{AllGoOn}
 use Rattle.serving.specs.Turns.{Works}
@@ -35,18 +36,18 @@ none_more before moments =
 
 -- ---- turns
 
-module _ {V W S : Type 0} (Holds : V → Contents → Type 0) (Faults : V → ℕ) (Asked : W → List Call → Type 0) (AskedFiles : S → List FileCall → Type 0) (T : Trace) where
-  gone_none : (l : Links) (o : Office V) (w : W) (s : S) → StandsFor Holds o T → HasGoneOn Holds Faults Asked AskedFiles T [] l o w s l o w s
-  gone_none l o w s stands = record { given = []; turns = NoTurn; stands = stands; admitted = tt; counted = omega arith; failed = λ e. cc }
+module _ {V W S H : Type 0} (Holds : V → Contents → Type 0) (Faults : V → ℕ) (Asked : W → List Call → Type 0) (AskedFiles : S → List FileCall → Type 0) (Heard : H → List Hearing → Type 0) (T : Trace) where
+  gone_none : (l : Links) (o : Office V) (w : W) (s : S) (h : H) → StandsFor Holds o T → HasGoneOn Holds Faults Asked AskedFiles Heard T [] l o w s h l o w s h
+  gone_none l o w s h stands = record { given = []; turns = NoTurn; stands = stands; admitted = tt; counted = omega arith; failed = λ e. cc }
 
-  gone_more : (moments : List ℕ) (l : Links) (o : Office V) (w : W) (s : S) (l1 : Links) (o1 : Office V) (w1 : W) (s1 : S) (now : ℕ) (l2 : Links) (o2 : Office V) (w2 : W) (s2 : S)
-      → (a : HasGoneOn Holds Faults Asked AskedFiles T moments l o w s l1 o1 w1 s1)
-      → Works Holds Faults Asked AskedFiles (trace_of T.base (a.given ++ T.log)) now l1 o1 w1 s1 o2 l2 w2 s2
+  gone_more : (moments : List ℕ) (l : Links) (o : Office V) (w : W) (s : S) (h : H) (l1 : Links) (o1 : Office V) (w1 : W) (s1 : S) (h1 : H) (now : ℕ) (l2 : Links) (o2 : Office V) (w2 : W) (s2 : S) (h2 : H)
+      → (a : HasGoneOn Holds Faults Asked AskedFiles Heard T moments l o w s h l1 o1 w1 s1 h1)
+      → Works Holds Faults Asked AskedFiles Heard (trace_of T.base (a.given ++ T.log)) now l1 o1 w1 s1 h1 o2 l2 w2 s2 h2
       → AllGoOn now l2
-      → HasGoneOn Holds Faults Asked AskedFiles T (moments ++ now ∷ []) l o w s l2 o2 w2 s2
-  gone_more moments l o w s l1 o1 w1 s1 now l2 o2 w2 s2 a turn live = record {
+      → HasGoneOn Holds Faults Asked AskedFiles Heard T (moments ++ now ∷ []) l o w s h l2 o2 w2 s2 h2
+  gone_more moments l o w s h l1 o1 w1 s1 h1 now l2 o2 w2 s2 h2 a turn live = record {
     given = turn.given ++ a.given;
-    turns = OneMore moments a.given l1 o1 w1 s1 now l2 o2 w2 s2 a.turns turn live;
+    turns = OneMore moments a.given l1 o1 w1 s1 h1 now l2 o2 w2 s2 h2 a.turns turn live;
     stands = subst (λ x. StandsFor Holds o2 (trace_of T.base x)) (sym (append_assoc turn.given a.given T.log)) turn.stands;
     admitted = newly_then T.base T.log a.given turn.given a.admitted turn.is.admitted;
     counted = (let p = a.counted in let q = turn.counted in omega (arith, p, q));
@@ -59,34 +60,34 @@ module _ {V W S : Type 0} (Holds : V → Contents → Type 0) (Faults : V → �
         (or_cases (list_any is_failed turn.given) (list_any is_failed a.given) (sym (list_any-append is_failed turn.given a.given) ∙ e));
   }
 
-module _ {V W S C : Type 0} (Holds : V → Contents → Type 0) (IsClean : V → Type 0) (Faults : V → ℕ) (Asked : W → List Call → Type 0) (AskedFiles : S → List FileCall → Type 0) (Gave : C → List (Option ℕ) → Type 0)
-    (l : Links) (o : Office V) (w : W) (s : S) (k : C) where
-  pub turned_none : HasTurned Holds IsClean Faults Asked AskedFiles Gave false [] l o w s k l o w s k
+module _ {V W S H C : Type 0} (Holds : V → Contents → Type 0) (IsClean : V → Type 0) (Faults : V → ℕ) (Asked : W → List Call → Type 0) (AskedFiles : S → List FileCall → Type 0) (Heard : H → List Hearing → Type 0) (Gave : C → List (Option ℕ) → Type 0)
+    (l : Links) (o : Office V) (w : W) (s : S) (h : H) (k : C) where
+  pub turned_none : HasTurned Holds IsClean Faults Asked AskedFiles Heard Gave false [] l o w s h k l o w s h k
   turned_none = record {
-    gave = λ before h. subst (Gave k) (none_yet before) h;
-    each = λ T stands clean. gone_none Holds Faults Asked AskedFiles T l o w s stands;
+    gave = λ before g. subst (Gave k) (none_yet before) g;
+    each = λ T stands clean. gone_none Holds Faults Asked AskedFiles Heard T l o w s h stands;
   }
 
-  pub turned_more : (moments : List ℕ) (l1 : Links) (o1 : Office V) (w1 : W) (s1 : S) (k1 : C) (now : ℕ) (l2 : Links) (o2 : Office V) (w2 : W) (s2 : S) (k2 : C)
-      → HasTurned Holds IsClean Faults Asked AskedFiles Gave false moments l o w s k l1 o1 w1 s1 k1
+  pub turned_more : (moments : List ℕ) (l1 : Links) (o1 : Office V) (w1 : W) (s1 : S) (h1 : H) (k1 : C) (now : ℕ) (l2 : Links) (o2 : Office V) (w2 : W) (s2 : S) (h2 : H) (k2 : C)
+      → HasTurned Holds IsClean Faults Asked AskedFiles Heard Gave false moments l o w s h k l1 o1 w1 s1 h1 k1
       → ((before : List (Option ℕ)) → Gave k1 before → Gave k2 (before ++ Some now ∷ []))
       → (IsClean (vault_of o2) → IsClean (vault_of o1))
-      → ((T : Trace) → StandsFor Holds o1 T → IsClean (vault_of o2) → Works Holds Faults Asked AskedFiles T now l1 o1 w1 s1 o2 l2 w2 s2)
+      → ((T : Trace) → StandsFor Holds o1 T → IsClean (vault_of o2) → Works Holds Faults Asked AskedFiles Heard T now l1 o1 w1 s1 h1 o2 l2 w2 s2 h2)
       → AllGoOn now l2
-      → HasTurned Holds IsClean Faults Asked AskedFiles Gave false (moments ++ now ∷ []) l o w s k l2 o2 w2 s2 k2
-  turned_more moments l1 o1 w1 s1 k1 now l2 o2 w2 s2 k2 a called clean works live = record {
-    gave = λ before h. subst (Gave k2) (one_more before moments now) (called (before ++ answers false moments) (a.gave before h));
+      → HasTurned Holds IsClean Faults Asked AskedFiles Heard Gave false (moments ++ now ∷ []) l o w s h k l2 o2 w2 s2 h2 k2
+  turned_more moments l1 o1 w1 s1 h1 k1 now l2 o2 w2 s2 h2 k2 a called clean works live = record {
+    gave = λ before g. subst (Gave k2) (one_more before moments now) (called (before ++ answers false moments) (a.gave before g));
     each = λ T stands z.
         (let g = a.each T stands (clean z) in
-        gone_more Holds Faults Asked AskedFiles T moments l o w s l1 o1 w1 s1 now l2 o2 w2 s2 g (works (trace_of T.base (g.given ++ T.log)) g.stands z) live);
+        gone_more Holds Faults Asked AskedFiles Heard T moments l o w s h l1 o1 w1 s1 h1 now l2 o2 w2 s2 h2 g (works (trace_of T.base (g.given ++ T.log)) g.stands z) live);
   }
 
-  pub turned_stopped : (moments : List ℕ) (l1 : Links) (o1 : Office V) (w1 : W) (s1 : S) (k1 k2 : C)
-      → HasTurned Holds IsClean Faults Asked AskedFiles Gave false moments l o w s k l1 o1 w1 s1 k1
+  pub turned_stopped : (moments : List ℕ) (l1 : Links) (o1 : Office V) (w1 : W) (s1 : S) (h1 : H) (k1 k2 : C)
+      → HasTurned Holds IsClean Faults Asked AskedFiles Heard Gave false moments l o w s h k l1 o1 w1 s1 h1 k1
       → ((before : List (Option ℕ)) → Gave k1 before → Gave k2 (before ++ None ∷ []))
-      → HasTurned Holds IsClean Faults Asked AskedFiles Gave true moments l o w s k l1 o1 w1 s1 k2
-  turned_stopped moments l1 o1 w1 s1 k1 k2 a called = record {
-    gave = λ before h. subst (Gave k2) (none_more before moments) (called (before ++ answers false moments) (a.gave before h));
+      → HasTurned Holds IsClean Faults Asked AskedFiles Heard Gave true moments l o w s h k l1 o1 w1 s1 h1 k2
+  turned_stopped moments l1 o1 w1 s1 h1 k1 k2 a called = record {
+    gave = λ before g. subst (Gave k2) (none_more before moments) (called (before ++ answers false moments) (a.gave before g));
     each = a.each;
   }
 

@@ -13,6 +13,7 @@ pub mod Origins
 pub mod Working
 pub mod Turns
 pub mod Arriving
+pub mod Hearing
 pub mod Finishing
 pub mod Quieting
 pub mod HttpWorking

@@ -23,6 +23,8 @@ use Rattle.serving.specs.declared.wire.Io.TheVariants.{Count, Later}
 use Rattle.serving.specs.Calls.{Call, Waited, Looked, Accepted, Read, Wrote, Closed}
 use Rattle.serving.specs.declared.links.Seat.{Seat}
 use Rattle.serving.specs.Wires.{is_fault, opened_by}
+use Rattle.serving.specs.Hearing.{Hearing, WithHeard}
+use Rattle.serving.proofs.Hearing.{unheard}
 use Rattle.serving.specs.Works.{Also, waits, arrivals, arrival_of, closings, closing_of, none_waited, tells_none, is_read_of, is_later_of, is_taking_of, is_cut_of, is_cut, most_writes, octets_taken, had_its_turn, moments, openings, is_opening, refusals, is_refusal, AreNewlyAdmitted, HasCause, AreCaused, WasGiven, WasAsked, Part, Asking, Giving, IsQuiet, IsQuietFor, Came, seat_of, unseated_of, link_of, HaveCome, HasAccepted, AreAccepted, OwesNothing, IsWritten, IsWrittenOut, IsNotReady, IsUnread, IsHeard, IsReadOnce, NotReady, WasRead, HasLooked, Unlooked, NothingCame, PieceCame, IsReadByLine, IsHeldBack, most_at_once, IsKeptBack, Way, HadTurn, HadTurns}
 use Rattle.serving.specs.Paces.{is_free, first_line, part_by}
 use Rattle.serving.specs.declared.pace.Pace.{Pace}
@@ -367,25 +369,27 @@ module _ {V : Type 0} (Holds : V → Contents → Type 0) (IsClean : V → Type 
 
 -- ---- what was looked at first
 
-module _ {V W : Type 0} (Holds : V → Contents → Type 0) (IsClean : V → Type 0) (Faults : V → ℕ) (Asked : W → List Call → Type 0) where
-  pub heard_asked : (o : Office V) (w w1 : W) (seat : Seat) (wait : ℕ) (may : Bool) (N : List Call → Type 0) (calls : List Call) → WasAsked Asked w w1 calls → IsHeard Holds o seat wait may [] calls → N calls
-      → Part Holds IsClean Faults Asked o w o w1 (Also (IsHeard Holds o seat wait may) N)
-  heard_asked o w w1 seat wait may N calls asked a n = record { given = []; calls = calls; was_given = given_none Holds IsClean Faults o; was_asked = asked; facts = (a, n) }
+module _ {V W H : Type 0} (Holds : V → Contents → Type 0) (IsClean : V → Type 0) (Faults : V → ℕ) (Asked : W → List Call → Type 0) (Heard : H → List Hearing → Type 0) where
+  pub heard_asked : (o : Office V) (w w1 : W) (l : H) (seat : Seat) (wait : ℕ) (may : Bool) (N : List Call → Type 0) (calls : List Call) → WasAsked Asked w w1 calls → IsHeard Holds o seat wait may [] calls → N calls
+      → Part Holds IsClean Faults Asked o w o w1 (WithHeard Holds IsClean Heard o l o l (Also (IsHeard Holds o seat wait may) N))
+  heard_asked o w w1 l seat wait may N calls asked a n = record { given = []; calls = calls; was_given = given_none Holds IsClean Faults o; was_asked = asked; facts = (unheard Holds IsClean Heard o l, (a, n)) }
 
-  pub heard_after : (o o1 : Office V) (w w1 w2 : W) (seat : Seat) (wait : ℕ) (may : Bool) (pace : Pace) (room : ℕ) (M N : List Call → Type 0) (looks : List Call) → ((c : List Call) → M c → N (looks ++ c))
+  pub heard_after : (o o1 : Office V) (w w1 w2 : W) (l l1 : H) (seat : Seat) (wait : ℕ) (may : Bool) (pace : Pace) (room : ℕ) (M N : List Call → Type 0) (looks : List Call) → ((c : List Call) → M c → N (looks ++ c))
       → IsQuietFor (seat ∷ []) [] looks → HasLooked Holds o seat wait pace room looks → (room == 0) ≡ false → (is_free pace ≡ false → may ≡ true) → WasAsked Asked w w1 looks
-      → Part Holds IsClean Faults Asked o w1 o1 w2 (Also (IsReadOnce Holds o seat room) M) → Part Holds IsClean Faults Asked o w o1 w2 (Also (IsHeard Holds o seat wait may) N)
-  heard_after o o1 w w1 w2 seat wait may pace room M N looks more quiet looked some line asked a = record {
+      → Part Holds IsClean Faults Asked o w1 o1 w2 (WithHeard Holds IsClean Heard o l o1 l1 (Also (IsReadOnce Holds o seat room) M))
+      → Part Holds IsClean Faults Asked o w o1 w2 (WithHeard Holds IsClean Heard o l o1 l1 (Also (IsHeard Holds o seat wait may) N))
+  heard_after o o1 w w1 w2 l l1 seat wait may pace room M N looks more quiet looked some line asked a = record {
     given = a.given;
     calls = looks ++ a.calls;
     was_given = a.was_given;
     was_asked = asked_then Asked w w1 w2 looks a.calls asked a.was_asked;
-    facts = (heard_behind Holds IsClean Faults wait may o seat pace room a.given looks a.calls quiet looked some line a.facts.0, more a.calls a.facts.1);
+    facts = (a.facts.0, (heard_behind Holds IsClean Faults wait may o seat pace room a.given looks a.calls quiet looked some line a.facts.1.0, more a.calls a.facts.1.1));
   }
 
   -- a read that had room for so many octets of a buffer
-  pub read_part : (o o1 : Office V) (w w1 : W) (seat : Seat) (n : ℕ) (xs : List ℕ) (M : List Call → Type 0) → Part Holds IsClean Faults Asked o w o1 w1 (Also (IsReadOnce Holds o seat (length (take n xs))) M) → n ≤ length xs
-      → Part Holds IsClean Faults Asked o w o1 w1 (Also (IsReadOnce Holds o seat n) M)
-  read_part o o1 w w1 seat n xs M a h =
+  pub read_part : (o o1 : Office V) (w w1 : W) (l l1 : H) (seat : Seat) (n : ℕ) (xs : List ℕ) (M : List Call → Type 0)
+      → Part Holds IsClean Faults Asked o w o1 w1 (WithHeard Holds IsClean Heard o l o1 l1 (Also (IsReadOnce Holds o seat (length (take n xs))) M)) → n ≤ length xs
+      → Part Holds IsClean Faults Asked o w o1 w1 (WithHeard Holds IsClean Heard o l o1 l1 (Also (IsReadOnce Holds o seat n) M))
+  read_part o o1 w w1 l l1 seat n xs M a h =
       let e : length (take n xs) ≡ n = (let k = length-take n xs in omega (arith, k, h)) in
-      subst (λ m. Part Holds IsClean Faults Asked o w o1 w1 (Also (IsReadOnce Holds o seat m) M)) e a
+      subst (λ m. Part Holds IsClean Faults Asked o w o1 w1 (WithHeard Holds IsClean Heard o l o1 l1 (Also (IsReadOnce Holds o seat m) M))) e a

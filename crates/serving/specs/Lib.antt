@@ -12,6 +12,7 @@ pub mod Served
 pub mod Settings
 pub mod Works
 pub mod Late
+pub mod Hearing
 pub mod HttpTurns
 pub mod HttpWorks
 pub mod SpoolTurns

@@ -10,6 +10,7 @@ use Rattle.office.specs.Stands.{StandsFor, vault_of}
 use Rattle.office.specs.declared.office.Office.{Office}
 use Rattle.serving.specs.Calls.{Call}
 use Rattle.serving.specs.Spools.{FileCall}
+use Rattle.serving.specs.Hearing.{Hearing}
 use Rattle.serving.specs.Works.{AreNewlyAdmitted, is_failed}
 use Rattle.serving.specs.HttpTurns.{AllGoOn}
 use Rattle.serving.specs.Turns.{Works}
@@ -17,30 +18,34 @@ use Rattle.serving.specs.declared.links.Links.{Links}
 
 -- The turns of these moments were done, the oldest first, and gave these events: each turn works,
 -- from the trace with the events of those before it.
-pub data AreTurns {V W S : Type 0} (Holds : V → Contents → Type 0) (Faults : V → ℕ)
-    (Asked : W → List Call → Type 0) (AskedFiles : S → List FileCall → Type 0) (T : Trace)
-    (links : Links) (office : Office V) (wire : W) (spool : S)
-    : (moments : List ℕ) → (given : Log) → Links → Office V → W → S → Type 0 where
-  NoTurn : AreTurns Holds Faults Asked AskedFiles T links office wire spool
-      [] [] links office wire spool
+pub data AreTurns {V W S H : Type 0} (Holds : V → Contents → Type 0) (Faults : V → ℕ)
+    (Asked : W → List Call → Type 0) (AskedFiles : S → List FileCall → Type 0)
+    (Heard : H → List Hearing → Type 0) (T : Trace)
+    (links : Links) (office : Office V) (wire : W) (spool : S) (listener : H)
+    : (moments : List ℕ) → (given : Log) → Links → Office V → W → S → H → Type 0 where
+  NoTurn : AreTurns Holds Faults Asked AskedFiles Heard T links office wire spool listener
+      [] [] links office wire spool listener
   OneMore : (moments : List ℕ) (given : Log) (links1 : Links) (office1 : Office V) (wire1 : W)
-      (spool1 : S) (now : ℕ) (links2 : Links) (office2 : Office V) (wire2 : W) (spool2 : S)
-      → AreTurns Holds Faults Asked AskedFiles T links office wire spool
-      moments given links1 office1 wire1 spool1
-      → (turn : Works Holds Faults Asked AskedFiles (trace_of T.base (given ++ T.log)) now
-      links1 office1 wire1 spool1 office2 links2 wire2 spool2)
+      (spool1 : S) (listener1 : H) (now : ℕ) (links2 : Links) (office2 : Office V) (wire2 : W)
+      (spool2 : S) (listener2 : H)
+      → AreTurns Holds Faults Asked AskedFiles Heard T links office wire spool listener
+      moments given links1 office1 wire1 spool1 listener1
+      → (turn : Works Holds Faults Asked AskedFiles Heard (trace_of T.base (given ++ T.log)) now
+      links1 office1 wire1 spool1 listener1 office2 links2 wire2 spool2 listener2)
       → AllGoOn now links2
-      → AreTurns Holds Faults Asked AskedFiles T links office wire spool
-      (moments ++ now ∷ []) (turn.given ++ given) links2 office2 wire2 spool2
+      → AreTurns Holds Faults Asked AskedFiles Heard T links office wire spool listener
+      (moments ++ now ∷ []) (turn.given ++ given) links2 office2 wire2 spool2 listener2
 
 -- So an office went on since a trace: it stands for that trace with the events of the turns.
-pub record HasGoneOn {V W S : Type 0} (Holds : V → Contents → Type 0) (Faults : V → ℕ)
-    (Asked : W → List Call → Type 0) (AskedFiles : S → List FileCall → Type 0) (T : Trace)
-    (moments : List ℕ) (links : Links) (office : Office V) (wire : W) (spool : S)
-    (links_then : Links) (office_then : Office V) (wire_then : W) (spool_then : S) : Type 0 where
+pub record HasGoneOn {V W S H : Type 0} (Holds : V → Contents → Type 0) (Faults : V → ℕ)
+    (Asked : W → List Call → Type 0) (AskedFiles : S → List FileCall → Type 0)
+    (Heard : H → List Hearing → Type 0) (T : Trace) (moments : List ℕ)
+    (links : Links) (office : Office V) (wire : W) (spool : S) (listener : H)
+    (links_then : Links) (office_then : Office V) (wire_then : W) (spool_then : S)
+    (listener_then : H) : Type 0 where
   pub given : Log
-  pub turns : AreTurns Holds Faults Asked AskedFiles T links office wire spool
-      moments given links_then office_then wire_then spool_then
+  pub turns : AreTurns Holds Faults Asked AskedFiles Heard T links office wire spool listener
+      moments given links_then office_then wire_then spool_then listener_then
   pub stands : StandsFor Holds office_then (trace_of T.base (given ++ T.log))
   -- each event has a tag that it may have
   pub admitted : AreNewlyAdmitted T.base T.log given
@@ -54,28 +59,30 @@ abbrev pub answers : (stopped : Bool) → (moments : List ℕ) → List (Option 
 answers stopped moments = map (λ m. Some m) moments ++ (if stopped then None ∷ [] else [])
 
 -- A clock was asked for these moments and no others, and for each a turn was done, since any trace.
-pub record HasTurned {V W S C : Type 0} (Holds : V → Contents → Type 0) (IsClean : V → Type 0)
+pub record HasTurned {V W S H C : Type 0} (Holds : V → Contents → Type 0) (IsClean : V → Type 0)
     (Faults : V → ℕ) (Asked : W → List Call → Type 0) (AskedFiles : S → List FileCall → Type 0)
-    (Gave : C → List (Option ℕ) → Type 0) (stopped : Bool) (moments : List ℕ)
-    (links : Links) (office : Office V) (wire : W) (spool : S) (clock : C)
-    (links_then : Links) (office_then : Office V) (wire_then : W) (spool_then : S) (clock_then : C)
-    : Type 0 where
+    (Heard : H → List Hearing → Type 0) (Gave : C → List (Option ℕ) → Type 0)
+    (stopped : Bool) (moments : List ℕ)
+    (links : Links) (office : Office V) (wire : W) (spool : S) (listener : H) (clock : C)
+    (links_then : Links) (office_then : Office V) (wire_then : W) (spool_then : S)
+    (listener_then : H) (clock_then : C) : Type 0 where
   pub gave : (before : List (Option ℕ)) → Gave clock before
       → Gave clock_then (before ++ answers stopped moments)
   pub each : (T : Trace) → StandsFor Holds office T → IsClean (vault_of office_then)
-      → HasGoneOn Holds Faults Asked AskedFiles T moments
-      links office wire spool links_then office_then wire_then spool_then
+      → HasGoneOn Holds Faults Asked AskedFiles Heard T moments
+      links office wire spool listener links_then office_then wire_then spool_then listener_then
 
 -- Turns were done until the clock stopped, or so many were over.
-pub record HasRun {V W S C : Type 0} (Holds : V → Contents → Type 0) (IsClean : V → Type 0)
+pub record HasRun {V W S H C : Type 0} (Holds : V → Contents → Type 0) (IsClean : V → Type 0)
     (Faults : V → ℕ) (Asked : W → List Call → Type 0) (AskedFiles : S → List FileCall → Type 0)
-    (Gave : C → List (Option ℕ) → Type 0) (most : ℕ)
-    (links : Links) (office : Office V) (wire : W) (spool : S) (clock : C)
-    (links_then : Links) (office_then : Office V) (wire_then : W) (spool_then : S) (clock_then : C)
-    : Type 0 where
+    (Heard : H → List Hearing → Type 0) (Gave : C → List (Option ℕ) → Type 0) (most : ℕ)
+    (links : Links) (office : Office V) (wire : W) (spool : S) (listener : H) (clock : C)
+    (links_then : Links) (office_then : Office V) (wire_then : W) (spool_then : S)
+    (listener_then : H) (clock_then : C) : Type 0 where
   pub moments : List ℕ
   pub stopped : Bool
-  pub turned : HasTurned Holds IsClean Faults Asked AskedFiles Gave stopped moments
-      links office wire spool clock links_then office_then wire_then spool_then clock_then
+  pub turned : HasTurned Holds IsClean Faults Asked AskedFiles Heard Gave stopped moments
+      links office wire spool listener clock
+      links_then office_then wire_then spool_then listener_then clock_then
   pub within : length moments ≤ most
   pub all : stopped ≡ false → length moments ≡ most

@@ -16,10 +16,12 @@ use Rattle.serving.specs.declared.wire.Link.{Link}
 use Rattle.serving.specs.declared.links.Seat.{Seat}
 use Rattle.serving.specs.declared.links.Links.{Links}
 use Rattle.serving.specs.Works.{waits, arrivals, closings, moments, openings, refusals}
-use Rattle.serving.specs.Works.{AreNewlyAdmitted, HasCause, IsLateGone, is_failed, WasAsked, Came}
+use Rattle.serving.specs.Works.{AreNewlyAdmitted, HasCause, AreCaused, IsLateGone, AreLateGone}
+use Rattle.serving.specs.Works.{is_failed, WasAsked, Came, AreDeposits}
 use Rattle.serving.specs.Works.{seat_of, unseated_of, link_of, HasAccepted, most_links, Way, way_by}
 use Rattle.serving.specs.Works.{HadTurn, HasFreed, is_open_seat, is_shut_seat, link_of_seat}
 use Rattle.serving.specs.Works.{has_moved}
+use Rattle.serving.specs.Hearing.{Hearing, WasTold, idle_ends, heard_of_all, late_ends}
 use Rattle.serving.specs.SpoolTurns.{IsSpoolTurn, has_dealt}
 use Rattle.serving.specs.HttpWorks.{HttpWorks}
 use Rattle.serving.specs.Newcomers.{newcomer, AllHaveSeats}
@@ -94,9 +96,31 @@ pub record IsFileTurn (T : Trace) (links links_then : Links) (given : Log) (file
   pub is : given ≡ deposits ++ earlier
   pub tries : IsSpoolTurn (last_tried links) (last_tried links_then) (trace_of T.base (earlier ++ T.log)) deposits file_calls
 
--- So it is of an office, a wire and a spool, since each trace.
-pub record Works {V W S : Type 0} (Holds : V → Contents → Type 0) (Faults : V → ℕ) (Asked : W → List Call → Type 0) (AskedFiles : S → List FileCall → Type 0) (T : Trace) (now : ℕ)
-    (links : Links) (office : Office V) (wire : W) (spool : S) (office_then : Office V) (links_then : Links) (wire_then : W) (spool_then : S) : Type 0 where
+-- What a listener heard of a turn, in its order: of each seat whose connection the moment ended,
+-- that it was idle; the accounts of the events of clients and of commands, of which no connection
+-- goes but by its link's end; and of each client that went because it is late, that.
+pub record IsTurnHeard (T : Trace) (now : ℕ) (links : Links) (seats : List Seat)
+    (calls : List Call) (given : Log) (heard : List Hearing) : Type 0 where
+  pub event_tag : EventTag
+  pub told : Log
+  pub late : Log
+  pub deposits : Log
+  pub given_are : given ≡ deposits ++ (late ++ (told ++ (event.Tick now, event_tag) ∷ []))
+  pub are_deposits : AreDeposits deposits
+  pub are_late : AreLateGone now links.clients.newcomers.seconds
+      links.clients.newcomers.newcomers.items late
+  pub caused : AreCaused seats calls told
+  pub heard_are : heard
+      ≡ idle_ends (trace_of T.base ((event.Tick now, event_tag) ∷ T.log)) links.clients.seats.items
+      ++ (heard_of_all T.base ((event.Tick now, event_tag) ∷ T.log) told ++ late_ends late)
+
+-- So it is of an office, a wire, a spool and a listener, since each trace.
+pub record Works {V W S H : Type 0} (Holds : V → Contents → Type 0) (Faults : V → ℕ)
+    (Asked : W → List Call → Type 0) (AskedFiles : S → List FileCall → Type 0)
+    (Heard : H → List Hearing → Type 0) (T : Trace) (now : ℕ)
+    (links : Links) (office : Office V) (wire : W) (spool : S) (listener : H)
+    (office_then : Office V) (links_then : Links) (wire_then : W) (spool_then : S)
+    (listener_then : H) : Type 0 where
   pub given : Log
   pub calls : List Call
   pub file_calls : List FileCall
@@ -121,3 +145,7 @@ pub record Works {V W S : Type 0} (Holds : V → Contents → Type 0) (Faults : 
   pub rests : has_moved calls ≡ false → is.freed ≡ false → has_dealt file_calls ≡ false
       → millis_of links_then ≡ 1000
   pub http : HttpWorks T now links links_then given calls
+  -- the listener heard just the accounts of these events
+  pub heard : List Hearing
+  pub told : WasTold Heard listener listener_then heard
+  pub is_heard : IsTurnHeard T now links seats calls given heard

@@ -170,6 +170,11 @@ abbrev pub is_opening : Event × EventTag → Bool
 is_opening (event.Connect, m) = true
 is_opening _ = false
 
+-- an event is one
+abbrev pub IsOpening : Event × EventTag → Type 0
+IsOpening (event.Connect, m) = ⊤
+IsOpening _ = ⊥
+
 abbrev pub openings : Log → ℕ
 openings given = length (filter is_opening given)
 
@@ -346,6 +351,7 @@ pub record HaveCome {V : Type 0} (Holds : V → Contents → Type 0) (IsClean : 
   pub closed : closings calls ≡ filter_map unseated_of came
   pub seated : seats_then ≡ seats ++ filter_map seat_of came
   pub apart : list_any is_beside calls ≡ false
+  pub only : All IsOpening given
   pub caused : AreCaused [] calls given
 
 -- how many links are accepted in one turn at most, and how many may be held

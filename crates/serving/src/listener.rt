@@ -1,4 +1,7 @@
 //! Who hears what an office judges while it is served.
+ghost use Rattle.std.specs.Prelude.{◌∷◌, [], ◌++◌, List};
+ghost use Rattle.serving.specs.Hearing.{Hearing};
+
 use crate::wire::Link;
 use adminhttp::{Content, RequestLine};
 use office::Account;
@@ -15,15 +18,25 @@ pub struct Asked<'a> {
 
 /// Hears of connections, what the office judged of what came on them, and what the administration
 /// was asked. It is lent an account, or an answer, and nothing of the office.
+///
+/// `heard l h`: `h` is a true record of the accounts that l heard. Of one that writes a log it
+/// isn't known.
 pub trait Listener {
+    /// `heard l h`: l heard these accounts, each of its connection, the newest last.
+    ghost heard: { Self → List Hearing → Type 0 };
+
     /// A connection was opened for a client's link.
-    fn open(&mut self, link: Link, connection: u64);
+    fn open(&mut self, link: Link, connection: u64)
+        ensures told { (h : List Hearing) → heard self.old h → heard self.new h };
 
     /// What the office judged in an event of a connection, which in most is nothing.
-    fn hear(&mut self, connection: u64, account: &Account);
+    fn hear(&mut self, connection: u64, account: &Account)
+        ensures told { (h : List Hearing) → heard self.old h
+            → heard self.new (h ++ (connection, account.now) ∷ []) };
 
     /// What was asked over a link of the administration, once its request is whole or refused.
-    fn asked(&mut self, link: Link, asked: &Asked<'_>);
+    fn asked(&mut self, link: Link, asked: &Asked<'_>)
+        ensures told { (h : List Hearing) → heard self.old h → heard self.new h };
 }
 
 /// A listener that keeps nothing.
@@ -31,6 +44,8 @@ pub trait Listener {
 pub struct NoListener;
 
 impl Listener for NoListener {
+    ghost heard = { λ _ _. ⊥ };
+
     fn open(&mut self, _link: Link, _connection: u64) {}
 
     fn hear(&mut self, _connection: u64, _account: &Account) {}

@@ -16,6 +16,7 @@ ghost use Rattle.serving.specs.HttpWorks.{ComeTo, GivesApart, DoesApart, AsksApa
 ghost use Rattle.serving.specs.HttpWorks.{HasAcceptedBeside, HasHeard, Tells, HasTold, HasHttpTurn};
 ghost use Rattle.serving.specs.HttpWorks.{HadHttpTurns, DidApart, response_of};
 ghost use Rattle.serving.specs.Works.{Part, Also, HurriesBy};
+ghost use Rattle.serving.specs.Hearing.{Hearing, WasTold, HeardApart, heard_by};
 ghost use Rattle.serving.specs.Requests.{octets_of, IsToldBy, HasAsked, HasOneMore, StillAnswers};
 ghost use Rattle.serving.specs.Requests.{StillAsked, AllStillAnswer, AllStillAsked};
 
@@ -180,7 +181,10 @@ fn response_to<'a>(alloc: Global, outcome: &'a Outcome) -> (Response, Content<'a
 }
 
 /// Tells the listener of the connection whose session a command ended.
-fn tell_end<L: Listener>(listener: &mut L, command: &AdminCommand, account: &Account) {
+fn tell_end<L: Listener>(listener: &mut L, command: &AdminCommand, account: &Account)
+    ensures { WasTold L.heard listener.old listener.new (heard_by (command_seen command.now)
+        account.now) }
+{
     if let AdminCommand::EndSession(connection) = command {
         listener.hear(*connection, account);
     }
@@ -196,7 +200,7 @@ fn command<V: Vault, L: Listener>(
 ) -> Response
     ensures works { (read : List ℕ) → IsRequest read (Ok (command_seen command.now))
         → GivesApart V.holds V.is_clean V.faults office.old office.new
-        (ComeTo read (Some (octets_of result))) }
+        (HeardApart L.heard listener.old listener.new (ComeTo read (Some (octets_of result)))) }
     ensures asked { (B : Records) (L : Log) (read : List ℕ)
         → StandsFor V.holds office.old (trace_of B L)
         → IsRequest read (Ok (command_seen command.now)) → V.is_clean (vault_of office.new)
@@ -220,7 +224,8 @@ fn refuse<L: Listener>(
     read: &[u8],
     refusal: Refusal,
 ) -> Response
-    ensures { octets_of result ≡ refusal_response refusal }
+    ensures told { octets_of result ≡ refusal_response refusal }
+    ensures heard { (h : List Hearing) → L.heard listener.old h → L.heard listener.new h }
 {
     let line = RequestLine::read(alloc, read).unwrap_or(None);
     let content = Content::Refusal(refusal);
@@ -247,8 +252,9 @@ fn refuse_policy<L: Listener>(
     link: Link,
     fault: &PolicyFault,
 ) -> Response
-    ensures { (octets_of result ≡ fault_response fault.now)
+    ensures told { (octets_of result ≡ fault_response fault.now)
         ⊎ (octets_of result ≡ refusal_response OutOfMemory) }
+    ensures heard { (h : List Hearing) → L.heard listener.old h → L.heard listener.new h }
 {
     let (response, content) = response_to_fault(alloc, fault);
     let line = Some(RequestLine {
@@ -269,7 +275,8 @@ fn ask<V: Vault, L: Listener>(
     read: &[u8],
 ) -> Option<Response>
     ensures works { GivesApart V.holds V.is_clean V.faults office.old office.new
-        (ComeTo read.now (option_map octets_of result)) }
+        (HeardApart L.heard listener.old listener.new
+        (ComeTo read.now (option_map octets_of result))) }
     ensures asked { (B : Records) (L : Log) → StandsFor V.holds office.old (trace_of B L)
         → V.is_clean (vault_of office.new) → HasAsked V.holds B L read.now office.new
         (option_map octets_of result) }
@@ -293,7 +300,8 @@ fn take_piece<V: Vault, L: Listener>(
     piece: &[u8],
 )
     ensures works { GivesApart V.holds V.is_clean V.faults office.old office.new
-        (ComeTo (exchange.old.read.items ++ piece.now) (response_of exchange.new)) }
+        (HeardApart L.heard listener.old listener.new
+        (ComeTo (exchange.old.read.items ++ piece.now) (response_of exchange.new))) }
     ensures asked { (B : Records) (L : Log) → StandsFor V.holds office.old (trace_of B L)
         → V.is_clean (vault_of office.new) → HasAsked V.holds B L
         (exchange.old.read.items ++ piece.now) office.new
@@ -326,7 +334,8 @@ fn hear<V: Vault, W: Wire, L: Listener>(
     exchange: &mut Exchange,
 )
     ensures works { DoesApart V.holds V.is_clean V.faults W.asked office.old wire.old office.new
-        wire.new (λ B L. HasHeard B L exchange.old exchange.new) }
+        wire.new (HeardApart L.heard listener.old listener.new
+        (λ B L. HasHeard B L exchange.old exchange.new)) }
     ensures asked { StillAsked V.holds V.is_clean W.tells office.old wire.old exchange.old
         office.new wire.new exchange.new }
     ensures clean { V.is_clean (vault_of office.new) → V.is_clean (vault_of office.old) }
@@ -420,7 +429,8 @@ fn serve_exchange<V: Vault, W: Wire, L: Listener>(
     ensures works { Part V.holds V.is_clean V.faults W.asked
         office.old wire.old office.new wire.new
         (Also (DidApart V.holds V.is_clean office.old office.new
-        (λ B L. HasHttpTurn now B L exchange.old exchange.new)) (HurriesBy false result)) }
+        (HeardApart L.heard listener.old listener.new
+        (λ B L. HasHttpTurn now B L exchange.old exchange.new))) (HurriesBy false result)) }
     ensures asked { StillAsked V.holds V.is_clean W.tells office.old wire.old exchange.old
         office.new wire.new exchange.new }
     ensures clean { V.is_clean (vault_of office.new) → V.is_clean (vault_of office.old) }
@@ -449,7 +459,8 @@ fn serve_place<V: Vault, W: Wire, L: Listener>(
     ensures works { Part V.holds V.is_clean V.faults W.asked
         office.old wire.old office.new wire.new
         (Also (DidApart V.holds V.is_clean office.old office.new
-        (HadTurnAt now place result requests.old.exchanges.items requests.new.exchanges.items))
+        (HeardApart L.heard listener.old listener.new
+        (HadTurnAt now place result requests.old.exchanges.items requests.new.exchanges.items)))
         (HurriesBy requests.old.hurries requests.new.hurries)) }
     ensures asked { AllStillAsked V.holds V.is_clean W.tells office.old wire.old
         requests.old.exchanges.items office.new wire.new requests.new.exchanges.items }
@@ -484,7 +495,8 @@ pub(crate) fn serve_requests<V: Vault, W: Wire, L: Listener>(
     ensures works { Part V.holds V.is_clean V.faults W.asked
         office.old wire.old office.new wire.new
         (Also (DidApart V.holds V.is_clean office.old office.new
-        (λ B L. HadHttpTurns now B L requests.old.exchanges.items requests.new.exchanges.items))
+        (HeardApart L.heard listener.old listener.new
+        (λ B L. HadHttpTurns now B L requests.old.exchanges.items requests.new.exchanges.items)))
         (HurriesBy false requests.new.hurries)) }
     ensures asked { AllStillAsked V.holds V.is_clean W.tells office.old wire.old
         requests.old.exchanges.items office.new wire.new requests.new.exchanges.items }

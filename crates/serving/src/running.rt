@@ -49,9 +49,9 @@ pub fn serve_while<V: Vault, W: Wire, S: Spool, L: Listener, C: Clock>(
         → Serves V.holds W.tells S.tells T office.new wire.new spool.new
         links.new.clients.seats.items links.new.requests.exchanges.items }
     ensures clean { V.is_clean (vault_of office.new) → V.is_clean (vault_of office.old) }
-    ensures runs { HasRun V.holds V.is_clean V.faults W.asked S.asked C.gave most
-        links.old office.old wire.old spool.old clock.old
-        links.new office.new wire.new spool.new clock.new }
+    ensures runs { HasRun V.holds V.is_clean V.faults W.asked S.asked L.heard C.gave most
+        links.old office.old wire.old spool.old listener.old clock.old
+        links.new office.new wire.new spool.new listener.new clock.new }
     ensures few { AreFew links.old → AreFew links.new }
     ensures seated { AllHaveSeats links.old → AllHaveSeats links.new }
     ensures short { (T : Trace) → StandsFor V.holds office.old T → V.is_clean (vault_of office.new)

@@ -2,6 +2,7 @@
 //! each read and write.
 
 mod chance;
+mod ends;
 mod guest;
 mod heard;
 mod late;

@@ -22,6 +22,7 @@ ghost use Rattle.serving.specs.Works.{IsClosed};
 ghost use Rattle.serving.specs.Works.{share_by, may_keep, way_at, is_late, AreNoMoreLate};
 ghost use Rattle.serving.specs.Works.{AreLateGone, Also, HurriesBy, Releases};
 ghost use Rattle.serving.specs.Late.{IsShutBy, HasEndedLate};
+ghost use Rattle.serving.specs.Hearing.{Hearing, WasTold, WithHeard, idle_ends, late_ends};
 ghost use Rattle.serving.specs.Turns.{Works, millis_of};
 ghost use Rattle.serving.specs.HttpTurns.{AllGoOn, AreFew};
 ghost use Rattle.serving.specs.HttpWorks.{AreShort};
@@ -36,7 +37,7 @@ use crate::pace::{MOST_AT_ONCE, next_part, origin_at, pace_behind, pace_of};
 use crate::requests::{accept_requests, serve_requests};
 use crate::spool::Spool;
 use crate::wire::{Io, Port, Wire};
-use office::{Account, Event, Office, Outcome, taken_is_sent};
+use office::{Account, End, Event, Office, Outcome, taken_is_sent};
 use std::alloc::Global;
 use vault::Vault;
 
@@ -64,8 +65,9 @@ fn write_once<V: Vault, W: Wire, L: Listener>(
         wire.new }
     ensures clean { V.is_clean (vault_of office.new) → V.is_clean (vault_of office.old) }
     ensures works { Part V.holds V.is_clean V.faults W.asked office.old wire.old office.new wire.new
+        (WithHeard V.holds V.is_clean L.heard office.old listener.old office.new listener.new
         (IsWritten V.holds V.is_clean office.old office.new seat (if result == 0 then 0 else 1)
-        result (not (result == 0))) }
+        result (not (result == 0)))) }
 {
     let lent = office.owed(seat.connection);
     if lent.is_empty() {
@@ -101,7 +103,8 @@ fn write_owed<V: Vault, W: Wire, L: Listener>(
         wire.new }
     ensures clean { V.is_clean (vault_of office.new) → V.is_clean (vault_of office.old) }
     ensures works { Part V.holds V.is_clean V.faults W.asked office.old wire.old office.new wire.new
-        (IsWrittenOut V.holds V.is_clean office.old office.new seat share result) }
+        (WithHeard V.holds V.is_clean L.heard office.old listener.old office.new listener.new
+        (IsWrittenOut V.holds V.is_clean office.old office.new seat share result)) }
 {
     let mut written: usize = 0;
     for _times in 0..MOST_WRITES {
@@ -131,7 +134,8 @@ fn read_once<V: Vault, W: Wire, L: Listener>(
         wire.new }
     ensures clean { V.is_clean (vault_of office.new) → V.is_clean (vault_of office.old) }
     ensures works { Part V.holds V.is_clean V.faults W.asked office.old wire.old office.new wire.new
-        (Also (IsReadOnce V.holds office.old seat (length buffer.old)) (HurriesBy false result)) }
+        (WithHeard V.holds V.is_clean L.heard office.old listener.old office.new listener.new
+        (Also (IsReadOnce V.holds office.old seat (length buffer.old)) (HurriesBy false result))) }
 {
     let connection = seat.connection;
     if !office.ready(connection) {
@@ -205,8 +209,9 @@ fn read_piece<V: Vault, W: Wire, L: Listener>(
     ensures hurried { links.old.hurries ≡ true → links.new.hurries ≡ true }
     ensures works { Part V.holds V.is_clean V.faults W.asked
         office.old wire.old office.new wire.new
+        (WithHeard V.holds V.is_clean L.heard office.old listener.old office.new listener.new
         (Also (IsHeard V.holds office.old seat links.old.wait (may_keep links.old))
-        (HurriesBy links.old.hurries (links.new.hurries || result))) }
+        (HurriesBy links.old.hurries (links.new.hurries || result)))) }
 {
     if !office.ready(seat.connection) {
         return false;
@@ -245,9 +250,10 @@ fn serve_link<V: Vault, W: Wire, L: Listener>(
     ensures hurried { links.old.hurries ≡ true → links.new.hurries ≡ true }
     ensures works { Part V.holds V.is_clean V.faults W.asked
         office.old wire.old office.new wire.new
+        (WithHeard V.holds V.is_clean L.heard office.old listener.old office.new listener.new
         (Also (HadTurns V.holds V.is_clean office.old office.new
         (way_at links.old (links.new.hurries || result)) (seat ∷ []) (seat ∷ []))
-        (HurriesBy links.old.hurries (links.new.hurries || result))) }
+        (HurriesBy links.old.hurries (links.new.hurries || result)))) }
 {
     let share = share_of(links);
     if write_owed(office, wire, listener, seat, share) {
@@ -333,9 +339,10 @@ fn serve_client<V: Vault, W: Wire, L: Listener>(
     ensures aside { LeavesSettings links.old links.new }
     ensures works { Part V.holds V.is_clean V.faults W.asked
         office.old wire.old office.new wire.new
+        (WithHeard V.holds V.is_clean L.heard office.old listener.old office.new listener.new
         (Also (HadTurns V.holds V.is_clean office.old office.new
         (way_at links.old links.new.hurries) (seat ∷ []) (seat ∷ []))
-        (HurriesBy (links.old.hurries || links.new.is_freed) links.new.hurries)) }
+        (HurriesBy (links.old.hurries || links.new.is_freed) links.new.hurries))) }
 {
     let was_logged_in = office.is_logged_in(seat.connection);
     let more = serve_link(office, wire, listener, links, seat, now);
@@ -370,10 +377,11 @@ fn serve_seat<V: Vault, W: Wire, L: Listener>(
     ensures aside { LeavesSettings links.old links.new }
     ensures works { Part V.holds V.is_clean V.faults W.asked
         office.old wire.old office.new wire.new
+        (WithHeard V.holds V.is_clean L.heard office.old listener.old office.new listener.new
         (Also (λ given calls. (d : declared.Seat) → HadTurns V.holds V.is_clean
         office.old office.new (way_at links.old links.new.hurries) links.old.seats.items
         (slice_index_or links.old.seats.items place d ∷ []) given calls)
-        (HurriesBy (links.old.hurries || links.new.is_freed) links.new.hurries)) }
+        (HurriesBy (links.old.hurries || links.new.is_freed) links.new.hurries))) }
 {
     let seat = links.seats[place];
     serve_client(office, wire, listener, links, seat, now);
@@ -395,9 +403,10 @@ fn serve_links<V: Vault, W: Wire, L: Listener>(
     ensures frees { links.new.is_freed ≡ true → links.new.hurries ≡ true }
     ensures works { Part V.holds V.is_clean V.faults W.asked
         office.old wire.old office.new wire.new
+        (WithHeard V.holds V.is_clean L.heard office.old listener.old office.new listener.new
         (Also (WereServed V.holds V.is_clean office.old office.new (settings_of links.old)
         links.new.is_freed links.new.hurries links.old.seats.items links.old.seats.items)
-        (HurriesBy (links.old.hurries || links.new.is_freed) links.new.hurries)) }
+        (HurriesBy (links.old.hurries || links.new.is_freed) links.new.hurries))) }
 {
     links.is_freed = false;
     let mut place = 0;
@@ -407,26 +416,35 @@ fn serve_links<V: Vault, W: Wire, L: Listener>(
     }
 }
 
-/// Ends the connection of a seat, where it is open.
-fn end_seat<V: Vault, W: Wire>(office: &mut Office<V>, _wire: &W, seat: Seat)
+/// Ends the connection of a seat, where it is open, and tells the listener that its client is late.
+fn end_seat<V: Vault, W: Wire, L: Listener>(
+    office: &mut Office<V>,
+    _wire: &W,
+    listener: &mut L,
+    seat: Seat,
+)
     ensures serves { StillServesOne V.holds V.is_clean W.tells seat office.old _wire.now office.new
         _wire.now }
     ensures clean { V.is_clean (vault_of office.new) → V.is_clean (vault_of office.old) }
     ensures works { (now seconds : ℕ) (newcomers : List Newcomer)
         → is_late now seconds newcomers seat.connection ≡ true
-        → Giving V.holds V.is_clean V.faults office.old office.new (λ given. AreLateGone now seconds
-        newcomers given × IsShutBy V.holds V.is_clean office.old office.new seat.connection given) }
+        → Giving V.holds V.is_clean V.faults office.old office.new (λ given.
+        (AreLateGone now seconds newcomers given
+        × IsShutBy V.holds V.is_clean office.old office.new seat.connection given)
+        × WasTold L.heard listener.old listener.new (late_ends given)) }
 {
     if office.ended(seat.connection) {
         return;
     }
     let _ = office.step(Event::Gone(seat.connection));
+    listener.hear(seat.connection, &Account::Ended(End::TooLate));
 }
 
 /// Ends the connection of one seat, where its client took too long to log in.
-fn end_late<V: Vault, W: Wire>(
+fn end_late<V: Vault, W: Wire, L: Listener>(
     office: &mut Office<V>,
     wire: &W,
+    listener: &mut L,
     links: &mut Clients,
     place: usize,
     now: u64,
@@ -443,10 +461,11 @@ fn end_late<V: Vault, W: Wire>(
         links.new.newcomers.newcomers.items }
     ensures seated { AreSeatedAt links.old → AreSeatedAt links.new }
     ensures works { (links.old.newcomers.seconds == 0) ≡ false
-        → Giving V.holds V.is_clean V.faults office.old office.new (λ given. (d : declared.Seat) →
+        → Giving V.holds V.is_clean V.faults office.old office.new (λ given. ((d : declared.Seat) →
         HasEndedLate V.holds V.is_clean office.old office.new now links.old.newcomers.seconds
         links.old.newcomers.newcomers.items links.new.newcomers.newcomers.items (slice_index_or
-        links.old.seats.items place d ∷ []) given) }
+        links.old.seats.items place d ∷ []) given)
+        × WasTold L.heard listener.old listener.new (late_ends given)) }
 {
     let seat = links.seats[place];
     if office.is_logged_in(seat.connection) {
@@ -456,11 +475,17 @@ fn end_late<V: Vault, W: Wire>(
     if !links.newcomers.is_late(seat.connection, now) {
         return;
     }
-    end_seat(office, wire, seat);
+    end_seat(office, wire, listener, seat);
 }
 
 /// Ends the connection of each client that took too long to log in.
-fn end_late_ones<V: Vault, W: Wire>(office: &mut Office<V>, wire: &W, links: &mut Clients, now: u64)
+fn end_late_ones<V: Vault, W: Wire, L: Listener>(
+    office: &mut Office<V>,
+    wire: &W,
+    listener: &mut L,
+    links: &mut Clients,
+    now: u64,
+)
     ensures serves { StillServes V.holds V.is_clean W.tells office.old wire.now
         links.old.seats.items [] office.new wire.now links.new.seats.items [] }
     ensures clean { V.is_clean (vault_of office.new) → V.is_clean (vault_of office.old) }
@@ -470,17 +495,17 @@ fn end_late_ones<V: Vault, W: Wire>(office: &mut Office<V>, wire: &W, links: &mu
     ensures set { settings_of links.new ≡ settings_of links.old }
     ensures hurries { links.new.hurries ≡ links.old.hurries }
     ensures last { links.new.last ≡ links.old.last }
-    ensures works { Giving V.holds V.is_clean V.faults office.old office.new (HasEndedLate V.holds
-        V.is_clean office.old office.new now links.old.newcomers.seconds
+    ensures works { Giving V.holds V.is_clean V.faults office.old office.new (λ given. HasEndedLate
+        V.holds V.is_clean office.old office.new now links.old.newcomers.seconds
         links.old.newcomers.newcomers.items links.new.newcomers.newcomers.items
-        links.old.seats.items) }
+        links.old.seats.items given × WasTold L.heard listener.old listener.new (late_ends given)) }
 {
     if links.newcomers.seconds == 0 {
         return;
     }
     let mut place = 0;
     while place < links.seats.len() {
-        end_late(office, wire, links, place, now);
+        end_late(office, wire, listener, links, place, now);
         place += 1;
     }
 }
@@ -565,6 +590,39 @@ fn pass_time<V: Vault, W: Wire>(office: &mut Office<V>, wire: &mut W, millis: u3
     let _ = office.step(Event::Tick(now));
 }
 
+/// Tells the listener that the connection of one seat was idle for too long, where it isn't open
+/// behind a moment.
+fn tell_idle<V: Vault, L: Listener>(
+    office: &Office<V>,
+    listener: &mut L,
+    links: &Clients,
+    place: usize,
+)
+    requires { place < array_vec_len links.now.seats }
+    ensures { (T : Trace) (d : declared.Seat) → StandsFor V.holds office.now T
+        → WasTold L.heard listener.old listener.new
+        (idle_ends T (slice_index_or links.now.seats.items place d ∷ [])) }
+{
+    let connection = links.seats[place].connection;
+    if !office.ended(connection) {
+        return;
+    }
+    listener.hear(connection, &Account::Ended(End::Idle));
+}
+
+/// Tells the listener of each connection that a moment ended: between turns that of each seat is
+/// open, so one that isn't open right behind the moment was ended by it.
+fn tell_idle_ones<V: Vault, L: Listener>(office: &Office<V>, listener: &mut L, links: &Clients)
+    ensures { (T : Trace) → StandsFor V.holds office.now T
+        → WasTold L.heard listener.old listener.new (idle_ends T links.now.seats.items) }
+{
+    let mut place = 0;
+    while place < links.seats.len() {
+        tell_idle(office, listener, links, place);
+        place += 1;
+    }
+}
+
 /// The number of the connection that a Connect opened; `None` where it opened none.
 fn opened(outcome: Outcome) -> Option<u64>
     ensures { result ≡ opened_by (outcome_seen outcome) }
@@ -595,6 +653,7 @@ fn accept_link<V: Vault, W: Wire, L: Listener>(
     ensures noted { (c : ℕ) (n : Newcomer) → newcomer c links.old.newcomers.newcomers.items ≡ Some n
         → newcomer c links.new.newcomers.newcomers.items ≡ Some n }
     ensures comers { AreNoted now links.old links.new }
+    ensures heard { (h : List Hearing) → L.heard listener.old h → L.heard listener.new h }
     ensures works { Part V.holds V.is_clean V.faults W.asked office.old wire.old office.new wire.new
         (AreAccepted V.holds V.is_clean office.old office.new links.old.seats.items
         links.new.seats.items 1 result) }
@@ -636,6 +695,7 @@ fn accept_links<V: Vault, W: Wire, L: Listener>(
     ensures noted { (c : ℕ) (n : Newcomer) → newcomer c links.old.newcomers.newcomers.items ≡ Some n
         → newcomer c links.new.newcomers.newcomers.items ≡ Some n }
     ensures comers { AreNoted now links.old links.new }
+    ensures heard { (h : List Hearing) → L.heard listener.old h → L.heard listener.new h }
     ensures works { (goes : Bool) × Part V.holds V.is_clean V.faults W.asked office.old wire.old
         office.new wire.new (AreAccepted V.holds V.is_clean office.old office.new
         links.old.seats.items links.new.seats.items 64 goes) }
@@ -658,8 +718,8 @@ fn millis_for(links: &Links) -> u32
 /// office the moment, in seconds; accepts the links that came, at most 64 at each port; serves each
 /// client's link, and then each link of the administration; ends the clients that took too long to
 /// log in; closes the links whose connections ended; and tries one file of the spool. The listener
-/// hears of each connection that is opened, what was judged of what came on it, and what the
-/// administration was asked.
+/// hears of each connection that is opened, what was judged of what came on it, that it was idle or
+/// late, and what the administration was asked.
 pub fn serve_turn<V: Vault, W: Wire, S: Spool, L: Listener>(
     links: &mut Links,
     wire: &mut W,
@@ -674,8 +734,9 @@ pub fn serve_turn<V: Vault, W: Wire, S: Spool, L: Listener>(
         spool.new links.new.clients.seats.items links.new.requests.exchanges.items }
     ensures clean { V.is_clean (vault_of office.new) → V.is_clean (vault_of office.old) }
     ensures works { (T : Trace) → StandsFor V.holds office.old T → V.is_clean (vault_of office.new)
-        → Works V.holds V.faults W.asked S.asked T now links.old office.old wire.old spool.old
-        office.new links.new wire.new spool.new }
+        → Works V.holds V.faults W.asked S.asked L.heard T now
+        links.old office.old wire.old spool.old listener.old
+        office.new links.new wire.new spool.new listener.new }
     ensures ongoing { AllGoOn now links.new }
     ensures few { AreFew links.old → AreFew links.new }
     ensures seated { AllHaveSeats links.old → AllHaveSeats links.new }
@@ -686,11 +747,12 @@ pub fn serve_turn<V: Vault, W: Wire, S: Spool, L: Listener>(
     let millis = millis_for(links);
     links.clients.hurries = false;
     pass_time(office, wire, millis, now);
+    tell_idle_ones(office, listener, &links.clients);
     accept_links(office, wire, listener, &mut links.clients, now);
     accept_requests(wire, &mut links.requests, MOST_LINKS, now);
     serve_links(office, wire, listener, &mut links.clients, now);
     serve_requests(office, wire, listener, &mut links.requests, now);
-    end_late_ones(office, wire, &mut links.clients, now);
+    end_late_ones(office, wire, listener, &mut links.clients, now);
     close_links(office, wire, &mut links.clients);
     serve_spool(office, spool, &mut links.clients);
     // For the proof: what each connection took was sent to it.

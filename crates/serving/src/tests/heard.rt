@@ -130,6 +130,8 @@ impl Heard {
 }
 
 impl Listener for Heard {
+    ghost heard = { λ _ _. ⊥ };
+
     fn open(&mut self, _link: Link, _connection: u64) {}
 
     fn hear(&mut self, connection: u64, account: &Account) {

@@ -4,7 +4,9 @@ use Rattle.office.specs.Taken.{trace_of}
 use Rattle.serving.specs.Requests.{octets_of}
 use Rattle.serving.proofs.Requesting.{asked_one, comes_to}
 use Rattle.serving.specs.HttpWorks.{ComeTo}
-use Rattle.std.proofs.Common.{Some}
+use Rattle.std.proofs.Common.{Some, ◌∷◌, []}
+use Rattle.serving.specs.Hearing.{HeardApart, heard_of_all}
+use Rattle.serving.proofs.Hearing.{told_same, told_still, command_told}
 use Rattle.serving.proofs.Quieting.{gives_command}
 use Rattle.office.specs.Events as event
 use Rattle.office.specs.Outcomes.{event_tag_of}
@@ -24,6 +26,15 @@ returns-clause-works g c = λ read asks.
     let out = outcome_seen c.step_with_account-outcome.result in
     let seen = command_seen c.args.command.now in
     let response = octets_of c.response_to-response.result.0 in
-    gives_command g.V.Vault.holds g.V.Vault.is_clean g.V.Vault.faults o o1 seen (event_tag_of out) (ComeTo read (Some response))
+    let l = c.args.listener.now in
+    let l1 = c.tell_end.new.listener in
+    let l2 = c.asked.new.self in
+    let told = c.step_with_account-outcome.new.account in
+    gives_command g.V.Vault.holds g.V.Vault.is_clean g.V.Vault.faults o o1 seen (event_tag_of out) (HeardApart g.L.Listener.heard l l2 (ComeTo read (Some response)))
     (given_one g.V.Vault.holds g.V.Vault.is_clean g.V.Vault.faults o o1 (event.Admin seen) out c.step_with_account-outcome.ensures.clean c.step_with_account-outcome.ensures.stands c.step_with_account-outcome.ensures.admitted c.step_with_account-outcome.ensures.counted c.step_with_account-outcome.ensures.cause)
-    (λ B L stands clean. comes_to B L read (lent_by o) seen out response (c.step_with_account-outcome.ensures.outcome (trace_of B L) stands clean) asks c.response_to-response.ensures.told))
+    (λ B L stands clean. (
+      told_still g.L.Listener.heard l l1 l2 (heard_of_all B L ((event.Admin seen, event_tag_of out) ∷ []))
+          (command_told g.L.Listener.heard l l1 B L seen (event_tag_of out) told (c.step_with_account-outcome.ensures.account (trace_of B L) stands clean) c.tell_end.ensures)
+          (told_same g.L.Listener.heard l1 l2 c.asked.ensures.told),
+      comes_to B L read (lent_by o) seen out response (c.step_with_account-outcome.ensures.outcome (trace_of B L) stands clean) asks c.response_to-response.ensures.told,
+    )))

@@ -9,8 +9,10 @@ use Rattle.std.proofs.Common.{true, ◌∷◌, ◌++◌, sym, ◌∙◌}
 use Rattle.std.specs.Prelude.{is_some}
 use Rattle.serving.specs.declared.wire.Port.TheVariants.{Admin}
 use Rattle.serving.specs.Calls.{Read}
+use Rattle.serving.specs.Hearing.{HeardApart}
+use Rattle.serving.proofs.Hearing.{told_none, apart_first}
 use Rattle.serving.proofs.HttpWorking.{heard_piece}
-use Rattle.serving.specs.HttpWorks.{HasHeard, IsOver, HasResponse, GaveNothing, GaveItsEnd, ComeTo, ComesTo, response_of}
+use Rattle.serving.specs.HttpWorks.{HasHeard, IsOver, HasResponse, GaveNothing, GaveItsEnd, ComeTo, response_of}
 use Rattle.serving.proofs.requests.hear.Goals as goal
 
 pub returns-in-Count-clause-asked : goal.returns-in-Count-clause-asked
@@ -55,13 +57,13 @@ pub returns-then-exchange-clause-works : goal.returns-then-exchange-clause-works
 returns-then-exchange-clause-works g c =
     let e = c.args.exchange.now in
     let over : e.is_over ≡ true = search rules in
-    did_none g.V.Vault.holds g.V.Vault.is_clean g.V.Vault.faults g.W.Wire.asked c.args.office.now c.args.wire.now (λ B L. HasHeard B L e e) (λ B L. IsOver over refl)
+    did_none g.V.Vault.holds g.V.Vault.is_clean g.V.Vault.faults g.W.Wire.asked c.args.office.now c.args.wire.now (HeardApart g.L.Listener.heard c.args.listener.now c.args.listener.now (λ B L. HasHeard B L e e)) (λ B L. (told_none g.L.Listener.heard c.args.listener.now, IsOver over refl))
 
 pub returns-then-is_some-clause-works : goal.returns-then-is_some-clause-works
 returns-then-is_some-clause-works g c =
     let e = c.args.exchange.now in
     let some : is_some e.response ≡ true = search rules in
-    did_none g.V.Vault.holds g.V.Vault.is_clean g.V.Vault.faults g.W.Wire.asked c.args.office.now c.args.wire.now (λ B L. HasHeard B L e e) (λ B L. HasResponse some refl)
+    did_none g.V.Vault.holds g.V.Vault.is_clean g.V.Vault.faults g.W.Wire.asked c.args.office.now c.args.wire.now (HeardApart g.L.Listener.heard c.args.listener.now c.args.listener.now (λ B L. HasHeard B L e e)) (λ B L. (told_none g.L.Listener.heard c.args.listener.now, HasResponse some refl))
 
 pub returns-in-Count-clause-works : goal.returns-in-Count-clause-works
 returns-in-Count-clause-works g c =
@@ -69,6 +71,8 @@ returns-in-Count-clause-works g c =
     let w = c.args.wire.now in
     let w1 = c.read.new.self in
     let o1 = c.take_piece.new.office in
+    let l = c.args.listener.now in
+    let l1 = c.take_piece.new.listener in
     let e = c.args.exchange.now in
     let e2 = c.take_piece.new.exchange in
     let n = c.in-Count.count in
@@ -76,11 +80,14 @@ returns-in-Count-clause-works g c =
     let call = Read Admin e.link 4096 (Count n) piece in
     let none : e.response ≡ None = search rules in
     let goes : e.is_over ≡ false = search rules in
-    did_then g.V.Vault.holds g.V.Vault.is_clean g.V.Vault.faults g.W.Wire.asked o o o1 w w1 w1 (NoEvent (IsOne call)) (λ B L given calls. (calls ≡ []) × ComesTo B L (e.read.items ++ piece) given (response_of e2)) (λ B L. HasHeard B L e e2)
-    (λ B L g1 g2 c1 c2 p q. heard_piece B L e e2 n piece g1 g2 c1 c2 none (c.take_piece.ensures.over ∙ goes) c.take_piece.ensures.read c.take_piece.ensures.link c.take_piece.ensures.written p.0 p.1 q)
+    did_then g.V.Vault.holds g.V.Vault.is_clean g.V.Vault.faults g.W.Wire.asked o o o1 w w1 w1 (NoEvent (IsOne call)) (λ B L given calls. (calls ≡ []) × HeardApart g.L.Listener.heard l l1 (ComeTo (e.read.items ++ piece) (response_of e2)) B L given []) (HeardApart g.L.Listener.heard l l1 (λ B L. HasHeard B L e e2))
+    (λ B L g1 g2 c1 c2 p q. (
+      apart_first g.L.Listener.heard l l1 B L g1 g2 p.0 q.1.0,
+      heard_piece B L e e2 n piece g1 g2 c1 c2 none (c.take_piece.ensures.over ∙ goes) c.take_piece.ensures.read c.take_piece.ensures.link c.take_piece.ensures.written p.0 p.1 (q.0, q.1.1),
+    ))
     (did_asked g.V.Vault.holds g.V.Vault.is_clean g.V.Vault.faults g.W.Wire.asked o w w1 (IsOne call) (NoEvent (IsOne call)) (λ B L cs is. (refl, is))
     (asks_one g.W.Wire.asked w w1 call (IsOne call) (quiet_read e.link 4096 (Count n) piece) refl c.in-Count.ensures.called))
-    (did_given g.V.Vault.holds g.V.Vault.is_clean g.V.Vault.faults g.W.Wire.asked o o1 w1 (ComeTo (e.read.items ++ piece) (response_of e2)) c.take_piece.ensures.works)
+    (did_given g.V.Vault.holds g.V.Vault.is_clean g.V.Vault.faults g.W.Wire.asked o o1 w1 (HeardApart g.L.Listener.heard l l1 (ComeTo (e.read.items ++ piece) (response_of e2))) c.take_piece.ensures.works)
 
 pub returns-in-Later-clause-works : goal.returns-in-Later-clause-works
 returns-in-Later-clause-works g c =
@@ -89,7 +96,7 @@ returns-in-Later-clause-works g c =
     let w1 = c.read.new.self in
     let call = Read Admin e.link 4096 Later [] in
     let none : e.response ≡ None = search rules in
-    did_asked g.V.Vault.holds g.V.Vault.is_clean g.V.Vault.faults g.W.Wire.asked c.args.office.now w w1 (IsOne call) (λ B L. HasHeard B L e e) (λ B L cs is. subst (HasHeard B L e e []) (sym is) (GaveNothing none refl))
+    did_asked g.V.Vault.holds g.V.Vault.is_clean g.V.Vault.faults g.W.Wire.asked c.args.office.now w w1 (IsOne call) (HeardApart g.L.Listener.heard c.args.listener.now c.args.listener.now (λ B L. HasHeard B L e e)) (λ B L cs is. (told_none g.L.Listener.heard c.args.listener.now, subst (HasHeard B L e e []) (sym is) (GaveNothing none refl)))
     (asks_one g.W.Wire.asked w w1 call (IsOne call) (quiet_read e.link 4096 Later []) refl c.in-Later.ensures.called)
 
 pub returns-in-End-clause-works : goal.returns-in-End-clause-works
@@ -104,6 +111,6 @@ returns-in-End-clause-works g c =
     let fault : is_fault io ≡ true = search rules in
     let empty : octets ≡ [] = search rules in
     let e2 : Exchange = record { link = e.link; since = e.since; read = e.read; response = e.response; written = e.written; is_over = true } in
-    did_asked g.V.Vault.holds g.V.Vault.is_clean g.V.Vault.faults g.W.Wire.asked c.args.office.now w w1 (IsOne call) (λ B L. HasHeard B L e e2)
-    (λ B L cs is. subst (HasHeard B L e e2 []) (sym is) (subst (λ xs. HasHeard B L e e2 [] (Read Admin e.link 4096 io xs ∷ [])) (sym empty) (GaveItsEnd io none fault refl)))
+    did_asked g.V.Vault.holds g.V.Vault.is_clean g.V.Vault.faults g.W.Wire.asked c.args.office.now w w1 (IsOne call) (HeardApart g.L.Listener.heard c.args.listener.now c.args.listener.now (λ B L. HasHeard B L e e2))
+    (λ B L cs is. (told_none g.L.Listener.heard c.args.listener.now, subst (HasHeard B L e e2 []) (sym is) (subst (λ xs. HasHeard B L e e2 [] (Read Admin e.link 4096 io xs ∷ [])) (sym empty) (GaveItsEnd io none fault refl))))
     (asks_one g.W.Wire.asked w w1 call (IsOne call) (quiet_read e.link 4096 io octets) refl c.read.ensures.called)

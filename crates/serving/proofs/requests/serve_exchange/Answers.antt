@@ -2,6 +2,8 @@ use Rattle.std.proofs.Common.{refl}
 use Rattle.serving.specs.Requests.{AreKeptBeside}
 use Rattle.serving.proofs.Requesting.{asked_still, waited}
 use Rattle.serving.proofs.Quieting.{NoEvent, did_none, also_from, also_asked, also_then}
+use Rattle.serving.specs.Hearing.{HeardApart}
+use Rattle.serving.proofs.Hearing.{told_none, apart_still}
 use Rattle.serving.proofs.HttpWorking.{turn_served}
 use Rattle.serving.specs.HttpWorks.{HasHeard, HasTold, HasHttpTurn, IsLate}
 use Rattle.std.proofs.Common.{rules, ◌≡◌, true, false, [], ◌∙◌, sym}
@@ -35,7 +37,8 @@ pub returns-then-is_late-clause-works : goal.returns-then-is_late-clause-works
 returns-then-is_late-clause-works g c =
     let yes : c.is_late.result ≡ true = search rules in
     also_from g.V.Vault.holds g.V.Vault.is_clean g.V.Vault.faults g.W.Wire.asked c.args.office.now c.args.office.now c.args.wire.now c.args.wire.now _ (HurriesBy false false) (hurried_same false)
-    (did_none g.V.Vault.holds g.V.Vault.is_clean g.V.Vault.faults g.W.Wire.asked c.args.office.now c.args.wire.now (λ B L. HasHttpTurn c.args.now B L c.args.exchange.now _) (λ B L. IsLate (sym c.is_late.ensures ∙ yes) refl))
+    (did_none g.V.Vault.holds g.V.Vault.is_clean g.V.Vault.faults g.W.Wire.asked c.args.office.now c.args.wire.now (HeardApart g.L.Listener.heard c.args.listener.now c.args.listener.now (λ B L. HasHttpTurn c.args.now B L c.args.exchange.now _))
+    (λ B L. (told_none g.L.Listener.heard c.args.listener.now, IsLate (sym c.is_late.ensures ∙ yes) refl)))
 
 pub returns-clause-works : goal.returns-clause-works
 returns-clause-works g c =
@@ -43,8 +46,10 @@ returns-clause-works g c =
     let e = c.args.exchange.now in
     let e1 = c.hear.new.exchange in
     let e2 = c.tell.new.exchange in
+    let l = c.args.listener.now in
+    let l1 = c.hear.new.listener in
     also_then g.V.Vault.holds g.V.Vault.is_clean g.V.Vault.faults g.W.Wire.asked c.args.office.now c.hear.new.office c.hear.new.office c.args.wire.now c.hear.new.wire c.tell.new.wire
-    (λ B L. HasHeard B L e e1) (NoEvent (HasTold e1 e2)) (λ B L. HasHttpTurn c.args.now B L e e2) (HurriesBy false false) (HurriesBy false c.tell.result) (HurriesBy false c.tell.result)
-    (λ B L g1 g2 c1 c2 p q. turn_served c.args.now B L e e1 e2 g1 g2 c1 c2 (sym c.is_late.ensures ∙ no) p q.0 q.1) (λ c1 c2 m n. hurried_then false false c.tell.result c1 c2 m n)
+    (HeardApart g.L.Listener.heard l l1 (λ B L. HasHeard B L e e1)) (NoEvent (HasTold e1 e2)) (HeardApart g.L.Listener.heard l l1 (λ B L. HasHttpTurn c.args.now B L e e2)) (HurriesBy false false) (HurriesBy false c.tell.result) (HurriesBy false c.tell.result)
+    (λ B L g1 g2 c1 c2 p q. (apart_still g.L.Listener.heard l l1 B L g1 g2 q.0 p.0, turn_served c.args.now B L e e1 e2 g1 g2 c1 c2 (sym c.is_late.ensures ∙ no) p.1 q.0 q.1)) (λ c1 c2 m n. hurried_then false false c.tell.result c1 c2 m n)
     (also_from g.V.Vault.holds g.V.Vault.is_clean g.V.Vault.faults g.W.Wire.asked c.args.office.now c.hear.new.office c.args.wire.now c.hear.new.wire _ (HurriesBy false false) (hurried_same false) c.hear.ensures.works)
     (also_asked g.V.Vault.holds g.V.Vault.is_clean g.V.Vault.faults g.W.Wire.asked c.hear.new.office c.hear.new.wire c.tell.new.wire (HasTold e1 e2) (HurriesBy false c.tell.result) c.tell.ensures.works)

@@ -6,6 +6,8 @@ use Rattle.serving.proofs.Requesting.{asked_so, asked_still, exchanged_same, one
 use Rattle.serving.proofs.Quieting.{NoEvent, IsOne, quiet_closed, asks_one, did_asked, also_from, also_then, also_so}
 use Rattle.serving.proofs.HttpWorking.{held_on, closed_so, one_at, one_set, behind_held, behind_closed}
 use Rattle.serving.specs.HttpWorks.{HasHttpTurn, HadHttpTurns}
+use Rattle.serving.specs.Hearing.{HeardApart}
+use Rattle.serving.proofs.Hearing.{apart_still}
 use Rattle.serving.specs.Calls.{Closed}
 use Rattle.serving.specs.declared.wire.Port.TheVariants.{Admin}
 use Rattle.std.proofs.Common.{rules, ◌≡◌, true, false, [], ◌∷◌, ◌++◌, take, drop, ◌||◌}
@@ -76,13 +78,17 @@ returns-then-not-exchange-clause-works g c =
     let e2 = c.serve_exchange.new.exchange in
     let before = c.args.requests.now.hurries in
     let hurried = c.serve_exchange.result in
+    let l = c.args.listener.now in
+    let l1 = c.serve_exchange.new.listener in
     let live : e2.is_over ≡ false = search rules in
     let is : take 1 (drop place xs) ≡ e ∷ [] = one_at xs place e c.requires ∙ ap (λ y. y ∷ []) (sym c.index_mut-exchange.ensures.value) in
     let left = one_set xs place e2 c.requires in
     also_so g.V.Vault.holds g.V.Vault.is_clean g.V.Vault.faults g.W.Wire.asked c.args.office.now c.serve_exchange.new.office c.args.wire.now c.serve_exchange.new.wire
-    (λ B L. HasHttpTurn now B L e e2) (λ B L. HadHttpTurns now B L (take 1 (drop place xs)) (take 1 (drop place (set xs place e2)))) (HurriesBy false hurried) (HurriesBy before (before || hurried))
-    (λ B L given calls turn.
-    subst (λ l. HadHttpTurns now B L l (take 1 (drop place (set xs place e2))) given calls) (sym is) (subst (λ l. HadHttpTurns now B L (e ∷ []) l given calls) (sym left) (held_on now B L e e2 given calls turn live c.serve_exchange.ensures.since)))
+    (HeardApart g.L.Listener.heard l l1 (λ B L. HasHttpTurn now B L e e2)) (HeardApart g.L.Listener.heard l l1 (λ B L. HadHttpTurns now B L (take 1 (drop place xs)) (take 1 (drop place (set xs place e2))))) (HurriesBy false hurried) (HurriesBy before (before || hurried))
+    (λ B L given calls turn. (
+      turn.0,
+      subst (λ v. HadHttpTurns now B L v (take 1 (drop place (set xs place e2))) given calls) (sym is) (subst (λ v. HadHttpTurns now B L (e ∷ []) v given calls) (sym left) (held_on now B L e e2 given calls turn.1 live c.serve_exchange.ensures.since)),
+    ))
     (beside_hurried before hurried)
     c.serve_exchange.ensures.works
 
@@ -99,13 +105,17 @@ returns-clause-works g c =
     let call = Closed Admin e2.link in
     let before = c.args.requests.now.hurries in
     let hurried = c.serve_exchange.result in
+    let l = c.args.listener.now in
+    let l1 = c.serve_exchange.new.listener in
     let over : e2.is_over ≡ true = search rules in
     let is : take 1 (drop place xs) ≡ e ∷ [] = one_at xs place e c.requires ∙ ap (λ y. y ∷ []) (sym c.index_mut-exchange.ensures.value) in
     also_then g.V.Vault.holds g.V.Vault.is_clean g.V.Vault.faults g.W.Wire.asked c.args.office.now o1 o1 c.args.wire.now w1 w2
-    (λ B L. HasHttpTurn now B L e e2) (NoEvent (IsOne call)) (λ B L. HadHttpTurns now B L (take 1 (drop place xs)) [])
+    (HeardApart g.L.Listener.heard l l1 (λ B L. HasHttpTurn now B L e e2)) (NoEvent (IsOne call)) (HeardApart g.L.Listener.heard l l1 (λ B L. HadHttpTurns now B L (take 1 (drop place xs)) []))
     (HurriesBy false hurried) (HurriesBy false false) (HurriesBy before (before || hurried))
-    (λ B L g1 g2 c1 c2 turn q.
-    subst (λ l. HadHttpTurns now B L l [] (g2 ++ g1) (c1 ++ c2)) (sym is) (closed_so now B L e e2 g1 g2 c1 c2 turn over e2.link c.serve_exchange.ensures.link q.0 q.1))
+    (λ B L g1 g2 c1 c2 turn q. (
+      apart_still g.L.Listener.heard l l1 B L g1 g2 q.0 turn.0,
+      subst (λ v. HadHttpTurns now B L v [] (g2 ++ g1) (c1 ++ c2)) (sym is) (closed_so now B L e e2 g1 g2 c1 c2 turn.1 over e2.link c.serve_exchange.ensures.link q.0 q.1),
+    ))
     (λ c1 c2 m n. closed_hurried before hurried c1 c2 m)
     c.serve_exchange.ensures.works
     (also_from g.V.Vault.holds g.V.Vault.is_clean g.V.Vault.faults g.W.Wire.asked o1 o1 w1 w2 _ (HurriesBy false false) (hurried_same false)

@@ -2,6 +2,8 @@ use Rattle.serving.proofs.Quieting.{did_none, also_from, also_then, also_so}
 use Rattle.serving.proofs.HttpWorking.{HadSome, had_none, had_held, had_closed, had_all}
 use Rattle.serving.specs.Works.{Part, Also, HurriesBy}
 use Rattle.serving.specs.HttpWorks.{DidApart, HadHttpTurns}
+use Rattle.serving.specs.Hearing.{HeardApart}
+use Rattle.serving.proofs.Hearing.{told_none, apart_then}
 use Rattle.std.proofs.Common.{◌≡◌, ◌+◌, true, false, [], take, drop, subst}
 use Rattle.std.specs.Bool.{if◌then◌else◌}
 use Rattle.std.proofs.Common.{rules, arith, ◌≤◌, length}
@@ -16,7 +18,8 @@ loop-place-init g c = record {
   stay = none_yet c.args.now c.args.requests.now.exchanges.items;
   no_more = omega arith;
   works = also_from g.V.Vault.holds g.V.Vault.is_clean g.V.Vault.faults g.W.Wire.asked c.args.office.now c.args.office.now c.args.wire.now c.args.wire.now _ (HurriesBy false false) (hurried_same false)
-      (did_none g.V.Vault.holds g.V.Vault.is_clean g.V.Vault.faults g.W.Wire.asked c.args.office.now c.args.wire.now (HadSome c.args.now 0 c.args.requests.now.exchanges.items c.args.requests.now.exchanges.items) (had_none c.args.now c.args.requests.now.exchanges.items));
+      (did_none g.V.Vault.holds g.V.Vault.is_clean g.V.Vault.faults g.W.Wire.asked c.args.office.now c.args.wire.now (HeardApart g.L.Listener.heard c.args.listener.now c.args.listener.now (HadSome c.args.now 0 c.args.requests.now.exchanges.items c.args.requests.now.exchanges.items))
+      (λ B L. (told_none g.L.Listener.heard c.args.listener.now, had_none c.args.now c.args.requests.now.exchanges.items B L)));
 }
 
 pub loop-place-preserved-then-serve_place : goal.loop-place-preserved-then-serve_place
@@ -27,6 +30,7 @@ loop-place-preserved-then-serve_place g c =
     let xs = c.args.requests.now.exchanges.items in
     let ys = k.requests.exchanges.items in
     let zs = x.new.requests.exchanges.items in
+    let l = c.args.listener.now in
     let so : x.result ≡ true = search rules in
     record {
       asked = λ B start L pop s clean. x.ensures.asked B start L pop (k.invariant.asked B start L pop s (x.ensures.clean clean)) clean;
@@ -35,10 +39,14 @@ loop-place-preserved-then-serve_place g c =
       no_more = (let a = x.ensures.left in let b = k.invariant.no_more in omega (arith, a, b));
       works =
           (let one = subst (λ b. Part g.V.Vault.holds g.V.Vault.is_clean g.V.Vault.faults g.W.Wire.asked k.office k.wire x.new.office x.new.wire
-          (Also (DidApart g.V.Vault.holds g.V.Vault.is_clean k.office x.new.office (λ B L. HadHttpTurns now B L (take 1 (drop k.place ys)) (take (if b then 1 else 0) (drop k.place zs)))) (HurriesBy k.requests.hurries x.new.requests.hurries))) so x.ensures.works in
+          (Also (DidApart g.V.Vault.holds g.V.Vault.is_clean k.office x.new.office (HeardApart g.L.Listener.heard k.listener x.new.listener (λ B L. HadHttpTurns now B L (take 1 (drop k.place ys)) (take (if b then 1 else 0) (drop k.place zs))))) (HurriesBy k.requests.hurries x.new.requests.hurries))) so x.ensures.works in
           also_then g.V.Vault.holds g.V.Vault.is_clean g.V.Vault.faults g.W.Wire.asked c.args.office.now k.office x.new.office c.args.wire.now k.wire x.new.wire
-          (HadSome now k.place xs ys) (λ B L. HadHttpTurns now B L (take 1 (drop k.place ys)) (take 1 (drop k.place zs))) (HadSome now (k.place + 1) xs zs) (HurriesBy false k.requests.hurries) (HurriesBy k.requests.hurries x.new.requests.hurries) (HurriesBy false x.new.requests.hurries)
-          (λ B L g1 g2 c1 c2 a turn. had_held now k.place xs ys zs B L g1 g2 c1 c2 a turn x.ensures.before (subst (λ b. drop (if b then k.place + 1 else k.place) zs ≡ drop (k.place + 1) ys) so x.ensures.behind))
+          (HeardApart g.L.Listener.heard l k.listener (HadSome now k.place xs ys)) (HeardApart g.L.Listener.heard k.listener x.new.listener (λ B L. HadHttpTurns now B L (take 1 (drop k.place ys)) (take 1 (drop k.place zs))))
+          (HeardApart g.L.Listener.heard l x.new.listener (HadSome now (k.place + 1) xs zs)) (HurriesBy false k.requests.hurries) (HurriesBy k.requests.hurries x.new.requests.hurries) (HurriesBy false x.new.requests.hurries)
+          (λ B L g1 g2 c1 c2 a turn. (
+            apart_then g.L.Listener.heard l k.listener x.new.listener B L g1 g2 a.0 turn.0,
+            had_held now k.place xs ys zs B L g1 g2 c1 c2 a.1 turn.1 x.ensures.before (subst (λ b. drop (if b then k.place + 1 else k.place) zs ≡ drop (k.place + 1) ys) so x.ensures.behind),
+          ))
           (hurried_then false k.requests.hurries x.new.requests.hurries)
           k.invariant.works one);
     }
@@ -51,6 +59,7 @@ loop-place-preserved g c =
     let xs = c.args.requests.now.exchanges.items in
     let ys = k.requests.exchanges.items in
     let zs = x.new.requests.exchanges.items in
+    let l = c.args.listener.now in
     let so : x.result ≡ false = search rules in
     record {
       asked = λ B start L pop s clean. x.ensures.asked B start L pop (k.invariant.asked B start L pop s (x.ensures.clean clean)) clean;
@@ -59,10 +68,14 @@ loop-place-preserved g c =
       no_more = (let a = x.ensures.left in let b = k.invariant.no_more in omega (arith, a, b));
       works =
           (let one = subst (λ b. Part g.V.Vault.holds g.V.Vault.is_clean g.V.Vault.faults g.W.Wire.asked k.office k.wire x.new.office x.new.wire
-          (Also (DidApart g.V.Vault.holds g.V.Vault.is_clean k.office x.new.office (λ B L. HadHttpTurns now B L (take 1 (drop k.place ys)) (take (if b then 1 else 0) (drop k.place zs)))) (HurriesBy k.requests.hurries x.new.requests.hurries))) so x.ensures.works in
+          (Also (DidApart g.V.Vault.holds g.V.Vault.is_clean k.office x.new.office (HeardApart g.L.Listener.heard k.listener x.new.listener (λ B L. HadHttpTurns now B L (take 1 (drop k.place ys)) (take (if b then 1 else 0) (drop k.place zs))))) (HurriesBy k.requests.hurries x.new.requests.hurries))) so x.ensures.works in
           also_then g.V.Vault.holds g.V.Vault.is_clean g.V.Vault.faults g.W.Wire.asked c.args.office.now k.office x.new.office c.args.wire.now k.wire x.new.wire
-          (HadSome now k.place xs ys) (λ B L. HadHttpTurns now B L (take 1 (drop k.place ys)) []) (HadSome now k.place xs zs) (HurriesBy false k.requests.hurries) (HurriesBy k.requests.hurries x.new.requests.hurries) (HurriesBy false x.new.requests.hurries)
-          (λ B L g1 g2 c1 c2 a turn. had_closed now k.place xs ys zs B L g1 g2 c1 c2 a turn x.ensures.before (subst (λ b. drop (if b then k.place + 1 else k.place) zs ≡ drop (k.place + 1) ys) so x.ensures.behind))
+          (HeardApart g.L.Listener.heard l k.listener (HadSome now k.place xs ys)) (HeardApart g.L.Listener.heard k.listener x.new.listener (λ B L. HadHttpTurns now B L (take 1 (drop k.place ys)) []))
+          (HeardApart g.L.Listener.heard l x.new.listener (HadSome now k.place xs zs)) (HurriesBy false k.requests.hurries) (HurriesBy k.requests.hurries x.new.requests.hurries) (HurriesBy false x.new.requests.hurries)
+          (λ B L g1 g2 c1 c2 a turn. (
+            apart_then g.L.Listener.heard l k.listener x.new.listener B L g1 g2 a.0 turn.0,
+            had_closed now k.place xs ys zs B L g1 g2 c1 c2 a.1 turn.1 x.ensures.before (subst (λ b. drop (if b then k.place + 1 else k.place) zs ≡ drop (k.place + 1) ys) so x.ensures.behind),
+          ))
           (hurried_then false k.requests.hurries x.new.requests.hurries)
           k.invariant.works one);
     }
@@ -80,5 +93,6 @@ returns-clause-works g c =
     let xs = c.args.requests.now.exchanges.items in
     let ys = k.requests.exchanges.items in
     let done : length ys ≤ k.place = search rules in
-    also_so g.V.Vault.holds g.V.Vault.is_clean g.V.Vault.faults g.W.Wire.asked c.args.office.now k.office c.args.wire.now k.wire (HadSome now k.place xs ys) (λ B L. HadHttpTurns now B L xs ys) (HurriesBy false k.requests.hurries) (HurriesBy false k.requests.hurries)
-    (λ B L given calls a. had_all now k.place xs ys B L given calls done a) (λ cs m. m) k.invariant.works
+    also_so g.V.Vault.holds g.V.Vault.is_clean g.V.Vault.faults g.W.Wire.asked c.args.office.now k.office c.args.wire.now k.wire
+    (HeardApart g.L.Listener.heard c.args.listener.now k.listener (HadSome now k.place xs ys)) (HeardApart g.L.Listener.heard c.args.listener.now k.listener (λ B L. HadHttpTurns now B L xs ys)) (HurriesBy false k.requests.hurries) (HurriesBy false k.requests.hurries)
+    (λ B L given calls a. (a.0, had_all now k.place xs ys B L given calls done a.1)) (λ cs m. m) k.invariant.works

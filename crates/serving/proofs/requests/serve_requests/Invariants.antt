@@ -5,6 +5,7 @@ use Rattle.std.specs.List.{All}
 use Rattle.serving.specs.HttpTurns.{GoesOn}
 use Rattle.serving.specs.Works.{Part, Also, HurriesBy}
 use Rattle.serving.specs.HttpWorks.{DidApart}
+use Rattle.serving.specs.Hearing.{HeardApart}
 use Rattle.serving.proofs.HttpWorking.{HadSome}
 use Rattle.serving.proofs.requests.serve_requests.Given as goal
 
@@ -15,7 +16,7 @@ invariant-loop-place g l = record {
   stay : All (GoesOn l.fn.now) (take l.place l.requests.exchanges.items);
   no_more : length l.requests.exchanges.items ≤ length l.fn.requests.exchanges.items;
   works : Part g.V.Vault.holds g.V.Vault.is_clean g.V.Vault.faults g.W.Wire.asked l.fn.office l.fn.wire l.office l.wire
-      (Also (DidApart g.V.Vault.holds g.V.Vault.is_clean l.fn.office l.office (HadSome l.fn.now l.place l.fn.requests.exchanges.items l.requests.exchanges.items)) (HurriesBy false l.requests.hurries));
+      (Also (DidApart g.V.Vault.holds g.V.Vault.is_clean l.fn.office l.office (HeardApart g.L.Listener.heard l.fn.listener l.listener (HadSome l.fn.now l.place l.fn.requests.exchanges.items l.requests.exchanges.items))) (HurriesBy false l.requests.hurries));
 }
 
 abbrev pub decreases-loop-place : goal.decreases-loop-place

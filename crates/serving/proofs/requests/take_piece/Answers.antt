@@ -4,6 +4,8 @@ use Rattle.serving.proofs.Requesting.{asked_none}
 use Rattle.serving.proofs.Quieting.{gives_none}
 use Rattle.serving.specs.Works.{Giving}
 use Rattle.serving.specs.HttpWorks.{ComeTo, DidApart}
+use Rattle.serving.specs.Hearing.{HeardApart}
+use Rattle.serving.proofs.Hearing.{told_same}
 use Rattle.std.proofs.Common.{None, []}
 use Rattle.serving.proofs.requests.take_piece.Goals as goal
 
@@ -11,7 +13,7 @@ pub returns-then-is_err-clause-asked : goal.returns-then-is_err-clause-asked
 returns-then-is_err-clause-asked g c = λ B L stands clean.
     (let response = octets_of c.refuse-response.result in
     let read = c.args.exchange.now.read.items ++ c.args.piece.now in
-    asked_none g.V.Vault.holds B L read c.args.office.now (Some response) stands (NoCommand response (subst (λ (r : List ℕ). IsResponse B L read None r) (sym c.refuse-response.ensures) ForMemory)))
+    asked_none g.V.Vault.holds B L read c.args.office.now (Some response) stands (NoCommand response (subst (λ (r : List ℕ). IsResponse B L read None r) (sym c.refuse-response.ensures.told) ForMemory)))
 
 pub returns-clause-asked : goal.returns-clause-asked
 returns-clause-asked g c = λ B L stands clean.
@@ -22,12 +24,15 @@ pub returns-then-is_err-clause-works : goal.returns-then-is_err-clause-works
 returns-then-is_err-clause-works g c =
     let response = octets_of c.refuse-response.result in
     let read = c.args.exchange.now.read.items ++ c.args.piece.now in
-    gives_none g.V.Vault.holds g.V.Vault.is_clean g.V.Vault.faults c.args.office.now (ComeTo read (Some response))
-    (λ B L. record { place = None; is = NoCommand response (subst (λ (r : List ℕ). IsResponse B L read None r) (sym c.refuse-response.ensures) ForMemory) })
+    gives_none g.V.Vault.holds g.V.Vault.is_clean g.V.Vault.faults c.args.office.now (HeardApart g.L.Listener.heard c.args.listener.now c.refuse-response.new.listener (ComeTo read (Some response)))
+    (λ B L. (
+      told_same g.L.Listener.heard c.args.listener.now c.refuse-response.new.listener c.refuse-response.ensures.heard,
+      record { place = None; is = NoCommand response (subst (λ (r : List ℕ). IsResponse B L read None r) (sym c.refuse-response.ensures.told) ForMemory) },
+    ))
 
 pub returns-clause-works : goal.returns-clause-works
 returns-clause-works g c =
     let o = c.args.office.now in
     let o1 = c.ask.new.office in
     let same : c.as_slice.result.now ≡ c.args.exchange.now.read.items ++ c.args.piece.now = search rules in
-    subst (λ read. Giving g.V.Vault.holds g.V.Vault.is_clean g.V.Vault.faults o o1 (λ given. DidApart g.V.Vault.holds g.V.Vault.is_clean o o1 (ComeTo read (option_map octets_of c.ask.result)) given [])) same c.ask.ensures.works
+    subst (λ read. Giving g.V.Vault.holds g.V.Vault.is_clean g.V.Vault.faults o o1 (λ given. DidApart g.V.Vault.holds g.V.Vault.is_clean o o1 (HeardApart g.L.Listener.heard c.args.listener.now c.ask.new.listener (ComeTo read (option_map octets_of c.ask.result))) given [])) same c.ask.ensures.works

@@ -18,6 +18,7 @@ loop-times-init g c = record {
   late = late_same c.args.now c.args.links.now.newcomers.seconds c.args.links.now.newcomers.newcomers.items;
   noted = λ q n h. h;
   comers = noted_none c.args.now c.args.links.now;
+  heard = λ h a. a;
   works = part_none g.V.Vault.holds g.V.Vault.is_clean g.V.Vault.faults g.W.Wire.asked c.args.office.now c.args.wire.now _ (accepting_none g.V.Vault.holds g.V.Vault.is_clean g.V.Vault.faults c.args.office.now c.args.links.now.seats.items);
 }
 
@@ -42,6 +43,7 @@ loop-times-preserved g c =
           (ap (λ (s : Settings). s.login_seconds) k.invariant.set) k.invariant.late x.ensures.late;
       noted = λ q n h. x.ensures.noted q n (k.invariant.noted q n h);
       comers = noted_then c.args.now c.args.links.now k.links x.new.links k.invariant.comers x.ensures.comers;
+      heard = λ h a. x.ensures.heard h (k.invariant.heard h a);
       works = part_then Holds IsClean g.V.Vault.faults g.W.Wire.asked c.args.office.now k.office x.new.office c.args.wire.now k.wire x.new.wire _ _ _
           (λ g1 g2 c1 c2 wa wb a b. accepted_then Holds IsClean g.V.Vault.faults c.args.office.now k.office x.new.office seats seats1 seats2 k._times true g1 g2 c1 c2 wa wb a b) k.invariant.works once;
     }
@@ -86,3 +88,6 @@ returns-then-not-accept_link-clause-noted g c = λ q n h. c.accept_link.ensures.
 
 pub returns-then-not-accept_link-clause-comers : goal.returns-then-not-accept_link-clause-comers
 returns-then-not-accept_link-clause-comers g c = noted_then c.args.now c.args.links.now c.loop-times.links c.accept_link.new.links c.loop-times.invariant.comers c.accept_link.ensures.comers
+
+pub returns-then-not-accept_link-clause-heard : goal.returns-then-not-accept_link-clause-heard
+returns-then-not-accept_link-clause-heard g c = λ h a. c.accept_link.ensures.heard h (c.loop-times.invariant.heard h a)

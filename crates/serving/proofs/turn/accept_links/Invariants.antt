@@ -1,10 +1,11 @@
-use Rattle.std.proofs.Common.{◌≡◌, [], true, ℕ, Some}
+use Rattle.std.proofs.Common.{◌≡◌, [], true, ℕ, List, Some}
 use Rattle.serving.specs.declared.newcomers.Newcomer.{Newcomer}
 use Rattle.serving.specs.Newcomers.{newcomer, AreNoted}
 use Rattle.office.specs.Stands.{vault_of}
 use Rattle.serving.specs.Served.{StillServes}
 use Rattle.serving.specs.Settings.{settings_of}
 use Rattle.serving.specs.Works.{Part, AreAccepted, AreNoMoreLate}
+use Rattle.serving.specs.Hearing.{Hearing}
 use Rattle.serving.proofs.turn.accept_links.Given as goal
 
 abbrev pub invariant-loop-times : goal.invariant-loop-times
@@ -17,6 +18,7 @@ invariant-loop-times g l = record {
   late : AreNoMoreLate l.fn.now l.fn.links.newcomers.seconds l.fn.links.newcomers.newcomers.items l.links.newcomers.newcomers.items;
   noted : (c : ℕ) (n : Newcomer) → newcomer c l.fn.links.newcomers.newcomers.items ≡ Some n → newcomer c l.links.newcomers.newcomers.items ≡ Some n;
   comers : AreNoted l.fn.now l.fn.links l.links;
+  heard : (h : List Hearing) → g.L.Listener.heard l.fn.listener h → g.L.Listener.heard l.listener h;
   works : Part g.V.Vault.holds g.V.Vault.is_clean g.V.Vault.faults g.W.Wire.asked l.fn.office l.fn.wire l.office l.wire
       (AreAccepted g.V.Vault.holds g.V.Vault.is_clean l.fn.office l.office l.fn.links.seats.items l.links.seats.items l._times true);
 }

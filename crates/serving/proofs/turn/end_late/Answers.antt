@@ -5,6 +5,7 @@ use Rattle.std.proofs.lemmas.Bool.{and_from}
 use Rattle.std.proofs.lemmas.List.Elements.{All-nil}
 use Rattle.serving.specs.Works.{IsLateGone, is_late}
 use Rattle.serving.proofs.Working.{given_none}
+use Rattle.serving.proofs.Hearing.{told_none}
 use Rattle.serving.proofs.Late.{late_same, late_forgotten, late_so}
 use Rattle.serving.specs.Late.{HasEndedLate}
 use Rattle.serving.proofs.Freeing.{at_place}
@@ -29,10 +30,13 @@ returns-then-is_logged_in-clause-works g c = λ on.
     record {
       given = [];
       was_given = given_none g.V.Vault.holds g.V.Vault.is_clean g.V.Vault.faults o;
-      facts = λ d.
-          at_place c.args.links.now.seats.items c.deref.result.now c.args.place _
-          (λ q. HasEndedLate g.V.Vault.holds g.V.Vault.is_clean o o c.args.now n.seconds n.newcomers.items c.forget.new.self.newcomers.items (q ∷ []) []) c.deref.ensures.0 c.requires
-          (late_lived g.V.Vault.holds g.V.Vault.is_clean g.V.Vault.faults c.args.now n.seconds o n.newcomers.items c.forget.new.self.newcomers.items _ c.forget.ensures.newcomers (λ T s. sym (c.is_logged_in.ensures T s) ∙ yes)) d;
+      facts = (
+        (λ d.
+            at_place c.args.links.now.seats.items c.deref.result.now c.args.place _
+            (λ q. HasEndedLate g.V.Vault.holds g.V.Vault.is_clean o o c.args.now n.seconds n.newcomers.items c.forget.new.self.newcomers.items (q ∷ []) []) c.deref.ensures.0 c.requires
+            (late_lived g.V.Vault.holds g.V.Vault.is_clean g.V.Vault.faults c.args.now n.seconds o n.newcomers.items c.forget.new.self.newcomers.items _ c.forget.ensures.newcomers (λ T s. sym (c.is_logged_in.ensures T s) ∙ yes)) d),
+        told_none g.L.Listener.heard c.args.listener.now,
+      );
     })
 
 pub returns-then-not-is_late-clause-late : goal.returns-then-not-is_late-clause-late
@@ -46,10 +50,13 @@ returns-then-not-is_late-clause-works g c = λ on.
     record {
       given = [];
       was_given = given_none g.V.Vault.holds g.V.Vault.is_clean g.V.Vault.faults o;
-      facts = λ d.
-          at_place c.args.links.now.seats.items c.deref.result.now c.args.place _
-          (λ q. HasEndedLate g.V.Vault.holds g.V.Vault.is_clean o o c.args.now n.seconds n.newcomers.items n.newcomers.items (q ∷ []) []) c.deref.ensures.0 c.requires
-          (late_prompt g.V.Vault.holds g.V.Vault.is_clean g.V.Vault.faults c.args.now n.seconds o n.newcomers.items _ (prompt_so c.args.now n.seconds n.newcomers.items _ (sym c.is_late.ensures ∙ no))) d;
+      facts = (
+        (λ d.
+            at_place c.args.links.now.seats.items c.deref.result.now c.args.place _
+            (λ q. HasEndedLate g.V.Vault.holds g.V.Vault.is_clean o o c.args.now n.seconds n.newcomers.items n.newcomers.items (q ∷ []) []) c.deref.ensures.0 c.requires
+            (late_prompt g.V.Vault.holds g.V.Vault.is_clean g.V.Vault.faults c.args.now n.seconds o n.newcomers.items _ (prompt_so c.args.now n.seconds n.newcomers.items _ (sym c.is_late.ensures ∙ no))) d),
+        told_none g.L.Listener.heard c.args.listener.now,
+      );
     })
 
 pub returns-clause-late : goal.returns-clause-late
@@ -65,10 +72,13 @@ returns-clause-works g c = λ on.
     record {
       given = w.given;
       was_given = w.was_given;
-      facts = λ d.
-          at_place c.args.links.now.seats.items c.deref.result.now c.args.place _
-          (λ q. HasEndedLate g.V.Vault.holds g.V.Vault.is_clean o o1 c.args.now n.seconds n.newcomers.items n.newcomers.items (q ∷ []) w.given) c.deref.ensures.0 c.requires
-          (late_shut g.V.Vault.holds g.V.Vault.is_clean g.V.Vault.faults c.args.now n.seconds o o1 n.newcomers.items _ w.given w.facts.0 w.facts.1) d;
+      facts = (
+        (λ d.
+            at_place c.args.links.now.seats.items c.deref.result.now c.args.place _
+            (λ q. HasEndedLate g.V.Vault.holds g.V.Vault.is_clean o o1 c.args.now n.seconds n.newcomers.items n.newcomers.items (q ∷ []) w.given) c.deref.ensures.0 c.requires
+            (late_shut g.V.Vault.holds g.V.Vault.is_clean g.V.Vault.faults c.args.now n.seconds o o1 n.newcomers.items _ w.given w.facts.0.0 w.facts.0.1) d),
+        w.facts.1,
+      );
     })
 
 pub returns-then-is_logged_in-clause-seated : goal.returns-then-is_logged_in-clause-seated

@@ -5,6 +5,7 @@ use Rattle.serving.specs.Served.{StillServes}
 use Rattle.serving.specs.Settings.{settings_of}
 use Rattle.serving.specs.Works.{Giving, AreNoMoreLate}
 use Rattle.serving.specs.Late.{HasEndedLate}
+use Rattle.serving.specs.Hearing.{WasTold, late_ends}
 use Rattle.serving.specs.Newcomers.{AreSeatedAt}
 use Rattle.serving.proofs.turn.end_late_ones.Given as goal
 
@@ -19,7 +20,8 @@ invariant-loop-place g l = record {
   seated : AreSeatedAt l.fn.links → AreSeatedAt l.links;
   late : AreNoMoreLate l.fn.now l.fn.links.newcomers.seconds l.fn.links.newcomers.newcomers.items l.links.newcomers.newcomers.items;
   works : Giving g.V.Vault.holds g.V.Vault.is_clean g.V.Vault.faults l.fn.office l.office
-      (HasEndedLate g.V.Vault.holds g.V.Vault.is_clean l.fn.office l.office l.fn.now l.fn.links.newcomers.seconds l.fn.links.newcomers.newcomers.items l.links.newcomers.newcomers.items (take l.place l.fn.links.seats.items));
+      (λ given. HasEndedLate g.V.Vault.holds g.V.Vault.is_clean l.fn.office l.office l.fn.now l.fn.links.newcomers.seconds l.fn.links.newcomers.newcomers.items l.links.newcomers.newcomers.items (take l.place l.fn.links.seats.items) given
+      × WasTold g.L.Listener.heard l.fn.listener l.listener (late_ends given));
 }
 
 abbrev pub decreases-loop-place : goal.decreases-loop-place

@@ -15,6 +15,7 @@ use Rattle.std.proofs.Common.{[]}
 use Rattle.std.proofs.lemmas.List.Elements.{All-nil, All-cons}
 use Rattle.serving.specs.Works.{IsLateGone}
 use Rattle.serving.proofs.Working.{given_none, given_one}
+use Rattle.serving.proofs.Hearing.{told_none}
 use Rattle.serving.proofs.turn.end_seat.Goals as goal
 
 pub returns-clause-serves : goal.returns-clause-serves
@@ -49,13 +50,16 @@ returns-clause-works g c = λ now seconds newcomers late.
       given = (e, m) ∷ [];
       was_given = given_one g.V.Vault.holds g.V.Vault.is_clean g.V.Vault.faults c.args.office.now c.step.new.self e (outcome_seen c.step.result) c.step.ensures.clean c.step.ensures.stands c.step.ensures.admitted c.step.ensures.counted c.step.ensures.cause;
       facts = (
-        All-cons (IsLateGone now seconds newcomers) (e, m) [] late (All-nil (IsLateGone now seconds newcomers)),
-        λ B L s clean.
-            (let connection = c.args.seat.connection in
-            let stays : c.ended.result ≡ false = search rules in
-            let here = open_so (is_open (trace_of B L) connection) c.ended.result (c.ended.ensures (trace_of B L) s) stays in
-            let k = gone_mark (trace_of B L) (lent_by c.args.office.now) connection (outcome_seen c.step.result) here (c.step.ensures.outcome (trace_of B L) s clean) in
-            subst (λ x. is_open (trace_of B ((event.Gone connection, x) ∷ L)) connection ≡ false) (sym k.1) (gone_so B L connection k.0)),
+        (
+          All-cons (IsLateGone now seconds newcomers) (e, m) [] late (All-nil (IsLateGone now seconds newcomers)),
+          λ B L s clean.
+              (let connection = c.args.seat.connection in
+              let stays : c.ended.result ≡ false = search rules in
+              let here = open_so (is_open (trace_of B L) connection) c.ended.result (c.ended.ensures (trace_of B L) s) stays in
+              let k = gone_mark (trace_of B L) (lent_by c.args.office.now) connection (outcome_seen c.step.result) here (c.step.ensures.outcome (trace_of B L) s clean) in
+              subst (λ x. is_open (trace_of B ((event.Gone connection, x) ∷ L)) connection ≡ false) (sym k.1) (gone_so B L connection k.0)),
+        ),
+        record { is = c.hear.ensures.told },
       );
     })
 
@@ -65,7 +69,10 @@ returns-then-ended-clause-works g c = λ now seconds newcomers late.
       given = [];
       was_given = given_none g.V.Vault.holds g.V.Vault.is_clean g.V.Vault.faults c.args.office.now;
       facts = (
-        All-nil (IsLateGone now seconds newcomers),
-        λ B L s clean. (let over : c.ended.result ≡ true = search rules in shut_so (is_open (trace_of B L) c.args.seat.connection) c.ended.result (c.ended.ensures (trace_of B L) s) over),
+        (
+          All-nil (IsLateGone now seconds newcomers),
+          λ B L s clean. (let over : c.ended.result ≡ true = search rules in shut_so (is_open (trace_of B L) c.args.seat.connection) c.ended.result (c.ended.ensures (trace_of B L) s) over),
+        ),
+        told_none g.L.Listener.heard c.args.listener.now,
       );
     }

@@ -17,6 +17,7 @@ use Rattle.office.specs.Trace.{is_ready}
 use Rattle.serving.specs.declared.wire.Port.TheVariants.{Pop}
 use Rattle.serving.specs.Calls.{Read}
 use Rattle.serving.proofs.Working.{given_one, given_none, asked_one, part_none}
+use Rattle.serving.proofs.Hearing.{unheard, heard_one}
 use Rattle.serving.specs.Works.{NotReady}
 use Rattle.serving.proofs.Turns.{read_some, read_later, read_cut}
 use Rattle.serving.proofs.Resting.{hurried_quiet}
@@ -105,7 +106,7 @@ returns-then-not-ready-clause-works g c =
     let seat = c.args.seat in
     let no : c.ready.result ≡ false = search rules in
     part_none g.V.Vault.holds g.V.Vault.is_clean g.V.Vault.faults g.W.Wire.asked o c.args.wire.now _
-    (NotReady (λ B L s. sym (c.ready.ensures (trace_of B L) s) ∙ no), λ e. e)
+    (unheard g.V.Vault.holds g.V.Vault.is_clean g.L.Listener.heard o c.args.listener.now, (NotReady (λ B L s. sym (c.ready.ensures (trace_of B L) s) ∙ no), λ e. e))
 
 pub returns-in-Count-clause-works : goal.returns-in-Count-clause-works
 returns-in-Count-clause-works g c =
@@ -121,7 +122,10 @@ returns-in-Count-clause-works g c =
       calls = Read Pop seat.link room (Count n) piece ∷ [];
       was_given = given_one Holds g.V.Vault.is_clean g.V.Vault.faults o c.step_with_account.new.self (event.Bytes seat.connection piece) (outcome_seen c.step_with_account.result) c.step_with_account.ensures.clean c.step_with_account.ensures.stands c.step_with_account.ensures.admitted c.step_with_account.ensures.counted c.step_with_account.ensures.cause;
       was_asked = asked_one g.W.Wire.asked c.args.wire.now c.read.new.self (Read Pop seat.link room (Count n) piece) c.in-Count.ensures.called;
-      facts = (read_some Holds g.V.Vault.is_clean g.V.Vault.faults o seat room (Count n) piece piece m, λ e. refl);
+      facts = (
+        heard_one g.V.Vault.holds g.V.Vault.is_clean g.L.Listener.heard o c.step_with_account.new.self c.args.listener.now c.hear.new.self (event.Bytes seat.connection piece) m seat.connection c.step_with_account.new.account (λ T. refl) c.step_with_account.ensures.account c.hear.ensures.told,
+        (read_some Holds g.V.Vault.is_clean g.V.Vault.faults o seat room (Count n) piece piece m, λ e. refl),
+      );
     }
 
 pub returns-in-Later-clause-works : goal.returns-in-Later-clause-works
@@ -134,7 +138,7 @@ returns-in-Later-clause-works g c =
       calls = Read Pop seat.link room Later [] ∷ [];
       was_given = given_none g.V.Vault.holds g.V.Vault.is_clean g.V.Vault.faults o;
       was_asked = asked_one g.W.Wire.asked c.args.wire.now c.read.new.self (Read Pop seat.link room Later []) c.in-Later.ensures.called;
-      facts = (read_later g.V.Vault.holds g.V.Vault.is_clean g.V.Vault.faults o seat room Later [], λ e. e);
+      facts = (unheard g.V.Vault.holds g.V.Vault.is_clean g.L.Listener.heard o c.args.listener.now, (read_later g.V.Vault.holds g.V.Vault.is_clean g.V.Vault.faults o seat room Later [], λ e. e));
     }
 
 pub returns-in-End-clause-works : goal.returns-in-End-clause-works
@@ -153,5 +157,8 @@ returns-in-End-clause-works g c =
       calls = Read Pop seat.link room io octets ∷ [];
       was_given = given_one Holds g.V.Vault.is_clean g.V.Vault.faults office c.step_with_account-in-End.new.self (event.Gone connection) (outcome_seen c.step_with_account-in-End.result) c.step_with_account-in-End.ensures.clean c.step_with_account-in-End.ensures.stands c.step_with_account-in-End.ensures.admitted c.step_with_account-in-End.ensures.counted c.step_with_account-in-End.ensures.cause;
       was_asked = asked_one g.W.Wire.asked c.args.wire.now c.read.new.self (Read Pop seat.link room io octets) c.read.ensures.called;
-      facts = (read_cut Holds g.V.Vault.is_clean g.V.Vault.faults office seat room io octets m fault, hurried_quiet false (Read Pop seat.link room io octets ∷ []));
+      facts = (
+        heard_one g.V.Vault.holds g.V.Vault.is_clean g.L.Listener.heard office c.step_with_account-in-End.new.self c.args.listener.now c.hear-in-End.new.self (event.Gone connection) m connection c.step_with_account-in-End.new.account (λ T. refl) c.step_with_account-in-End.ensures.account c.hear-in-End.ensures.told,
+        (read_cut Holds g.V.Vault.is_clean g.V.Vault.faults office seat room io octets m fault, hurried_quiet false (Read Pop seat.link room io octets ∷ [])),
+      );
     }

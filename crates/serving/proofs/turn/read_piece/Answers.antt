@@ -4,6 +4,7 @@ use Rattle.office.specs.Taken.{trace_of}
 use Rattle.serving.specs.Paces.{is_shut, is_free}
 use Rattle.serving.specs.Works.{IsHeard, may_keep, HurriesBy, is_moving}
 use Rattle.serving.proofs.Working.{part_none, part_asking, part_then, part_so}
+use Rattle.serving.proofs.Hearing.{unheard}
 use Rattle.serving.proofs.Turns.{heard_none, heard_unread, heard_asked, heard_after, read_part}
 use Rattle.serving.proofs.Unread.{shut_so, line_so, looked_quiet, unread_so}
 use Rattle.serving.proofs.Working.{any_right}
@@ -27,7 +28,7 @@ returns-then-not-ready-clause-works g c =
     let links = c.args.links.now in
     let no : c.ready.result ≡ false = search rules in
     part_none g.V.Vault.holds g.V.Vault.is_clean g.V.Vault.faults g.W.Wire.asked c.args.office.now c.args.wire.now _
-    (heard_none g.V.Vault.holds g.V.Vault.is_clean g.V.Vault.faults links.wait (may_keep links) c.args.office.now c.args.seat (λ B L s. sym (c.ready.ensures (trace_of B L) s) ∙ no), hurried_quiet links.hurries [])
+    (unheard g.V.Vault.holds g.V.Vault.is_clean g.L.Listener.heard c.args.office.now c.args.listener.now, (heard_none g.V.Vault.holds g.V.Vault.is_clean g.V.Vault.faults links.wait (may_keep links) c.args.office.now c.args.seat (λ B L s. sym (c.ready.ensures (trace_of B L) s) ∙ no), hurried_quiet links.hurries []))
 
 pub returns-then-part-eq0-clause-works : goal.returns-then-part-eq0-clause-works
 returns-then-part-eq0-clause-works g c =
@@ -42,7 +43,7 @@ returns-then-part-eq0-clause-works g c =
     let a = part.ensures.works in
     let none : part.result ≡ 0 = search rules in
     let shut : is_shut pace ≡ true → may ≡ true = shut_so links.is_freed c.is_logged_in.result links.guesses.are_slow c.args.now links.guesses c.origin_at-origin.result pace (search rules) c.origin_at-origin.ensures.fast in
-    heard_asked Holds IsClean g.V.Vault.faults g.W.Wire.asked o c.args.wire.now part.new.wire seat links.wait may (HurriesBy links.hurries (links.hurries || false)) a.calls a.was_asked
+    heard_asked Holds IsClean g.V.Vault.faults g.W.Wire.asked g.L.Listener.heard o c.args.wire.now part.new.wire c.args.listener.now seat links.wait may (HurriesBy links.hurries (links.hurries || false)) a.calls a.was_asked
     (heard_unread Holds IsClean g.V.Vault.faults links.wait may o seat a.calls (looked_quiet Holds o seat links.wait pace part.result a.calls a.facts)
     (unread_so Holds o seat links.wait pace may part.result a.calls shut none a.facts)) (hurried_quiet links.hurries a.calls)
 
@@ -56,8 +57,8 @@ returns-then-not-read_once-clause-works g c =
     let pace = c.pace_behind-pace.result in
     let some : (part.result == 0) ≡ false = search rules in
     let line : is_free pace ≡ false → may_keep links ≡ true = line_so links.is_freed c.is_logged_in.result links.guesses.are_slow c.args.now links.guesses c.origin_at-origin.result pace (search rules) c.origin_at-origin.ensures.fast in
-    heard_after g.V.Vault.holds g.V.Vault.is_clean g.V.Vault.faults g.W.Wire.asked c.args.office.now c.read_once.new.office c.args.wire.now part.new.wire c.read_once.new.wire seat links.wait (may_keep links) pace part.result (HurriesBy false c.read_once.result) (HurriesBy links.hurries (links.hurries || false)) a.calls (λ cs m. hurried_quiet links.hurries (a.calls ++ cs)) quiet a.facts some line a.was_asked
-    (read_part g.V.Vault.holds g.V.Vault.is_clean g.V.Vault.faults g.W.Wire.asked c.args.office.now c.read_once.new.office part.new.wire c.read_once.new.wire seat part.result _ (HurriesBy false c.read_once.result) c.read_once.ensures.works part.ensures.most)
+    heard_after g.V.Vault.holds g.V.Vault.is_clean g.V.Vault.faults g.W.Wire.asked g.L.Listener.heard c.args.office.now c.read_once.new.office c.args.wire.now part.new.wire c.read_once.new.wire c.args.listener.now c.read_once.new.listener seat links.wait (may_keep links) pace part.result (HurriesBy false c.read_once.result) (HurriesBy links.hurries (links.hurries || false)) a.calls (λ cs m. hurried_quiet links.hurries (a.calls ++ cs)) quiet a.facts some line a.was_asked
+    (read_part g.V.Vault.holds g.V.Vault.is_clean g.V.Vault.faults g.W.Wire.asked g.L.Listener.heard c.args.office.now c.read_once.new.office part.new.wire c.read_once.new.wire c.args.listener.now c.read_once.new.listener seat part.result _ (HurriesBy false c.read_once.result) c.read_once.ensures.works part.ensures.most)
 
 pub returns-clause-works : goal.returns-clause-works
 returns-clause-works g c =
@@ -70,6 +71,6 @@ returns-clause-works g c =
     let pace = c.pace_behind-pace.result in
     let some : (part.result == 0) ≡ false = search rules in
     let line : is_free pace ≡ false → may_keep links ≡ true = line_so links.is_freed c.is_logged_in.result links.guesses.are_slow c.args.now links.guesses c.origin_at-origin.result pace (search rules) c.origin_at-origin.ensures.fast in
-    heard_after g.V.Vault.holds g.V.Vault.is_clean g.V.Vault.faults g.W.Wire.asked c.args.office.now c.read_once.new.office c.args.wire.now part.new.wire c.read_once.new.wire seat links.wait (may_keep links) pace part.result (HurriesBy false c.read_once.result) (HurriesBy links.hurries (c.note_guess.new.links.hurries || true)) a.calls
+    heard_after g.V.Vault.holds g.V.Vault.is_clean g.V.Vault.faults g.W.Wire.asked g.L.Listener.heard c.args.office.now c.read_once.new.office c.args.wire.now part.new.wire c.read_once.new.wire c.args.listener.now c.read_once.new.listener seat links.wait (may_keep links) pace part.result (HurriesBy false c.read_once.result) (HurriesBy links.hurries (c.note_guess.new.links.hurries || true)) a.calls
     (λ cs m. hurried_moved links.hurries (c.note_guess.new.links.hurries || true) (a.calls ++ cs) (any_right is_moving a.calls cs (m came))) quiet a.facts some line a.was_asked
-    (read_part g.V.Vault.holds g.V.Vault.is_clean g.V.Vault.faults g.W.Wire.asked c.args.office.now c.read_once.new.office part.new.wire c.read_once.new.wire seat part.result _ (HurriesBy false c.read_once.result) c.read_once.ensures.works part.ensures.most)
+    (read_part g.V.Vault.holds g.V.Vault.is_clean g.V.Vault.faults g.W.Wire.asked g.L.Listener.heard c.args.office.now c.read_once.new.office part.new.wire c.read_once.new.wire c.args.listener.now c.read_once.new.listener seat part.result _ (HurriesBy false c.read_once.result) c.read_once.ensures.works part.ensures.most)

@@ -20,6 +20,9 @@ returns-clause-works g c =
     let seat = c.args.seat in
     part_so Holds IsClean g.V.Vault.faults g.W.Wire.asked c.args.office.now x.new.office c.args.wire.now x.new.wire _ _
     (λ gv cl wa a. (
-      served_so Holds IsClean g.V.Vault.faults c.args.office.now x.new.office (way_at links (x.new.links.hurries || x.result)) (way_at links n.hurries) (seat ∷ []) (seat ∷ []) gv cl refl refl (λ e. e) c.note_freed.ensures.hurried a.0,
-      client_hurried links.hurries (x.new.links.hurries || x.result) n.is_freed n.hurries cl a.1 c.note_freed.ensures.hurries,
+      a.0,
+      (
+        served_so Holds IsClean g.V.Vault.faults c.args.office.now x.new.office (way_at links (x.new.links.hurries || x.result)) (way_at links n.hurries) (seat ∷ []) (seat ∷ []) gv cl refl refl (λ e. e) c.note_freed.ensures.hurried a.1.0,
+        client_hurried links.hurries (x.new.links.hurries || x.result) n.is_freed n.hurries cl a.1.1 c.note_freed.ensures.hurries,
+      ),
     )) x.ensures.works

@@ -4,6 +4,7 @@ use Rattle.serving.specs.declared.links.Clients.{Clients}
 use Rattle.serving.specs.Paces.{LeavesSettings}
 use Rattle.serving.specs.Settings.{Settings, settings_of}
 use Rattle.serving.proofs.Working.{part_none, part_so, part_then}
+use Rattle.serving.proofs.Hearing.{unheard, heard_then}
 use Rattle.serving.proofs.Freeing.{were_none, were_next, were_whole}
 use Rattle.serving.proofs.Resting.{is_left, clients_hurried}
 use Rattle.serving.proofs.turn.serve_links.Goals as goal
@@ -20,8 +21,11 @@ loop-place-init g c = record {
   aside = record { set = refl; newcomers = refl; last = refl };
   frees = λ e. cc;
   works = part_none g.V.Vault.holds g.V.Vault.is_clean g.V.Vault.faults g.W.Wire.asked c.args.office.now c.args.wire.now _ (
-    were_none g.V.Vault.holds g.V.Vault.is_clean g.V.Vault.faults c.args.office.now (settings_of c.args.links.now) c.args.links.now.hurries c.args.links.now.seats.items,
-    λ e. is_left (c.args.links.now.hurries || false) false (is_left c.args.links.now.hurries false e),
+    unheard g.V.Vault.holds g.V.Vault.is_clean g.L.Listener.heard c.args.office.now c.args.listener.now,
+    (
+      were_none g.V.Vault.holds g.V.Vault.is_clean g.V.Vault.faults c.args.office.now (settings_of c.args.links.now) c.args.links.now.hurries c.args.links.now.seats.items,
+      λ e. is_left (c.args.links.now.hurries || false) false (is_left c.args.links.now.hurries false e),
+    ),
   );
 }
 
@@ -44,9 +48,12 @@ loop-place-preserved g c =
       frees = λ e. ⊎_elim (λ (b : k.links.is_freed ≡ true). x.ensures.hurried (k.invariant.frees b)) (λ (h : x.new.links.hurries ≡ true). h) (x.ensures.frees e);
       works = part_then Holds IsClean g.V.Vault.faults g.W.Wire.asked c.args.office.now k.office x.new.office c.args.wire.now k.wire x.new.wire _ _ _
           (λ g1 g2 c1 c2 wa wb a b. (
-            were_next Holds IsClean g.V.Vault.faults c.args.office.now k.office x.new.office (settings_of old) old.seats.items k.links x.new.links.is_freed x.new.links.hurries k.place no_seat g1 g2 c1 c2
-                k.invariant.aside.set (ap (λ v. v.items) k.invariant.seats) within x.ensures.still x.ensures.hurried (x.ensures.freed no_seat) x.ensures.waits wa wb a.0 (b.0 no_seat),
-            clients_hurried old.hurries k.links.hurries x.new.links.hurries k.links.is_freed x.new.links.is_freed c1 c2 x.ensures.still a.1 b.1,
+            heard_then Holds IsClean g.L.Listener.heard g.V.Vault.faults c.args.office.now k.office x.new.office c.args.listener.now k.listener x.new.listener g1 g2 wa wb a.0 b.0,
+            (
+              were_next Holds IsClean g.V.Vault.faults c.args.office.now k.office x.new.office (settings_of old) old.seats.items k.links x.new.links.is_freed x.new.links.hurries k.place no_seat g1 g2 c1 c2
+                  k.invariant.aside.set (ap (λ v. v.items) k.invariant.seats) within x.ensures.still x.ensures.hurried (x.ensures.freed no_seat) x.ensures.waits wa wb a.1.0 (b.1.0 no_seat),
+              clients_hurried old.hurries k.links.hurries x.new.links.hurries k.links.is_freed x.new.links.is_freed c1 c2 x.ensures.still a.1.1 b.1.1,
+            ),
           ))
           k.invariant.works x.ensures.works;
     }
@@ -59,4 +66,4 @@ returns-clause-works g c =
     let old = c.args.links.now in
     let done : length k.links.seats.items ≤ k.place = search rules in
     part_so Holds IsClean g.V.Vault.faults g.W.Wire.asked c.args.office.now k.office c.args.wire.now k.wire _ _
-    (λ gv cl wa a. (were_whole Holds IsClean g.V.Vault.faults c.args.office.now k.office (settings_of old) k.links.is_freed k.links.hurries old.seats.items k.links.seats.items k.place gv cl (ap (λ v. v.items) k.invariant.seats) done a.0, a.1)) k.invariant.works
+    (λ gv cl wa a. (a.0, (were_whole Holds IsClean g.V.Vault.faults c.args.office.now k.office (settings_of old) k.links.is_freed k.links.hurries old.seats.items k.links.seats.items k.place gv cl (ap (λ v. v.items) k.invariant.seats) done a.1.0, a.1.1))) k.invariant.works

@@ -20,6 +20,8 @@ use Rattle.serving.specs.Works.{seat_of}
 use Rattle.serving.specs.Works.{Giving}
 use Rattle.serving.specs.Late.{HasEndedLate}
 use Rattle.serving.proofs.Timely.{late_both}
+use Rattle.serving.specs.Hearing.{WasTold, WithHeard, late_ends}
+use Rattle.serving.proofs.Hearing.{told_same}
 use Rattle.serving.proofs.Finishing.{turn_done}
 use Rattle.serving.proofs.Bounds.{all_short}
 use Rattle.serving.proofs.turn.serve_turn.Goals as goal
@@ -83,15 +85,21 @@ returns-clause-works g c = λ T s clean.
     let w4 = c.serve_links.new.wire in
     let w5 = c.serve_requests.new.wire in
     let w6 = c.close_links.new.wire in
+    let Heard = g.L.Listener.heard in
+    let l1 = c.tell_idle_ones.new.listener in
+    let l2 = c.accept_links.new.listener in
+    let l3 = c.serve_links.new.listener in
+    let l4 = c.serve_requests.new.listener in
+    let l5 = c.end_late_ones.new.listener in
     let a = c.accept_links.ensures.works in
     let passed = subst (λ n. Part Holds IsClean g.V.Vault.faults Asked c.args.office.now c.args.wire.now o1 w1 (IsPassed n now)) c.millis_for-millis.ensures c.pass_time.ensures.works in
-    let turned = subst (λ set. Part Holds IsClean g.V.Vault.faults Asked o2 w3 o3 w4 (Also (WereServed Holds IsClean o2 o3 set served.is_freed served.hurries seats2 seats2) (HurriesBy served.is_freed served.hurries))) c.accept_links.ensures.set
-    (subst (λ b. Part Holds IsClean g.V.Vault.faults Asked o2 w3 o3 w4 (Also (WereServed Holds IsClean o2 o3 (settings_of came) served.is_freed served.hurries seats2 seats2) (HurriesBy (b || served.is_freed) served.hurries))) c.accept_links.ensures.hurries c.serve_links.ensures.works) in
+    let turned = subst (λ set. Part Holds IsClean g.V.Vault.faults Asked o2 w3 o3 w4 (WithHeard Holds IsClean Heard o2 l2 o3 l3 (Also (WereServed Holds IsClean o2 o3 set served.is_freed served.hurries seats2 seats2) (HurriesBy served.is_freed served.hurries)))) c.accept_links.ensures.set
+    (subst (λ b. Part Holds IsClean g.V.Vault.faults Asked o2 w3 o3 w4 (WithHeard Holds IsClean Heard o2 l2 o3 l3 (Also (WereServed Holds IsClean o2 o3 (settings_of came) served.is_freed served.hurries seats2 seats2) (HurriesBy (b || served.is_freed) served.hurries)))) c.accept_links.ensures.hurries c.serve_links.ensures.works) in
     let same = c.serve_links.ensures.aside.newcomers in
     let seconds = ap (λ n. n.seconds) same ∙ ap (λ (s : Settings). s.login_seconds) c.accept_links.ensures.set in
     let less = subst (λ n. AreNoMoreLate now old.newcomers.seconds old.newcomers.newcomers.items n.newcomers.items) (sym same) c.accept_links.ensures.late in
-    let late = late_both Holds IsClean g.V.Vault.faults now served.newcomers.seconds old.newcomers.seconds old.newcomers.newcomers.items served.newcomers.newcomers.items ended.newcomers.newcomers.items seats2 o4 o5 seconds less
-    (subst (λ v. Giving Holds IsClean g.V.Vault.faults o4 o5 (HasEndedLate Holds IsClean o4 o5 now served.newcomers.seconds served.newcomers.newcomers.items ended.newcomers.newcomers.items v.items)) c.serve_links.ensures.seats c.end_late_ones.ensures.works) in
+    let late = late_both Holds IsClean g.V.Vault.faults now served.newcomers.seconds old.newcomers.seconds old.newcomers.newcomers.items served.newcomers.newcomers.items ended.newcomers.newcomers.items seats2 o4 o5 (λ given. WasTold Heard l4 l5 (late_ends given)) seconds less
+    (subst (λ v. Giving Holds IsClean g.V.Vault.faults o4 o5 (λ given. HasEndedLate Holds IsClean o4 o5 now served.newcomers.seconds served.newcomers.newcomers.items ended.newcomers.newcomers.items v.items given × WasTold Heard l4 l5 (late_ends given))) c.serve_links.ensures.seats c.end_late_ones.ensures.works) in
     let keeps : (n : ℕ) (x : Newcomer) → newcomer n old.newcomers.newcomers.items ≡ Some x → newcomer n served.newcomers.newcomers.items ≡ Some x =
     λ n x h. ap (λ v. newcomer n v.newcomers.items) same ∙ c.accept_links.ensures.noted n x h in
     let comers = c.accept_links.ensures.comers in
@@ -104,10 +112,10 @@ returns-clause-works g c = λ T s clean.
     let tried = subst (λ l. SpoolPart Holds IsClean g.V.Vault.faults g.S.Spool.asked o5 c.args.spool.now c.serve_spool.new.office c.serve_spool.new.spool (λ U given calls. IsSpoolTurn l c.serve_spool.new.links.last U given calls × (c.serve_spool.new.links.hurries ≡ (c.close_links.new.links.hurries || has_dealt calls)))) last c.serve_spool.ensures.works in
     let waits : ended.wait ≡ old.wait = ap (λ (s : Settings). s.wait) (c.end_late_ones.ensures.set ∙ (c.serve_links.ensures.aside.set ∙ c.accept_links.ensures.set)) in
     let seats_same = c.end_late_ones.ensures.seats ∙ c.serve_links.ensures.seats in
-    turn_done Holds IsClean g.V.Vault.faults Asked g.S.Spool.asked T now links (record { clients = c.serve_spool.new.links; requests = c.serve_requests.new.requests })
+    turn_done Holds IsClean g.V.Vault.faults Asked g.S.Spool.asked Heard T now links (record { clients = c.serve_spool.new.links; requests = c.serve_requests.new.requests })
     c.args.office.now o1 o2 o3 o4 o5 c.serve_spool.new.office
-    c.args.wire.now w1 c.accept_links.new.wire w3 w4 w5 w6 c.args.spool.now c.serve_spool.new.spool
-    seats2 a.0 c.accept_requests.new.requests.exchanges.items c.accept_requests.ensures.works.0 served.is_freed served.hurries c.close_links.new.links.hurries served.newcomers.newcomers.items ended.newcomers.newcomers.items passed a.1 c.accept_requests.ensures.works.1 turned c.serve_links.ensures.frees
+    c.args.wire.now w1 c.accept_links.new.wire w3 w4 w5 w6 c.args.spool.now c.serve_spool.new.spool c.args.listener.now l1 l2 l3 l4 l5
+    seats2 a.0 c.accept_requests.new.requests.exchanges.items c.accept_requests.ensures.works.0 served.is_freed served.hurries c.close_links.new.links.hurries served.newcomers.newcomers.items ended.newcomers.newcomers.items passed c.tell_idle_ones.ensures a.1 c.accept_requests.ensures.works.1 (told_same Heard l1 l2 c.accept_links.ensures.heard) turned c.serve_links.ensures.frees
     (λ e. c.close_links.ensures.hurried (c.end_late_ones.ensures.hurries ∙ e)) c.serve_requests.ensures.works keeps newly late forgets
     (λ U su.
     subst (λ v. Asking Asked w5 w6 (λ calls. AreClosed U v.items c.serve_spool.new.links.seats.items calls × HurriesBy served.hurries c.close_links.new.links.hurries calls × Releases old.wait c.close_links.new.links.hurries calls)) seats_same

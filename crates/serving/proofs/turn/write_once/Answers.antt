@@ -17,6 +17,7 @@ use Rattle.serving.specs.declared.wire.Port.TheVariants.{Pop}
 use Rattle.serving.specs.Calls.{Wrote}
 use Rattle.serving.proofs.Staying.{gone_so}
 use Rattle.serving.proofs.Working.{given_one, given_none, asked_one, part_none, nothing_left}
+use Rattle.serving.proofs.Hearing.{unheard, heard_one}
 use Rattle.serving.proofs.Turns.{wrote_some, wrote_later, wrote_cut, wrote_none, shut_rest}
 use Rattle.serving.proofs.turn.write_once.Goals as goal
 
@@ -103,9 +104,11 @@ returns-then-is_empty-clause-works g c =
     let o = c.args.office.now in
     let seat = c.args.seat in
     let e : c.is_empty.result ≡ true = search rules in
-    part_none Holds g.V.Vault.is_clean g.V.Vault.faults g.W.Wire.asked o c.args.wire.now _
-    (wrote_none Holds g.V.Vault.is_clean g.V.Vault.faults o seat
-    (λ B L s k. nothing_left (rest (trace_of B L) seat.connection) (length c.owed-lent.result.now) c.is_empty.result (c.owed-lent.ensures.exact (trace_of B L) s) c.is_empty.ensures e))
+    part_none Holds g.V.Vault.is_clean g.V.Vault.faults g.W.Wire.asked o c.args.wire.now _ (
+      unheard g.V.Vault.holds g.V.Vault.is_clean g.L.Listener.heard o c.args.listener.now,
+      wrote_none Holds g.V.Vault.is_clean g.V.Vault.faults o seat
+          (λ B L s k. nothing_left (rest (trace_of B L) seat.connection) (length c.owed-lent.result.now) c.is_empty.result (c.owed-lent.ensures.exact (trace_of B L) s) c.is_empty.ensures e),
+    )
 
 pub returns-in-Count-clause-works : goal.returns-in-Count-clause-works
 returns-in-Count-clause-works g c =
@@ -120,7 +123,10 @@ returns-in-Count-clause-works g c =
       calls = Wrote Pop seat.link (Count n) (take n lent) ∷ [];
       was_given = given_one Holds g.V.Vault.is_clean g.V.Vault.faults o c.step_with_account.new.self (event.Took seat.connection n) (outcome_seen c.step_with_account.result) c.step_with_account.ensures.clean c.step_with_account.ensures.stands c.step_with_account.ensures.admitted c.step_with_account.ensures.counted c.step_with_account.ensures.cause;
       was_asked = asked_one g.W.Wire.asked c.args.wire.now c.write.new.self (Wrote Pop seat.link (Count n) (take n lent)) c.in-Count.ensures.called;
-      facts = wrote_some Holds g.V.Vault.is_clean g.V.Vault.faults o c.step_with_account.new.self seat n (take n lent) m c.in-Count.ensures.within.0;
+      facts = (
+        heard_one g.V.Vault.holds g.V.Vault.is_clean g.L.Listener.heard o c.step_with_account.new.self c.args.listener.now c.hear.new.self (event.Took seat.connection n) m seat.connection c.step_with_account.new.account (λ T. refl) c.step_with_account.ensures.account c.hear.ensures.told,
+        wrote_some Holds g.V.Vault.is_clean g.V.Vault.faults o c.step_with_account.new.self seat n (take n lent) m c.in-Count.ensures.within.0,
+      );
     }
 
 pub returns-in-Later-clause-works : goal.returns-in-Later-clause-works
@@ -132,7 +138,7 @@ returns-in-Later-clause-works g c =
       calls = Wrote Pop seat.link Later [] ∷ [];
       was_given = given_none g.V.Vault.holds g.V.Vault.is_clean g.V.Vault.faults o;
       was_asked = asked_one g.W.Wire.asked c.args.wire.now c.write.new.self (Wrote Pop seat.link Later []) c.in-Later.ensures.called;
-      facts = wrote_later g.V.Vault.holds g.V.Vault.is_clean g.V.Vault.faults o seat [];
+      facts = (unheard g.V.Vault.holds g.V.Vault.is_clean g.L.Listener.heard o c.args.listener.now, wrote_later g.V.Vault.holds g.V.Vault.is_clean g.V.Vault.faults o seat []);
     }
 
 pub returns-in-End-clause-works : goal.returns-in-End-clause-works
@@ -153,11 +159,14 @@ returns-in-End-clause-works g c =
       calls = Wrote Pop seat.link io octets ∷ [];
       was_given = given_one Holds g.V.Vault.is_clean g.V.Vault.faults office c.step_with_account-in-End.new.self (event.Gone connection) (outcome_seen c.step_with_account-in-End.result) c.step_with_account-in-End.ensures.clean c.step_with_account-in-End.ensures.stands c.step_with_account-in-End.ensures.admitted c.step_with_account-in-End.ensures.counted c.step_with_account-in-End.ensures.cause;
       was_asked = asked_one g.W.Wire.asked c.args.wire.now c.write.new.self (Wrote Pop seat.link io octets) c.write.ensures.called;
-      facts = wrote_cut Holds g.V.Vault.is_clean g.V.Vault.faults office c.step_with_account-in-End.new.self seat io octets (event_tag_of o) fault
-          (λ B L s k.
-          (let now = trace_of B L in
-          let here = lent_open now connection (length lent) lent (c.owed-lent.ensures.lent now s) some (omega arith) in
-          let t = gone_mark now (lent_by office) connection o here (c.step_with_account-in-End.ensures.outcome now s k) in
-          shut_rest (trace_of B ((event.Gone connection, event_tag_of o) ∷ L)) connection
-          (subst (λ m. is_open (trace_of B ((event.Gone connection, m) ∷ L)) connection ≡ false) (sym t.1) (gone_so B L connection t.0))));
+      facts = (
+        heard_one g.V.Vault.holds g.V.Vault.is_clean g.L.Listener.heard office c.step_with_account-in-End.new.self c.args.listener.now c.hear-in-End.new.self (event.Gone connection) (event_tag_of o) connection c.step_with_account-in-End.new.account (λ T. refl) c.step_with_account-in-End.ensures.account c.hear-in-End.ensures.told,
+        wrote_cut Holds g.V.Vault.is_clean g.V.Vault.faults office c.step_with_account-in-End.new.self seat io octets (event_tag_of o) fault
+            (λ B L s k.
+            (let now = trace_of B L in
+            let here = lent_open now connection (length lent) lent (c.owed-lent.ensures.lent now s) some (omega arith) in
+            let t = gone_mark now (lent_by office) connection o here (c.step_with_account-in-End.ensures.outcome now s k) in
+            shut_rest (trace_of B ((event.Gone connection, event_tag_of o) ∷ L)) connection
+            (subst (λ m. is_open (trace_of B ((event.Gone connection, m) ∷ L)) connection ≡ false) (sym t.1) (gone_so B L connection t.0)))),
+      );
     }

@@ -1,0 +1,147 @@
+-- What a listener was told of parts of a turn, one after the other, is what is heard of them all.
+use Rattle.std.proofs.Common.{◌≡◌, ℕ, zero, suc, ◌+◌, ◌<◌, ◌≤◌, true, false, List, [], ◌∷◌, ◌++◌, length, take, get_or, map, refl, sym, ◌∙◌, ap, arith, subst, append_assoc}
+use Rattle.std.specs.List.{All, filter}
+use Rattle.std.proofs.lemmas.List.{append-nil, map-append}
+use Rattle.std.proofs.lemmas.List.Elements.{All-head, All-tail, filter-append}
+use Rattle.vault.specs.Records.{Records}
+use Rattle.vault.specs.Changes.{Contents}
+use Rattle.office.specs.Accounts.{account_of}
+use Rattle.office.specs.Answers.{AdminCommand}
+use Rattle.office.specs.Events.{Event, EventTag, Log, Trace}
+use Rattle.office.specs.Events as event
+use Rattle.office.specs.Taken.{trace_of}
+use Rattle.office.specs.Stands.{StandsFor, vault_of}
+use Rattle.office.specs.declared.office.Office.{Office}
+use Rattle.office.specs.declared.account.Account.{Account}
+use Rattle.serving.specs.declared.links.Seat.{Seat}
+use Rattle.serving.specs.Works.{is_open_seat, is_shut_seat, WasGiven, IsOpening, AreDeposits}
+use Rattle.serving.specs.Hearing.{Hearing, heard_by, heard_of, heard_of_all, late_end, late_ends, idle_end, idle_ends, WasTold, WasHeard, HeardApart}
+use Rattle.serving.proofs.Seating.{whole_front}
+use Rattle.serving.proofs.Arriving.{take_next}
+
+-- ---- events
+
+pub heard_joined : (B : Records) (L g1 g2 : Log) → heard_of_all B L (g2 ++ g1) ≡ heard_of_all B L g1 ++ heard_of_all B (g1 ++ L) g2
+heard_joined B L g1 [] = sym (append-nil (heard_of_all B L g1))
+heard_joined B L g1 ((e, m) ∷ g2) =
+    let a = heard_of_all B L g1 in
+    let b = heard_of_all B (g1 ++ L) g2 in
+    let x = heard_of (trace_of B (g2 ++ (g1 ++ L))) e m in
+    ap (λ l. heard_of_all B L (g2 ++ g1) ++ heard_of (trace_of B l) e m) (append_assoc g2 g1 L) ∙ (ap (λ h. h ++ x) (heard_joined B L g1 g2) ∙ append_assoc a b x)
+
+late_joined : (g1 g2 : Log) → late_ends (g2 ++ g1) ≡ late_ends g1 ++ late_ends g2
+late_joined g1 [] = sym (append-nil (late_ends g1))
+late_joined g1 ((e, m) ∷ g2) = ap (λ h. h ++ late_end e) (late_joined g1 g2) ∙ append_assoc (late_ends g1) (late_ends g2) (late_end e)
+
+-- nothing is heard of openings
+pub openings_unheard : (B : Records) (L given : Log) → All IsOpening given → heard_of_all B L given ≡ []
+openings_unheard B L [] a = refl
+openings_unheard B L ((event.Connect, m) ∷ given) a = ap (λ h. h ++ []) (openings_unheard B L given (All-tail IsOpening (event.Connect, m) given a))
+openings_unheard B L ((event.Start host boot idle, m) ∷ given) a = absurd (All-head IsOpening (event.Start host boot idle, m) given a)
+openings_unheard B L ((event.Bytes c piece, m) ∷ given) a = absurd (All-head IsOpening (event.Bytes c piece, m) given a)
+openings_unheard B L ((event.Took c n, m) ∷ given) a = absurd (All-head IsOpening (event.Took c n, m) given a)
+openings_unheard B L ((event.Gone c, m) ∷ given) a = absurd (All-head IsOpening (event.Gone c, m) given a)
+openings_unheard B L ((event.Tick now, m) ∷ given) a = absurd (All-head IsOpening (event.Tick now, m) given a)
+openings_unheard B L ((event.Deposit d class id text, m) ∷ given) a = absurd (All-head IsOpening (event.Deposit d class id text, m) given a)
+openings_unheard B L ((event.Admin command, m) ∷ given) a = absurd (All-head IsOpening (event.Admin command, m) given a)
+openings_unheard B L ((event.Restart boot, m) ∷ given) a = absurd (All-head IsOpening (event.Restart boot, m) given a)
+
+-- what is heard of the clients and the commands of a turn
+pub turn_heard : (B : Records) (L gp ga gl gr : Log) (x : Event × EventTag) → gp ≡ x ∷ [] → All IsOpening ga
+    → heard_of_all B ((ga ++ gp) ++ L) gl ++ heard_of_all B ((gl ++ (ga ++ gp)) ++ L) gr ≡ heard_of_all B (x ∷ L) (gr ++ (gl ++ ga))
+turn_heard B L gp ga gl gr x is only =
+    let K : Log = gp ++ L in
+    let last = heard_of_all B ((gl ++ ga) ++ K) gr in
+    let none = openings_unheard B K ga only in
+    subst (λ p. heard_of_all B ((ga ++ gp) ++ L) gl ++ heard_of_all B ((gl ++ (ga ++ gp)) ++ L) gr ≡ heard_of_all B (p ++ L) (gr ++ (gl ++ ga))) is
+    (ap (λ l. heard_of_all B l gl ++ heard_of_all B ((gl ++ (ga ++ gp)) ++ L) gr) (append_assoc ga gp L)
+    ∙ (ap (λ l. heard_of_all B (ga ++ K) gl ++ heard_of_all B l gr) (ap (λ l. l ++ L) (sym (append_assoc gl ga gp)) ∙ append_assoc (gl ++ ga) gp L)
+    ∙ (ap (λ h. (h ++ heard_of_all B (ga ++ K) gl) ++ last) (sym none) ∙ (ap (λ h. h ++ last) (sym (heard_joined B K ga gl)) ∙ sym (heard_joined B K (gl ++ ga) gr)))))
+
+-- ---- seats
+
+shut_first : (T : Trace) (s : Seat) (xs : List Seat) → is_open_seat T s ≡ false → filter (is_shut_seat T) (s ∷ xs) ≡ s ∷ filter (is_shut_seat T) xs
+shut_first T s xs e = rw e refl
+
+shut_not : (T : Trace) (s : Seat) (xs : List Seat) → is_open_seat T s ≡ true → filter (is_shut_seat T) (s ∷ xs) ≡ filter (is_shut_seat T) xs
+shut_not T s xs e = rw e refl
+
+idle_joined : (T : Trace) (xs ys : List Seat) → idle_ends T (xs ++ ys) ≡ idle_ends T xs ++ idle_ends T ys
+idle_joined T xs ys = ap (map idle_end) (filter-append (is_shut_seat T) xs ys) ∙ map-append idle_end (filter (is_shut_seat T) xs) (filter (is_shut_seat T) ys)
+
+-- ---- one after the other
+
+module _ {H : Type 0} (Heard : H → List Hearing → Type 0) where
+  pub told_none : (l : H) → WasTold Heard l l []
+  told_none l = record { is = λ before k. subst (Heard l) (sym (append-nil before)) k }
+
+  -- it heard no account
+  pub told_same : (l l1 : H) → ((h : List Hearing) → Heard l h → Heard l1 h) → WasTold Heard l l1 []
+  told_same l l1 same = record { is = λ before k. subst (Heard l1) (sym (append-nil before)) (same before k) }
+
+  pub told_then : (l l1 l2 : H) (h1 h2 : List Hearing) → WasTold Heard l l1 h1 → WasTold Heard l1 l2 h2 → WasTold Heard l l2 (h1 ++ h2)
+  told_then l l1 l2 h1 h2 a b = record { is = λ before k. subst (Heard l2) (append_assoc before h1 h2) (b.is (before ++ h1) (a.is before k)) }
+
+  -- nothing more was heard
+  pub told_still : (l l1 l2 : H) (h : List Hearing) → WasTold Heard l l1 h → WasTold Heard l1 l2 [] → WasTold Heard l l2 h
+  told_still l l1 l2 h a b = subst (WasTold Heard l l2) (append-nil h) (told_then l l1 l2 h [] a b)
+
+  -- the connection of a seat is open behind a moment, or was ended by it
+  pub idle_open : (l : H) (T : Trace) (q : Seat) → is_open_seat T q ≡ true → WasTold Heard l l (idle_ends T (q ∷ []))
+  idle_open l T q e = subst (WasTold Heard l l) (sym (ap (map idle_end) (shut_not T q [] e))) (told_none l)
+
+  pub idle_shut : (l l1 : H) (T : Trace) (q : Seat) → is_open_seat T q ≡ false → ((h : List Hearing) → Heard l h → Heard l1 (h ++ idle_end q ∷ [])) → WasTold Heard l l1 (idle_ends T (q ∷ []))
+  idle_shut l l1 T q e heard = subst (WasTold Heard l l1) (sym (ap (map idle_end) (shut_first T q [] e))) (record { is = heard })
+
+  pub idle_more : (l l1 l2 : H) (T : Trace) (seats : List Seat) (i : ℕ) (d : Seat) → i < length seats → WasTold Heard l l1 (idle_ends T (take i seats)) → WasTold Heard l1 l2 (idle_ends T (get_or seats i d ∷ []))
+      → WasTold Heard l l2 (idle_ends T (take (i + 1) seats))
+  idle_more l l1 l2 T seats i d within a b =
+      let next : suc i ≡ i + 1 = omega arith in
+      subst (λ n. WasTold Heard l l2 (idle_ends T (take n seats))) next
+      (subst (λ v. WasTold Heard l l2 (idle_ends T v)) (sym (take_next seats i d within))
+      (subst (WasTold Heard l l2) (sym (idle_joined T (take i seats) (get_or seats i d ∷ []))) (told_then l l1 l2 (idle_ends T (take i seats)) (idle_ends T (get_or seats i d ∷ [])) a b)))
+
+  pub idle_whole : (l l1 : H) (T : Trace) (seats : List Seat) (n : ℕ) → length seats ≤ n → WasTold Heard l l1 (idle_ends T (take n seats)) → WasTold Heard l l1 (idle_ends T seats)
+  idle_whole l l1 T seats n h a = subst (λ v. WasTold Heard l l1 (idle_ends T v)) (whole_front seats n h) a
+
+  -- clients that are late
+  pub late_told : (l l1 l2 : H) (g1 g2 : Log) → WasTold Heard l l1 (late_ends g1) → WasTold Heard l1 l2 (late_ends g2) → WasTold Heard l l2 (late_ends (g2 ++ g1))
+  late_told l l1 l2 g1 g2 a b = subst (WasTold Heard l l2) (sym (late_joined g1 g2)) (told_then l l1 l2 (late_ends g1) (late_ends g2) a b)
+
+  -- of what was done behind a log
+  pub apart_then : (l l1 l2 : H) (B : Records) (L g1 g2 : Log) → WasTold Heard l l1 (heard_of_all B L g1) → WasTold Heard l1 l2 (heard_of_all B (g1 ++ L) g2) → WasTold Heard l l2 (heard_of_all B L (g2 ++ g1))
+  apart_then l l1 l2 B L g1 g2 a b = subst (WasTold Heard l l2) (sym (heard_joined B L g1 g2)) (told_then l l1 l2 (heard_of_all B L g1) (heard_of_all B (g1 ++ L) g2) a b)
+
+  -- behind it no event was given
+  pub apart_still : (l l1 : H) (B : Records) (L g1 g2 : Log) → g2 ≡ [] → WasTold Heard l l1 (heard_of_all B L g1) → WasTold Heard l l1 (heard_of_all B L (g2 ++ g1))
+  apart_still l l1 B L g1 g2 none a = subst (λ g. WasTold Heard l l1 (heard_of_all B L (g ++ g1))) (sym none) a
+
+  -- before it no event was given
+  pub apart_first : (l l1 : H) (B : Records) (L g1 g2 : Log) → g1 ≡ [] → WasTold Heard l l1 (heard_of_all B (g1 ++ L) g2) → WasTold Heard l l1 (heard_of_all B L (g2 ++ g1))
+  apart_first l l1 B L g1 g2 none a =
+      subst (WasTold Heard l l1) (sym (ap (λ g. heard_of_all B L (g2 ++ g)) none ∙ ap (heard_of_all B L) (append-nil g2))) (subst (λ g. WasTold Heard l l1 (heard_of_all B (g ++ L) g2)) none a)
+
+  -- a command
+  pub command_told : (l l1 : H) (B : Records) (L : Log) (command : AdminCommand) (m : EventTag) (told : Account) → told ≡ account_of (trace_of B L) (event.Admin command) m → WasTold Heard l l1 (heard_by command told)
+      → WasTold Heard l l1 (heard_of_all B L ((event.Admin command, m) ∷ []))
+  command_told l l1 B L command m told is a = subst (λ x. WasTold Heard l l1 (heard_by command x)) is a
+
+-- ---- parts of a turn
+
+module _ {V H : Type 0} (Holds : V → Contents → Type 0) (IsClean : V → Type 0) (Heard : H → List Hearing → Type 0) where
+  pub unheard : (o : Office V) (l : H) → WasHeard Holds IsClean Heard o l o l []
+  unheard o l = record { is = λ B L s k. told_none Heard l }
+
+  pub heard_then : (Faults : V → ℕ) (o o1 o2 : Office V) (l l1 l2 : H) (g1 g2 : Log) → WasGiven Holds IsClean Faults o o1 g1 → WasGiven Holds IsClean Faults o1 o2 g2
+      → WasHeard Holds IsClean Heard o l o1 l1 g1 → WasHeard Holds IsClean Heard o1 l1 o2 l2 g2 → WasHeard Holds IsClean Heard o l o2 l2 (g2 ++ g1)
+  heard_then Faults o o1 o2 l l1 l2 g1 g2 wa wb a b = record {
+    is = λ B L s k. apart_then Heard l l1 l2 B L g1 g2 (a.is B L s (wb.clean k)) (b.is B (g1 ++ L) (wa.stands B L s (wb.clean k)) k);
+  }
+
+  -- one event of a client's connection
+  pub heard_one : (o o1 : Office V) (l l1 : H) (e : Event) (m : EventTag) (c : ℕ) (told : Account) → ((T : Trace) → heard_of T e m ≡ (c, account_of T e m) ∷ [])
+      → ((T : Trace) → StandsFor Holds o T → IsClean (vault_of o1) → told ≡ account_of T e m) → ((h : List Hearing) → Heard l h → Heard l1 (h ++ (c, told) ∷ []))
+      → WasHeard Holds IsClean Heard o l o1 l1 ((e, m) ∷ [])
+  heard_one o o1 l l1 e m c told is so heard = record {
+    is = λ B L s k. subst (WasTold Heard l l1) (ap (λ (x : Account). (c, x) ∷ []) (so (trace_of B L) s k) ∙ sym (is (trace_of B L))) (record { is = heard });
+  }
