@@ -4,7 +4,7 @@ use Rattle.std.specs.Prelude.{Some, None, if◌then◌else◌}
 use Rattle.policy.specs.PolicyText.{fault_text}
 use Rattle.office.specs.Answers as answer
 use Rattle.office.specs.Answers.{Answer, body_of}
-use Rattle.office.specs.Shown.{answer_seen}
+use Rattle.office.specs.Seen.{answer_seen}
 use Rattle.adminhttp.specs.Responses.{answer_response, refusal_response, fault_response}
 use Rattle.adminhttp.specs.declared.refusal.Refusal.{Refusal}
 use Rattle.adminhttp.specs.declared.refusal.Refusal.TheVariants.{BadRequest, NotFound, NotAllowed}

@@ -1,7 +1,7 @@
 //! The command that a method asks of a target.
 
 ghost use Rattle.std.specs.Prelude.{◌≡◌, ◌≢◌, IfOk, IfErr, Ok, Err};
-ghost use Rattle.office.specs.Shown.{command_seen};
+ghost use Rattle.office.specs.Seen.{command_seen};
 ghost use Rattle.adminhttp.specs.Head.{headers_of, LieIn};
 ghost use Rattle.adminhttp.specs.Steps.{map_ok};
 ghost use Rattle.adminhttp.specs.Request.{asked_of, by_get, clerk_asked, clerk_put, maildrop_asked};

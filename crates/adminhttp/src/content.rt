@@ -5,7 +5,7 @@ ghost use Rattle.std.specs.Fmt.{decimal};
 ghost use Rattle.creds.specs.Uid.{uid_text};
 ghost use Rattle.policy.specs.PolicyText.{fault_text as text_of_fault};
 ghost use Rattle.office.specs.Answers.{decision_text};
-ghost use Rattle.office.specs.Shown.{answer_seen};
+ghost use Rattle.office.specs.Seen.{answer_seen};
 ghost use Rattle.adminhttp.specs.Contents.{response_of, status_code as code_of, line_told};
 ghost use Rattle.adminhttp.specs.Contents.{answer_line as line_of_answer, refusal_text};
 ghost use Rattle.adminhttp.specs.Responses.{answer_response, refusal_response};

@@ -1,7 +1,7 @@
 //! The line of a request, as far as a log may tell it: its method, and what its target names.
 
 ghost use Rattle.std.specs.Prelude.{◌≡◌, IfOk, string_bytes};
-ghost use Rattle.office.specs.Shown.{command_seen};
+ghost use Rattle.office.specs.Seen.{command_seen};
 ghost use Rattle.adminhttp.specs.RequestLines.{method_text, path_of, line_of, method_of, IsLine};
 ghost use Rattle.adminhttp.specs.RequestLines.{action_text};
 

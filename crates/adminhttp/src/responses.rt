@@ -3,7 +3,7 @@
 ghost use Rattle.std.specs.Prelude.{◌≡◌, [], IfOk};
 ghost use Rattle.std.specs.String.{string_bytes};
 ghost use Rattle.office.specs.Answers.{body_line};
-ghost use Rattle.office.specs.Shown.{answer_seen};
+ghost use Rattle.office.specs.Seen.{answer_seen};
 ghost use Rattle.policy.specs.PolicyText.{fault_text as text_of_fault};
 ghost use Rattle.adminhttp.specs.Responses.{answer_response, fault_response, response_head};
 ghost use Rattle.adminhttp.specs.Responses.{response_text, status_of as status_told};

@@ -1,13 +1,12 @@
 //! Why a store can't be opened: its file is looked at again.
 
-use super::unsound_row::unsound_table;
 use mailsql::meta::{all_meta_rows, find_meta_row};
 use mailsql::schema::has_meta_rows;
 use sqlite::{Alter, Connection, MemStore, Wary};
 use sqlite_schema::names::same_name;
 use sqlite_schema::schema::{Column, Schema, Table};
 use sqlite_std_file::OpenError;
-use sqlvault::SqlVault;
+use sqlvault::{Part, SqlVault, unsound_part};
 use std::alloc::Global;
 use std::io::{ErrorKind, Write};
 use std::{fs, io, str};
@@ -204,7 +203,7 @@ fn tell_meta_rows<S: Alter, E: Write>(
                 "its tables are of version {version}, but a row is no sound record"
             )
         }
-        None => tell_row(alloc, err, conn),
+        None => tell_rows(alloc, err, conn),
     }
 }
 
@@ -223,20 +222,42 @@ fn tell_other<E: Write>(err: &mut E, our: &Table) -> io::Result<()> {
     )
 }
 
-/// Tells which of our tables has a row that is no sound record.
-fn tell_row<S: Alter, E: Write>(
+/// Tells which part of the rows of our tables isn't sound.
+fn tell_rows<S: Alter, E: Write>(
     alloc: Global,
     err: &mut E,
     conn: &mut Connection<S>,
 ) -> io::Result<()> {
-    match unsound_table(alloc, conn) {
-        Ok(Some(table)) => writeln!(err, "a row of its table `{table}` is no sound record"),
-        Ok(None) => writeln!(
-            err,
-            "its rows don't fit together: `rules` and `groups`, `deposits` and `counts`, or `mail` and `sheets`"
-        ),
+    match unsound_part(alloc, conn) {
+        Ok(Some(part)) => tell_part(err, part),
+        Ok(None) => writeln!(err, "its tables and rows are popbox's at a second look"),
         Err(error) => writeln!(err, "{error}"),
     }
+}
+
+/// Tells of a part of the rows that isn't sound, by its tables.
+fn tell_part<E: Write>(err: &mut E, part: Part) -> io::Result<()> {
+    match part {
+        Part::Clerks => tell_unsound(err, "table `clerks`"),
+        Part::Maildrops => tell_unsound(err, "table `maildrops`"),
+        Part::Groups => tell_unsound(err, "tables `groups` or `members`"),
+        Part::Rules => tell_joined(err, "tables `rules`, `groups` or `members`"),
+        Part::Deposits => tell_joined(err, "tables `deposits` or `counts`"),
+        Part::Messages => tell_joined(err, "tables `mail` or `sheets`"),
+    }
+}
+
+/// Tells of tables with a row that is no sound record.
+fn tell_unsound<E: Write>(err: &mut E, tables: &str) -> io::Result<()> {
+    writeln!(err, "a row of its {tables} is no sound record")
+}
+
+/// Tells of tables with a row that is no sound record by itself, or with those of the others.
+fn tell_joined<E: Write>(err: &mut E, tables: &str) -> io::Result<()> {
+    writeln!(
+        err,
+        "a row of its {tables} is no sound record, or they don't fit together"
+    )
 }
 
 /// Whether a store of a version has the table of ours that has this name: those of groups came with

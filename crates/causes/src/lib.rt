@@ -8,7 +8,6 @@ mod bad_line;
 mod bad_rule;
 mod closed_store;
 mod keeping;
-mod unsound_row;
 mod watched;
 
 pub use bad_line::tell_bad_line;

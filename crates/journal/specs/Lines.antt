@@ -63,15 +63,21 @@ account_text who account.NoName =
     codes "event=login " ++ who ++ codes " answer=refused reason=\"bad arguments\""
 account_text who (account.Quit removal) = quit_text who removal
 account_text who account.QuitBeforeLogin = codes "event=quit " ++ who ++ codes " answer=\"bye\""
-account_text who _ = []
+account_text who account.Nothing = []
+account_text who account.Marked = []
+account_text who account.Unmarked = []
+account_text who (account.Ended cause) = []
 
 -- whether an account has a line
 abbrev pub is_told : Account → Bool
+is_told (account.Login name by verdict) = true
+is_told account.NoName = true
+is_told (account.Quit removal) = true
+is_told account.QuitBeforeLogin = true
 is_told account.Nothing = false
 is_told account.Marked = false
 is_told account.Unmarked = false
 is_told (account.Ended cause) = false
-is_told _ = true
 
 -- why a connection ended, as the line of its end tells it, where the account says so
 abbrev pub cause_text : Account → List ℕ
@@ -83,7 +89,18 @@ cause_text (account.Ended end.Idle) = codes " cause=idle"
 cause_text (account.Ended end.TooLate) = codes " cause=\"too late to log in\""
 cause_text (account.Login name by judged.ThirdWrongCredential) =
     codes " cause=\"login failed, closing\""
-cause_text _ = []
+cause_text (account.Login name by judged.Accepted) = []
+cause_text (account.Login name by judged.WrongCredential) = []
+cause_text (account.Login name by (judged.Denied rule)) = []
+cause_text (account.Login name by judged.NoSuchMaildrop) = []
+cause_text (account.Login name by judged.InUse) = []
+cause_text (account.Login name by judged.StoreFailed) = []
+cause_text account.NoName = []
+cause_text (account.Quit removal) = []
+cause_text account.QuitBeforeLogin = []
+cause_text account.Nothing = []
+cause_text account.Marked = []
+cause_text account.Unmarked = []
 
 -- ---- what a QUIT removed
 

@@ -136,8 +136,9 @@ pub fn has_line(account: &Account) -> bool
     ensures { result ≡ is_told account.now }
 {
     match account {
+        Account::Login(_, _, _) | Account::NoName => true,
+        Account::Quit(_) | Account::QuitBeforeLogin => true,
         Account::Nothing | Account::Marked | Account::Unmarked | Account::Ended(_) => false,
-        _ => true,
     }
 }
 
@@ -170,6 +171,10 @@ pub fn cause_text(account: &Account) -> &'static str
         Account::Ended(End::Idle) => " cause=idle",
         Account::Ended(End::TooLate) => " cause=\"too late to log in\"",
         Account::Login(_, _, Verdict::ThirdWrongCredential) => " cause=\"login failed, closing\"",
-        _ => "",
+        Account::Login(_, _, Verdict::Accepted | Verdict::WrongCredential) => "",
+        Account::Login(_, _, Verdict::Denied(_) | Verdict::NoSuchMaildrop) => "",
+        Account::Login(_, _, Verdict::InUse | Verdict::StoreFailed) => "",
+        Account::NoName | Account::Quit(_) | Account::QuitBeforeLogin => "",
+        Account::Nothing | Account::Marked | Account::Unmarked => "",
     }
 }

@@ -56,7 +56,8 @@ impl Client {
                 self.is_in = false;
                 self.has_quit = true;
             }
-            _ => {}
+            Account::Login(_, _, _) | Account::NoName => {}
+            Account::Nothing | Account::Ended(_) => {}
         }
     }
 

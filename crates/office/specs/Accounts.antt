@@ -3,19 +3,25 @@
 use Rattle.std.specs.Prelude.{◌≡◌, ℕ, Bool, true, false, List, []}
 use Rattle.std.specs.Prelude.{◌∷◌, length, map, Option, Some, None, Result, Ok, Err}
 use Rattle.creds.specs.declared.login_name.LoginName.{LoginName}
-use Rattle.popline.specs.Commands.{Command, Pass, Apop, Dele, Rset, Quit}
+use Rattle.popline.specs.Commands.{Command, Capa, User, Pass, Apop, Quit, Stat, ListAll, ListOne}
+use Rattle.popline.specs.Commands.{UidlAll, UidlOne, Retr, Top, Dele, Rset, Noop}
 use Rattle.popline.specs.declared.command.LineFault.{LineFault}
-use Rattle.popline.specs.declared.command.LineFault.TheVariants.{Syntax}
+use Rattle.popline.specs.declared.command.LineFault.TheVariants.{Syntax, Unknown}
 use Rattle.popline.specs.declared.command.Keyword.TheVariants as keyword
-use Rattle.popline.specs.Replies.{MaildropHas, LoginFailed, LoginFailedClosing, Marked}
-use Rattle.popline.specs.Replies.{DeniedBy, NoSuchMaildrop, InUse, StoreFailed, BadArguments}
+use Rattle.popline.specs.Replies.{Greeting, LineTooLong, UnknownCommand, WrongState, BadArguments}
+use Rattle.popline.specs.Replies.{Capabilities, SendPass, LoginFailed, LoginFailedClosing}
+use Rattle.popline.specs.Replies.{DeniedBy, NoSuchMaildrop, InUse, MaildropHas, DropListing}
+use Rattle.popline.specs.Replies.{ScanListing, ScanLine, UidListing, UidLine, Message, TopPart}
+use Rattle.popline.specs.Replies.{Marked, Okay, NoSuchMessage, AlreadyMarked, Bye, RemovalDenied}
+use Rattle.popline.specs.Replies.{RemovalFailed, StoreFailed}
 use Rattle.policy.specs.Policy.{Policy}
 use Rattle.popline.specs.Cutting.{Cut}
 use Rattle.vault.specs.Records.{Records, class_of, uid_of}
 use Rattle.session.specs.Session.{Session}
 use Rattle.session.specs.Session as head
 use Rattle.session.specs.View.{marked as rows_marked, to_remove, denying}
-use Rattle.office.specs.History.{Act, Line, Tag, Done, Failed, NoMemory, Said, Says, Entry}
+use Rattle.office.specs.History.{Act, Line, Tag, Done, Failed, NoMemory, Said, Says, Silence}
+use Rattle.office.specs.History.{Answers, Entry}
 use Rattle.office.specs.History.{in_force, is_done}
 use Rattle.office.specs.Connections.{is_quit, reading, user}
 use Rattle.office.specs.Sessions.{in_session, marks, view}
@@ -48,7 +54,29 @@ verdict (Says (DeniedBy rule)) = Some (as_judged.Denied rule)
 verdict (Says NoSuchMaildrop) = Some as_judged.NoSuchMaildrop
 verdict (Says InUse) = Some as_judged.InUse
 verdict (Says StoreFailed) = Some as_judged.StoreFailed
-verdict _ = None
+verdict (Says (Greeting number boot host)) = None
+verdict (Says LineTooLong) = None
+verdict (Says UnknownCommand) = None
+verdict (Says WrongState) = None
+verdict (Says BadArguments) = None
+verdict (Says Capabilities) = None
+verdict (Says SendPass) = None
+verdict (Says (DropListing n m)) = None
+verdict (Says (ScanListing rows)) = None
+verdict (Says (ScanLine n m)) = None
+verdict (Says (UidListing rows)) = None
+verdict (Says (UidLine n uid)) = None
+verdict (Says (Message octets lines)) = None
+verdict (Says (TopPart lines)) = None
+verdict (Says (Marked n)) = None
+verdict (Says Okay) = None
+verdict (Says NoSuchMessage) = None
+verdict (Says (AlreadyMarked n)) = None
+verdict (Says Bye) = None
+verdict (Says (RemovalDenied rule)) = None
+verdict (Says RemovalFailed) = None
+verdict Silence = None
+verdict (Answers answer) = None
 
 -- the account of a login that was judged, where one was, under a name
 abbrev pub login_told : Option Verdict → Way → Option LoginName → Account
@@ -73,13 +101,35 @@ command_account (Apop name digest) said user = login_told (verdict said) way.Apo
 command_account (Dele number) said user = mark_told said
 command_account Rset said user = reset_told said
 command_account Quit said user = account.QuitBeforeLogin
-command_account _ said user = account.Nothing
+command_account Capa said user = account.Nothing
+command_account (User name) said user = account.Nothing
+command_account Stat said user = account.Nothing
+command_account ListAll said user = account.Nothing
+command_account (ListOne n) said user = account.Nothing
+command_account UidlAll said user = account.Nothing
+command_account (UidlOne n) said user = account.Nothing
+command_account (Retr n) said user = account.Nothing
+command_account (Top n k) said user = account.Nothing
+command_account Noop said user = account.Nothing
 
 -- the account of a line that reads as no command
 abbrev pub fault_told : LineFault → Said → Account
+fault_told Unknown said = account.Nothing
 fault_told (Syntax keyword.User) (Says BadArguments) = account.NoName
 fault_told (Syntax keyword.Apop) (Says BadArguments) = account.NoName
-fault_told _ said = account.Nothing
+fault_told (Syntax keyword.Capa) said = account.Nothing
+fault_told (Syntax keyword.User) said = account.Nothing
+fault_told (Syntax keyword.Pass) said = account.Nothing
+fault_told (Syntax keyword.Apop) said = account.Nothing
+fault_told (Syntax keyword.Quit) said = account.Nothing
+fault_told (Syntax keyword.Stat) said = account.Nothing
+fault_told (Syntax keyword.List) said = account.Nothing
+fault_told (Syntax keyword.Uidl) said = account.Nothing
+fault_told (Syntax keyword.Retr) said = account.Nothing
+fault_told (Syntax keyword.Top) said = account.Nothing
+fault_told (Syntax keyword.Dele) said = account.Nothing
+fault_told (Syntax keyword.Rset) said = account.Nothing
+fault_told (Syntax keyword.Noop) said = account.Nothing
 
 -- the account of a line that reads so, by what was said to it and the name in force before it; that
 -- of a session's QUIT is another

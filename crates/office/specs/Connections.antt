@@ -4,16 +4,21 @@ use Rattle.std.specs.Prelude.{ℕ, Bool, true, false, ◌&&◌, ◌||◌, ◌+�
 use Rattle.std.specs.Prelude.{◌++◌, Option, Some, None, Result, Ok, Err, if◌then◌else◌}
 use Rattle.creds.specs.declared.login_name.LoginName.{LoginName}
 use Rattle.popline.specs.Cutting.{Cut, TooLong}
-use Rattle.popline.specs.Commands.{Command, Capa, User, Quit, command_of}
+use Rattle.popline.specs.Commands.{Command, Capa, User, Pass, Apop, Quit, Stat, ListAll, ListOne}
+use Rattle.popline.specs.Commands.{UidlAll, UidlOne, Retr, Top, Dele, Rset, Noop, command_of}
 use Rattle.popline.specs.declared.command.LineFault.{LineFault}
 use Rattle.popline.specs.declared.command.LineFault.TheVariants.{Unknown}
-use Rattle.popline.specs.Replies.{LoginFailed, LoginFailedClosing, SendPass, Capabilities, Message}
-use Rattle.popline.specs.Replies.{TopPart, bytes_of}
+use Rattle.popline.specs.Replies.{Greeting, LineTooLong, UnknownCommand, WrongState, BadArguments}
+use Rattle.popline.specs.Replies.{Capabilities, SendPass, LoginFailed, LoginFailedClosing}
+use Rattle.popline.specs.Replies.{DeniedBy, NoSuchMaildrop, InUse, MaildropHas, DropListing}
+use Rattle.popline.specs.Replies.{ScanListing, ScanLine, UidListing, UidLine, Message, TopPart}
+use Rattle.popline.specs.Replies.{Marked, Okay, NoSuchMessage, AlreadyMarked, Bye, RemovalDenied}
+use Rattle.popline.specs.Replies.{RemovalFailed, StoreFailed, bytes_of}
 use Rattle.session.specs.declared.removals.Removals.{Removals}
 use Rattle.session.specs.declared.removals.Removals.TheVariants.{JudgedAtDele}
 use Rattle.office.specs.Answers.{EndSession, Ended}
 use Rattle.office.specs.History.{NoMemory, Line, Administer, Tag, Idle, Gone, Says, Restart, Open}
-use Rattle.office.specs.History.{Said, Answers, Act, Entry}
+use Rattle.office.specs.History.{Said, Silence, Answers, Act, Entry}
 use Rattle.popline.specs.Cutting as cutting
 
 -- ---- connections
@@ -96,7 +101,34 @@ acted (e ∷ G) c = acted_after e.act c (acted G c)
 abbrev pub has_message : Said → Bool
 has_message (Says (Message octets lines)) = true
 has_message (Says (TopPart lines)) = true
-has_message _ = false
+has_message (Says (Greeting number boot host)) = false
+has_message (Says LineTooLong) = false
+has_message (Says UnknownCommand) = false
+has_message (Says WrongState) = false
+has_message (Says BadArguments) = false
+has_message (Says Capabilities) = false
+has_message (Says SendPass) = false
+has_message (Says LoginFailed) = false
+has_message (Says LoginFailedClosing) = false
+has_message (Says (DeniedBy rule)) = false
+has_message (Says NoSuchMaildrop) = false
+has_message (Says InUse) = false
+has_message (Says (MaildropHas n m)) = false
+has_message (Says (DropListing n m)) = false
+has_message (Says (ScanListing rows)) = false
+has_message (Says (ScanLine n m)) = false
+has_message (Says (UidListing rows)) = false
+has_message (Says (UidLine n uid)) = false
+has_message (Says (Marked n)) = false
+has_message (Says Okay) = false
+has_message (Says NoSuchMessage) = false
+has_message (Says (AlreadyMarked n)) = false
+has_message (Says Bye) = false
+has_message (Says (RemovalDenied rule)) = false
+has_message (Says RemovalFailed) = false
+has_message (Says StoreFailed) = false
+has_message Silence = false
+has_message (Answers answer) = false
 
 -- each line's reply becomes the last one
 abbrev pub serving_after : Act → Said → ℕ → Bool → Bool
@@ -148,7 +180,22 @@ heard (e ∷ G) = heard_after e.act (heard G)
 abbrev pub user_after_line : Result Command LineFault → Said → Option LoginName → Option LoginName
 user_after_line (Ok (User name)) (Says SendPass) before = Some name
 user_after_line (Ok Capa) (Says Capabilities) before = before
-user_after_line _ _ before = None
+user_after_line (Ok Capa) said before = None
+user_after_line (Ok (User name)) said before = None
+user_after_line (Ok (Pass password)) said before = None
+user_after_line (Ok (Apop name digest)) said before = None
+user_after_line (Ok Quit) said before = None
+user_after_line (Ok Stat) said before = None
+user_after_line (Ok ListAll) said before = None
+user_after_line (Ok (ListOne n)) said before = None
+user_after_line (Ok UidlAll) said before = None
+user_after_line (Ok (UidlOne n)) said before = None
+user_after_line (Ok (Retr n)) said before = None
+user_after_line (Ok (Top n k)) said before = None
+user_after_line (Ok (Dele n)) said before = None
+user_after_line (Ok Rset) said before = None
+user_after_line (Ok Noop) said before = None
+user_after_line (Err fault) said before = None
 
 -- an opening leaves no name in force
 abbrev pub user_after : Act → Said → ℕ → Option LoginName → Option LoginName

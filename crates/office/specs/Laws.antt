@@ -1,10 +1,11 @@
 -- Laws over every history: their statements.
 use Rattle.std.specs.Prelude.{◌≡◌, ℕ, Bool, true, false, not, ◌&&◌, ◌⊎◌, ◌==◌, List, [], ◌∷◌, ◌++◌}
-use Rattle.std.specs.Prelude.{⊤, Option, Some, None, Result, Ok, if◌then◌else◌}
+use Rattle.std.specs.Prelude.{⊤, Option, Some, None, Result, Ok, Err, if◌then◌else◌}
 use Rattle.std.specs.Str.{bytes_eq}
 use Rattle.popline.specs.ReplyForm.{IsWellFormed}
 use Rattle.creds.specs.declared.login_name.LoginName.{LoginName}
-use Rattle.popline.specs.Commands.{Command, Rset, Dele}
+use Rattle.popline.specs.Commands.{Command, Capa, User, Pass, Apop, Quit, Stat, ListAll, ListOne}
+use Rattle.popline.specs.Commands.{UidlAll, UidlOne, Retr, Top, Dele, Rset, Noop}
 use Rattle.popline.specs.declared.command.LineFault.{LineFault}
 use Rattle.creds.specs.Uid.{uid_text}
 use Rattle.policy.specs.Policy.{Policy, are_distinct}
@@ -141,16 +142,6 @@ RepliesHaveTheirForm =
 
 -- ---- marks by the view and the policy
 
--- a RSET
-abbrev pub is_rset : Result Command LineFault → Bool
-is_rset (Ok Rset) = true
-is_rset _ = false
-
--- the number that a DELE names
-abbrev pub number_to_mark : Result Command LineFault → Option ℕ
-number_to_mark (Ok (Dele n)) = Some n
-number_to_mark _ = None
-
 -- a DELE may mark this message of the view: where removals are judged at the DELE, the policy must
 -- let the clerk remove it
 abbrev pub is_markable : Removals → Option Message → Policy → LoginName → Bool
@@ -163,16 +154,30 @@ abbrev pub may_mark : Records → List Entry → ℕ → LoginName → List ℕ 
 may_mark B G c name before n = not (is_marked before n) && is_markable (judging G)
     (at_number (view B G c) n) (in_force B G) name
 
--- the marks with one more number, where it may be marked
-abbrev pub marks_with : Option ℕ → (may_mark : ℕ → Bool) → List ℕ → List ℕ
-marks_with None may_mark before = before
-marks_with (Some n) may_mark before = if may_mark n then before ++ n ∷ [] else before
+-- the marks after a session's command: a DELE marks its number where that may be marked, a RSET
+-- unmarks all, and no other command changes them
+abbrev pub marks_by_command : Command → (may_mark : ℕ → Bool) → List ℕ → List ℕ
+marks_by_command (Dele n) may_mark before = if may_mark n then before ++ n ∷ [] else before
+marks_by_command Rset may_mark before = []
+marks_by_command Capa may_mark before = before
+marks_by_command (User name) may_mark before = before
+marks_by_command (Pass password) may_mark before = before
+marks_by_command (Apop name digest) may_mark before = before
+marks_by_command Quit may_mark before = before
+marks_by_command Stat may_mark before = before
+marks_by_command ListAll may_mark before = before
+marks_by_command (ListOne n) may_mark before = before
+marks_by_command UidlAll may_mark before = before
+marks_by_command (UidlOne n) may_mark before = before
+marks_by_command (Retr n) may_mark before = before
+marks_by_command (Top n k) may_mark before = before
+marks_by_command Noop may_mark before = before
 
--- a RSET unmarks all, a DELE marks its number
+-- the marks after a line
 abbrev pub marks_by_line : Records → List Entry → ℕ → Result Command LineFault → List ℕ → List ℕ
-marks_by_line B G c r before =
-    if is_rset r then [] else marks_with (number_to_mark r)
-    (may_mark B G c (name_or_nobody (login G c)) before) before
+marks_by_line B G c (Ok command) before =
+    marks_by_command command (may_mark B G c (name_or_nobody (login G c)) before) before
+marks_by_line B G c (Err fault) before = before
 
 -- only a line of this connection that is done marks or unmarks
 abbrev pub marks_by_act : Records → List Entry → ℕ → Act → Tag → List ℕ → List ℕ

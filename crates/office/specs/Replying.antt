@@ -87,13 +87,35 @@ authorization_says user login (User name) = SendPass
 authorization_says user login (Pass password) = login (name_or_nobody user) (ByPass password)
 authorization_says user login (Apop name digest) = login name (ByApop digest)
 authorization_says user login Quit = Bye
-authorization_says user login _ = WrongState
+authorization_says user login Stat = WrongState
+authorization_says user login ListAll = WrongState
+authorization_says user login (ListOne n) = WrongState
+authorization_says user login UidlAll = WrongState
+authorization_says user login (UidlOne n) = WrongState
+authorization_says user login (Retr n) = WrongState
+authorization_says user login (Top n k) = WrongState
+authorization_says user login (Dele n) = WrongState
+authorization_says user login Rset = WrongState
+authorization_says user login Noop = WrongState
 
 -- whom a line would log in: for a PASS that is the name in force, for an APOP its own
 abbrev pub login_asked : Result Command LineFault → (user : Option LoginName) → Option LoginName
 login_asked (Ok (Pass password)) user = user
 login_asked (Ok (Apop name digest)) user = Some name
-login_asked _ user = None
+login_asked (Ok Capa) user = None
+login_asked (Ok (User name)) user = None
+login_asked (Ok Quit) user = None
+login_asked (Ok Stat) user = None
+login_asked (Ok ListAll) user = None
+login_asked (Ok (ListOne n)) user = None
+login_asked (Ok UidlAll) user = None
+login_asked (Ok (UidlOne n)) user = None
+login_asked (Ok (Retr n)) user = None
+login_asked (Ok (Top n k)) user = None
+login_asked (Ok (Dele n)) user = None
+login_asked (Ok Rset) user = None
+login_asked (Ok Noop) user = None
+login_asked (Err fault) user = None
 
 -- ---- TRANSACTION
 
@@ -136,7 +158,9 @@ session_says p v (Dele n) = pick v.marks v.view n
 session_says p v Rset = maildrop_has v.view
 session_says p v Noop = Okay
 session_says p v Quit = quit_says (denying class_of p v.name v.marks v.view)
-session_says p v _ = WrongState
+session_says p v (User name) = WrongState
+session_says p v (Pass password) = WrongState
+session_says p v (Apop name digest) = WrongState
 
 -- a message of the view isn't marked, and the policy lets the clerk read it
 abbrev pub is_readable : Policy → LoginName → Option store.Message → (is_marked : Bool) → Bool
@@ -154,7 +178,19 @@ transaction_asks p v (Ok (Retr n)) = is_readable p v.name (at_number v.view n) (
 transaction_asks p v (Ok (Top n k)) =
     is_readable p v.name (at_number v.view n) (is_marked v.marks n)
 transaction_asks p v (Ok Quit) = not (is_empty (to_remove class_of p v.name v.marks v.view))
-transaction_asks p v _ = false
+transaction_asks p v (Ok Capa) = false
+transaction_asks p v (Ok (User name)) = false
+transaction_asks p v (Ok (Pass password)) = false
+transaction_asks p v (Ok (Apop name digest)) = false
+transaction_asks p v (Ok Stat) = false
+transaction_asks p v (Ok ListAll) = false
+transaction_asks p v (Ok (ListOne n)) = false
+transaction_asks p v (Ok UidlAll) = false
+transaction_asks p v (Ok (UidlOne n)) = false
+transaction_asks p v (Ok (Dele n)) = false
+transaction_asks p v (Ok Rset) = false
+transaction_asks p v (Ok Noop) = false
+transaction_asks p v (Err fault) = false
 
 -- ---- a line
 
@@ -165,7 +201,14 @@ is_allowed keyword.Quit live has_user = true
 is_allowed keyword.User live has_user = not live
 is_allowed keyword.Apop live has_user = not live
 is_allowed keyword.Pass live has_user = not live && has_user
-is_allowed _ live has_user = live
+is_allowed keyword.Stat live has_user = live
+is_allowed keyword.List live has_user = live
+is_allowed keyword.Uidl live has_user = live
+is_allowed keyword.Retr live has_user = live
+is_allowed keyword.Top live has_user = live
+is_allowed keyword.Dele live has_user = live
+is_allowed keyword.Rset live has_user = live
+is_allowed keyword.Noop live has_user = live
 
 -- a keyword may be given in this state
 abbrev pub is_permitted : LineState → Keyword → Bool
@@ -180,7 +223,18 @@ when_permitted false reply = WrongState
 -- the reply where the store failed
 abbrev pub refusal : Keyword → Reply
 refusal keyword.Quit = RemovalFailed
-refusal _ = StoreFailed
+refusal keyword.Capa = StoreFailed
+refusal keyword.User = StoreFailed
+refusal keyword.Pass = StoreFailed
+refusal keyword.Apop = StoreFailed
+refusal keyword.Stat = StoreFailed
+refusal keyword.List = StoreFailed
+refusal keyword.Uidl = StoreFailed
+refusal keyword.Retr = StoreFailed
+refusal keyword.Top = StoreFailed
+refusal keyword.Dele = StoreFailed
+refusal keyword.Rset = StoreFailed
+refusal keyword.Noop = StoreFailed
 
 -- the reply to a command that may be given, where the store doesn't fail
 abbrev pub obeyed : LineState → Command → Reply

@@ -1,18 +1,25 @@
 -- What a history says of sessions: logins, the lock, marks, views, what a QUIT removed, and the
 -- records that are left (RFC 1939, 4 to 6).
 use Rattle.std.specs.Prelude.{ℕ, Bool, true, false, not, ◌&&◌, ◌||◌, ◌==◌, List, [], ◌∷◌, ◌++◌}
-use Rattle.std.specs.Prelude.{Option, Some, None, Result, Ok, if◌then◌else◌, is_some}
+use Rattle.std.specs.Prelude.{Option, Some, None, Result, Ok, Err, if◌then◌else◌, is_some}
 use Rattle.std.specs.List.{find}
 use Rattle.std.specs.Str.{bytes_eq}
 use Rattle.creds.specs.declared.login_name.LoginName.{LoginName}
-use Rattle.popline.specs.Commands.{Command, Pass, Apop}
+use Rattle.popline.specs.Commands.{Command, Capa, User, Pass, Apop, Quit, Stat, ListAll, ListOne}
+use Rattle.popline.specs.Commands.{UidlAll, UidlOne, Retr, Top, Dele, Rset, Noop}
 use Rattle.popline.specs.declared.command.LineFault.{LineFault}
-use Rattle.popline.specs.Replies.{MaildropHas, Marked}
+use Rattle.popline.specs.Replies.{Greeting, LineTooLong, UnknownCommand, WrongState, BadArguments}
+use Rattle.popline.specs.Replies.{Capabilities, SendPass, LoginFailed, LoginFailedClosing}
+use Rattle.popline.specs.Replies.{DeniedBy, NoSuchMaildrop, InUse, MaildropHas, DropListing}
+use Rattle.popline.specs.Replies.{ScanListing, ScanLine, UidListing, UidLine, Message, TopPart}
+use Rattle.popline.specs.Replies.{Marked, Okay, NoSuchMessage, AlreadyMarked, Bye, RemovalDenied}
+use Rattle.popline.specs.Replies.{RemovalFailed, StoreFailed}
 use Rattle.vault.specs.Records.{Records, class_of, without, in_maildrop}
 use Rattle.session.specs.View.{visible, to_remove}
 use Rattle.office.specs.Answers.{EndSession, Ended}
 use Rattle.office.specs.History.{Line, Administer, is_no_memory, arrivals, Tag, Idle, in_force}
 use Rattle.office.specs.History.{clerks, Gone, Says, Restart, Open, receipts, Said, Answers}
+use Rattle.office.specs.History.{Silence}
 use Rattle.office.specs.History.{maildrops, is_done, Act, Entry, arrived}
 use Rattle.office.specs.Connections.{heard, is_quit, reading, user, opens}
 use Rattle.vault.specs.declared.record.Message as store
@@ -21,9 +28,24 @@ use Rattle.vault.specs.declared.record.Message as store
 
 -- whom a line logs in, where it was accepted; for a PASS that is the name that was in force
 abbrev pub logs_in : Result Command LineFault → Said → Option LoginName → Option LoginName
-logs_in (Ok (Pass password)) (Says (MaildropHas n m)) name = name
+logs_in (Ok (Pass password)) (Says (MaildropHas n m)) before = before
 logs_in (Ok (Apop name digest)) (Says (MaildropHas n m)) before = Some name
-logs_in _ _ name = None
+logs_in (Ok Capa) said before = None
+logs_in (Ok (User name)) said before = None
+logs_in (Ok (Pass password)) said before = None
+logs_in (Ok (Apop name digest)) said before = None
+logs_in (Ok Quit) said before = None
+logs_in (Ok Stat) said before = None
+logs_in (Ok ListAll) said before = None
+logs_in (Ok (ListOne n)) said before = None
+logs_in (Ok UidlAll) said before = None
+logs_in (Ok (UidlOne n)) said before = None
+logs_in (Ok (Retr n)) said before = None
+logs_in (Ok (Top n k)) said before = None
+logs_in (Ok (Dele n)) said before = None
+logs_in (Ok Rset) said before = None
+logs_in (Ok Noop) said before = None
+logs_in (Err fault) said before = None
 
 -- whom an entry logs in on a connection; the last argument is the name in force before it
 abbrev pub login_by : Act → Said → ℕ → Option LoginName → Option LoginName
@@ -83,7 +105,34 @@ holder G d = find (holds G d) (heard G)
 abbrev pub marks_after_line : Said → List ℕ → List ℕ
 marks_after_line (Says (Marked n)) before = before ++ n ∷ []
 marks_after_line (Says (MaildropHas n m)) before = []
-marks_after_line _ before = before
+marks_after_line (Says (Greeting number boot host)) before = before
+marks_after_line (Says LineTooLong) before = before
+marks_after_line (Says UnknownCommand) before = before
+marks_after_line (Says WrongState) before = before
+marks_after_line (Says BadArguments) before = before
+marks_after_line (Says Capabilities) before = before
+marks_after_line (Says SendPass) before = before
+marks_after_line (Says LoginFailed) before = before
+marks_after_line (Says LoginFailedClosing) before = before
+marks_after_line (Says (DeniedBy rule)) before = before
+marks_after_line (Says NoSuchMaildrop) before = before
+marks_after_line (Says InUse) before = before
+marks_after_line (Says (DropListing n m)) before = before
+marks_after_line (Says (ScanListing rows)) before = before
+marks_after_line (Says (ScanLine n m)) before = before
+marks_after_line (Says (UidListing rows)) before = before
+marks_after_line (Says (UidLine n uid)) before = before
+marks_after_line (Says (Message octets lines)) before = before
+marks_after_line (Says (TopPart lines)) before = before
+marks_after_line (Says Okay) before = before
+marks_after_line (Says NoSuchMessage) before = before
+marks_after_line (Says (AlreadyMarked n)) before = before
+marks_after_line (Says Bye) before = before
+marks_after_line (Says (RemovalDenied rule)) before = before
+marks_after_line (Says RemovalFailed) before = before
+marks_after_line (Says StoreFailed) before = before
+marks_after_line Silence before = before
+marks_after_line (Answers answer) before = before
 
 -- only a connection's own lines change its marks
 abbrev pub marks_after : Act → Said → ℕ → List ℕ → List ℕ

@@ -106,7 +106,11 @@ fn judgement(reply: &Reply<'_>) -> Option<Verdict>
         Reply::NoSuchMaildrop => Some(Verdict::NoSuchMaildrop),
         Reply::InUse => Some(Verdict::InUse),
         Reply::StoreFailed => Some(Verdict::StoreFailed),
-        _ => None,
+        Reply::Greeting { .. } | Reply::LineTooLong | Reply::UnknownCommand => None,
+        Reply::WrongState | Reply::BadArguments | Reply::Capabilities | Reply::SendPass => None,
+        Reply::DropListing { .. } | Reply::ScanLine { .. } | Reply::UidLine { .. } => None,
+        Reply::Marked(_) | Reply::Okay | Reply::NoSuchMessage | Reply::AlreadyMarked(_) => None,
+        Reply::Bye | Reply::RemovalDenied(_) | Reply::RemovalFailed => None,
     }
 }
 
@@ -183,7 +187,12 @@ impl Account {
             Command::Dele(_) => of_mark(reply),
             Command::Rset => of_reset(reply),
             Command::Quit => Account::QuitBeforeLogin,
-            _ => Account::Nothing,
+            Command::Capa | Command::User(_) | Command::Stat | Command::List(_) => {
+                Account::Nothing
+            }
+            Command::Uidl(_) | Command::Retr(_) | Command::Top(_, _) | Command::Noop => {
+                Account::Nothing
+            }
         }
     }
 

@@ -41,7 +41,8 @@ fn is_allowed(keyword: Keyword, live: bool, has_user: bool) -> bool
         Keyword::Capa | Keyword::Quit => true,
         Keyword::User | Keyword::Apop => !live,
         Keyword::Pass => !live && has_user,
-        _ => live,
+        Keyword::Stat | Keyword::List | Keyword::Uidl | Keyword::Retr | Keyword::Top => live,
+        Keyword::Dele | Keyword::Rset | Keyword::Noop => live,
     }
 }
 
@@ -91,7 +92,12 @@ fn command_reply<V: Vault>(
             )
         }
         Command::Quit => Ok((Reply::Bye, None)),
-        _ => Ok((Reply::WrongState, None)),
+        Command::Stat | Command::List(_) | Command::Uidl(_) | Command::Retr(_) => {
+            Ok((Reply::WrongState, None))
+        }
+        Command::Top(_, _) | Command::Dele(_) | Command::Rset | Command::Noop => {
+            Ok((Reply::WrongState, None))
+        }
     }
 }
 

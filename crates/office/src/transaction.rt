@@ -69,7 +69,10 @@ fn plain_reply(session: &mut Session, policy: &Policy, command: &Command<'_>) ->
         Command::Dele(n) => delete(session, policy, *n),
         Command::Rset => reset(session),
         Command::Noop => Reply::Okay,
-        _ => Reply::WrongState,
+        Command::User(_) | Command::Pass(_) | Command::Apop(_, _) => Reply::WrongState,
+        // The caller answers these.
+        Command::Quit | Command::Retr(_) | Command::Top(_, _) => Reply::WrongState,
+        Command::List(None) | Command::Uidl(None) => Reply::WrongState,
     }
 }
 

@@ -116,7 +116,12 @@ alone keyword.List = Some ListAll
 alone keyword.Uidl = Some UidlAll
 alone keyword.Rset = Some Rset
 alone keyword.Noop = Some Noop
-alone k = None
+alone keyword.User = None
+alone keyword.Pass = None
+alone keyword.Apop = None
+alone keyword.Retr = None
+alone keyword.Top = None
+alone keyword.Dele = None
 
 -- the command of a keyword with one argument
 abbrev pub with_one : Keyword → List ℕ → Option Command
@@ -125,13 +130,30 @@ with_one keyword.List n = option_map ListOne (number_of n)
 with_one keyword.Uidl n = option_map UidlOne (number_of n)
 with_one keyword.Retr n = option_map Retr (number_of n)
 with_one keyword.Dele n = option_map Dele (number_of n)
-with_one k argument = None
+with_one keyword.Capa argument = None
+with_one keyword.Pass argument = None
+with_one keyword.Apop argument = None
+with_one keyword.Quit argument = None
+with_one keyword.Stat argument = None
+with_one keyword.Top argument = None
+with_one keyword.Rset argument = None
+with_one keyword.Noop argument = None
 
 -- the command of a keyword with two arguments
 abbrev pub with_two : Keyword → List ℕ → List ℕ → Option Command
 with_two keyword.Apop name digits = both Apop (login_name name) (digest_of digits)
 with_two keyword.Top n lines = both Top (number_of n) (number_of lines)
-with_two k first second = None
+with_two keyword.Capa first second = None
+with_two keyword.User first second = None
+with_two keyword.Pass first second = None
+with_two keyword.Quit first second = None
+with_two keyword.Stat first second = None
+with_two keyword.List first second = None
+with_two keyword.Uidl first second = None
+with_two keyword.Retr first second = None
+with_two keyword.Dele first second = None
+with_two keyword.Rset first second = None
+with_two keyword.Noop first second = None
 
 -- the command of a keyword with these arguments; no command has three
 abbrev pub with_arguments : Keyword → List (List ℕ) → Option Command

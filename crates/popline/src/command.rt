@@ -199,7 +199,8 @@ impl Keyword {
             Keyword::Uidl => Some(Command::Uidl(None)),
             Keyword::Rset => Some(Command::Rset),
             Keyword::Noop => Some(Command::Noop),
-            _ => None,
+            Keyword::User | Keyword::Pass | Keyword::Apop => None,
+            Keyword::Retr | Keyword::Top | Keyword::Dele => None,
         }
     }
 
@@ -213,7 +214,8 @@ impl Keyword {
             Keyword::Uidl => Some(Command::Uidl(Some(read_number(argument)?))),
             Keyword::Retr => Some(Command::Retr(read_number(argument)?)),
             Keyword::Dele => Some(Command::Dele(read_number(argument)?)),
-            _ => None,
+            Keyword::Capa | Keyword::Pass | Keyword::Apop | Keyword::Quit => None,
+            Keyword::Stat | Keyword::Top | Keyword::Rset | Keyword::Noop => None,
         }
     }
 
@@ -224,7 +226,9 @@ impl Keyword {
         match self {
             Keyword::Apop => Some(Command::Apop(LoginName::read(first)?, read_digest(second)?)),
             Keyword::Top => Some(Command::Top(read_number(first)?, read_number(second)?)),
-            _ => None,
+            Keyword::Capa | Keyword::User | Keyword::Pass | Keyword::Quit | Keyword::Stat => None,
+            Keyword::List | Keyword::Uidl | Keyword::Retr | Keyword::Dele => None,
+            Keyword::Rset | Keyword::Noop => None,
         }
     }
 }

@@ -1,25 +1,16 @@
--- Queries one behind the other, tests one behind the other, and what a store that is made and a store that is judged come to.
+-- Queries one behind the other, and what a store that is made and a store that is judged come to.
 use Rattle.std.proofs.Common.{◌≡◌, ◌⊎◌, inl, inr, Bool, true, false, IsTrue, List, [], ◌∷◌, length, Result, Ok, Err, refl, sym, ap, subst, ◌∙◌, true≢false}
 use Rattle.mailsql.specs.Tables.{no_schema}
-use Rattle.std.specs.Prelude.{IfOk}
 use Rattle.sqlite.specs.declared.error.Error.{Error}
 use Rattle.sqlite.specs.Effect.{Database}
 use Rattle.sqlite.specs.State.{State, Shows, IsUnchanged}
 use Rattle.mailsql.specs.Rows.{Rows, rows_in, IsOurs, IsKept, HasTables, IsUndone, IsHalted, IsGone, GoesOn}
-use Rattle.std.proofs.Common.{ℕ, arith, cond, not}
+use Rattle.std.proofs.Common.{arith, cond, not}
 use Rattle.std.specs.Prelude.{codes, find, Some, None}
-use Rattle.std.specs.List.{list_all}
-use Rattle.policy.specs.Policy.{Policy}
-use Rattle.vault.specs.declared.record.Clerk.{Clerk}
-use Rattle.vault.specs.declared.record.Keyed.{Keyed}
-use Rattle.vault.specs.declared.record.Receipt.{Receipt}
-use Rattle.vault.specs.Records.{is_sound_message}
-use Rattle.vault.specs.Changes.{Contents}
 use Rattle.vault.proofs.ListLemmas.{bytes_are}
 use Rattle.mailsql.specs.declared.rows.MetaRow.{MetaRow}
 use Rattle.mailsql.specs.Rows.{is_meta_row}
-use Rattle.sqlvault.specs.Keeps.{Keeps, our_meta_row, version}
-use Rattle.sqlvault.specs.Parts.{Finds, ClerksAre, MaildropsAre, PolicyIs, DepositsAre, MessagesAre, records_with, messages_of}
+use Rattle.sqlvault.specs.Keeps.{our_meta_row, version}
 use Rattle.vault.specs.declared.fault.VaultFault.{VaultFault}
 use Rattle.vault.specs.declared.fault.VaultFault.TheVariants as fault
 use Rattle.mailsql.specs.Names.{is_taken, has_meta_rows}
@@ -64,24 +55,6 @@ undone_on s0 s1 s2 a (inr back) = inr (record {
   counts = record { changes = back.counts.changes ∙ a.1.changes; last_rowid = back.counts.last_rowid ∙ a.1.last_rowid };
 })
 
--- ---- tests
-
-pub chained : {X Y : Type 0} (P : X → Type 0) (Q : X → Y → Type 0) (b : Bool) → Finds P true → ((x : X) → P x → Finds (Q x) b) → Finds (λ (xy : X × Y). P xy.0 × Q xy.0 xy.1) b
-chained P Q true found more = let m = more found.0 found.1 in ((found.0, m.0), (found.1, m.1))
-chained P Q false found more = λ xy both. more xy.0 both.0 xy.1 both.1
-
--- a test behind one that was passed
-pub chained_ok : {X Y : Type 0} (P : X → Type 0) (Q : X → Y → Type 0) (b : Bool) (r : Result Bool Error) → Finds P b → b ≡ true → ((x : X) → P x → IfOk r (Finds (Q x)))
-    → IfOk r (Finds (λ (xy : X × Y). P xy.0 × Q xy.0 xy.1))
-chained_ok P Q b (Ok passed) found e more = chained P Q passed (subst (Finds P) e found) more
-chained_ok P Q b (Err e1) found e more = tt
-
--- the same test, said otherwise
-pub finds_so : {X Y : Type 0} (P : X → Type 0) (Q : Y → Type 0) (r : Result Bool Error) → ((x : X) → P x → (y : Y) × Q y) → ((y : Y) → Q y → (x : X) × P x) → IfOk r (Finds P) → IfOk r (Finds Q)
-finds_so P Q (Ok true) to from found = to found.0 found.1
-finds_so P Q (Ok false) to from none = λ y q. let x = from y q in none x.0 x.1
-finds_so P Q (Err e) to from found = tt
-
 -- ---- what stands after a refusal
 
 -- outside a transaction what is seen is committed
@@ -99,90 +72,6 @@ pub stays_gone : (old begun new : State) → old.in_transaction ≡ false → Is
 stays_gone old begun new out settled shows gone = λ up.
     let was = shows.was_open in
     (was, ((gone.undone up).0 ∙ shows.committed_is ∙ sym (settled was), (gone.undone up).1 ∙ shows.committed_is), gone.autocommit ∙ sym out)
-
--- ---- the parts and the whole
-
-module _ (rows : Rows) where
-  abbrev pub Lists : Type 0
-  Lists = (List Clerk × List (List ℕ)) × Policy
-
-  abbrev pub Mail : Type 0
-  Mail = List Receipt × List Keyed
-
-  abbrev pub ListsAre : Lists → Type 0
-  ListsAre x = (ClerksAre rows x.0.0 × MaildropsAre rows x.0.1) × PolicyIs rows x.1
-
-  abbrev pub MailIs : Mail → Type 0
-  MailIs y = DepositsAre rows y.0 × MessagesAre rows y.0 y.1
-
-pub own_maildrops : (rows : Rows) (ms : List (List ℕ)) → MaildropsAre rows ms → MaildropsAre rows rows.maildrops
-own_maildrops rows ms is = subst (MaildropsAre rows) (sym is.same) is
-
-pub whole : (rows : Rows) → rows.meta_rows ≡ our_meta_row ∷ [] → (xy : Lists rows × Mail rows) → ListsAre rows xy.0 × MailIs rows xy.1 → (c : Contents) × Keeps rows c
-whole rows meta_rows xy both =
-    let clerks = both.0.0.0 in
-    let maildrops = own_maildrops rows xy.0.0.1 both.0.0.1 in
-    let deposits = both.1.0 in
-    let messages = both.1.1 in (
-      record { clerks = xy.0.0.0; maildrops = rows.maildrops; messages = xy.1.1; deposits = xy.1.0; policy = xy.0.1 },
-      record {
-        meta_row = meta_rows;
-        clerks = clerks.same;
-        maildrops = refl;
-        counts = deposits.counts;
-        deposits = deposits.same;
-        messages = messages.same;
-        sheets = messages.sheets;
-        groups = both.0.1.groups;
-        rules = both.0.1.same;
-        keys = messages.keys;
-        sound = record {
-          records = record {
-            clerks = clerks.sound;
-            clerks_apart = clerks.apart;
-            clerks_fit = clerks.fit;
-            maildrops = maildrops.sound;
-            maildrops_apart = maildrops.apart;
-            maildrops_fit = maildrops.fit;
-            messages = messages.sound;
-            messages_apart = messages.apart;
-            messages_fit = messages.fit;
-            deposits = deposits.sound;
-            ids_apart = deposits.ids_apart;
-            uids_apart = deposits.uids_apart;
-            policy = both.0.1.sound;
-          };
-          keys = messages.keys_apart;
-        };
-      },
-    )
-
-pub parts : (rows : Rows) (c : Contents) → Keeps rows c → (xy : Lists rows × Mail rows) × (ListsAre rows xy.0 × MailIs rows xy.1)
-parts rows c k =
-    let is = k.sound.records in (
-      (((c.clerks, c.maildrops), c.policy), (c.deposits, c.messages)),
-      (
-        (
-          (
-            record { same = k.clerks; sound = is.clerks; apart = is.clerks_apart; fit = is.clerks_fit },
-            record { same = k.maildrops; sound = is.maildrops; apart = is.maildrops_apart; fit = is.maildrops_fit },
-          ),
-          record { groups = k.groups; same = k.rules; sound = is.policy },
-        ),
-        (
-          record { same = k.deposits; counts = k.counts; sound = is.deposits; ids_apart = is.ids_apart; uids_apart = is.uids_apart },
-          record {
-            same = k.messages;
-            sheets = k.sheets;
-            keys = k.keys;
-            sound = subst (λ ds. list_all (is_sound_message (records_with ds c.deposits)) (messages_of c.messages) ≡ true) (sym k.maildrops) is.messages;
-            apart = is.messages_apart;
-            keys_apart = k.sound.keys;
-            fit = is.messages_fit;
-          },
-        ),
-      ),
-    )
 
 -- ---- the version row
 

@@ -1,13 +1,16 @@
 -- What is found of the rows behind queries that changed nothing is so of the rows before them.
-use Rattle.std.proofs.Common.{◌≡◌, Bool, Result, Ok, sym, subst}
+use Rattle.std.proofs.Common.{◌≡◌, Bool, List, Result, Ok, sym, subst}
 use Rattle.sqlite_trees.specs.declared.store.Store.{Ghosts}
 use Rattle.sqlite.specs.Held.{Held, state}
-use Rattle.sqlite.specs.State.{HasCleanDisk}
+use Rattle.sqlite.specs.State.{State, HasCleanDisk}
+use Rattle.vault.specs.declared.record.Receipt.{Receipt}
 use Rattle.mailsql.specs.Apart.{AreApart}
 use Rattle.mailsql.specs.Rows.{Rows, HasTables, rows_in}
 use Rattle.sqlvault.specs.Frame.{Asks}
-use Rattle.sqlvault.specs.Parts.{Finds}
+use Rattle.sqlvault.specs.Parts.{Finds, DepositsAre}
+use Rattle.sqlvault.specs.Stored.{Stays}
 use Rattle.sqlvault.proofs.AdoptLemmas.{tables_on, rows_on}
+use Rattle.sqlvault.proofs.StayLemmas.{tables_stay, rows_stay}
 
 -- whatever is said of them
 pub said_behind : {S A E : Type 0} {store : Ghosts S} {old new : Held S} {x : A}
@@ -34,3 +37,15 @@ pub found_behind : {S A E X : Type 0} {store : Ghosts S} {old new : Held S} {x :
 found_behind {store = store} {old = old} Are b is test a clean tables apart found =
     subst (Finds (Are (rows_in (state store old).now.trees))) test
     (said_behind (λ rows. Finds (Are rows) b) a clean tables apart found)
+
+-- what is told of rows and their deposits behind parts that changed nothing is so of the rows before
+-- them; `x` was answered, and tested to be `y`
+pub told_behind : {A : Type 0} (P : Rows → A → Type 0) (old new : State) (deposits : List Receipt)
+    {x y : A} → x ≡ y → Stays old new → HasTables old
+    → DepositsAre (rows_in old.now.trees) deposits
+    → (HasTables new → DepositsAre (rows_in new.now.trees) deposits → P (rows_in new.now.trees) x)
+    → P (rows_in old.now.trees) y
+told_behind P old new deposits {x = x} is a h d told =
+    let same = rows_stay old new a in
+    subst (P (rows_in old.now.trees)) is (subst (λ r. P r x) same (told (tables_stay old new a h)
+    (subst (λ r. DepositsAre r deposits) (sym same) d)))

@@ -1,10 +1,10 @@
 -- Groups as rows.
 use Rattle.std.proofs.Common.{◌≡◌, ℕ, zero, suc, ◌+◌, ◌<◌, ◌≤◌, ℤ, pos, negsuc, Bool, true, false, cond, List, [], ◌∷◌, ◌++◌, length, map, take, get_or, refl, sym, ap, ◌∙◌, arith, inl, inr, append_assoc, append-nil, SFits, w64, to_z, of_z, to_z-of_z}
-use Rattle.std.specs.Prelude.{filter, ◌+ℤ◌, fold}
+use Rattle.std.specs.Prelude.{Some, None, filter, ◌+ℤ◌, fold}
 use Rattle.std.specs.List.{list_all}
 use Rattle.std.proofs.lemmas.List.{map-append, take_more}
-use Rattle.creds.specs.Names.{is_name}
-use Rattle.policy.specs.Policy.{Group, is_sound_group}
+use Rattle.creds.specs.Names.{is_name, name_of}
+use Rattle.policy.specs.Policy.{Group}
 use Rattle.vault.proofs.ListLemmas.{In, all_in, filter_in, map_in}
 use Rattle.mailsql.specs.declared.rows.Group as row
 use Rattle.mailsql.specs.declared.rows.Member.{Member}
@@ -13,6 +13,7 @@ use Rattle.mailsql.specs.Rows.{same_int, is_member_of}
 use Rattle.mailsql.specs.Changes as changes
 use Rattle.mailsql.proofs.EqualLemmas.{same_itself}
 use Rattle.sqlvault.specs.Keeps.{member_names, group_in}
+use Rattle.sqlvault.specs.Parts.{is_named_group}
 use Rattle.sqlvault.specs.Rules.{member_rows, group_row, group_rows, all_member_rows, AddsMembers, AddsGroup, AddsGroups, SetsGroups}
 use Rattle.sqlvault.proofs.RemoveLemmas.{int_same}
 
@@ -187,6 +188,19 @@ pub name_at : (group : ℤ) (rows : List Member) (i : ℕ) (row : Member) → i 
 name_at group rows i row lt is e all =
     all_in is_name (member_names group rows) row.clerk all (map_in (λ (m : Member). m.clerk) (filter (is_member_of group) rows) row (filter_in (is_member_of group) rows row (at_in rows i row row lt is) e))
 
-pub group_at : (members : List Member) (rows : List row.Group) (i : ℕ) (r : row.Group) → i < length rows → r ≡ get_or rows i r → list_all is_sound_group (map (group_in members) rows) ≡ true
-    → is_sound_group (group_in members r) ≡ true
-group_at members rows i r lt is all = all_in is_sound_group (map (group_in members) rows) (group_in members r) all (map_in (group_in members) rows r (at_in rows i r r lt is))
+pub group_at : (members : List Member) (rows : List row.Group) (i : ℕ) (r : row.Group) → i < length rows → r ≡ get_or rows i r → list_all is_named_group (map (group_in members) rows) ≡ true
+    → is_named_group (group_in members r) ≡ true
+group_at members rows i r lt is all = all_in is_named_group (map (group_in members) rows) (group_in members r) all (map_in (group_in members) rows r (at_in rows i r r lt is))
+
+-- ---- names that were read
+
+-- a text that was read as a name has its form
+pub name_form : (text name : List ℕ) → name_of text ≡ Some name → is_name name ≡ true
+name_form text name e = at (is_name text) refl e
+  where
+    at : (b : Bool) → is_name text ≡ b → cond b (Some text) None ≡ Some name → is_name name ≡ true
+    at true f e = let is : text ≡ name = cc in ap is_name (sym is) ∙ f
+    at false f e = absurd (cc)
+
+pub named_group : (name : List ℕ) (members : List (List ℕ)) → is_name name ≡ true → list_all is_name members ≡ true → is_named_group (record { name = name; members = members }) ≡ true
+named_group name members e f = rw (e, f) refl

@@ -23,6 +23,7 @@ pub mod AskedLemmas
 pub mod AgreeLemmas
 pub mod AskLemmas
 pub mod BehindLemmas
+pub mod PartLemmas
 pub mod StopLemmas
 pub mod MakeLemmas
 pub mod StayLemmas

@@ -13,17 +13,17 @@ use Rattle.creds.specs.Names.{is_name, name_of, is_secret}
 use Rattle.creds.specs.declared.credential.Credential.{Credential}
 use Rattle.creds.specs.declared.credential.Credential.TheVariants as kept
 use Rattle.policy.specs.declared.rule.Rule as rule
-use Rattle.policy.specs.Policy.{Group, Policy, are_distinct, is_sound_rule, is_sound_group, is_sound_policy, policy_with}
+use Rattle.policy.specs.Policy.{Group, Policy, are_distinct, are_members, is_sound_rule, is_sound_group, is_sound_policy, policy_with}
 use Rattle.vault.specs.declared.record.Clerk as vault
 use Rattle.vault.specs.Records.{is_sound_clerk, is_sound_credential, most_clerks, most_maildrops}
-use Rattle.vault.proofs.ListLemmas.{distinct-map, length-map}
+use Rattle.vault.proofs.ListLemmas.{distinct-map, length-map, all_weaker}
 use Rattle.mailsql.specs.declared.rows.Clerk.{Clerk}
 use Rattle.mailsql.specs.declared.rows.Rule.{Rule}
 use Rattle.mailsql.specs.Columns.{Rows}
 use Rattle.mailsql.specs.Rows.{same_int}
 use Rattle.mailsql.specs.Apart.{AreApart, are_apart}
 use Rattle.sqlvault.specs.Keeps.{kind_of, secret_of, clerk_row, rule_row, at_place, groups_in, clerks_text, pattern_text, effect_number, actions_number}
-use Rattle.sqlvault.specs.Parts.{Finds, ClerksAre, MaildropsAre, PolicyIs}
+use Rattle.sqlvault.specs.Parts.{Finds, ClerksAre, MaildropsAre, GroupsAre, PolicyIs, is_named_group}
 use Rattle.sqlvault.specs.RowForms.{is_credential_row, is_clerk_row, are_clerk_rows, are_maildrop_rows}
 use Rattle.sqlvault.proofs.PermutationLemmas.{all_permuted}
 use Rattle.sqlvault.proofs.ClerkLemmas.{row_made}
@@ -195,6 +195,17 @@ pub policy_judged : (rows : Rows) (groups : List Group) (read : List Rule) (b : 
 policy_judged rows groups read true are same f = (f.0, record { groups = sym are ∙ f.1.0; same = ap (map (at_place (pos 0))) (sym same) ∙ f.1.1; sound = f.1.2 })
 policy_judged rows groups read false are same f = λ p m. f p (are ∙ m.groups, ap (map (at_place (pos 0))) same ∙ m.same, m.sound)
 
--- where the groups' rows are no sound groups', there is no policy
-pub no_groups : (rows : Rows) → (list_all is_sound_group (groups_in rows) ≡ true → ⊥) → Finds (PolicyIs rows) false
-no_groups rows none = λ p m. none (ap (list_all is_sound_group) m.groups ∙ each_sound p m.sound)
+-- groups that were read
+pub groups_read : (rows : Rows) (groups : List Group) → groups ≡ groups_in rows → list_all is_named_group groups ≡ true → Finds (GroupsAre rows) true
+groups_read rows groups are named = (groups, record { same = sym are; named = named })
+
+-- groups that weren't, since a name hasn't its form
+pub no_groups : (rows : Rows) → (list_all is_named_group (groups_in rows) ≡ true → ⊥) → Finds (GroupsAre rows) false
+no_groups rows none = λ groups are. none (ap (list_all is_named_group) are.same ∙ are.named)
+
+-- the groups of a policy
+pub policy_groups : (rows : Rows) (p : Policy) → PolicyIs rows p → GroupsAre rows p.groups
+policy_groups rows p is = record {
+  same = is.groups;
+  named = all_weaker is_sound_group is_named_group p.groups (λ g i e. (and_parts (is_named_group g) (are_members g.members) e).0) (each_sound p is.sound);
+}

@@ -2,6 +2,7 @@ pub mod Frame
 pub mod Keeps
 pub mod Clerks
 pub mod Parts
+pub mod Judged
 pub mod Adopts
 pub mod Stands
 pub mod Stops

@@ -1,10 +1,10 @@
 -- What the sound rows of each table say of the contents, and what a check of them answers.
-use Rattle.std.specs.Prelude.{◌≡◌, ◌≤◌, ◌==◌, ℕ, Bool, true, false, pos, nat_lt, List, [], length, map, flat_map}
+use Rattle.std.specs.Prelude.{◌≡◌, ◌≤◌, ◌==◌, ◌&&◌, ℕ, Bool, true, false, pos, nat_lt, List, [], length, map, flat_map}
 use Rattle.std.specs.List.{list_all}
 use Rattle.std.specs.List.Sorted.{IsPermutation}
 use Rattle.std.specs.Str.{bytes_eq}
 use Rattle.creds.specs.Names.{is_name}
-use Rattle.policy.specs.Policy.{Policy, is_sound_policy, are_distinct}
+use Rattle.policy.specs.Policy.{Group, Policy, is_sound_policy, are_distinct}
 use Rattle.vault.specs.declared.record.Clerk.{Clerk}
 use Rattle.vault.specs.declared.record.Keyed.{Keyed}
 use Rattle.vault.specs.declared.record.Message.{Message}
@@ -31,6 +31,15 @@ pub record MaildropsAre (rows : Rows) (maildrops : List (List ℕ)) : Type 0 whe
   pub sound : list_all is_name maildrops ≡ true
   pub apart : are_distinct bytes_eq maildrops ≡ true
   pub fit : length maildrops ≤ most_maildrops
+
+-- a group's name and its members' names have their form
+abbrev pub is_named_group : Group → Bool
+is_named_group g = is_name g.name && list_all is_name g.members
+
+-- the groups of the rows, whose names have their form
+pub record GroupsAre (rows : Rows) (groups : List Group) : Type 0 where
+  pub same : groups_in rows ≡ groups
+  pub named : list_all is_named_group groups ≡ true
 
 -- the policy of the rows
 pub record PolicyIs (rows : Rows) (policy : Policy) : Type 0 where

@@ -1,13 +1,11 @@
 //! Adopting a connection: its tables are made, carried over or checked.
-ghost use Rattle.std.specs.Prelude.{◌≡◌, false, IfOk, IfErr, Err, []};
-ghost use Rattle.std.specs.Prelude.{◌∷◌};
+ghost use Rattle.std.specs.Prelude.{◌≡◌, false, IfErr, Err};
 ghost use Rattle.sqlite.specs.Held.{state};
 ghost use Rattle.sqlite.specs.State.{HasCleanDisk};
 ghost use Rattle.mailsql.specs.Uses.{marked};
 ghost use Rattle.mailsql.specs.Rows.{HasTables, IsBegun, rows_in, IsKept};
 ghost use Rattle.sqlvault.specs.Frame.{Asks};
-ghost use Rattle.sqlvault.specs.Keeps.{Keeps, our_meta_row, version};
-ghost use Rattle.sqlvault.specs.Parts.{Finds};
+ghost use Rattle.sqlvault.specs.Keeps.{version};
 ghost use Rattle.sqlvault.specs.Adopts.{Adopts, Settles, IsBlank, IsKnown};
 ghost use Rattle.sqlvault.specs.Moves.{Builds};
 ghost use Rattle.sqlvault.specs.Adopts.{IsAdoptFault, IsForeign};
@@ -21,13 +19,10 @@ ghost use Rattle.sqlvault.specs.Refusals.{answer_of, told};
 ghost use Rattle.sqlvault.specs.Stands.{WasClean};
 
 use crate::carry::carry_marked;
+use crate::part::are_rows_sound;
 use crate::refusal::Refusal;
-use crate::sound_clerks::{are_clerks_sound, are_maildrops_sound};
-use crate::sound_deposits::are_deposits_sound;
-use crate::sound_messages::are_messages_sound;
-use crate::sound_rules::are_rules_sound;
 use crate::transaction::{begin, end, undo};
-use mailsql::schema::{has_columns, has_meta_rows, is_taken, keys_hold};
+use mailsql::schema::{has_columns, has_meta_rows, is_taken};
 use mailsql::{meta, tables};
 use sqlite::{Alter, Connection, Error};
 use std::alloc::Global;
@@ -98,39 +93,6 @@ fn judge_meta_rows<S: Alter>(alloc: Global, conn: &mut Connection<S>) -> Result<
             }
         }
         Err(error) => Err(Refusal::Met(error)),
-    }
-}
-
-/// Whether all rows are sound records of a vault.
-pub(crate) fn are_rows_sound<S: Alter>(
-    alloc: Global,
-    conn: &mut Connection<S>,
-) -> Result<bool, Error>
-    ensures judged { HasCleanDisk (state S.Store conn.new) → HasTables (state S.Store conn.old)
-        → (rows_in (state S.Store conn.old).now.trees).meta_rows ≡ our_meta_row ∷ []
-        → IfOk result (Finds (Keeps (rows_in (state S.Store conn.old).now.trees))) }
-    ensures asks { Asks S.Store conn.old conn.new result }
-{
-    keys_hold(conn);
-    match are_clerks_sound(alloc, conn) {
-        Ok(true) => {}
-        Ok(false) => return Ok(false),
-        Err(error) => return Err(error),
-    }
-    match are_maildrops_sound(alloc, conn) {
-        Ok(true) => {}
-        Ok(false) => return Ok(false),
-        Err(error) => return Err(error),
-    }
-    match are_rules_sound(alloc, conn) {
-        Ok(true) => {}
-        Ok(false) => return Ok(false),
-        Err(error) => return Err(error),
-    }
-    match are_deposits_sound(alloc, conn) {
-        Ok(true) => are_messages_sound(alloc, conn),
-        Ok(false) => Ok(false),
-        Err(error) => Err(error),
     }
 }
 

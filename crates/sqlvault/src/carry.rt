@@ -14,8 +14,9 @@ ghost use Rattle.sqlvault.specs.Refusals.{answer_of, told};
 ghost use Rattle.sqlvault.specs.Stands.{WasClean};
 ghost use Rattle.sqlvault.specs.Transactions.{Undoes};
 
-use crate::adopt::{VERSION, are_rows_sound};
+use crate::adopt::VERSION;
 use crate::moves::move_old;
+use crate::part::are_rows_sound;
 use crate::refusal::Refusal;
 use crate::transaction::{begin, end, roll_back, undo};
 use mailsql::schema::{has_first_columns, has_second_columns};

@@ -4,11 +4,12 @@ ghost use Rattle.std.specs.List.{list_all};
 ghost use Rattle.creds.specs.Names.{is_name};
 ghost use Rattle.sqlite.specs.Held.{state};
 ghost use Rattle.sqlite.specs.State.{HasCleanDisk};
-ghost use Rattle.policy.specs.Policy.{is_sound_group, most_members};
+ghost use Rattle.policy.specs.Policy.{most_members};
 ghost use Rattle.mailsql.specs.Rows.{HasTables, rows_in};
 ghost use Rattle.sqlvault.specs.Keeps.{member_names, group_in, groups_in};
 ghost use Rattle.sqlvault.specs.Rules.{AddsMembers, AddsGroup, AddsGroups, SetsGroups};
 ghost use Rattle.sqlvault.specs.Frame.{Asks, Writes};
+ghost use Rattle.sqlvault.specs.Parts.{is_named_group};
 
 use creds::Name;
 use mailsql::{groups, rows};
@@ -28,6 +29,8 @@ fn members_of(
     ensures all { list_all is_name (member_names group rows.now) ≡ true
         → IfOk result (λ read. IsSomeAnd read (λ names. names.items
         ≡ member_names group rows.now)) }
+    ensures named { IfOk result (λ read. IfSome read (λ names. list_all is_name names.items
+        ≡ true)) }
 {
     let mut names = Vec::new(alloc);
     for row in rows {
@@ -49,8 +52,9 @@ fn group_of(
 ) -> Result<Option<Group>, AllocError>
     ensures row { IfOk result (λ read. IfSome read
         (λ group. group ≡ group_in members.now row.now)) }
-    ensures all { is_sound_group (group_in members.now row.now) ≡ true
+    ensures all { is_named_group (group_in members.now row.now) ≡ true
         → IfOk result (λ read. read ≡ Some (group_in members.now row.now)) }
+    ensures named { IfOk result (λ read. IfSome read (λ group. is_named_group group ≡ true)) }
 {
     let Some(name) = Name::read(row.name.as_slice()) else {
         return Ok(None);
@@ -69,9 +73,11 @@ fn groups_of(
 ) -> Result<Option<Vec<Group>>, AllocError>
     ensures rows { IfOk result (λ read. IfSome read
         (λ groups. groups.items ≡ map (group_in members.now) rows.now)) }
-    ensures all { list_all is_sound_group (map (group_in members.now) rows.now) ≡ true
+    ensures all { list_all is_named_group (map (group_in members.now) rows.now) ≡ true
         → IfOk result (λ read. IsSomeAnd read (λ groups. groups.items
         ≡ map (group_in members.now) rows.now)) }
+    ensures named { IfOk result (λ read. IfSome read (λ groups. list_all is_named_group groups.items
+        ≡ true)) }
 {
     let mut groups = Vec::new(alloc);
     for row in rows {
@@ -92,9 +98,11 @@ pub(crate) fn read_groups<S: Alter>(
         → IfOk result (λ read. IfSome read (λ groups. groups.items
         ≡ groups_in (rows_in (state S.Store conn.old).now.trees))) }
     ensures all { HasCleanDisk (state S.Store conn.new) → HasTables (state S.Store conn.old)
-        → list_all is_sound_group (groups_in (rows_in (state S.Store conn.old).now.trees)) ≡ true
+        → list_all is_named_group (groups_in (rows_in (state S.Store conn.old).now.trees)) ≡ true
         → IfOk result (λ read. IsSomeAnd read (λ groups. groups.items
         ≡ groups_in (rows_in (state S.Store conn.old).now.trees))) }
+    ensures named { IfOk result (λ read. IfSome read (λ groups. list_all is_named_group groups.items
+        ≡ true)) }
     ensures asks { Asks S.Store conn.old conn.new result }
 {
     match groups::all_groups(alloc, conn) {

@@ -11,6 +11,7 @@ mod mail;
 mod maildrops;
 mod moves;
 mod pages;
+mod part;
 mod refusal;
 mod rules;
 mod sound_clerks;
@@ -23,6 +24,7 @@ mod totals;
 mod transaction;
 pub mod uses;
 
+pub use part::{Part, unsound_part};
 pub use refusal::Refusal;
 pub use sql_vault::SqlVault;
 pub use stop_laws::adopt_again;

@@ -1,4 +1,4 @@
-//! Whether the rows of the groups and the rules are a policy.
+//! Whether the rows of the groups and the rules are a policy, and which of them aren't sound.
 ghost use Rattle.std.specs.Prelude.{◌≡◌, true, pos, map, IfOk};
 ghost use Rattle.policy.specs.Policy.{is_sound_policy};
 ghost use Rattle.sqlite.specs.Held.{state};
@@ -6,9 +6,11 @@ ghost use Rattle.sqlite.specs.State.{HasCleanDisk};
 ghost use Rattle.mailsql.specs.Rows.{HasTables, rows_in};
 ghost use Rattle.sqlvault.specs.Frame.{Asks};
 ghost use Rattle.sqlvault.specs.Keeps.{groups_in, rule_row, at_place};
+ghost use Rattle.sqlvault.specs.Judged.{JudgesPolicy};
 ghost use Rattle.sqlvault.specs.Parts.{Finds, PolicyIs};
 
 use crate::groups::read_groups;
+use crate::part::Part;
 use crate::rules::rules_of;
 use mailsql::{rows, rules};
 use policy::{Group, Policy};
@@ -44,18 +46,24 @@ fn are_rules_with<S: Alter>(
     }
 }
 
-/// Whether the rows of the groups and the rules are those of a policy.
-pub(crate) fn are_rules_sound<S: Alter>(
+/// The first part of the policy's rows that isn't sound: the groups, where a name hasn't its form,
+/// or the rules, where they and the groups are no policy; `None` where they are one.
+pub(crate) fn unsound_policy<S: Alter>(
     alloc: Global,
     conn: &mut Connection<S>,
-) -> Result<bool, Error>
+) -> Result<Option<Part>, Error>
     ensures judged { HasCleanDisk (state S.Store conn.new) → HasTables (state S.Store conn.old)
-        → IfOk result (Finds (PolicyIs (rows_in (state S.Store conn.old).now.trees))) }
+        → IfOk result (JudgesPolicy (rows_in (state S.Store conn.old).now.trees)) }
     ensures asks { Asks S.Store conn.old conn.new result }
 {
-    match read_groups(alloc, conn) {
-        Ok(Some(groups)) => are_rules_with(alloc, conn, groups),
-        Ok(None) => Ok(false),
+    let groups = match read_groups(alloc, conn) {
+        Ok(Some(groups)) => groups,
+        Ok(None) => return Ok(Some(Part::Groups)),
+        Err(error) => return Err(error),
+    };
+    match are_rules_with(alloc, conn, groups) {
+        Ok(true) => Ok(None),
+        Ok(false) => Ok(Some(Part::Rules)),
         Err(error) => Err(error),
     }
 }

@@ -2,7 +2,7 @@
 
 ghost use Rattle.std.specs.Prelude.{◌≡◌, ◌≢◌, length, IfOk, IfErr, IfSome, Ok, Err};
 ghost use Rattle.std.specs.Str.{IsUtf8};
-ghost use Rattle.office.specs.Shown.{command_seen};
+ghost use Rattle.office.specs.Seen.{command_seen};
 ghost use Rattle.adminhttp.specs.Head.{headers_of, LieIn};
 ghost use Rattle.adminhttp.specs.Request.{IsRequest, asked_in, asked_by};
 

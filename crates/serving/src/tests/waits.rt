@@ -108,6 +108,34 @@ static BEHIND_MANY: [Act; 3] = [
     Act::Told(20, LATE_TOLD, 1),
 ];
 
+/// What bob is told until he is in a maildrop without messages.
+const BOB_IN: &str = "+OK POP3 server ready <2.7@h.test>\r\n+OK send PASS\r\n\
+    +OK maildrop has 0 messages (0 octets)\r\n";
+
+/// Ann is in her maildrop, and bob in another one, which the administration added.
+static APART: [Act; 10] = [
+    Act::Asks(0),
+    Act::Turns(1, 0),
+    Act::Sends(0, "PUT /maildrops/stock HTTP/1.1\r\n\r\n", 1),
+    Act::Turns(2, 0),
+    Act::Comes(0),
+    Act::Comes(1),
+    Act::Turns(1, 0),
+    Act::Sends(1, ANN, 1),
+    Act::Sends(2, "USER bob/stock\r\nPASS hunter\r\n", 1),
+    Act::Turns(4, 0),
+];
+
+/// Ann ends her session as bob sends two lines: both are read in that turn, since neither is a
+/// login.
+static GOES_ON: [Act; 5] = [
+    Act::Told(2, BOB_IN, 1),
+    Act::Sends(1, "QUIT\r\n", 1),
+    Act::Sends(2, "NOOP\r\nNOOP\r\n", 1),
+    Act::Turns(1, 1),
+    Act::Told(2, "+OK\r\n", 2),
+];
+
 /// Plays acts, and then further ones.
 fn plays(alloc: Global, first: &[Act], then: &[Act], wait: u64) -> Result<(), Fail> {
     let mut acts = Vec::new(alloc);
@@ -155,4 +183,9 @@ fn let_in_behind_many(rt: HostRuntime) -> Result<(), Fail> {
         acts.push(Act::Turns(1, 0))?;
     }
     plays(rt.alloc(), acts.as_slice(), &BEHIND_MANY, 10)
+}
+
+#[test]
+fn read_on_beside_a_session_that_ends(rt: HostRuntime) -> Result<(), Fail> {
+    plays(rt.alloc(), &APART, &GOES_ON, 10)
 }

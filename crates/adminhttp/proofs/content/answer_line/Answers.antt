@@ -1,6 +1,6 @@
 use Rattle.std.proofs.Common.{◌≡◌, ◌++◌, IfOk, option_map, string_bytes, Some, codes, ap, sym, subst, ◌∙◌}
 use Rattle.creds.specs.Uid.{uid_text}
-use Rattle.office.specs.Shown.{answer_seen}
+use Rattle.office.specs.Seen.{answer_seen}
 use Rattle.adminhttp.specs.Contents.{answer_line}
 use Rattle.adminhttp.proofs.ContentLemmas.{one_line}
 use Rattle.adminhttp.proofs.content.answer_line.Goals as goal

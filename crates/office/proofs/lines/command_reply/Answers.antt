@@ -8,8 +8,17 @@ pub returns-in-Some-clause-said : goal.returns-in-Some-clause-said
 returns-in-Some-clause-said g c d held clean =
     rw (c.in-Pass.is, pass_said (context_over d c.args.context c.args.locks.now) c.args.state c.in-Pass.password.now c.in-Some.name c.in-Some.is) (c.judge.ensures.said d held clean)
 
-pub returns-in_default : goal.returns-in_default
-returns-in_default g c = record {
+pub returns-in-Stat : goal.returns-in-Stat
+returns-in-Stat g c = record {
+  said = search rules;
+  session = search rules;
+  asked = search rules;
+  looks = looks_self g.V.Vault c.args.vault.now _ (g.met.V.Vault.settled c.args.vault.now);
+  unasked = search rules;
+}
+
+pub returns-in-Top : goal.returns-in-Top
+returns-in-Top g c = record {
   said = search rules;
   session = search rules;
   asked = search rules;

@@ -1,10 +1,11 @@
 use Rattle.std.proofs.Common.{◌≡◌, ◌≢◌, ◌≤◌, ◌∙◌, true, length, take, take_all, sym, ap, subst, arith, rules, SFits, w64, to_z, of_z}
 use Rattle.std.proofs.lemmas.Int.{ints, to_z-of_z}
-use Rattle.creds.specs.Names.{name_of}
+use Rattle.creds.specs.Names.{is_name, name_of}
+use Rattle.vault.proofs.ListLemmas.{all_last}
 use Rattle.mailsql.specs.Rows.{same_int}
 use Rattle.mailsql.proofs.EqualLemmas.{same_itself}
 use Rattle.sqlvault.specs.Keeps.{member_names}
-use Rattle.sqlvault.proofs.GroupLemmas.{not_same, name_at, name_taken, name_passed}
+use Rattle.sqlvault.proofs.GroupLemmas.{not_same, name_at, name_taken, name_passed, name_form}
 use Rattle.sqlvault.proofs.RemoveLemmas.{int_same}
 use Rattle.sqlvault.proofs.RowFormLemmas.{name_was}
 use Rattle.sqlvault.proofs.RuleLemmas.{never, name_read}
@@ -31,7 +32,7 @@ loop-row-preserved c =
     let fits : SFits w64 row.group = search rules in
     let fits_group : SFits w64 c.args.group = search rules in
     let back : group ≡ c.args.group = to_z-of_z w64 c.args.group fits_group in
-    let held : c.loop-row.names.items ≡ member_names group (take i rows) = c.loop-row.invariant in
+    let held : c.loop-row.names.items ≡ member_names group (take i rows) = c.loop-row.invariant.0 in
     elim c.if-row-group.branch [
       | then-row-group+in-Some+in_ok-extend_from_slice w ↦
           let test = w.if-row-group.true in
@@ -41,26 +42,32 @@ loop-row-preserved c =
           let grown = w.in_ok-extend_from_slice.ensures.items in
           let are = w.names-is in
           let next = name_taken group rows i row c.loop-row-test.true c.row-item.is same in
-          cc
+          let form = name_form w.as_slice.result.now w.in-Some.name (sym w.read.ensures ∙ w.in-Some.is) in
+          let all = all_last is_name c.loop-row.names.items w.in-Some.name c.loop-row.invariant.1 form in
+          (cc, cc)
       | else-row-group w ↦
           let test = w.if-row-group.false in
           let other : row.group ≢ c.args.group = first_of (search rules, omega (arith, ints), grind (arith, ints, to_z-of_z)) in
           let apart = not_same (same_int row.group group) (λ e. other (int_same row.group group e ∙ back)) in
           let are = w.names-is in
           let next = name_passed group rows i row c.loop-row-test.true c.row-item.is apart in
-          cc
+          let all = c.loop-row.invariant.1 in
+          (cc, cc)
     ]
 
 pub returns-clause-names : goal.returns-clause-names
 returns-clause-names c =
     let all : length c.args.rows.now ≤ c.loop-row.row-index = c.loop-row-test.false in
     let fits : SFits w64 c.args.group = search rules in
-    let held : c.loop-row.names.items ≡ member_names (to_z w64 (of_z w64 c.args.group)) (take c.loop-row.row-index c.args.rows.now) = c.loop-row.invariant in
+    let held : c.loop-row.names.items ≡ member_names (to_z w64 (of_z w64 c.args.group)) (take c.loop-row.row-index c.args.rows.now) = c.loop-row.invariant.0 in
     rw (to_z-of_z w64 c.args.group fits, take_all) at held
 
 pub returns-clause-all : goal.returns-clause-all
 returns-clause-all c named =
     let all : length c.args.rows.now ≤ c.loop-row.row-index = c.loop-row-test.false in
     let fits : SFits w64 c.args.group = search rules in
-    let held : c.loop-row.names.items ≡ member_names (to_z w64 (of_z w64 c.args.group)) (take c.loop-row.row-index c.args.rows.now) = c.loop-row.invariant in
+    let held : c.loop-row.names.items ≡ member_names (to_z w64 (of_z w64 c.args.group)) (take c.loop-row.row-index c.args.rows.now) = c.loop-row.invariant.0 in
     rw (to_z-of_z w64 c.args.group fits, take_all) at held
+
+pub returns-clause-named : goal.returns-clause-named
+returns-clause-named c = c.loop-row.invariant.1

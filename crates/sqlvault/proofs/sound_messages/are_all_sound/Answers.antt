@@ -1,10 +1,10 @@
-use Rattle.std.proofs.Common.{◌<◌, ◌≤◌, length, arith, sym, subst, rules}
+use Rattle.std.proofs.Common.{◌<◌, ◌≤◌, length, arith, rules}
 use Rattle.sqlite.specs.Held.{state}
 use Rattle.mailsql.specs.Rows.{rows_in}
-use Rattle.sqlvault.specs.Parts.{Finds, DepositsAre}
+use Rattle.sqlvault.specs.Parts.{Finds}
 use Rattle.sqlvault.specs.Stored.{IsStored, HasMessage}
 use Rattle.sqlvault.proofs.EachLemmas.{next_passes, one_fails, each_passes}
-use Rattle.sqlvault.proofs.StayLemmas.{tables_stay, rows_stay}
+use Rattle.sqlvault.proofs.BehindLemmas.{told_behind}
 use Rattle.sqlvault.proofs.AskLemmas.{reads_none, reads_ok, reads_then}
 use Rattle.sqlvault.proofs.sound_messages.are_all_sound.Goals as goal
 
@@ -19,12 +19,9 @@ loop-row-preserved g c = (
       let s1 = state g.S.Store c.loop-row.conn in
       let clean1 = c.is_message_sound.ensures.reads.clean clean in
       let was = c.loop-row.invariant.0.goes clean1 h in
-      let stay = rows_stay s0 s1 was in
       let lt : c.loop-row.row-index < length c.args.rows.now = omega (arith, c.loop-row-test.true) in
-      let judged = c.in-Ok-true.ensures.judged deposits clean (tables_stay s0 s1 was h) (subst (λ r. DepositsAre r deposits) (sym stay) d) in
-      let some = subst (λ r. Finds (IsStored r deposits c.row-item.result) c.in-Ok-true.field-0) stay judged in
-      let some2 = subst (Finds (IsStored (rows_in s0.now.trees) deposits c.row-item.result)) c.in-Ok-true.field-0-test some in
-      next_passes (HasMessage (rows_in s0.now.trees) deposits) c.args.rows.now c.loop-row.row-index c.row-item.result lt c.row-item.is (c.loop-row.invariant.1 deposits clean1 h d) some2,
+      let some = told_behind (λ r b. Finds (IsStored r deposits c.row-item.result) b) s0 s1 deposits c.in-Ok-true.field-0-test was h d (c.in-Ok-true.ensures.judged deposits clean) in
+      next_passes (HasMessage (rows_in s0.now.trees) deposits) c.args.rows.now c.loop-row.row-index c.row-item.result lt c.row-item.is (c.loop-row.invariant.1 deposits clean1 h d) some,
 )
 
 pub returns-in-Ok-false-clause-judged : goal.returns-in-Ok-false-clause-judged
@@ -32,12 +29,9 @@ returns-in-Ok-false-clause-judged g c deposits clean h d =
     let s0 = state g.S.Store c.args.conn.now in
     let s1 = state g.S.Store c.loop-row.conn in
     let was = c.loop-row.invariant.0.goes (c.is_message_sound.ensures.reads.clean clean) h in
-    let stay = rows_stay s0 s1 was in
     let lt : c.loop-row.row-index < length c.args.rows.now = omega (arith, c.loop-row-test.true) in
-    let judged = c.in-Ok-false.ensures.judged deposits clean (tables_stay s0 s1 was h) (subst (λ r. DepositsAre r deposits) (sym stay) d) in
-    let none = subst (λ r. Finds (IsStored r deposits c.row-item.result) c.in-Ok-false.field-0) stay judged in
-    let none2 = subst (Finds (IsStored (rows_in s0.now.trees) deposits c.row-item.result)) c.in-Ok-false.field-0-test none in
-    one_fails (HasMessage (rows_in s0.now.trees) deposits) c.args.rows.now c.loop-row.row-index c.row-item.result lt c.row-item.is (λ m. none2 m.0 m.1)
+    let none = told_behind (λ r b. Finds (IsStored r deposits c.row-item.result) b) s0 s1 deposits c.in-Ok-false.field-0-test was h d (c.in-Ok-false.ensures.judged deposits clean) in
+    one_fails (HasMessage (rows_in s0.now.trees) deposits) c.args.rows.now c.loop-row.row-index c.row-item.result lt c.row-item.is (λ m. none m.0 m.1)
 
 pub returns-clause-judged : goal.returns-clause-judged
 returns-clause-judged g c deposits clean h d =

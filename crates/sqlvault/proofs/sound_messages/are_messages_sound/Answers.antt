@@ -1,14 +1,14 @@
 use Rattle.sqlite.specs.declared.error.Error.{Error}
-use Rattle.std.proofs.Common.{ℕ, List, Option, min, length, sym, ap, subst, ◌∙◌}
+use Rattle.std.proofs.Common.{ℕ, List, Option, Some, None, min, length, ap, subst, ◌∙◌}
 use Rattle.std.specs.Prelude.{All, sum_by}
 use Rattle.sqlite.specs.Held.{state}
 use Rattle.sqlite.specs.State.{HasCleanDisk}
 use Rattle.mailsql.specs.Columns.{Rows}
 use Rattle.mailsql.specs.Rows.{rows_in}
-use Rattle.sqlvault.specs.Parts.{DepositsAre}
 use Rattle.sqlvault.specs.Stored.{Counts, IsSoundIn, sheets_under}
 use Rattle.sqlvault.proofs.JudgeLemmas.{judged_count, all_sound_in}
 use Rattle.sqlvault.proofs.StayLemmas.{stays_unchanged, stays_more, tables_stay, rows_stay, clean_before}
+use Rattle.sqlvault.proofs.BehindLemmas.{told_behind}
 use Rattle.sqlvault.proofs.AskLemmas.{answered, unanswered, asks_reads, asks_ok, asks_err, asks_then}
 use Rattle.sqlvault.proofs.sound_messages.are_messages_sound.Goals as goal
 
@@ -18,14 +18,11 @@ returns-in-Ok-None-clause-judged g c deposits clean h apart dropped d =
     let s1 = state g.S.Store c.all_maildrops.new.conn in
     let clean1 = c.judge_maildrops.ensures.reads.clean clean in
     let stays = stays_unchanged s0 s1 (c.in-Ok.ensures.same clean1 h) in
-    let stay = rows_stay s0 s1 stays in
     let rows = rows_in s0.now.trees in
     let C : Rows → List (List ℕ) → Option ℕ → Type 0 = λ r names o. Counts (All (IsSoundIn r deposits) names) (sum_by (sheets_under r) names) o in
-    let judged = c.in-Ok-None.ensures.judged deposits clean (tables_stay s0 s1 stays h) (subst (λ r. DepositsAre r deposits) (sym stay) d) in
-    let j1 = subst (λ r. C r c.as_slice.result.now c.in-Ok-None.field-0) stay judged in
-    let j2 = subst (λ n. C rows n c.in-Ok-None.field-0) (c.as_slice.ensures.value ∙ c.in-Ok.ensures.ok clean1 h) j1 in
-    let j3 = subst (C rows rows.maildrops) c.in-Ok-None.field-0-is j2 in
-    λ ms are. j3 (all_sound_in rows deposits apart dropped ms are)
+    let told = told_behind (λ r. C r c.as_slice.result.now) s0 s1 deposits c.in-Ok-None.field-0-is stays h d (c.in-Ok-None.ensures.judged deposits clean) in
+    let judged = subst (λ n. C rows n None) (c.as_slice.ensures.value ∙ c.in-Ok.ensures.ok clean1 h) told in
+    λ ms are. judged (all_sound_in rows deposits apart dropped ms are)
 
 pub returns-in-Ok-sheet_count-clause-judged : goal.returns-in-Ok-sheet_count-clause-judged
 returns-in-Ok-sheet_count-clause-judged g c deposits clean h apart dropped d =
@@ -36,17 +33,14 @@ returns-in-Ok-sheet_count-clause-judged g c deposits clean h apart dropped d =
     let clean2 : HasCleanDisk s2 = clean_before s2 s3 c.sheet_count.ensures.survives.clean clean in
     let clean1 = c.judge_maildrops.ensures.reads.clean clean2 in
     let stays = stays_unchanged s0 s1 (c.in-Ok.ensures.same clean1 h) in
-    let stay = rows_stay s0 s1 stays in
     let tables = tables_stay s0 s1 stays h in
     let stays2 = stays_more s0 s1 s2 stays (c.in-Ok-Some.ensures.reads.goes clean2 tables) in
     let rows = rows_in s0.now.trees in
     let C : Rows → List (List ℕ) → Option ℕ → Type 0 = λ r names o. Counts (All (IsSoundIn r deposits) names) (sum_by (sheets_under r) names) o in
-    let judged = c.in-Ok-Some.ensures.judged deposits clean2 tables (subst (λ r. DepositsAre r deposits) (sym stay) d) in
-    let j1 = subst (λ r. C r c.as_slice.result.now c.in-Ok-Some.field-0) stay judged in
-    let j2 = subst (λ n. C rows n c.in-Ok-Some.field-0) (c.as_slice.ensures.value ∙ c.in-Ok.ensures.ok clean1 h) j1 in
-    let j3 = subst (C rows rows.maildrops) c.in-Ok-Some.field-0-is j2 in
+    let told = told_behind (λ r. C r c.as_slice.result.now) s0 s1 deposits c.in-Ok-Some.field-0-is stays h d (c.in-Ok-Some.ensures.judged deposits clean2) in
+    let judged = subst (λ n. C rows n (Some c.in-Ok-Some.sheets)) (c.as_slice.ensures.value ∙ c.in-Ok.ensures.ok clean1 h) told in
     let count = c.in-Ok-sheet_count.ensures.ok clean (tables_stay s0 s2 stays2 h) ∙ ap (λ (r : Rows). min (length r.sheets) 9223372036854775807) (rows_stay s0 s2 stays2) in
-    judged_count rows deposits apart dropped c.in-Ok-sheet_count.count c.in-Ok-Some.sheets j3.0 count j3.1
+    judged_count rows deposits apart dropped c.in-Ok-sheet_count.count c.in-Ok-Some.sheets judged.0 count judged.1
 
 pub returns-in-Err-clause-asks : goal.returns-in-Err-clause-asks
 returns-in-Err-clause-asks g c =

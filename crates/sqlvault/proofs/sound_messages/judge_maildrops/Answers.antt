@@ -1,10 +1,9 @@
-use Rattle.std.proofs.Common.{Some, ◌<◌, ◌≤◌, ◌-◌, ◌^◌, length, arith, sym, subst, rules}
+use Rattle.std.proofs.Common.{Some, ◌<◌, ◌≤◌, ◌-◌, ◌^◌, length, arith, subst, rules}
 use Rattle.sqlite.specs.Held.{state}
 use Rattle.mailsql.specs.Rows.{rows_in}
-use Rattle.sqlvault.specs.Parts.{DepositsAre}
 use Rattle.sqlvault.specs.Stored.{Counts, IsSoundIn, sheets_under}
 use Rattle.sqlvault.proofs.EachLemmas.{next_passes, one_fails, each_passes, sum_next, sum_whole}
-use Rattle.sqlvault.proofs.StayLemmas.{tables_stay, rows_stay}
+use Rattle.sqlvault.proofs.BehindLemmas.{told_behind}
 use Rattle.sqlvault.proofs.AskLemmas.{reads_none, reads_ok, reads_then}
 use Rattle.sqlvault.proofs.sound_messages.judge_maildrops.Goals as goal
 
@@ -19,15 +18,12 @@ loop-name-preserved g c = (
       let s1 = state g.S.Store c.loop-name.conn in
       let clean1 = c.judge_maildrop.ensures.reads.clean clean in
       let was = c.loop-name.invariant.0.goes clean1 h in
-      let stay = rows_stay s0 s1 was in
       let lt : c.loop-name.name-index < length c.args.names.now = omega (arith, c.loop-name-test.true) in
-      let judged = c.in-Ok-Some.ensures.judged deposits clean (tables_stay s0 s1 was h) (subst (λ r. DepositsAre r deposits) (sym stay) d) in
-      let some = subst (λ r. Counts (IsSoundIn r deposits c.as_slice.result.now) (sheets_under r c.as_slice.result.now) c.in-Ok-Some.field-0) stay judged in
-      let some2 = subst (Counts (IsSoundIn (rows_in s0.now.trees) deposits c.as_slice.result.now) (sheets_under (rows_in s0.now.trees) c.as_slice.result.now)) c.in-Ok-Some.field-0-is some in
-      let some3 = subst (λ n. Counts (IsSoundIn (rows_in s0.now.trees) deposits n) (sheets_under (rows_in s0.now.trees) n) (Some c.in-Ok-Some.more)) c.as_slice.ensures some2 in
+      let some = told_behind (λ r. Counts (IsSoundIn r deposits c.as_slice.result.now) (sheets_under r c.as_slice.result.now)) s0 s1 deposits c.in-Ok-Some.field-0-is was h d (c.in-Ok-Some.ensures.judged deposits clean) in
+      let some2 = subst (λ n. Counts (IsSoundIn (rows_in s0.now.trees) deposits n) (sheets_under (rows_in s0.now.trees) n) (Some c.in-Ok-Some.more)) c.as_slice.ensures some in
       let before = c.loop-name.invariant.1 deposits clean1 h d in (
-        next_passes (IsSoundIn (rows_in s0.now.trees) deposits) c.args.names.now c.loop-name.name-index c.name-item.result lt c.name-item.is before.0 some3.0,
-        sum_next (sheets_under (rows_in s0.now.trees)) c.args.names.now c.loop-name.name-index c.name-item.result c.loop-name.sheets c.in-Ok-Some.more c.saturating_add-sheets.result (2 ^ 64 - 1) lt c.name-item.is before.1 some3.1 c.saturating_add-sheets.ensures,
+        next_passes (IsSoundIn (rows_in s0.now.trees) deposits) c.args.names.now c.loop-name.name-index c.name-item.result lt c.name-item.is before.0 some2.0,
+        sum_next (sheets_under (rows_in s0.now.trees)) c.args.names.now c.loop-name.name-index c.name-item.result c.loop-name.sheets c.in-Ok-Some.more c.saturating_add-sheets.result (2 ^ 64 - 1) lt c.name-item.is before.1 some2.1 c.saturating_add-sheets.ensures,
       ),
 )
 
@@ -36,12 +32,9 @@ returns-in-Ok-None-clause-judged g c deposits clean h d =
     let s0 = state g.S.Store c.args.conn.now in
     let s1 = state g.S.Store c.loop-name.conn in
     let was = c.loop-name.invariant.0.goes (c.judge_maildrop.ensures.reads.clean clean) h in
-    let stay = rows_stay s0 s1 was in
     let lt : c.loop-name.name-index < length c.args.names.now = omega (arith, c.loop-name-test.true) in
-    let judged = c.in-Ok-None.ensures.judged deposits clean (tables_stay s0 s1 was h) (subst (λ r. DepositsAre r deposits) (sym stay) d) in
-    let none = subst (λ r. Counts (IsSoundIn r deposits c.as_slice.result.now) (sheets_under r c.as_slice.result.now) c.in-Ok-None.field-0) stay judged in
-    let none2 = subst (Counts (IsSoundIn (rows_in s0.now.trees) deposits c.as_slice.result.now) (sheets_under (rows_in s0.now.trees) c.as_slice.result.now)) c.in-Ok-None.field-0-is none in
-    one_fails (IsSoundIn (rows_in s0.now.trees) deposits) c.args.names.now c.loop-name.name-index c.name-item.result lt c.name-item.is (subst (λ n. IsSoundIn (rows_in s0.now.trees) deposits n → ⊥) c.as_slice.ensures none2)
+    let none = told_behind (λ r. Counts (IsSoundIn r deposits c.as_slice.result.now) (sheets_under r c.as_slice.result.now)) s0 s1 deposits c.in-Ok-None.field-0-is was h d (c.in-Ok-None.ensures.judged deposits clean) in
+    one_fails (IsSoundIn (rows_in s0.now.trees) deposits) c.args.names.now c.loop-name.name-index c.name-item.result lt c.name-item.is (subst (λ n. IsSoundIn (rows_in s0.now.trees) deposits n → ⊥) c.as_slice.ensures none)
 
 pub returns-clause-judged : goal.returns-clause-judged
 returns-clause-judged g c deposits clean h d =
