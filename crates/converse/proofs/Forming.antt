@@ -22,7 +22,7 @@ clerk_lacks rest e = rw e refl
 pub clerk_none : (rest word more : List ℕ) → two_fields rest ≡ Some (word, more)
     → (bytes_eq word (codes "apop") ≡ false) × (bytes_eq word (codes "pass") ≡ false) × (bytes_eq word (codes "drop") ≡ false) × (bytes_eq word (codes "show") ≡ false)
     → clerk_command rest ≡ None
-clerk_none rest word more e no = rw (e, no.0, no.1, no.2, no.3) refl
+clerk_none rest word more e other = rw (e, other.0, other.1, other.2, other.3) refl
 
 pub maildrop_lacks : (rest : List ℕ) → two_fields rest ≡ None → maildrop_command rest ≡ None
 maildrop_lacks rest e = rw e refl
@@ -30,7 +30,7 @@ maildrop_lacks rest e = rw e refl
 pub maildrop_none : (rest word more : List ℕ) → two_fields rest ≡ Some (word, more)
     → (bytes_eq word (codes "add") ≡ false) × (bytes_eq word (codes "drop") ≡ false)
     → maildrop_command rest ≡ None
-maildrop_none rest word more e no = rw (e, no.0, no.1) refl
+maildrop_none rest word more e other = rw (e, other.0, other.1) refl
 
 clerk_text : (rest : List ℕ) → clerk_command rest ≡ None → text_line (codes "clerk") rest ≡ None
 clerk_text rest e = rw e refl
