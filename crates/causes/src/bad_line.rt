@@ -1,6 +1,7 @@
 //! Why a line of a script isn't an event: which of its fields hasn't the form that it must have.
 //! The script's reader says which word that is; here it is worded.
 
+use converse::form::{Form, form_of};
 use converse::replay::write_escaped;
 use converse::script::read_line;
 use std::alloc::Global;
@@ -20,9 +21,9 @@ enum Kind {
     Secret,
 }
 
-/// A kind of line: the words that it begins with, and the names and kinds of its fields.
+/// The words that a form of lines begins with, and the names and kinds of its fields.
 #[derive(Clone, Copy)]
-struct Form {
+struct Row {
     words: &'static str,
     fields: &'static [(&'static str, Kind)],
 }
@@ -43,93 +44,40 @@ const TEXT: (&str, Kind) = ("TEXT", Kind::Text);
 
 const SECRET: (&str, Kind) = ("TEXT", Kind::Secret);
 
-/// The lines of docs/SCRIPTS.md.
-static FORMS: [Form; 21] = [
-    Form {
-        words: "connect",
-        fields: &[],
-    },
-    Form {
-        words: "bytes",
-        fields: &[C, TEXT],
-    },
-    Form {
-        words: "took",
-        fields: &[C, N],
-    },
-    Form {
-        words: "drain",
-        fields: &[C],
-    },
-    Form {
-        words: "gone",
-        fields: &[C],
-    },
-    Form {
-        words: "tick",
-        fields: &[N],
-    },
-    Form {
-        words: "restart",
-        fields: &[N],
-    },
-    Form {
-        words: "deposit",
-        fields: &[MAILDROP, CLASS, ("ID", Kind::Id), TEXT],
-    },
-    Form {
-        words: "maildrop add",
-        fields: &[NAME],
-    },
-    Form {
-        words: "maildrop drop",
-        fields: &[NAME],
-    },
-    Form {
-        words: "maildrops",
-        fields: &[],
-    },
-    Form {
-        words: "list",
-        fields: &[NAME],
-    },
-    Form {
-        words: "clerk apop",
-        fields: &[NAME, SECRET],
-    },
-    Form {
-        words: "clerk pass",
-        fields: &[NAME, SECRET],
-    },
-    Form {
-        words: "clerk drop",
-        fields: &[NAME],
-    },
-    Form {
-        words: "clerk show",
-        fields: &[NAME],
-    },
-    Form {
-        words: "policy",
-        fields: &[TEXT],
-    },
-    Form {
-        words: "groups",
-        fields: &[],
-    },
-    Form {
-        words: "sessions",
-        fields: &[],
-    },
-    Form {
-        words: "end",
-        fields: &[C],
-    },
-    Form {
-        words: "explain",
-        fields: &[CLERK, MAILDROP, CLASS, ("ACTION", Kind::Action)],
-    },
-];
+/// The words and the fields of a form, as docs/SCRIPTS.md has them.
+fn row_of(form: Form) -> Row {
+    match form {
+        Form::Connect => row("connect", &[]),
+        Form::Bytes => row("bytes", &[C, TEXT]),
+        Form::Took => row("took", &[C, N]),
+        Form::Drain => row("drain", &[C]),
+        Form::Gone => row("gone", &[C]),
+        Form::Tick => row("tick", &[N]),
+        Form::Restart => row("restart", &[N]),
+        Form::Deposit => row("deposit", &[MAILDROP, CLASS, ("ID", Kind::Id), TEXT]),
+        Form::MaildropAdd => row("maildrop add", &[NAME]),
+        Form::MaildropDrop => row("maildrop drop", &[NAME]),
+        Form::Maildrops => row("maildrops", &[]),
+        Form::ListMaildrop => row("list", &[NAME]),
+        Form::ClerkApop => row("clerk apop", &[NAME, SECRET]),
+        Form::ClerkPass => row("clerk pass", &[NAME, SECRET]),
+        Form::ClerkDrop => row("clerk drop", &[NAME]),
+        Form::ClerkShow => row("clerk show", &[NAME]),
+        Form::Policy => row("policy", &[TEXT]),
+        Form::Groups => row("groups", &[]),
+        Form::Sessions => row("sessions", &[]),
+        Form::End => row("end", &[C]),
+        Form::Explain => row(
+            "explain",
+            &[CLERK, MAILDROP, CLASS, ("ACTION", Kind::Action)],
+        ),
+    }
+}
+
+/// These words and fields.
+fn row(words: &'static str, fields: &'static [(&'static str, Kind)]) -> Row {
+    Row { words, fields }
+}
 
 /// Tells why a script's line isn't an event; nothing where it is one. Lines are counted from 1.
 pub fn tell_bad_line<E: Write>(
@@ -146,22 +94,12 @@ pub fn tell_bad_line<E: Write>(
     if line.ends_with(b"\r") {
         return writeln!(err, "it ends with CR LF, and LF alone ends a line");
     }
-    for form in &FORMS {
-        if begins_with(line, form.words.as_bytes()) {
-            return tell_word(err, form, line, place);
-        }
+    if let Some(form) = form_of(line) {
+        return tell_word(err, row_of(form), line, place);
     }
     write!(err, "no event begins with ")?;
     tell_value(err, first_words(line))?;
     writeln!(err)
-}
-
-/// Whether a line is of these words, or begins with them and a space.
-fn begins_with(line: &[u8], words: &[u8]) -> bool {
-    match line.strip_prefix(words) {
-        Some(rest) => rest.is_empty() || rest.starts_with(b" "),
-        None => false,
-    }
 }
 
 /// The word that a line begins with; behind `maildrop` and `clerk` the next one too.
@@ -179,14 +117,14 @@ fn first_words(line: &[u8]) -> &[u8] {
 }
 
 /// Tells the word of this place, counted from 0, by the field of the form that it is.
-fn tell_word<E: Write>(err: &mut E, form: &Form, line: &[u8], place: usize) -> io::Result<()> {
-    tell_form(err, form)?;
-    let words = count_of(form.words);
+fn tell_word<E: Write>(err: &mut E, row: Row, line: &[u8], place: usize) -> io::Result<()> {
+    tell_form(err, row)?;
+    let words = count_of(row.words);
     let at = place.saturating_sub(words);
-    let Some((field, kind)) = form.fields.get(at) else {
+    let Some((field, kind)) = row.fields.get(at) else {
         return writeln!(err, "nothing stands behind it");
     };
-    let is_last = at.saturating_add(1) == form.fields.len();
+    let is_last = at.saturating_add(1) == row.fields.len();
     match word_at(line, words.saturating_add(at), is_last) {
         Some(value) => tell_field(err, field, *kind, value),
         None => writeln!(err, "{field} is missing"),
@@ -222,9 +160,9 @@ fn behind_space(text: &[u8]) -> Option<&[u8]> {
 }
 
 /// Tells the form that a line must have.
-fn tell_form<E: Write>(err: &mut E, form: &Form) -> io::Result<()> {
-    write!(err, "`{}", form.words)?;
-    for (field, _) in form.fields {
+fn tell_form<E: Write>(err: &mut E, row: Row) -> io::Result<()> {
+    write!(err, "`{}", row.words)?;
+    for (field, _) in row.fields {
         write!(err, " {field}")?;
     }
     write!(err, "`: ")

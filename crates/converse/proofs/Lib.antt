@@ -21,3 +21,4 @@ pub mod Stopping
 pub mod Exporting
 pub mod Checking
 mod Reasons
+pub mod Forming

@@ -1,7 +1,7 @@
 -- What sources gave and sinks took, call by call; and that a fault has its cause.
 use Rattle.std.proofs.Common.{◌≡◌, ℕ, ◌<◌, ◌≤◌, Bool, true, false, List, [], ◌∷◌, ◌++◌, ◌==◌, length, append-nil, append_assoc, sym, ◌∙◌, ap, subst, arith, Ok, Err, Result, IsErrAnd, IfErr}
 use Rattle.converse.specs.Streams.{Reading, Writing, Reads, Writes, reads_failed, writes_failed}
-use Rattle.converse.specs.Talked.{HasFailed}
+use Rattle.converse.specs.Talked.{HasFailed, IsFlushedBy}
 use Rattle.converse.specs.declared.talk.TalkFault.{TalkFault}
 use Rattle.converse.specs.declared.talk.TalkFault.TheVariants as fault
 use Rattle.converse.proofs.Clauses.{appends_none, consumes_none, keeps_same, appends_then, consumes_then, grown_since}
@@ -59,6 +59,25 @@ handed_on reads writes (Err y) e is h = subst (HasFailed reads writes) (sym is) 
 
 pub failed_none : (more further : Bool) (e : TalkFault) → HasFailed false false e → HasFailed more further e
 failed_none more further e h = failed_more false false more further e (λ q. absurd (cc)) (λ q. absurd (cc)) h
+
+-- ---- flushed
+
+-- what isn't a failed read leaves nothing to be flushed
+pub flushed_unread : (writes flushed : Bool) (r : Result Unit TalkFault) (e : TalkFault) → r ≡ Err e → HasFailed false writes e → IsFlushedBy r flushed
+flushed_unread writes flushed r fault.Read is h = absurd (cc)
+flushed_unread writes flushed r fault.Write is h = subst (λ r. IsFlushedBy r flushed) (sym is) tt
+flushed_unread writes flushed r fault.TooManyConnections is h = subst (λ r. IsFlushedBy r flushed) (sym is) tt
+flushed_unread writes flushed r fault.NoMemory is h = subst (λ r. IsFlushedBy r flushed) (sym is) tt
+flushed_unread writes flushed r fault.Endless is h = subst (λ r. IsFlushedBy r flushed) (sym is) tt
+
+-- what is flushed is so at each answer
+pub flushed_anyway : (flushed : Bool) (r : Result Unit TalkFault) → flushed ≡ true → IsFlushedBy r flushed
+flushed_anyway flushed (Ok done) h = h
+flushed_anyway flushed (Err fault.Read) h = h
+flushed_anyway flushed (Err fault.Write) h = tt
+flushed_anyway flushed (Err fault.TooManyConnections) h = tt
+flushed_anyway flushed (Err fault.NoMemory) h = tt
+flushed_anyway flushed (Err fault.Endless) h = tt
 
 -- where nothing isn't lent, something is
 pub some_lent : (b : Bool) (xs : List ℕ) → b ≡ false → b ≡ (length xs == 0) → 0 < length xs

@@ -76,7 +76,7 @@ TakesAll T c o printed U = (outcomes : List Outcome) × Takes T c outcomes o U �
 -- What a line does to T: what is printed before an outcome is told, that outcome, and the trace behind it. A text that is no policy is no event.
 abbrev pub Acts : Trace → ScriptLine → Option Outcome → (printed : List ℕ) → Trace → Type 0
 Acts T (Does e) (Some o) printed U = IsOutcome T (owed_by T) e o
-  × (U ≡ given T e (event_tag_of o)) × (printed ≡ sent_before T e)
+    × (U ≡ given T e (event_tag_of o)) × (printed ≡ sent_before T e)
 Acts T (Drains c) (Some o) printed U = (outcomes : List Outcome) × Takes T c outcomes o U × (rest U c ≡ []) × (printed ≡ drained_text c T outcomes)
 Acts T (NoPolicy f) None printed U = (U ≡ T) × (printed ≡ no_policy_line f)
 Acts T _ _ printed U = ⊥
@@ -127,7 +127,7 @@ HasPlayed T lines printed U = (known : List ℕ) × Plays (point T []) lines pri
 -- What a line that was broken off did to T: nothing, or its event; of a `drain` some of its takings, or all.
 abbrev pub Begun : Trace → ScriptLine → Trace → Type 0
 Begun T (Does e) U = (U ≡ T) ⊎ ((o : Outcome) × IsOutcome T (owed_by T) e o
-  × (U ≡ given T e (event_tag_of o)))
+    × (U ≡ given T e (event_tag_of o)))
 Begun T (Drains c) U = (outcomes : List Outcome) × AreTakings c T outcomes × (U ≡ drained c T outcomes)
 Begun T (NoPolicy f) U = U ≡ T
 

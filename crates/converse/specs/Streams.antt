@@ -1,5 +1,5 @@
 -- What a source gave and a sink took: their octets, and how many calls failed. The counts stop at 2^64 - 1.
-use Rattle.std.specs.Prelude.{◌≡◌, ℕ, ◌<◌, ◌≤◌, Bool, true, List, [], ◌++◌, length, take, Option, Result, MatchResult}
+use Rattle.std.specs.Prelude.{◌≡◌, ℕ, ◌<◌, ◌≤◌, Bool, true, false, List, [], ◌++◌, length, take, Option, Result, MatchResult}
 use Rattle.std.specs.Io.KnownBytes.{Appends, Consumes, IsAtEnd}
 use Rattle.vault.specs.Calls.{has_grown}
 
@@ -9,9 +9,11 @@ pub record Reading : Type 0 where
   pub left : Option (List ℕ)
   pub faults : ℕ
 
--- of a sink: what it took, what it holds, where that is known, and how many of its calls failed
+-- of a sink: what it took, whether all of that is flushed, what it holds, where that is known, and
+-- how many of its calls failed
 pub record Writing : Type 0 where
   pub taken : List ℕ
+  pub flushed : Bool
   pub holds : Option (List ℕ)
   pub faults : ℕ
 
@@ -54,3 +56,13 @@ HasWritten before now answer octets =
 -- a flush took nothing; it failed, or not
 abbrev pub HasFlushed : {E : Type 0} → (before now : Writing) → Result Unit E → Type 0
 HasFlushed before now answer = MatchResult answer (λ _. Writes before now []) (λ _. Writes before now [] × (writes_failed before now ≡ true))
+
+-- What a write took is held back until a flush. Where it failed, that is as it was before.
+abbrev pub HoldsBack : {E : Type 0} → (before now : Writing) → Result ℕ E → Type 0
+HoldsBack before now answer =
+    MatchResult answer (λ _. now.flushed ≡ false) (λ _. now.flushed ≡ before.flushed)
+
+-- a flush that came out well left nothing held back
+abbrev pub HandsOn : {E : Type 0} → (before now : Writing) → Result Unit E → Type 0
+HandsOn before now answer =
+    MatchResult answer (λ _. now.flushed ≡ true) (λ _. now.flushed ≡ before.flushed)

@@ -50,6 +50,15 @@ HasFailed reads writes fault.TooManyConnections = ⊤
 HasFailed reads writes fault.NoMemory = ⊤
 HasFailed reads writes fault.Endless = ⊤
 
+-- where a conversation came to its end, or a read failed, all that was written is flushed
+abbrev pub IsFlushedBy : Result Unit TalkFault → (flushed : Bool) → Type 0
+IsFlushedBy (Ok done) flushed = flushed ≡ true
+IsFlushedBy (Err fault.Read) flushed = flushed ≡ true
+IsFlushedBy (Err fault.Write) flushed = ⊤
+IsFlushedBy (Err fault.TooManyConnections) flushed = ⊤
+IsFlushedBy (Err fault.NoMemory) flushed = ⊤
+IsFlushedBy (Err fault.Endless) flushed = ⊤
+
 -- so many octets were read, or so many written
 abbrev pub IsEndless : (octets written : List ℕ) → Type 0
 IsEndless octets written = (2 ^ 64 - 1 ≤ length octets) ⊎ (2 ^ 64 - 1 ≤ length written)
@@ -61,7 +70,7 @@ MetLack L = (e : Event) × (before : Log) × (L ≡ (e, Tagged NoMemory) ∷ bef
 -- the last event is the connection's end, and the one before it found no memory
 abbrev pub MetLackBefore : ℕ → Log → Type 0
 MetLackBefore c L = (m : EventTag) × (before : Log) × (L ≡ (event.Gone c, m) ∷ before)
-  × MetLack before
+    × MetLack before
 
 -- the connection isn't open, and of the acts this holds
 abbrev pub Leaves : Records → ℕ → Log → (List (Act × Tag) → Type 0) → Type 0

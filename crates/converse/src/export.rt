@@ -89,6 +89,7 @@ pub fn export<V: Vault, F: Folder, W: Sink, E: Write>(
     ensures missing { (c : Contents) → V.holds vault.old c → V.is_clean vault.new
         → is_one_of maildrop.now c.maildrops ≡ false → result ≡ 1 }
     ensures settled { result ≡ 0 → F.is_settled folder.new ≡ true }
+    ensures flushed { result ≡ 0 → (W.seen out.new).flushed ≡ true }
     ensures settled_first { (out.new ≡ out.old) ⊎ (F.is_settled folder.new ≡ true) }
     ensures why { result ≡ 1 → Tells (E.contents err.old) (E.contents err.new)
         (IsExportFault (has_grown (F.faults folder.old) (F.faults folder.new))
@@ -127,6 +128,7 @@ fn put_maildrop<V: Vault, F: Folder, W: Sink>(
     ensures missing { (c : Contents) → V.holds vault.old c → V.is_clean vault.new
         → is_one_of maildrop.now c.maildrops ≡ false → IsErr result }
     ensures settled { IsOk result → F.is_settled folder.new ≡ true }
+    ensures flushed { OnOk result ((W.seen out.new).flushed ≡ true) }
     ensures settled_first { (out.new ≡ out.old) ⊎ (F.is_settled folder.new ≡ true) }
     ensures cause { IfErr result
         (IsExportFault (has_grown (F.faults folder.old) (F.faults folder.new))

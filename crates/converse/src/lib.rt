@@ -12,7 +12,9 @@ pub mod check_store;
 pub mod export;
 mod fault;
 mod fields;
+pub mod form;
 mod noted;
+mod printer;
 mod printing;
 mod record;
 pub mod replay;
@@ -25,6 +27,7 @@ mod writing;
 
 pub use fault::{Fault, fault_text, put_fault, read_fault, tell_fault};
 pub use noted::Noted;
+pub use printer::{Flushed, Printer};
 pub use record::Record;
 pub use streams::{Sink, Source};
 

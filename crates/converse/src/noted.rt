@@ -1,6 +1,6 @@
 //! Any reader as a source, any writer as a sink.
 
-ghost use Rattle.std.specs.Prelude.{◌≡◌, []};
+ghost use Rattle.std.specs.Prelude.{◌≡◌, [], true};
 
 use crate::record::Record;
 use crate::streams::{Sink, Source};
@@ -16,6 +16,8 @@ pub struct Noted<T> {
     pub inner: T,
     /// The octets that it gave or took.
     pub octets: Record,
+    /// Whether a writer was flushed since it took octets.
+    pub is_flushed: bool,
     /// How many of its calls failed. The count stops at 2^64 - 1.
     pub faults: u64,
 }
@@ -25,11 +27,13 @@ impl<T> Noted<T> {
     pub fn new(inner: T) -> Noted<T>
         ensures inner { result.inner ≡ inner }
         ensures octets { result.octets.noted ≡ [] }
+        ensures flushed { result.is_flushed ≡ true }
         ensures faults { result.faults ≡ 0 }
     {
         Noted {
             inner,
             octets: Record::new(),
+            is_flushed: true,
             faults: 0,
         }
     }
@@ -60,6 +64,7 @@ impl<R: Read> Source for Noted<R> {
 impl<W: Write> Sink for Noted<W> {
     ghost seen = { λ n. record {
       taken = n.octets.noted;
+      flushed = n.is_flushed;
       holds = W.contents n.inner;
       faults =
           n.faults;
@@ -68,6 +73,7 @@ impl<W: Write> Sink for Noted<W> {
     fn write(&mut self, octets: &[u8]) -> io::Result<usize> {
         match self.inner.write(octets) {
             Ok(taken) => {
+                self.is_flushed = false;
                 if taken == 0 {
                     self.faults = self.faults.saturating_add(1);
                 }
@@ -83,7 +89,10 @@ impl<W: Write> Sink for Noted<W> {
 
     fn flush(&mut self) -> io::Result<()> {
         match self.inner.flush() {
-            Ok(()) => Ok(()),
+            Ok(()) => {
+                self.is_flushed = true;
+                Ok(())
+            }
             Err(error) => {
                 self.faults = self.faults.saturating_add(1);
                 Err(error)

@@ -22,6 +22,7 @@ ghost use Rattle.converse.specs.Told.{sent_line, outcome_lines, answer_lines, en
 ghost use Rattle.converse.specs.Told.{has_ended, no_policy_line, reason_name as name_of_reason};
 
 use crate::fault::{Fault, read_fault, tell_fault};
+use crate::printer::Printer;
 use crate::script::{Line, read_script};
 use crate::talk::TalkFault;
 use office::{Event, Limits, Office, Outcome, Reason, answer_body};
@@ -43,7 +44,7 @@ const IDLE_SECONDS: u32 = 600;
 /// and `err` gets its text. Where the script can't be read, has a line that is no event, or the
 /// host is bad, no event is done and nothing is on `out`; faults are found in that order. What was
 /// done before another fault stays done, and no line behind it is begun.
-pub fn replay<R: Read, V: Vault, W: Write, E: Write>(
+pub fn replay<R: Read, V: Vault, W: Printer, E: Write>(
     alloc: Global,
     script: &mut R,
     vault: V,
@@ -77,6 +78,7 @@ pub fn replay<R: Read, V: Vault, W: Write, E: Write>(
         × ((T : Trace) → Keeps (V.holds vault) T → V.is_clean result.1
         → HasRun V.holds result.1 (V.faults vault) (V.faults result.1) (W.contents out.old)
         (W.contents out.new) (opened_on T host.now boot removals) lines) }
+    ensures flushed { result.0 ≡ 0 → W.flushed out.new ≡ true }
     ensures clean { V.is_clean result.1 → V.is_clean vault }
     ensures why_not { IfSome (R.remaining script.old) (λ text.
         IsErr (script_of text) ⊎ (is_host host.now ≡ false)
@@ -96,7 +98,7 @@ pub fn replay<R: Read, V: Vault, W: Write, E: Write>(
 
 /// Does the lines in order in an office. A fault is told on `err` after what its line printed.
 /// Gives the exit status.
-fn play_over<V: Vault, W: Write, E: Write>(
+fn play_over<V: Vault, W: Printer, E: Write>(
     alloc: Global,
     office: &mut Office<V>,
     lines: &[Line],
@@ -109,6 +111,7 @@ fn play_over<V: Vault, W: Write, E: Write>(
         → V.is_clean (vault_of office.new) → ComesTo V.holds office.new (W.contents out.old)
         (W.contents out.new) (WithCause (V.faults (vault_of office.old))
         (V.faults (vault_of office.new)) T (HasPlayed T (map line_seen lines.now))) }
+    ensures flushed { result ≡ 0 → W.flushed out.new ≡ true }
     ensures kept { (T : Trace) → StandsFor V.holds office.old T → V.is_clean (vault_of office.new)
         → Reaches V.holds office.new (V.faults (vault_of office.old))
         (V.faults (vault_of office.new)) T (PlaysInPart (point T []) (map line_seen lines.now)) }
@@ -116,7 +119,7 @@ fn play_over<V: Vault, W: Write, E: Write>(
     ensures clean { V.is_clean (vault_of office.new) → V.is_clean (vault_of office.old) }
 {
     let played = play(alloc, office, lines, out);
-    let flushed = out.flush();
+    let flushed = out.hand_on();
     if let Err(fault) = played {
         return tell_fault(err, fault);
     }
@@ -179,7 +182,7 @@ pub(crate) fn open_office<V: Vault>(
 }
 
 /// Does the lines in order.
-fn play<V: Vault, W: Write>(
+fn play<V: Vault, W: Printer>(
     alloc: Global,
     office: &mut Office<V>,
     lines: &[Line],
@@ -203,9 +206,9 @@ fn play<V: Vault, W: Write>(
     Ok(())
 }
 
-/// Does one line, and prints what comes of it. The connections that were opened and not yet told as
-/// ended are `known`.
-fn play_line<V: Vault, W: Write>(
+/// Does one line, prints what comes of it, and flushes. The connections that were opened and not
+/// yet told as ended are `known`.
+fn play_line<V: Vault, W: Printer>(
     alloc: Global,
     office: &mut Office<V>,
     line: &Line,
@@ -217,6 +220,7 @@ fn play_line<V: Vault, W: Write>(
         (W.contents out.new) (WithCause (V.faults (vault_of office.old))
         (V.faults (vault_of office.new)) T (λ printed U. PlaysLine (point T known.old.items)
         (line_seen line.now) printed (point U known.new.items)))) }
+    ensures flushed { OnOk result (W.flushed out.new ≡ true) }
     ensures broken { OnErr result ((T : Trace) → StandsFor V.holds office.old T
         → V.is_clean (vault_of office.new) → Reaches V.holds office.new
         (V.faults (vault_of office.old)) (V.faults (vault_of office.new)) T
@@ -226,13 +230,13 @@ fn play_line<V: Vault, W: Write>(
 {
     match act(office, line, out)? {
         Some(outcome) => tell_whole(alloc, office, &outcome, known, out),
-        None => Ok(()),
+        None => flush(out),
     }
 }
 
 /// Prints an outcome and the connections that ended, and flushes. A connection that was opened is
 /// added to those that are known.
-fn tell_whole<V: Vault, W: Write>(
+fn tell_whole<V: Vault, W: Printer>(
     alloc: Global,
     office: &Office<V>,
     outcome: &Outcome,
@@ -245,6 +249,7 @@ fn tell_whole<V: Vault, W: Write>(
     ensures kept { (T : Trace) → StandsFor V.holds office.now T
         → OnOk result (known.new.items ≡ still_known T known.old.items
         (Some (outcome_seen outcome.now))) }
+    ensures flushed { OnOk result (W.flushed out.new ≡ true) }
 {
     add_opened(outcome, known)?;
     tell(alloc, out, outcome)?;
@@ -255,10 +260,11 @@ fn tell_whole<V: Vault, W: Write>(
 }
 
 /// Flushes what was printed.
-fn flush<W: Write>(out: &mut W) -> Result<(), Fault>
-    ensures { Unchanged (W.contents out.old) (W.contents out.new) }
+fn flush<W: Printer>(out: &mut W) -> Result<(), Fault>
+    ensures kept { Unchanged (W.contents out.old) (W.contents out.new) }
+    ensures flushed { OnOk result (W.flushed out.new ≡ true) }
 {
-    match out.flush() {
+    match out.hand_on() {
         Ok(()) => Ok(()),
         Err(_) => Err(Fault::CannotWrite),
     }
@@ -280,7 +286,7 @@ fn add_opened(outcome: &Outcome, known: &mut Vec<u64>) -> Result<(), Fault>
 
 /// Does the events of one line, prints the octets that a client takes, and gives the last outcome.
 /// Of a text that is no policy it prints the fault, and gives none.
-fn act<V: Vault, W: Write>(
+fn act<V: Vault, W: Printer>(
     office: &mut Office<V>,
     line: &Line,
     out: &mut W,
@@ -322,13 +328,12 @@ fn act<V: Vault, W: Write>(
     }
 }
 
-/// Prints the fault of a text that is no policy, and flushes it.
+/// Prints the fault of a text that is no policy.
 fn tell_no_policy<W: Write>(out: &mut W, fault: PolicyFault) -> io::Result<()>
     ensures { OnOk result (Appends (W.contents out.old) (W.contents out.new)
         (no_policy_line fault)) }
 {
-    writeln!(out, "answer {fault}")?;
-    out.flush()
+    writeln!(out, "answer {fault}")
 }
 
 /// Takes `count` octets of what a connection is owed, and prints them; none where the office
@@ -384,7 +389,7 @@ fn tell_sent<W: Write>(out: &mut W, number: u64, octets: &[u8]) -> io::Result<()
 }
 
 /// Takes all that a connection is owed, and prints it in one line.
-fn drain<V: Vault, W: Write>(
+fn drain<V: Vault, W: Printer>(
     office: &mut Office<V>,
     number: u64,
     out: &mut W,
@@ -416,7 +421,7 @@ fn drain<V: Vault, W: Write>(
 
 /// Takes what a connection is owed, and prints it, until nothing more is owed. Answers
 /// [`TalkFault::Endless`] after 2^64 - 1 takings.
-fn take_all<V: Vault, W: Write>(
+fn take_all<V: Vault, W: Printer>(
     office: &mut Office<V>,
     number: u64,
     out: &mut W,
@@ -448,11 +453,13 @@ fn take_all<V: Vault, W: Write>(
 }
 
 /// Prints the octets that a client takes, and flushes.
-fn tell_lent<W: Write>(out: &mut W, octets: &[u8]) -> io::Result<()>
-    ensures { OnOk result (Appends (W.contents out.old) (W.contents out.new) (escaped octets.now)) }
+fn tell_lent<W: Printer>(out: &mut W, octets: &[u8]) -> io::Result<()>
+    ensures told { OnOk result (Appends (W.contents out.old) (W.contents out.new)
+        (escaped octets.now)) }
+    ensures flushed { OnOk result (W.flushed out.new ≡ true) }
 {
     write_escaped(out, octets)?;
-    out.flush()
+    out.hand_on()
 }
 
 /// Writes octets as a script's TEXT: printable ASCII as it is, but for `\`.

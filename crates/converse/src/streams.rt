@@ -18,11 +18,11 @@ pub trait Source {
         ensures given { HasRead (seen self.old) (seen self.new) result room.new };
 }
 
-/// Takes octets. Contracts see which octets it took, which it holds, where that is known, and how
-/// many of its calls failed; that count stops at 2^64 - 1.
+/// Takes octets. Contracts see which octets it took, whether all of them are flushed, which it
+/// holds, where that is known, and how many of its calls failed; that count stops at 2^64 - 1.
 pub trait Sink {
     ghost use Rattle.std.specs.Io.{WritesAtMost};
-    ghost use Rattle.converse.specs.Streams.{Writing, HasWritten, HasFlushed};
+    ghost use Rattle.converse.specs.Streams.{Writing, HasWritten, HasFlushed, HoldsBack, HandsOn};
 
     /// What it took.
     ghost seen: { Self → Writing };
@@ -31,9 +31,11 @@ pub trait Sink {
     /// nothing was taken; to take none of some octets is counted as one too.
     fn write(&mut self, octets: &[u8]) -> io::Result<usize>
         ensures bound { WritesAtMost result octets.now }
-        ensures taken { HasWritten (seen self.old) (seen self.new) result octets.now };
+        ensures taken { HasWritten (seen self.old) (seen self.new) result octets.now }
+        ensures back { HoldsBack (seen self.old) (seen self.new) result };
 
     /// Hands on what was taken. An `Err` is counted as a fault.
     fn flush(&mut self) -> io::Result<()>
-        ensures flushed { HasFlushed (seen self.old) (seen self.new) result };
+        ensures flushed { HasFlushed (seen self.old) (seen self.new) result }
+        ensures on { HandsOn (seen self.old) (seen self.new) result };
 }

@@ -1,6 +1,6 @@
 //! One conversation of a client over an office.
 ghost use Rattle.std.specs.Prelude.{◌≡◌, ◌<◌, ◌≤◌, ◌++◌, ◌⊎◌, ℕ, List, [], true, false, length, Ok};
-ghost use Rattle.std.specs.Prelude.{MatchResult, IfErr, cond};
+ghost use Rattle.std.specs.Prelude.{MatchResult, IfErr, OnOk, cond};
 ghost use Rattle.std.specs.Io.KnownBytes.{IsAtEnd};
 ghost use Rattle.vault.specs.Calls.{has_grown};
 ghost use Rattle.office.specs.Events.{Trace};
@@ -10,7 +10,7 @@ ghost use Rattle.office.specs.Expected.{most_in_a_piece};
 ghost use Rattle.office.specs.Seen.{outcome_seen};
 ghost use Rattle.office.specs.Stands.{StandsFor, vault_of};
 ghost use Rattle.converse.specs.Streams.{Reads, Writes, reads_failed, writes_failed};
-ghost use Rattle.converse.specs.Talked.{StandsSo, ComesOut, HasFailed};
+ghost use Rattle.converse.specs.Talked.{StandsSo, ComesOut, HasFailed, IsFlushedBy};
 ghost use Rattle.converse.specs.Conversing.{GoesOn, Waits, Midway, IsPaid, IsOver, IsCut, Refuses};
 ghost use Rattle.converse.specs.Conversing.{opened_by, memory_by};
 
@@ -89,12 +89,15 @@ fn hear<V: Vault>(office: &mut Office<V>, c: u64, piece: &[u8]) -> Result<(), Ta
 }
 
 /// Reads once, and gives what was read to an office that waits for input. `false` where the reader
-/// is at its end.
-fn listen<V: Vault, R: Source>(
+/// is at its end. Of the writer nothing is held back meanwhile, so that the client has all that it
+/// may wait for.
+fn listen<V: Vault, R: Source, W: Sink>(
     office: &mut Office<V>,
     c: u64,
     reader: &mut R,
+    _writer: &W,
 ) -> Result<bool, TalkFault>
+    requires { (W.seen _writer.now).flushed ≡ true }
     ensures read { (piece : List ℕ) × Reads (R.seen reader.old) (R.seen reader.new) piece
         × (result ≡ Ok true → 0 < length piece)
         × (result ≡ Ok false → IsAtEnd (R.seen reader.new).left)
@@ -158,6 +161,19 @@ fn write_some<V: Vault, W: Sink>(
     Ok(true)
 }
 
+/// Flushes what was written.
+fn flush<W: Sink>(writer: &mut W) -> Result<(), TalkFault>
+    ensures took { Writes (W.seen writer.old) (W.seen writer.new) [] }
+    ensures flushed { OnOk result ((W.seen writer.new).flushed ≡ true) }
+    ensures cause { IfErr result (λ fault. (fault ≡ TalkFault.Write)
+        × (writes_failed (W.seen writer.old) (W.seen writer.new) ≡ true)) }
+{
+    match writer.flush() {
+        Ok(()) => Ok(()),
+        Err(_) => Err(TalkFault::Write),
+    }
+}
+
 /// Writes all that the connection is owed, and flushes the writer.
 fn write_owed<V: Vault, W: Sink>(
     office: &mut Office<V>,
@@ -173,6 +189,7 @@ fn write_owed<V: Vault, W: Sink>(
         (λ L. MatchResult result (λ _. IsPaid before (V.faults (vault_of office.new)) T.base c
         (acts T) octets (written ++ more) L) (λ e. IsCut e T.base c (acts T) octets
         (written ++ more) L))) }
+    ensures flushed { OnOk result ((W.seen writer.new).flushed ≡ true) }
     ensures failed { IfErr result
         (HasFailed false (writes_failed (W.seen writer.old) (W.seen writer.new))) }
     ensures counted { V.faults (vault_of office.old) ≤ V.faults (vault_of office.new) }
@@ -180,9 +197,7 @@ fn write_owed<V: Vault, W: Sink>(
 {
     for _ in 0..u64::MAX {
         if !write_some(office, c, writer)? {
-            let Ok(()) = writer.flush() else {
-                return Err(TalkFault::Write);
-            };
+            flush(writer)?;
             return Ok(());
         }
     }
@@ -206,6 +221,7 @@ fn converse<V: Vault, R: Source, W: Sink>(
         (λ L. MatchResult result (λ _. (Waits T.base c (acts T) octets written L
         × IsAtEnd (R.seen reader.new).left) ⊎ IsOver before (V.faults (vault_of office.new)) T.base
         c (acts T) octets written L) (λ e. IsCut e T.base c (acts T) octets written L))) }
+    ensures flushed { IsFlushedBy result (W.seen writer.new).flushed }
     ensures failed { IfErr result (HasFailed (reads_failed (R.seen reader.old) (R.seen reader.new))
         (writes_failed (W.seen writer.old) (W.seen writer.new))) }
     ensures counted { V.faults (vault_of office.old) ≤ V.faults (vault_of office.new) }
@@ -216,7 +232,7 @@ fn converse<V: Vault, R: Source, W: Sink>(
         if office.ended(c) {
             return Ok(());
         }
-        if !listen(office, c, reader)? {
+        if !listen(office, c, reader, writer)? {
             return Ok(());
         }
     }
@@ -224,8 +240,8 @@ fn converse<V: Vault, R: Source, W: Sink>(
 }
 
 /// One conversation over an office, from a source and to a sink: a connection is opened, and all
-/// that it is owed is written before each read, until its last line closed it or the source told
-/// its end. Its connection is then ended, after a fault too.
+/// that it is owed is written and flushed before each read, until its last line closed it or the
+/// source told its end. Its connection is then ended, after a fault too.
 pub fn talk<V: Vault, R: Source, W: Sink>(
     office: &mut Office<V>,
     reader: &mut R,
@@ -239,6 +255,7 @@ pub fn talk<V: Vault, R: Source, W: Sink>(
         (next_number T.log) (ComesOut (IsAtEnd (R.seen reader.new).left)
         (has_grown (V.faults (vault_of office.old)) (V.faults (vault_of office.new))) T
         (next_number T.log) octets written result)) }
+    ensures flushed { IsFlushedBy result (W.seen writer.new).flushed }
     ensures failed { IfErr result (HasFailed (reads_failed (R.seen reader.old) (R.seen reader.new))
         (writes_failed (W.seen writer.old) (W.seen writer.new))) }
     ensures counted { V.faults (vault_of office.old) ≤ V.faults (vault_of office.new) }

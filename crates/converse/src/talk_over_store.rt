@@ -1,6 +1,6 @@
 //! `popbox talk`: one conversation over a store.
 
-ghost use Rattle.std.specs.Prelude.{◌≡◌, ◌≤◌, ℕ, List, false};
+ghost use Rattle.std.specs.Prelude.{◌≡◌, ◌≤◌, ℕ, List, false, true};
 ghost use Rattle.std.specs.Io.KnownBytes.{IsAtEnd};
 ghost use Rattle.creds.specs.Names.{is_host};
 ghost use Rattle.vault.specs.Calls.{has_grown};
@@ -51,6 +51,7 @@ pub fn talk_over_store<V: Vault, R: Source, W: Sink, E: Write>(
         (reads_failed (R.seen reader.old) (R.seen reader.new))
         (writes_failed (W.seen writer.old) (W.seen writer.new)) T
         (opened_on T host.now boot removals) octets written (IsAtEnd (R.seen reader.new).left)) }
+    ensures flushed { result.0 ≡ 0 → (W.seen writer.new).flushed ≡ true }
     ensures clean { V.is_clean result.1 → V.is_clean vault }
     ensures host_told { is_host host.now ≡ false
         → PrintsPart (E.contents err.old) (E.contents err.new) (fault_line Fault.BadHost) }
@@ -85,6 +86,7 @@ fn talk_and_tell<V: Vault, R: Source, W: Sink, E: Write>(
         (reads_failed (R.seen reader.old) (R.seen reader.new))
         (writes_failed (W.seen writer.old) (W.seen writer.new)) T octets written
         (IsAtEnd (R.seen reader.new).left)) }
+    ensures flushed { result ≡ 0 → (W.seen writer.new).flushed ≡ true }
     ensures clean { V.is_clean (vault_of office.new) → V.is_clean (vault_of office.old) }
 {
     match talk::talk(office, reader, writer) {

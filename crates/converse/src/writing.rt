@@ -36,6 +36,7 @@ fn write_some<S: Sink>(out: &mut S, text: &[u8]) -> Result<usize, Fault>
 /// Hands on what was written.
 fn flush<S: Sink>(out: &mut S) -> Result<(), Fault>
     ensures took { Writes (S.seen out.old) (S.seen out.new) [] }
+    ensures flushed { OnOk result ((S.seen out.new).flushed ≡ true) }
     ensures cause { IfErr result (λ fault. (fault ≡ CannotWrite)
         × (writes_failed (S.seen out.old) (S.seen out.new) ≡ true)) }
 {
@@ -49,6 +50,7 @@ fn flush<S: Sink>(out: &mut S) -> Result<(), Fault>
 /// took none of some octets; a beginning of the text may then be written.
 pub(crate) fn write_text<S: Sink>(out: &mut S, text: &[u8]) -> Result<(), Fault>
     ensures ok { OnOk result (Writes (S.seen out.old) (S.seen out.new) text.now) }
+    ensures flushed { OnOk result ((S.seen out.new).flushed ≡ true) }
     ensures part { WritesPart (S.seen out.old) (S.seen out.new) text.now }
     ensures cause { IfErr result (λ fault. (fault ≡ CannotWrite)
         × (writes_failed (S.seen out.old) (S.seen out.new) ≡ true)) }

@@ -1,5 +1,5 @@
 -- What the commands of the program did, by what they say of the store that they left.
-use Rattle.std.proofs.Common.{◌≡◌, ◌≤◌, ◌⊎◌, ℕ, zero, suc, inl, inr, refl, sym, ◌∙◌, ap, subst, arith, List, [], ◌∷◌, Option, Result, Ok, Err, map, true}
+use Rattle.std.proofs.Common.{◌≡◌, ◌≤◌, ◌⊎◌, ℕ, Bool, zero, suc, inl, inr, refl, sym, ◌∙◌, ap, subst, arith, List, [], ◌∷◌, Option, Result, Ok, Err, map, true}
 use Rattle.std.specs.Io.KnownBytes.{IsAtEnd}
 use Rattle.creds.specs.Names.{by_name}
 use Rattle.vault.specs.declared.answer.Total.{Total}
@@ -24,24 +24,24 @@ status_is (suc n) h = inr (omega (arith, h))
 
 -- ---- a script
 
-module _ {V : Type 0} (Holds : V → Contents → Type 0) (new : V) (script before after : Option (List ℕ)) (status first last : ℕ) (T opened : Trace) where
+module _ {V : Type 0} (Holds : V → Contents → Type 0) (new : V) (script before after : Option (List ℕ)) (flushed : Bool) (status first last : ℕ) (T opened : Trace) where
   abbrev Left : Type 0
-  Left = (U : Trace) × HasReplayed script before after status first last T opened U × Keeps (Holds new) U
+  Left = (U : Trace) × HasReplayed script before after flushed status first last T opened U × Keeps (Holds new) U
 
-  left_whole : status ≡ 0 → (lines : List ScriptLine) → AreLinesOf script lines → HasRun Holds new first last before after opened lines → Left
-  left_whole well lines are h =
-      (h.trace, record { bound = omega (arith, well); whole = λ _. (lines, are, h.runs); part = λ ill. absurd (omega (arith, well, ill)) }, h.keeps)
+  left_whole : status ≡ 0 → flushed ≡ true → (lines : List ScriptLine) → AreLinesOf script lines → HasRun Holds new first last before after opened lines → Left
+  left_whole well on lines are h =
+      (h.trace, record { bound = omega (arith, well); on = λ _. on; whole = λ _. (lines, are, h.runs); part = λ ill. absurd (omega (arith, well, ill)) }, h.keeps)
 
   left_part : status ≡ 1 → Keeps (Holds new) T ⊎ ((lines : List ScriptLine) × AreLinesOf script lines × HasRunInPart Holds new first last opened lines) → Left
   left_part ill (inl k) =
-      (T, record { bound = omega (arith, ill); whole = λ well. absurd (omega (arith, well, ill)); part = λ _. inl refl }, k)
+      (T, record { bound = omega (arith, ill); on = λ well. absurd (omega (arith, well, ill)); whole = λ well. absurd (omega (arith, well, ill)); part = λ _. inl refl }, k)
   left_part ill (inr (lines, are, h)) =
-      (h.trace, record { bound = omega (arith, ill); whole = λ well. absurd (omega (arith, well, ill)); part = λ _. inr (lines, are, h.runs) }, h.keeps)
+      (h.trace, record { bound = omega (arith, ill); on = λ well. absurd (omega (arith, well, ill)); whole = λ well. absurd (omega (arith, well, ill)); part = λ _. inr (lines, are, h.runs) }, h.keeps)
 
-  pub replayed : status ≤ 1 → (status ≡ 0 → (lines : List ScriptLine) × AreLinesOf script lines × HasRun Holds new first last before after opened lines)
+  pub replayed : status ≤ 1 → (status ≡ 0 → flushed ≡ true) → (status ≡ 0 → (lines : List ScriptLine) × AreLinesOf script lines × HasRun Holds new first last before after opened lines)
       → Keeps (Holds new) T ⊎ ((lines : List ScriptLine) × AreLinesOf script lines × HasRunInPart Holds new first last opened lines) → Left
-  replayed bound ran kept = elim (status_is status bound) [
-    | inl well ↦ let r = ran well in left_whole well r.0 r.1 r.2
+  replayed bound on ran kept = elim (status_is status bound) [
+    | inl well ↦ let r = ran well in left_whole well (on well) r.0 r.1 r.2
     | inr ill ↦ left_part ill kept
   ]
 
@@ -54,8 +54,8 @@ module _ {V : Type 0} (Holds : V → Contents → Type 0) (new : V) (old now : R
   abbrev AtEnd : Type 0
   AtEnd = IsAtEnd now.left
 
-  conversed_well : status ≡ 0 → HasTalked Holds new (has_grown first last) opened octets written AtEnd → Conversed
-  conversed_well well h = (
+  conversed_well : status ≡ 0 → after.flushed ≡ true → HasTalked Holds new (has_grown first last) opened octets written AtEnd → Conversed
+  conversed_well well on h = (
     record { base = opened.base; log = h.log },
     record {
       octets = octets;
@@ -63,6 +63,7 @@ module _ {V : Type 0} (Holds : V → Contents → Type 0) (new : V) (old now : R
       read = read;
       wrote = wrote;
       bound = omega (arith, well);
+      on = λ _. on;
       whole = λ _. (h.log, refl, h.on);
       part = λ ill. absurd (omega (arith, well, ill));
     },
@@ -78,6 +79,7 @@ module _ {V : Type 0} (Holds : V → Contents → Type 0) (new : V) (old now : R
       read = read;
       wrote = wrote;
       bound = omega (arith, ill);
+      on = λ well. absurd (omega (arith, well, ill));
       whole = λ well. absurd (omega (arith, well, ill));
       part = λ _. inl (record { same = refl; unread = none.1; unwritten = none.2 });
     },
@@ -91,16 +93,17 @@ module _ {V : Type 0} (Holds : V → Contents → Type 0) (new : V) (old now : R
       read = read;
       wrote = wrote;
       bound = omega (arith, ill);
+      on = λ well. absurd (omega (arith, well, ill));
       whole = λ well. absurd (omega (arith, well, ill));
       part = λ _. inr (h.fault, h.log, refl, h.on);
     },
     h.keeps,
   )
 
-  pub conversed : status ≤ 1 → (status ≡ 0 → HasTalked Holds new (has_grown first last) opened octets written AtEnd)
+  pub conversed : status ≤ 1 → (status ≡ 0 → after.flushed ≡ true) → (status ≡ 0 → HasTalked Holds new (has_grown first last) opened octets written AtEnd)
       → (status ≡ 1 → HasStopped Holds new (has_grown first last) (reads_failed old now) (writes_failed before after) T opened octets written AtEnd) → Conversed
-  conversed bound talked stopped = elim (status_is status bound) [
-    | inl well ↦ conversed_well well (talked well)
+  conversed bound on talked stopped = elim (status_is status bound) [
+    | inl well ↦ conversed_well well (on well) (talked well)
     | inr ill ↦ conversed_ill ill (stopped ill)
   ]
 

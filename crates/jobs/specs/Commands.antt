@@ -1,7 +1,8 @@
 -- What the commands of the program did to the trace that a store kept: `T` is that trace, `opened`
 -- the same with the opening of the command's office, and U the trace that the store keeps now. The
 -- store's count of faults was `first`, and is `last`.
-use Rattle.std.specs.Prelude.{◌≡◌, ◌≤◌, ◌⊎◌, ℕ, ⊤, List, [], Option, IfSome, Result, Ok, Err, true}
+use Rattle.std.specs.Prelude.{◌≡◌, ◌≤◌, ◌⊎◌, ℕ, Bool, ⊤, List, [], Option, IfSome, Result, Ok, Err}
+use Rattle.std.specs.Prelude.{true}
 use Rattle.std.specs.Io.KnownBytes.{IsAtEnd}
 use Rattle.vault.specs.declared.answer.Total.{Total}
 use Rattle.vault.specs.declared.fault.VaultFault.{VaultFault}
@@ -34,11 +35,13 @@ abbrev pub WasPlayedInPart : (script : Option (List ℕ)) (first last : ℕ) (op
 WasPlayedInPart script first last opened U =
     (lines : List ScriptLine) × AreLinesOf script lines × RunsInPart first last opened lines U
 
--- By the exit status: at 0 an office was opened, and the script was played; at 1 the trace is the
--- old one, or an office was opened, and the script was played in part.
-pub record HasReplayed (script before after : Option (List ℕ)) (status first last : ℕ)
-    (T opened U : Trace) : Type 0 where
+-- By the exit status: at 0 an office was opened, the script was played, and what it printed is
+-- flushed; at 1 the trace is the old one, or an office was opened, and the script was played in
+-- part.
+pub record HasReplayed (script before after : Option (List ℕ)) (flushed : Bool)
+    (status first last : ℕ) (T opened U : Trace) : Type 0 where
   pub bound : status ≤ 1
+  pub on : status ≡ 0 → flushed ≡ true
   pub whole : status ≡ 0 → WasPlayed script before after first last opened U
   pub part : status ≡ 1 → (U ≡ T) ⊎ WasPlayedInPart script first last opened U
 
@@ -65,7 +68,7 @@ WasBroken first last old new before after opened octets written U =
     × BreaksOn (has_grown first last) (reads_failed old new) (writes_failed before after) opened
     octets written (IsAtEnd new.left) fault L
 
--- By the exit status, of the octets that were read and written.
+-- By the exit status, of the octets that were read and written. At 0 those written are flushed.
 pub record HasConversed (old new : Reading) (before after : Writing) (status first last : ℕ)
     (T opened U : Trace) : Type 0 where
   pub octets : List ℕ
@@ -73,6 +76,7 @@ pub record HasConversed (old new : Reading) (before after : Writing) (status fir
   pub read : Reads old new octets
   pub wrote : Writes before after written
   pub bound : status ≤ 1
+  pub on : status ≡ 0 → after.flushed ≡ true
   pub whole : status ≡ 0 → WentWell first last opened octets written (IsAtEnd new.left) U
   pub part : status ≡ 1 → NeverBegan T octets written U
       ⊎ WasBroken first last old new before after opened octets written U

@@ -20,7 +20,7 @@ pub use job::Job;
 pub use looking::Looking;
 pub use opening::{Careful, open};
 pub use replaying::{Replayed, Replaying};
-pub use resting::{close, open_files, reopen};
+pub use resting::{close, open_fault, open_files, reopen};
 pub use running::{do_and_close, open_do_close};
 pub use sitting::sit_once;
 pub use talking::{Talked, Talking};

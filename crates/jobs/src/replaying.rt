@@ -1,5 +1,6 @@
 //! A script over a store, as a job.
 use crate::Job;
+use converse::Printer;
 use converse::replay::replay;
 use session::Removals;
 use std::alloc::Global;
@@ -36,7 +37,7 @@ pub struct Replayed<R, W> {
     pub out: W,
 }
 
-impl<R: Read, W: Write, E: Write + Drop> Job for Replaying<'_, R, W, E> {
+impl<R: Read, W: Printer, E: Write + Drop> Job for Replaying<'_, R, W, E> {
     ghost use Rattle.std.specs.Prelude.{⊤};
     ghost use Rattle.converse.specs.Runs.{opened_on};
     ghost use Rattle.jobs.specs.Commands.{HasReplayed};
@@ -46,7 +47,7 @@ impl<R: Read, W: Write, E: Write + Drop> Job for Replaying<'_, R, W, E> {
     ghost tells = { λ _. ⊤ };
 
     ghost does = { λ job T U first last it. HasReplayed (R.remaining job.script)
-        (W.contents job.out) (W.contents it.out) it.status first last T
+        (W.contents job.out) (W.contents it.out) (W.flushed it.out) it.status first last T
         (opened_on T job.host.now job.boot job.removals) U };
 
     fn run<V: Vault>(self, vault: V) -> (Replayed<R, W>, V) {

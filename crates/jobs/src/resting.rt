@@ -9,6 +9,7 @@ ghost use Rattle.sqlite.specs.State.{HasCleanDisk, IsLive};
 ghost use Rattle.vault.specs.Changes.{Contents};
 ghost use Rattle.vault.specs.Plain.{no_contents};
 ghost use Rattle.sqlvault.specs.Adopts.{IsAdoptFault, IsKnown, IsAdopted};
+ghost use Rattle.sqlvault.specs.Refusals.{open_fault};
 ghost use Rattle.sqlvault.specs.Stands.{Holds};
 ghost use Rattle.jobs.specs.Resting.{Rests, IsUnmade};
 
@@ -43,7 +44,7 @@ pub fn open_files<D: Disk + Drop>(
     }
     match Connection::open_files(alloc, files, options) {
         Ok(conn) => take(alloc, conn),
-        Err((error, _left)) => Err(unopened(&error)),
+        Err((error, _left)) => Err(open_fault(&error)),
     }
 }
 
@@ -61,9 +62,11 @@ fn take<S: Alter + Drop>(alloc: Global, conn: Connection<S>) -> Result<SqlVault<
     }
 }
 
-/// Why two files aren't opened, as the vault's fault.
-fn unopened(error: &Error) -> VaultFault
-    ensures { IsAdoptFault result }
+/// Why a store's files aren't opened, as the vault's fault: [`VaultFault::NoMemory`] for want of
+/// memory, [`VaultFault::NotOurs`] where they are no database, and else [`VaultFault::Store`].
+pub fn open_fault(error: &Error) -> VaultFault
+    ensures is { result ≡ open_fault error.now }
+    ensures kinds { IsAdoptFault result }
 {
     match error {
         Error::SqliteFailure(ErrorCode::OutOfMemory) => VaultFault::NoMemory,

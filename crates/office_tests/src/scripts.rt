@@ -1,6 +1,7 @@
 //! Tests of replay that no transcript can show: the octets of lines and escapes, a line that comes
 //! in two pieces, cut at each place, and refused files.
 
+use converse::Flushed;
 use converse::replay::{replay, tell, write_escaped};
 use converse::script::{Line, read_script};
 use creds::{Credential, Secret};
@@ -112,7 +113,8 @@ fn credentials_are_read(rt: HostRuntime) -> Result<(), Fail> {
 fn is_refused<R: Read>(alloc: Global, script: &mut R, err: &mut Vec<u8>) -> bool {
     let vault = PlainVault::new(alloc);
     let removals = Removals::JudgedAtDele;
-    let (status, _) = replay(alloc, script, vault, "h", 1, removals, &mut Refusing, err);
+    let mut out = Flushed::new(Refusing);
+    let (status, _) = replay(alloc, script, vault, "h", 1, removals, &mut out, err);
     status == 1
 }
 

@@ -17,7 +17,7 @@ use clap::error::ErrorKind;
 use command_line::{is_verbose, make_command, removals_of};
 use converse::check_policy::check_policy;
 use converse::script::{ScriptFault, read_script};
-use converse::{Fault, Noted, tell_fault};
+use converse::{Fault, Flushed, Noted, tell_fault};
 use jobs::{Job, Replaying, Talking, open_do_close};
 use journal::FileId;
 use looking::run_review;
@@ -149,14 +149,14 @@ fn replaying<'a, S: Read, W: Write>(
     script: S,
     out: W,
     options: &ArgMatches<'a>,
-) -> Replaying<'a, S, W, Stderr> {
+) -> Replaying<'a, S, Flushed<W>, Stderr> {
     Replaying {
         alloc: rt.alloc(),
         script,
         host: host_of(options),
         boot: options.get_one::<u64>("boot").unwrap_or(1),
         removals: removals_of(options),
-        out,
+        out: Flushed::new(out),
         err: rt.stderr(),
     }
 }
@@ -180,13 +180,13 @@ fn replay_verbosely<S: Read + Drop, W: Write + Drop, E: Write>(
     if left.status != 0 {
         tell_script(alloc, err, name, &left.script);
         tell_host(err, host_of(options));
-        tell_refusal(err, "standard output", left.out.refusal());
+        tell_refusal(err, "standard output", left.out.inner.refusal());
     }
-    if left.out.failed() > 0 {
+    if left.out.inner.failed() > 0 {
         let _ = writeln!(
             err,
             "note: {name}: {} events failed, which the store refused",
-            left.out.failed()
+            left.out.inner.failed()
         );
     }
     Ok(left.status)

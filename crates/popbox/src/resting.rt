@@ -8,7 +8,7 @@ use converse::check_store::StoreFile;
 use converse::export::{Folder, export};
 use converse::{Fault, Noted, tell_fault};
 use creds::Name;
-use jobs::check_all;
+use jobs::{check_all, open_fault};
 use mailsql::meta::find_meta_row;
 use sqlite::{Alter, Connection, Error, ErrorCode, Wary};
 use sqlvault::SqlVault;
@@ -136,15 +136,6 @@ fn run_errand<E: Write>(
         Err((error, _)) => Closed::Refused(open_fault(&error)),
     };
     Ok(tell_closed(rt, err, is_verbose(options), path, &closed))
-}
-
-/// Why a file isn't opened, as the vault's fault.
-pub fn open_fault(error: &Error) -> VaultFault {
-    match error {
-        Error::SqliteFailure(ErrorCode::OutOfMemory) => VaultFault::NoMemory,
-        Error::SqliteFailure(ErrorCode::NotADatabase) => VaultFault::NotOurs,
-        _ => VaultFault::Store,
-    }
 }
 
 /// Tells why a store isn't opened. Gives the exit status.

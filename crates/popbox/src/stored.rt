@@ -1,8 +1,9 @@
 //! What a store has, for a review beside it.
 
-use crate::resting::{Closed, adopt, look_at, open_fault, tell_closed};
+use crate::resting::{Closed, adopt, look_at, tell_closed};
 use converse::{Fault, tell_fault};
 use creds::Name;
+use jobs::open_fault;
 use policy::Policy;
 use review::Kept;
 use sqlite::{Alter, Connection, Wary};

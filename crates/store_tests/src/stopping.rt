@@ -1,5 +1,6 @@
 //! Stops a store: one of its files fails from some call on, in an event or in an opening. The store
 //! is then opened again from what is left in its files.
+use converse::Printer;
 use converse::replay::replay;
 use session::Removals;
 use sqlite::{Connection, FileStore, Files, Options};
@@ -63,6 +64,16 @@ impl Write for Told {
 
     fn flush(&mut self) -> io::Result<()> {
         Ok(())
+    }
+}
+
+impl Printer for Told {
+    ghost use Rattle.std.specs.Prelude.{true};
+
+    ghost flushed = { λ _. true };
+
+    fn hand_on(&mut self) -> io::Result<()> {
+        self.flush()
     }
 }
 

@@ -111,3 +111,6 @@ pub returns-clause-missing : goal.returns-clause-missing
 returns-clause-missing g c = λ d h k none.
     let k1 = c.in_ok-put_messages.ensures.clean k in
     absurd (true≢false (sym (heads_answered _ _ _ _ (c.in_ok-heads.ensures.done d h k1).answer).0 ∙ none))
+
+pub returns-clause-flushed : goal.returns-clause-flushed
+returns-clause-flushed g c = c.in_ok-write_text.ensures.flushed

@@ -66,3 +66,9 @@ returns-in-Err-flushed-clause-silent g c = search rules
 
 pub returns-in-Err-flushed-clause-played : goal.returns-in-Err-flushed-clause-played
 returns-in-Err-flushed-clause-played g c = search rules
+
+pub returns-in-Err-clause-flushed : goal.returns-in-Err-clause-flushed
+returns-in-Err-clause-flushed g c = search rules
+
+pub returns-in-Err-flushed-clause-flushed : goal.returns-in-Err-flushed-clause-flushed
+returns-in-Err-flushed-clause-flushed g c = search rules

@@ -147,3 +147,12 @@ returns-in-Err-open_office-clause-why_not g c = host_told (g.R.Read.remaining c.
 
 pub returns-clause-why_not : goal.returns-clause-why_not
 returns-clause-why_not g c = none_told (g.R.Read.remaining c.args.script.now) c.args.host.now _ _ (map line_seen c.in-Ok.lines.items) (c.in-Ok-open_office.ensures.host refl) c.in-Ok.ensures.lines
+
+pub returns-clause-flushed : goal.returns-clause-flushed
+returns-clause-flushed g c = c.play_over-status.ensures.flushed
+
+pub returns-in-Err-clause-flushed : goal.returns-in-Err-clause-flushed
+returns-in-Err-clause-flushed g c = search rules
+
+pub returns-in-Err-open_office-clause-flushed : goal.returns-in-Err-open_office-clause-flushed
+returns-in-Err-open_office-clause-flushed g c = search rules

@@ -31,7 +31,7 @@ loop-preserved g c =
           record {
             printed = s.printed ++ escaped lent;
             trace = followed_by s.trace e x.result;
-            appends = Appends-trans _ _ _ s.printed (escaped lent) s.appends c.in-Ok.ensures;
+            appends = Appends-trans _ _ _ s.printed (escaped lent) s.appends c.in-Ok.ensures.told;
             stands = x.ensures.stands s.trace s.stands clean;
             is = (
               takes_lent T n (outcome_seen c.loop.outcome) (outcome_seen x.result) s.printed s.trace lent whole s.is.0

@@ -7,7 +7,7 @@ use Rattle.converse.specs.Talked.{IsEndless}
 use Rattle.converse.specs.Conversing.{GoesOn, Waits, IsOver, IsCut, Breaks}
 use Rattle.converse.proofs.Ends.{goes_broken}
 use Rattle.converse.proofs.Clauses.{refused_as, none_written, some_written}
-use Rattle.converse.proofs.Streaming.{reads_then, writes_then, reads_failed_then, writes_failed_then, failed_more, handed_on}
+use Rattle.converse.proofs.Streaming.{reads_then, writes_then, reads_failed_then, writes_failed_then, failed_more, handed_on, flushed_unread, flushed_anyway}
 use Rattle.converse.proofs.SoFar.{talked_none, so_by, talked_then, talked_waits, talked_over}
 use Rattle.converse.proofs.talk.converse.Goals as goal
 
@@ -193,3 +193,11 @@ returns-in_err-listen-clause-failed g c =
     let writes = writes_failed (g.W.Sink.seen c.args.writer.now) (g.W.Sink.seen c.write_owed.new.writer) in
     handed_on (reads_failed first now) writes c.from_residual-in_err-listen.result f c.from_residual-in_err-listen.ensures.1
     (failed_more (reads_failed before now) false (reads_failed first now) writes f (λ q. reads_failed_then first before now s.octets s.reads q) (λ q. absurd (cc)) c.in_err-listen.ensures.failed)
+
+pub returns-in_err-write_owed-clause-flushed : goal.returns-in_err-write_owed-clause-flushed
+returns-in_err-write_owed-clause-flushed g c =
+    let f = c.in_err-write_owed.field-0.0 in
+    flushed_unread _ _ c.from_residual.result f (refused_as c.from_residual.result f c.from_residual.ensures.1) c.in_err-write_owed.ensures.failed
+
+pub returns-in_err-listen-clause-flushed : goal.returns-in_err-listen-clause-flushed
+returns-in_err-listen-clause-flushed g c = flushed_anyway _ _ c.in_ok-write_owed.ensures.flushed

@@ -11,7 +11,7 @@ use Rattle.converse.specs.Talked.{trace_of, Extends, StandsSo, ComesOut}
 use Rattle.converse.specs.Conversing.{GoesOn, Refuses}
 use Rattle.converse.proofs.Playing.{caused_next}
 use Rattle.converse.proofs.Clauses.{refused_as, one_gone, refused_out, comes_out}
-use Rattle.converse.proofs.Streaming.{reads_none, writes_none, failed_none, handed_on}
+use Rattle.converse.proofs.Streaming.{reads_none, writes_none, failed_none, handed_on, flushed_unread}
 use Rattle.converse.proofs.SoFar.{so_by}
 use Rattle.converse.proofs.talk.talk.Goals as goal
 
@@ -85,3 +85,11 @@ returns-in_err-c-clause-failed g c =
 
 pub returns-clause-failed : goal.returns-clause-failed
 returns-clause-failed g c = c.converse-talked.ensures.failed
+
+pub returns-in_err-c-clause-flushed : goal.returns-in_err-c-clause-flushed
+returns-in_err-c-clause-flushed g c =
+    let f = c.in_err-c.field-0.0 in
+    flushed_unread _ _ c.from_residual.result f (refused_as c.from_residual.result f c.from_residual.ensures.1) c.in_err-c.ensures.failed
+
+pub returns-clause-flushed : goal.returns-clause-flushed
+returns-clause-flushed g c = c.converse-talked.ensures.flushed

@@ -1,8 +1,9 @@
-use Rattle.std.proofs.Common.{rules, false, ◌≡◌, ◌++◌, ◌<◌, length, length-append, cond, MatchResult, Err, Ok, sym, ap, subst, arith, true, inr}
+use Rattle.std.proofs.Common.{rules, false, ◌≡◌, ◌++◌, ◌<◌, length, length-append, cond, MatchResult, Err, Ok, sym, ◌∙◌, ap, subst, arith, true, inr}
 use Rattle.office.specs.Trace.{acts}
 use Rattle.office.specs.Stands.{vault_of}
 use Rattle.converse.specs.Streams.{writes_failed}
-use Rattle.converse.specs.Talked.{IsEndless}
+use Rattle.converse.specs.Talked.{IsEndless, HasFailed}
+use Rattle.converse.specs.declared.talk.TalkFault.TheVariants as fault
 use Rattle.converse.specs.Conversing.{Midway, IsPaid, IsCut, Breaks}
 use Rattle.converse.proofs.Ends.{midway_broken}
 use Rattle.converse.proofs.Clauses.{refused_as, none_written, some_written}
@@ -29,22 +30,25 @@ returns-in_err-write_some-clause-wrote g c =
           (d.3 before T octets written first clean w)),
     )
 
-pub returns-in_default-clause-wrote : goal.returns-in_default-clause-wrote
-returns-in_default-clause-wrote g c =
+pub returns-in_err-flush-clause-wrote : goal.returns-in_err-flush-clause-wrote
+returns-in_err-flush-clause-wrote g c =
     let b = c.in_ok-write_some.field-0 in
+    let f = c.in_err-flush.field-0.0 in
+    let e : c.from_residual-in_err-flush.result ≡ Err fault.Write = refused_as c.from_residual-in_err-flush.result f c.from_residual-in_err-flush.ensures.1 ∙ ap Err c.in_err-flush.ensures.cause.0 in
     let s = c.loop.invariant in
     let d = c.in_ok-write_some.ensures.wrote in
     let now = g.V.Vault.faults (vault_of c.write_some.new.office) in (
       s.more ++ d.0,
-      writes_kept _ _ _ (s.more ++ d.0) (writes_then _ _ _ s.more d.0 s.writes d.1) c.in_default.ensures.flushed.0,
+      writes_kept _ _ _ (s.more ++ d.0) (writes_then _ _ _ s.more d.0 s.writes d.1) c.in_err-flush.ensures.took,
       wrote_then g.V.Vault.holds g.V.Vault.faults g.V.Vault.is_clean c.args.office.now c.loop.office c.write_some.new.office c.args.c _ _ c.loop.counter s d.0
-          (λ before T octets written L. Breaks T.base c.args.c (acts T) octets written false L)
+          (λ before T octets written L. MatchResult c.from_residual-in_err-flush.result (λ _. IsPaid before now T.base c.args.c (acts T) octets written L) (λ x. IsCut x T.base c.args.c (acts T) octets written L))
           c.in_ok-write_some.ensures.clean
           (λ before T octets written first clean w. so_by g.V.Vault.holds g.V.Vault.faults g.V.Vault.is_clean c.write_some.new.office T c.args.c
           (λ L. cond b (Midway before now T.base c.args.c (acts T) octets (written ++ d.0) L) (IsPaid before now T.base c.args.c (acts T) octets (written ++ d.0) L))
-          (λ L. Breaks T.base c.args.c (acts T) octets (written ++ d.0) false L)
-          (λ L h. midway_broken T.base c.args.c (acts T) octets (written ++ d.0) before now L
-          (none_written b (λ L. Midway before now T.base c.args.c (acts T) octets (written ++ d.0) L) (λ L. IsPaid before now T.base c.args.c (acts T) octets (written ++ d.0) L) L c.if-not-branch.true h).midway)
+          (λ L. MatchResult c.from_residual-in_err-flush.result (λ _. IsPaid before now T.base c.args.c (acts T) octets (written ++ d.0) L) (λ x. IsCut x T.base c.args.c (acts T) octets (written ++ d.0) L))
+          (λ L h. subst (λ r. MatchResult r (λ _. IsPaid before now T.base c.args.c (acts T) octets (written ++ d.0) L) (λ x. IsCut x T.base c.args.c (acts T) octets (written ++ d.0) L)) (sym e)
+          (midway_broken T.base c.args.c (acts T) octets (written ++ d.0) before now L
+          (none_written b (λ L. Midway before now T.base c.args.c (acts T) octets (written ++ d.0) L) (λ L. IsPaid before now T.base c.args.c (acts T) octets (written ++ d.0) L) L c.if-not-branch.true h).midway))
           (d.3 before T octets written first clean w)),
     )
 
@@ -55,7 +59,7 @@ returns-then-not-branch-clause-wrote g c =
     let d = c.in_ok-write_some.ensures.wrote in
     let now = g.V.Vault.faults (vault_of c.write_some.new.office) in (
       s.more ++ d.0,
-      writes_kept _ _ _ (s.more ++ d.0) (writes_then _ _ _ s.more d.0 s.writes d.1) c.in-Ok.ensures.flushed,
+      writes_kept _ _ _ (s.more ++ d.0) (writes_then _ _ _ s.more d.0 s.writes d.1) c.in_ok-flush.ensures.took,
       wrote_then g.V.Vault.holds g.V.Vault.faults g.V.Vault.is_clean c.args.office.now c.loop.office c.write_some.new.office c.args.c _ _ c.loop.counter s d.0
           (λ before T octets written L. IsPaid before now T.base c.args.c (acts T) octets written L)
           c.in_ok-write_some.ensures.clean
@@ -117,11 +121,11 @@ returns-in_err-write_some-clause-counted g c = search rules
 pub returns-in_err-write_some-clause-clean : goal.returns-in_err-write_some-clause-clean
 returns-in_err-write_some-clause-clean g c = search rules
 
-pub returns-in_default-clause-counted : goal.returns-in_default-clause-counted
-returns-in_default-clause-counted g c = search rules
+pub returns-in_err-flush-clause-counted : goal.returns-in_err-flush-clause-counted
+returns-in_err-flush-clause-counted g c = search rules
 
-pub returns-in_default-clause-clean : goal.returns-in_default-clause-clean
-returns-in_default-clause-clean g c = search rules
+pub returns-in_err-flush-clause-clean : goal.returns-in_err-flush-clause-clean
+returns-in_err-flush-clause-clean g c = search rules
 
 pub returns-then-not-branch-clause-counted : goal.returns-then-not-branch-clause-counted
 returns-then-not-branch-clause-counted g c = search rules
@@ -145,12 +149,14 @@ returns-in_err-write_some-clause-failed g c =
     handed_on false (writes_failed first now) c.from_residual.result f c.from_residual.ensures.1
     (failed_more false (writes_failed before now) false (writes_failed first now) f (λ q. q) (λ q. writes_failed_then first before now s.more s.writes q) c.in_err-write_some.ensures.failed)
 
-pub returns-in_default-clause-failed : goal.returns-in_default-clause-failed
-returns-in_default-clause-failed g c =
+pub returns-in_err-flush-clause-failed : goal.returns-in_err-flush-clause-failed
+returns-in_err-flush-clause-failed g c =
+    let f = c.in_err-flush.field-0.0 in
     let s = c.loop.invariant in
     let d = c.in_ok-write_some.ensures.wrote in
     let first = g.W.Sink.seen c.args.writer.now in
-    let before = g.W.Sink.seen c.loop.writer in
     let during = g.W.Sink.seen c.write_some.new.writer in
-    let now = g.W.Sink.seen c.flush.new.self in
-    writes_failed_then first during now (s.more ++ d.0) (writes_then first before during s.more d.0 s.writes d.1) c.in_default.ensures.flushed.1
+    let now = g.W.Sink.seen c.flush.new.writer in
+    let cause = c.in_err-flush.ensures.cause in
+    handed_on false (writes_failed first now) c.from_residual-in_err-flush.result f c.from_residual-in_err-flush.ensures.1
+    (subst (HasFailed false (writes_failed first now)) (sym cause.0) (writes_failed_then first during now (s.more ++ d.0) (writes_then first (g.W.Sink.seen c.loop.writer) during s.more d.0 s.writes d.1) cause.1))

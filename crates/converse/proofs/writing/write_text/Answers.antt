@@ -54,3 +54,6 @@ returns-then-done-text-clause-cause g c =
 
 pub returns-clause-cause : goal.returns-clause-cause
 returns-clause-cause g c = (refl, some_failed _ _ c.args.text.now c.loop.done c.loop.counter c.loop.invariant (search rules))
+
+pub returns-then-done-text-clause-flushed : goal.returns-then-done-text-clause-flushed
+returns-then-done-text-clause-flushed g c = c.flush.ensures.flushed
