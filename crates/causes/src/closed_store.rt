@@ -1,10 +1,10 @@
 //! Why a store can't be opened: its file is looked at again.
 
 use mailsql::meta::{all_meta_rows, find_meta_row};
-use mailsql::schema::has_meta_rows;
-use sqlite::{Alter, Connection, MemStore, Wary};
+use mailsql::schema::{OurTable, has_meta_rows, lacked_table};
+use sqlite::{Alter, Connection, Wary};
 use sqlite_schema::names::same_name;
-use sqlite_schema::schema::{Column, Schema, Table};
+use sqlite_schema::schema::Schema;
 use sqlite_std_file::OpenError;
 use sqlvault::{Part, SqlVault, unsound_part};
 use std::alloc::Global;
@@ -188,15 +188,8 @@ fn tell_meta_rows<S: Alter, E: Write>(
         Ok(_) => return writeln!(err, "its table `meta` has a row that isn't popbox's"),
         Err(error) => return writeln!(err, "{error}"),
     }
-    if version == OLDEST && !has_messages(conn.schema()) {
-        return writeln!(err, "its table `messages` is missing, as version 1 has it");
-    }
-    let ours = match SqlVault::<MemStore>::in_memory(alloc) {
-        Ok(ours) => ours.into_connection(),
-        Err(_) => return writeln!(err, "its tables or their rows aren't popbox's"),
-    };
-    match other_table(conn.schema(), ours.schema(), version) {
-        Some(our) => tell_other(err, our),
+    match lacked_table(conn, version) {
+        Some(table) => tell_lacked(err, table),
         None if version != NEWEST => {
             writeln!(
                 err,
@@ -207,15 +200,27 @@ fn tell_meta_rows<S: Alter, E: Write>(
     }
 }
 
-/// The first table of ours that is missing in a schema, or has other columns or keys there.
-fn other_table<'a>(schema: &Schema, ours: &'a Schema, version: i64) -> Option<&'a Table> {
-    let mut tables = ours.tables.as_slice().iter();
-    tables.find(|our| !is_there(schema, our) && is_of_version(our.name.as_slice(), version))
+/// The name of a table.
+fn name_of(table: OurTable) -> &'static str {
+    match table {
+        OurTable::Meta => "meta",
+        OurTable::Clerks => "clerks",
+        OurTable::Maildrops => "maildrops",
+        OurTable::Counts => "counts",
+        OurTable::Deposits => "deposits",
+        OurTable::Rules => "rules",
+        OurTable::Messages => "messages",
+        OurTable::Mail => "mail",
+        OurTable::Sheets => "sheets",
+        OurTable::Groups => "groups",
+        OurTable::Members => "members",
+    }
 }
 
-/// Tells of a table of ours that is missing, or has other columns or keys.
-fn tell_other<E: Write>(err: &mut E, our: &Table) -> io::Result<()> {
-    let name = str::from_utf8(our.name.as_slice()).unwrap_or("?");
+/// Tells of a table that a store of its version has, and that is missing, or has other columns or
+/// keys.
+fn tell_lacked<E: Write>(err: &mut E, table: OurTable) -> io::Result<()> {
+    let name = name_of(table);
     writeln!(
         err,
         "its table `{name}` is missing, or has other columns or keys than popbox's"
@@ -258,47 +263,4 @@ fn tell_joined<E: Write>(err: &mut E, tables: &str) -> io::Result<()> {
         err,
         "a row of its {tables} is no sound record, or they don't fit together"
     )
-}
-
-/// Whether a store of a version has the table of ours that has this name: those of groups came with
-/// version 3, and those of messages with version 2.
-fn is_of_version(name: &[u8], version: i64) -> bool {
-    if name == b"groups".as_slice() || name == b"members".as_slice() {
-        return version == NEWEST;
-    }
-    if name == b"mail".as_slice() || name == b"sheets".as_slice() {
-        return version != OLDEST;
-    }
-    true
-}
-
-/// Whether a schema has a table by the name of version 1's messages.
-fn has_messages(schema: &Schema) -> bool {
-    let mut tables = schema.tables.as_slice().iter();
-    tables.any(|table| table.name.as_slice() == b"messages".as_slice())
-}
-
-/// Whether a schema has a table of ours, with the same columns and keys.
-fn is_there(schema: &Schema, our: &Table) -> bool {
-    schema.tables.as_slice().iter().any(|table| {
-        table.name.as_slice() == our.name.as_slice()
-            && have_same_columns(table.columns.as_slice(), our.columns.as_slice())
-            && table.primary.as_slice() == our.primary.as_slice()
-            && our.uniques.as_slice().iter().all(|key| table
-                .uniques
-                .as_slice()
-                .iter()
-                .any(|it| it.as_slice() == key.as_slice()))
-    })
-}
-
-/// Whether two lists of columns are alike in names, kinds and what may be NULL.
-fn have_same_columns(columns: &[Column], ours: &[Column]) -> bool {
-    columns.len() == ours.len()
-        && columns.iter().zip(ours.iter()).all(|(column, our)| {
-            column.name.as_slice() == our.name.as_slice()
-                && column.kind == our.kind
-                && column.is_strict == our.is_strict
-                && column.not_null == our.not_null
-        })
 }

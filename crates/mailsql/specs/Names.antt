@@ -1,6 +1,7 @@
 -- Which names and columns of a store's schema are those of our tables.
-use Rattle.std.specs.Prelude.{ℕ, nat_eq, Bool, true, false, not, ◌&&◌, ◌||◌, ◌==◌, List, [], ◌∷◌, None, map, bytes_eq, codes}
+use Rattle.std.specs.Prelude.{ℕ, nat_eq, Bool, true, false, not, ◌&&◌, ◌||◌, ◌==◌, List, [], ◌∷◌, Option, Some, None, map, bytes_eq, codes}
 use Rattle.std.specs.List.{list_any, list_all}
+use Rattle.std.specs.Option.{is_none}
 use Rattle.std.specs.Borrow.{Bor}
 use Rattle.std.specs.Cmp.Lexicographic.{pointwise}
 use Rattle.sqlite_schema.specs.declared.schema.Kind.{Kind}
@@ -9,6 +10,8 @@ use Rattle.sqlite_schema.specs.declared.schema.Table.{Table}
 use Rattle.sqlite_schema.specs.declared.schema.Schema.{Schema}
 use Rattle.sqlite_schema.specs.Names.{same_name}
 use Rattle.sqlite_schema.specs.Rules.{kind_code}
+use Rattle.mailsql.specs.declared.schema.OurTable.{OurTable}
+use Rattle.mailsql.specs.declared.schema.OurTable.TheVariants as our
 use Rattle.mailsql.specs.Tables.{column_of, table_of, meta_at, clerks_at, maildrops_at, counts_at, deposits_at, mail_at, rules_at, sheets_at, groups_at, members_at, messages_at}
 
 -- the name is one of our tables', in ASCII letters of any case
@@ -64,20 +67,54 @@ is_table ours t = bytes_eq t.name ours.name && are_columns ours.columns t.column
 abbrev pub has_meta_rows : List Table → Bool
 has_meta_rows tables = list_any (is_table (meta_at 0)) tables
 
--- the tables that stores of every version have are among the tables
-abbrev pub has_common_columns : List Table → Bool
-has_common_columns tables =
-    list_any (is_table (meta_at 0)) tables && list_any (is_table (clerks_at 2)) tables && list_any (is_table (maildrops_at 4)) tables && list_any (is_table (counts_at 6)) tables
-    && list_any (is_table (deposits_at 8)) tables && list_any (is_table (rules_at 13)) tables
+-- the first of these that isn't there
+abbrev pub first_lacked : List (OurTable × Bool) → Option OurTable
+first_lacked [] = None
+first_lacked ((which, true) ∷ more) = first_lacked more
+first_lacked ((which, false) ∷ more) = Some which
+
+-- the first, or else the second
+abbrev pub or_else : Option OurTable → Option OurTable → Option OurTable
+or_else (Some which) other = Some which
+or_else None other = other
+
+-- the first that these tables lack of those that stores of every version have
+abbrev pub lacked_common : List Table → Option OurTable
+lacked_common tables = first_lacked (
+    (our.Meta, list_any (is_table (meta_at 0)) tables)
+    ∷ (our.Clerks, list_any (is_table (clerks_at 2)) tables)
+    ∷ (our.Maildrops, list_any (is_table (maildrops_at 4)) tables)
+    ∷ (our.Counts, list_any (is_table (counts_at 6)) tables)
+    ∷ (our.Deposits, list_any (is_table (deposits_at 8)) tables)
+    ∷ (our.Rules, list_any (is_table (rules_at 13)) tables) ∷ [])
+
+-- of those of version 1
+abbrev pub lacked_of_first : List Table → Option OurTable
+lacked_of_first tables = or_else (lacked_common tables) (first_lacked (
+    (our.Messages, list_any (is_table (messages_at 10)) tables) ∷ []))
+
+-- of those of version 2
+abbrev pub lacked_of_second : List Table → Option OurTable
+lacked_of_second tables = or_else (lacked_common tables) (first_lacked (
+    (our.Mail, list_any (is_table (mail_at 10)) tables)
+    ∷ (our.Sheets, list_any (is_table (sheets_at 15)) tables) ∷ []))
+
+-- of ours
+abbrev pub lacked_of_third : List Table → Option OurTable
+lacked_of_third tables = or_else (lacked_common tables) (first_lacked (
+    (our.Mail, list_any (is_table (mail_at 10)) tables)
+    ∷ (our.Sheets, list_any (is_table (sheets_at 15)) tables)
+    ∷ (our.Groups, list_any (is_table (groups_at 17)) tables)
+    ∷ (our.Members, list_any (is_table (members_at 19)) tables) ∷ []))
 
 -- the tables of version 1 are among the tables
 abbrev pub has_first_columns : List Table → Bool
-has_first_columns tables = has_common_columns tables && list_any (is_table (messages_at 10)) tables
+has_first_columns tables = is_none (lacked_of_first tables)
 
 -- the tables of version 2 are among the tables
 abbrev pub has_second_columns : List Table → Bool
-has_second_columns tables = has_common_columns tables && list_any (is_table (mail_at 10)) tables && list_any (is_table (sheets_at 15)) tables
+has_second_columns tables = is_none (lacked_of_second tables)
 
 -- each of our tables is among the tables
 abbrev pub has_columns : List Table → Bool
-has_columns tables = has_second_columns tables && list_any (is_table (groups_at 17)) tables && list_any (is_table (members_at 19)) tables
+has_columns tables = is_none (lacked_of_third tables)

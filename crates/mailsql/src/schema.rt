@@ -1,21 +1,40 @@
 //! What the schema of a store tells: whether our tables' names are taken, and whether our columns
 //! and keys are there.
 
-ghost use Rattle.std.specs.Prelude.{◌≡◌, true, false, ◌||◌, map, bytes_eq};
+ghost use Rattle.std.specs.Prelude.{◌≡◌, ◌≢◌, pos, true, false, ◌||◌, map, bytes_eq};
 ghost use Rattle.std.specs.List.{list_any};
 ghost use Rattle.sqlite.specs.Held.{state};
 ghost use Rattle.mailsql.specs.MetaTable.{HasMetaRows};
 ghost use Rattle.mailsql.specs.Apart.{AreApart};
 ghost use Rattle.mailsql.specs.Rows.{IsOurs, IsOldSchema, IsReady, rows_in};
 ghost use Rattle.mailsql.specs.Tables.{no_schema, first_schema, second_schema, members_at};
+ghost use Rattle.mailsql.specs.Tables.{mail_at, messages_at, sheets_at, groups_at};
 ghost use Rattle.mailsql.specs.Names.{is_our_name, is_taken, is_kind, is_column, are_columns};
 ghost use Rattle.mailsql.specs.Names.{is_table, has_keys, are_places, has_meta_rows};
-ghost use Rattle.mailsql.specs.Names.{has_common_columns, has_first_columns, has_second_columns};
-ghost use Rattle.mailsql.specs.Names.{has_columns, made, table_made};
+ghost use Rattle.mailsql.specs.Names.{has_first_columns, has_second_columns, has_columns};
+ghost use Rattle.mailsql.specs.Names.{first_lacked, lacked_common, made, table_made};
+ghost use Rattle.mailsql.specs.Names.{lacked_of_first, lacked_of_second, lacked_of_third};
 
 use sqlite::{Alter, Connection};
 use sqlite_schema::names::same_name;
 use sqlite_schema::schema::{Column, Index, Kind, Schema, Table, View};
+
+/// A table of a store. `Messages` is of version 1 alone, `Mail` and `Sheets` came with version 2,
+/// `Groups` and `Members` with version 3.
+#[derive(Clone, Copy, Debug, PartialEq, Eq)]
+pub enum OurTable {
+    Meta,
+    Clerks,
+    Maildrops,
+    Counts,
+    Deposits,
+    Rules,
+    Messages,
+    Mail,
+    Sheets,
+    Groups,
+    Members,
+}
 
 /// Whether the name is one of our tables', in ASCII letters of any case.
 fn is_our_name(name: &[u8]) -> bool
@@ -255,37 +274,148 @@ fn has_members(tables: &[Table]) -> bool
     })
 }
 
-fn has_common_columns(tables: &[Table]) -> bool
-    ensures { result ≡ has_common_columns tables.now }
+/// The first that isn't there.
+fn first_lacked(found: &[(OurTable, bool)]) -> Option<OurTable>
+    ensures { result ≡ first_lacked found.now }
 {
-    has_meta(tables)
-        & has_table(tables, b"clerks", &CLERKS, &[1], &[1])
-        & has_table(tables, b"maildrops", &MAILDROPS, &[1], &[1])
-        & has_table(tables, b"counts", &COUNTS, &[1, 2], &[1, 2])
-        & has_table(tables, b"deposits", &DEPOSITS, &[1, 2], &[1, 2])
-        & has_table(tables, b"rules", &RULES, &[0], &[2])
+    match found {
+        [] => None,
+        [(table, is_there), found @ ..] => {
+            if *is_there {
+                first_lacked(found)
+            } else {
+                Some(*table)
+            }
+        }
+    }
+}
+
+/// The first that isn't there of the tables that stores of every version have.
+fn lacked_common(tables: &[Table]) -> Option<OurTable>
+    ensures { result ≡ lacked_common tables.now }
+{
+    first_lacked(&[
+        (OurTable::Meta, has_meta(tables)),
+        (
+            OurTable::Clerks,
+            has_table(tables, b"clerks", &CLERKS, &[1], &[1]),
+        ),
+        (
+            OurTable::Maildrops,
+            has_table(tables, b"maildrops", &MAILDROPS, &[1], &[1]),
+        ),
+        (
+            OurTable::Counts,
+            has_table(tables, b"counts", &COUNTS, &[1, 2], &[1, 2]),
+        ),
+        (
+            OurTable::Deposits,
+            has_table(tables, b"deposits", &DEPOSITS, &[1, 2], &[1, 2]),
+        ),
+        (
+            OurTable::Rules,
+            has_table(tables, b"rules", &RULES, &[0], &[2]),
+        ),
+    ])
+}
+
+fn has_messages(tables: &[Table]) -> bool
+    ensures { result ≡ list_any (is_table (messages_at 10)) tables.now }
+{
+    has_table(tables, b"messages", &MESSAGES, &[0], &[2, 3, 4])
+}
+
+fn has_mail(tables: &[Table]) -> bool
+    ensures { result ≡ list_any (is_table (mail_at 10)) tables.now }
+{
+    has_table(tables, b"mail", &MAIL, &[0], &[2, 3, 4])
+}
+
+fn has_sheets(tables: &[Table]) -> bool
+    ensures { result ≡ list_any (is_table (sheets_at 15)) tables.now }
+{
+    has_table(tables, b"sheets", &SHEETS, &[1, 2], &[1, 2])
+}
+
+fn has_groups(tables: &[Table]) -> bool
+    ensures { result ≡ list_any (is_table (groups_at 17)) tables.now }
+{
+    has_table(tables, b"groups", &GROUPS, &[0], &[2])
+}
+
+/// The first that isn't there of the tables of version 1.
+fn lacked_of_first(tables: &[Table]) -> Option<OurTable>
+    ensures { result ≡ lacked_of_first tables.now }
+{
+    match lacked_common(tables) {
+        Some(table) => Some(table),
+        None => first_lacked(&[(OurTable::Messages, has_messages(tables))]),
+    }
+}
+
+/// The first that isn't there of the tables of version 2.
+fn lacked_of_second(tables: &[Table]) -> Option<OurTable>
+    ensures { result ≡ lacked_of_second tables.now }
+{
+    match lacked_common(tables) {
+        Some(table) => Some(table),
+        None => first_lacked(&[
+            (OurTable::Mail, has_mail(tables)),
+            (OurTable::Sheets, has_sheets(tables)),
+        ]),
+    }
+}
+
+/// The first that isn't there of our tables.
+fn lacked_of_third(tables: &[Table]) -> Option<OurTable>
+    ensures { result ≡ lacked_of_third tables.now }
+{
+    match lacked_common(tables) {
+        Some(table) => Some(table),
+        None => first_lacked(&[
+            (OurTable::Mail, has_mail(tables)),
+            (OurTable::Sheets, has_sheets(tables)),
+            (OurTable::Groups, has_groups(tables)),
+            (OurTable::Members, has_members(tables)),
+        ]),
+    }
+}
+
+/// The first table that isn't there with its columns and keys, of those that stores of this version
+/// have (`has_columns`, `has_second_columns`, `has_first_columns`); `None` where each is there. The
+/// older versions are 1 and 2, and any other number stands for ours.
+pub fn lacked_table<S: Alter>(conn: &Connection<S>, version: i64) -> Option<OurTable>
+    ensures first { version ≡ pos 1
+        → result ≡ lacked_of_first (state S.Store conn.now).now.schema.tables }
+    ensures second { version ≡ pos 2
+        → result ≡ lacked_of_second (state S.Store conn.now).now.schema.tables }
+    ensures ours { version ≢ pos 1 → version ≢ pos 2
+        → result ≡ lacked_of_third (state S.Store conn.now).now.schema.tables }
+{
+    let tables = conn.schema().tables.as_slice();
+    match version {
+        1 => lacked_of_first(tables),
+        2 => lacked_of_second(tables),
+        _ => lacked_of_third(tables),
+    }
 }
 
 fn has_messages_columns(tables: &[Table]) -> bool
     ensures { result ≡ has_first_columns tables.now }
 {
-    has_common_columns(tables) & has_table(tables, b"messages", &MESSAGES, &[0], &[2, 3, 4])
+    lacked_of_first(tables).is_none()
 }
 
 fn has_mail_columns(tables: &[Table]) -> bool
     ensures { result ≡ has_second_columns tables.now }
 {
-    has_common_columns(tables)
-        & has_table(tables, b"mail", &MAIL, &[0], &[2, 3, 4])
-        & has_table(tables, b"sheets", &SHEETS, &[1, 2], &[1, 2])
+    lacked_of_second(tables).is_none()
 }
 
 fn has_our_columns(tables: &[Table]) -> bool
     ensures { result ≡ has_columns tables.now }
 {
-    has_mail_columns(tables)
-        & has_table(tables, b"groups", &GROUPS, &[0], &[2])
-        & has_members(tables)
+    lacked_of_third(tables).is_none()
 }
 
 /// Whether each of our tables is there with our columns and keys: STRICT, the same names and kinds
