@@ -9,6 +9,7 @@ mod late;
 mod random_turns;
 mod random_wire;
 mod reckoning;
+mod replies;
 mod scenes;
 mod sent;
 mod shares;
