@@ -6,6 +6,7 @@ mod ends;
 mod guest;
 mod heard;
 mod late;
+mod opened;
 mod random_turns;
 mod random_wire;
 mod reckoning;

@@ -1,0 +1,59 @@
+//! The listener hears which connection each link got.
+
+use super::two_clerks::office_of_two;
+use crate::listener::{Asked, Listener};
+use crate::script_spool::ScriptSpool;
+use crate::script_wire::ScriptWire;
+use crate::turn::{begin, serve_turn};
+use crate::wire::Link;
+use office::Account;
+use std::test::Fail;
+
+/// The last link that was opened, its connection, and how many there were.
+#[derive(Drop)]
+struct Doorman {
+    link: u64,
+    connection: u64,
+    count: u64,
+}
+
+impl Listener for Doorman {
+    fn open(&mut self, link: Link, connection: u64) {
+        self.link = link.number;
+        self.connection = connection;
+        self.count = self.count.saturating_add(1);
+    }
+
+    fn hear(&mut self, _connection: u64, _account: &Account) {}
+
+    fn asked(&mut self, _link: Link, _asked: &Asked<'_>) {}
+}
+
+#[test]
+fn each_with_its_connection(rt: HostRuntime) -> Result<(), Fail> {
+    let alloc = rt.alloc();
+    let mut office = office_of_two(alloc, &[])?;
+    let mut wire = ScriptWire::new(alloc, Vec::new(alloc), 4096);
+    let mut spool = ScriptSpool::new(alloc);
+    let mut links = begin(alloc, &office, &wire, &spool);
+    let mut doorman = Doorman {
+        link: 0,
+        connection: 0,
+        count: 0,
+    };
+    for number in 0..3u64 {
+        wire.connect(Vec::new(alloc))?;
+        serve_turn(
+            &mut links,
+            &mut wire,
+            &mut office,
+            &mut spool,
+            &mut doorman,
+            0,
+        );
+        assert_eq!(rt; doorman.link, number);
+        assert_eq!(rt; doorman.connection, number.saturating_add(1));
+    }
+    assert_eq!(rt; doorman.count, 3);
+    Ok(())
+}
