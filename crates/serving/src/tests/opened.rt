@@ -18,6 +18,8 @@ struct Doorman {
 }
 
 impl Listener for Doorman {
+    ghost heard = { λ _ _. ⊥ };
+
     fn open(&mut self, link: Link, connection: u64) {
         self.link = link.number;
         self.connection = connection;
