@@ -116,19 +116,23 @@ fn first_words(line: &[u8]) -> &[u8] {
     &line[..count.min(line.len())]
 }
 
-/// Tells the word of this place, counted from 0, by the field of the form that it is.
+/// Tells the word of this place, counted from 0, by the field of the form that it is. Of a form that
+/// has a TEXT no word is told: where a field is left out, it is one of that text.
 fn tell_word<E: Write>(err: &mut E, row: Row, line: &[u8], place: usize) -> io::Result<()> {
     tell_form(err, row)?;
     let words = count_of(row.words);
     let at = place.saturating_sub(words);
     let Some((field, kind)) = row.fields.get(at) else {
-        return writeln!(err, "nothing stands behind it");
+        return writeln!(err, "nothing may stand behind it");
     };
-    let is_last = at.saturating_add(1) == row.fields.len();
-    match word_at(line, words.saturating_add(at), is_last) {
-        Some(value) => tell_field(err, field, *kind, value),
-        None => writeln!(err, "{field} is missing"),
+    let Some(rest) = text_from(line, words.saturating_add(at)) else {
+        return writeln!(err, "{field} is missing");
+    };
+    if row.fields.iter().any(|(_, kind)| is_text(*kind)) {
+        return tell_untold(err, field, *kind);
     }
+    let is_last = at.saturating_add(1) == row.fields.len();
+    tell_field(err, field, *kind, rest, is_last)
 }
 
 /// How many words these are: one, or two with a space between them.
@@ -140,17 +144,13 @@ fn count_of(words: &str) -> usize {
     }
 }
 
-/// The word of a line at this place, if it has so many; with what stands behind it, where it is the
-/// last of its form.
-fn word_at(line: &[u8], place: usize, is_last: bool) -> Option<&[u8]> {
+/// A line from the word of this place on, if it has so many.
+fn text_from(line: &[u8], place: usize) -> Option<&[u8]> {
     let mut rest = line;
     for _ in 0..place {
         rest = behind_space(rest)?;
     }
-    if is_last {
-        return Some(rest);
-    }
-    rest.split(|octet| *octet == b' ').next()
+    Some(rest)
 }
 
 /// What stands behind the first space.
@@ -168,27 +168,54 @@ fn tell_form<E: Write>(err: &mut E, row: Row) -> io::Result<()> {
     write!(err, "`: ")
 }
 
-/// Tells the value of a field and the form that it must have.
-fn tell_field<E: Write>(err: &mut E, field: &str, kind: Kind, value: &[u8]) -> io::Result<()> {
-    let form = match kind {
+/// Whether a field is the rest of its line, with any words.
+fn is_text(kind: Kind) -> bool {
+    matches!(kind, Kind::Text | Kind::Secret)
+}
+
+/// The form that a field must have.
+fn form_text(kind: Kind) -> &'static str {
+    match kind {
         Kind::Number => "1 to 20 digits, below 2^64",
         Kind::Name => "1 to 32 of a-z, 0-9 and -",
         Kind::Id => "1 to 64 of a-z, A-Z, 0-9, - and _",
         Kind::Action => "open, read or remove",
-        Kind::Text => return writeln!(
-            err,
-            "a \\ in {field} begins none of \\r, \\n, \\\\ and \\xHH"
-        ),
-        Kind::Secret => {
-            return writeln!(
+        Kind::Text => "a text with the escapes \\r, \\n, \\\\ and \\xHH",
+        Kind::Secret => "1 to 128 octets from 0x20 to 0x7E",
+    }
+}
+
+/// Tells the form that a field must have, and not its value.
+fn tell_untold<E: Write>(err: &mut E, field: &str, kind: Kind) -> io::Result<()> {
+    match kind {
+        Kind::Text => {
+            writeln!(
                 err,
-                "{field} stands for no 1 to 128 octets from 0x20 to 0x7E"
-            );
+                "a \\ in {field} begins none of \\r, \\n, \\\\ and \\xHH"
+            )
         }
-    };
+        Kind::Secret => writeln!(err, "{field} stands for no {}", form_text(kind)),
+        _ => writeln!(err, "{field} isn't {}", form_text(kind)),
+    }
+}
+
+/// Tells the first word of what stands at a field's place, and what is wrong with it: the form that
+/// it must have, or that more stands behind the last field.
+fn tell_field<E: Write>(
+    err: &mut E,
+    field: &str,
+    kind: Kind,
+    rest: &[u8],
+    is_last: bool,
+) -> io::Result<()> {
+    let word = rest.split(|octet| *octet == b' ').next().unwrap_or(rest);
     write!(err, "{field} is ")?;
-    tell_value(err, value)?;
-    writeln!(err, ", and not {form}")
+    tell_value(err, word)?;
+    if is_last && word.len() < rest.len() {
+        writeln!(err, ", and more stands behind it")
+    } else {
+        writeln!(err, ", and not {}", form_text(kind))
+    }
 }
 
 /// How many octets of a value are told at most.

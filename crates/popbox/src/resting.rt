@@ -87,9 +87,14 @@ pub fn look_at<E: Write>(
     }
 }
 
-/// How many octets a file has that begins as a database of SQLite; `None` of any other file.
+/// How many octets a file has that begins as a database of SQLite; `None` of any other file, and of
+/// what is neither a file nor a folder: to open a FIFO is to wait for its writer.
 fn database_octets(rt: &HostRuntime, path: &str) -> io::Result<Option<u64>> {
-    let octets = fs::metadata(rt, path)?.len();
+    let metadata = fs::metadata(rt, path)?;
+    if !metadata.is_file() && !metadata.is_dir() {
+        return Ok(None);
+    }
+    let octets = metadata.len();
     let mut file = OpenOptions::new().read(true).open(rt, path)?;
     let mut head = [0; 16];
     match file.read_exact(&mut head) {
