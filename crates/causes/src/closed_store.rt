@@ -120,7 +120,7 @@ fn tell_version<S: Alter, E: Write>(
             let found = row.value;
             writeln!(
                 err,
-                "a store of version {found} by its table `meta`, with other tables of version {NEWEST}"
+                "a store of version {found} by `meta`, with the tables of version {NEWEST}"
             )
         }
         Ok(Some(row)) => {
