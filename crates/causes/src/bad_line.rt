@@ -47,27 +47,27 @@ const SECRET: (&str, Kind) = ("TEXT", Kind::Secret);
 /// The words and the fields of a form, as docs/SCRIPTS.md has them.
 fn row_of(form: Form) -> Row {
     match form {
-        Form::Connect => row("connect", &[]),
-        Form::Bytes => row("bytes", &[C, TEXT]),
-        Form::Took => row("took", &[C, N]),
-        Form::Drain => row("drain", &[C]),
-        Form::Gone => row("gone", &[C]),
-        Form::Tick => row("tick", &[N]),
-        Form::Restart => row("restart", &[N]),
-        Form::Deposit => row("deposit", &[MAILDROP, CLASS, ("ID", Kind::Id), TEXT]),
-        Form::MaildropAdd => row("maildrop add", &[NAME]),
-        Form::MaildropDrop => row("maildrop drop", &[NAME]),
-        Form::Maildrops => row("maildrops", &[]),
-        Form::ListMaildrop => row("list", &[NAME]),
-        Form::ClerkApop => row("clerk apop", &[NAME, SECRET]),
-        Form::ClerkPass => row("clerk pass", &[NAME, SECRET]),
-        Form::ClerkDrop => row("clerk drop", &[NAME]),
-        Form::ClerkShow => row("clerk show", &[NAME]),
-        Form::Policy => row("policy", &[TEXT]),
-        Form::Groups => row("groups", &[]),
-        Form::Sessions => row("sessions", &[]),
-        Form::End => row("end", &[C]),
-        Form::Explain => row(
+        Form::Connect => with_fields("connect", &[]),
+        Form::Bytes => with_fields("bytes", &[C, TEXT]),
+        Form::Took => with_fields("took", &[C, N]),
+        Form::Drain => with_fields("drain", &[C]),
+        Form::Gone => with_fields("gone", &[C]),
+        Form::Tick => with_fields("tick", &[N]),
+        Form::Restart => with_fields("restart", &[N]),
+        Form::Deposit => with_fields("deposit", &[MAILDROP, CLASS, ("ID", Kind::Id), TEXT]),
+        Form::MaildropAdd => with_fields("maildrop add", &[NAME]),
+        Form::MaildropDrop => with_fields("maildrop drop", &[NAME]),
+        Form::Maildrops => with_fields("maildrops", &[]),
+        Form::ListMaildrop => with_fields("list", &[NAME]),
+        Form::ClerkApop => with_fields("clerk apop", &[NAME, SECRET]),
+        Form::ClerkPass => with_fields("clerk pass", &[NAME, SECRET]),
+        Form::ClerkDrop => with_fields("clerk drop", &[NAME]),
+        Form::ClerkShow => with_fields("clerk show", &[NAME]),
+        Form::Policy => with_fields("policy", &[TEXT]),
+        Form::Groups => with_fields("groups", &[]),
+        Form::Sessions => with_fields("sessions", &[]),
+        Form::End => with_fields("end", &[C]),
+        Form::Explain => with_fields(
             "explain",
             &[CLERK, MAILDROP, CLASS, ("ACTION", Kind::Action)],
         ),
@@ -75,7 +75,7 @@ fn row_of(form: Form) -> Row {
 }
 
 /// These words and fields.
-fn row(words: &'static str, fields: &'static [(&'static str, Kind)]) -> Row {
+fn with_fields(words: &'static str, fields: &'static [(&'static str, Kind)]) -> Row {
     Row { words, fields }
 }
 

@@ -8,7 +8,8 @@ use creds::{Credential, Secret};
 use office::{AdminCommand, Outcome};
 use session::Removals;
 use std::alloc::{AllocError, Global};
-use std::io::Read;
+use std::io;
+use std::io::{Read, Write};
 use std::test::Fail;
 use transcripts::playing::{Refusing, plays};
 use vault::PlainVault;
@@ -116,6 +117,47 @@ fn is_refused<R: Read>(alloc: Global, script: &mut R, err: &mut Vec<u8>) -> bool
     let mut out = Flushed::new(Refusing);
     let (status, _) = replay(alloc, script, vault, "h", 1, removals, &mut out, err);
     status == 1
+}
+
+/// A writer that takes all, and counts how often it is flushed.
+#[derive(Drop)]
+struct Counting {
+    flushes: u64,
+}
+
+impl Write for Counting {
+    fn write(&mut self, octets: &[u8]) -> io::Result<usize> {
+        Ok(octets.len())
+    }
+
+    fn flush(&mut self) -> io::Result<()> {
+        self.flushes = self.flushes.saturating_add(1);
+        Ok(())
+    }
+}
+
+/// The writer inside is flushed behind each line, and at the end.
+#[test]
+fn each_outcome_is_flushed(rt: HostRuntime) -> Result<(), Fail> {
+    let alloc = rt.alloc();
+    let mut script = b"connect\ntick 1\nmaildrops\n".as_slice();
+    let vault = PlainVault::new(alloc);
+    let removals = Removals::JudgedAtDele;
+    let mut out = Flushed::new(Counting { flushes: 0 });
+    let mut err = Vec::new(alloc);
+    let (status, _) = replay(
+        alloc,
+        &mut script,
+        vault,
+        "h",
+        1,
+        removals,
+        &mut out,
+        &mut err,
+    );
+    assert!(rt; status == 0);
+    assert_eq!(rt; out.inner.flushes, 4);
+    Ok(())
 }
 
 #[test]
