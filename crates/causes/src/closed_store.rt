@@ -1,21 +1,13 @@
 //! Why a store can't be opened: its file is looked at again.
 
-use mailsql::meta::{all_meta_rows, find_meta_row};
-use mailsql::schema::{OurTable, has_meta_rows, lacked_table};
+use mailsql::schema::{OurTable, Taken, has_meta_rows, lacked_table, taken_name};
 use sqlite::{Alter, Connection, Wary};
-use sqlite_schema::names::same_name;
-use sqlite_schema::schema::Schema;
 use sqlite_std_file::OpenError;
-use sqlvault::{Part, SqlVault, unsound_part};
+use sqlvault::{NEWEST, OLDEST, Part, StoreVersion, find_version, unsound_part};
 use std::alloc::Global;
 use std::io::{ErrorKind, Write};
-use std::{fs, io, str};
+use std::{fs, io};
 use vault::VaultFault;
-
-/// The version of the stores that this popbox makes, and the oldest that it carries over.
-const NEWEST: i64 = 3;
-
-const OLDEST: i64 = 1;
 
 /// How many megabytes an opening takes beside the largest table, at most.
 const BESIDE: u64 = 16;
@@ -86,13 +78,11 @@ fn tell_tables<S: Alter, E: Write>(
     fault: VaultFault,
 ) -> io::Result<()> {
     match fault {
-        VaultFault::OldVersion => tell_version(alloc, err, conn),
-        VaultFault::NotOurs if has_meta_rows(conn) => tell_meta_rows(alloc, err, conn),
-        VaultFault::NotOurs => {
-            let ours = SqlVault::in_memory(alloc);
-            match ours {
-                Ok(ours) => tell_taken(err, conn.schema(), ours.into_connection().schema()),
-                Err(_) => writeln!(err, "it isn't popbox's"),
+        VaultFault::OldVersion | VaultFault::NotOurs => {
+            if has_meta_rows(conn) {
+                tell_meta_rows(alloc, err, conn, fault)
+            } else {
+                tell_taken(err, taken_name(conn))
             }
         }
         _ => writeln!(
@@ -102,70 +92,15 @@ fn tell_tables<S: Alter, E: Write>(
     }
 }
 
-/// Tells the version of a store that was refused as `OldVersion`.
-fn tell_version<S: Alter, E: Write>(
-    alloc: Global,
-    err: &mut E,
-    conn: &mut Connection<S>,
-) -> io::Result<()> {
-    match find_meta_row(alloc, conn, b"popbox") {
-        Ok(Some(row)) if row.value > NEWEST => {
-            let found = row.value;
-            writeln!(
-                err,
-                "a store of version {found}, newer than {NEWEST}, which this popbox makes"
-            )
-        }
-        Ok(Some(row)) if row.value >= OLDEST => {
-            let found = row.value;
-            writeln!(
-                err,
-                "a store of version {found} by `meta`, with the tables of version {NEWEST}"
-            )
-        }
-        Ok(Some(row)) => {
-            let found = row.value;
-            writeln!(
-                err,
-                "a store of version {found}, older than {OLDEST}, which this popbox carries over"
-            )
-        }
-        Ok(None) => writeln!(err, "a store without a version"),
-        Err(error) => writeln!(err, "{error}"),
-    }
-}
-
-/// Tells the first table, index or view that has the name of a table of ours, in a database without
-/// our version row.
-fn tell_taken<E: Write>(err: &mut E, schema: &Schema, ours: &Schema) -> io::Result<()> {
-    let mut tables = schema.tables.as_slice().iter();
-    if let Some(table) = tables.find(|table| is_our_name(table.name.as_slice(), ours)) {
-        return tell_object(err, "table", table.name.as_slice());
-    }
-    let mut indexes = schema.indexes.as_slice().iter();
-    if let Some(index) = indexes.find(|index| is_our_name(index.name.as_slice(), ours)) {
-        return tell_object(err, "index", index.name.as_slice());
-    }
-    let mut views = schema.views.as_slice().iter();
-    match views.find(|view| is_our_name(view.name.as_slice(), ours)) {
-        Some(view) => tell_object(err, "view or table", view.name.as_slice()),
-        None => writeln!(err, "it isn't popbox's"),
-    }
-}
-
-/// Whether a store of any version has a table of this name.
-fn is_our_name(name: &[u8], ours: &Schema) -> bool {
-    same_name(name, b"messages")
-        || ours
-            .tables
-            .as_slice()
-            .iter()
-            .any(|table| same_name(table.name.as_slice(), name))
-}
-
-/// Tells that an object has one of our names, and isn't ours.
-fn tell_object<E: Write>(err: &mut E, kind: &str, name: &[u8]) -> io::Result<()> {
-    let name = str::from_utf8(name).unwrap_or("?");
+/// Tells what has the name of a table of ours, in a database without our version row.
+fn tell_taken<E: Write>(err: &mut E, taken: Option<Taken>) -> io::Result<()> {
+    let (kind, table) = match taken {
+        Some(Taken::Table(table)) => ("table", table),
+        Some(Taken::Index(table)) => ("index", table),
+        Some(Taken::View(table)) => ("view or table", table),
+        None => return writeln!(err, "it isn't popbox's"),
+    };
+    let name = name_of(table);
     writeln!(
         err,
         "its {kind} `{name}` isn't popbox's, and popbox needs the name"
@@ -177,17 +112,48 @@ fn tell_meta_rows<S: Alter, E: Write>(
     alloc: Global,
     err: &mut E,
     conn: &mut Connection<S>,
+    fault: VaultFault,
 ) -> io::Result<()> {
-    let version = match find_meta_row(alloc, conn, b"popbox") {
-        Ok(Some(row)) => row.value,
-        Ok(None) => return writeln!(err, "its table `meta` has no row `popbox`"),
-        Err(error) => return writeln!(err, "{error}"),
-    };
-    match all_meta_rows(alloc, conn) {
-        Ok(rows) if rows.len() == 1 => {}
-        Ok(_) => return writeln!(err, "its table `meta` has a row that isn't popbox's"),
-        Err(error) => return writeln!(err, "{error}"),
+    match find_version(alloc, conn) {
+        Ok(StoreVersion::Missing) => writeln!(err, "its table `meta` has no row `popbox`"),
+        Ok(StoreVersion::Unknown(found)) => tell_unknown(err, found),
+        Ok(StoreVersion::Beside(found) | StoreVersion::Alone(found))
+            if fault == VaultFault::OldVersion => {
+            writeln!(
+                err,
+                "a store of version {found} by `meta`, with the tables of version {NEWEST}"
+            )
+        }
+        Ok(StoreVersion::Beside(_)) => {
+            writeln!(err, "its table `meta` has a row that isn't popbox's")
+        }
+        Ok(StoreVersion::Alone(found)) => tell_contents(alloc, err, conn, found),
+        Err(error) => writeln!(err, "{error}"),
     }
+}
+
+/// Tells of a version that is unknown here.
+fn tell_unknown<E: Write>(err: &mut E, found: i64) -> io::Result<()> {
+    if found > NEWEST {
+        writeln!(
+            err,
+            "a store of version {found}, newer than {NEWEST}, which this popbox makes"
+        )
+    } else {
+        writeln!(
+            err,
+            "a store of version {found}, older than {OLDEST}, which this popbox carries over"
+        )
+    }
+}
+
+/// Tells which of the tables or the rows of a store of this version isn't ours.
+fn tell_contents<S: Alter, E: Write>(
+    alloc: Global,
+    err: &mut E,
+    conn: &mut Connection<S>,
+    version: i64,
+) -> io::Result<()> {
     match lacked_table(conn, version) {
         Some(table) => tell_lacked(err, table),
         None if version != NEWEST => {

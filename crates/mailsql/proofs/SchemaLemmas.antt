@@ -45,9 +45,9 @@ old_lacks true = refl
 
 -- ---- of a store whose first table is `meta`
 
-pub first_taken : (schema : Schema) (others : List Table) → schema.tables ≡ meta_at 0 ∷ others → is_taken schema ≡ true
+pub meta_taken : (schema : Schema) (others : List Table) → schema.tables ≡ meta_at 0 ∷ others → is_taken schema ≡ true
 unfolding same_name
-first_taken schema others is = ap (λ (ts : List Table). is_taken (record schema { tables = ts })) is
+meta_taken schema others is = ap (λ (ts : List Table). is_taken (record schema { tables = ts })) is
 
 pub first_marked : (tables others : List Table) → tables ≡ meta_at 0 ∷ others → has_meta_rows tables ≡ true
 first_marked tables others is = ap has_meta_rows is

@@ -1,7 +1,7 @@
 -- Which names and columns of a store's schema are those of our tables.
-use Rattle.std.specs.Prelude.{ℕ, nat_eq, Bool, true, false, not, ◌&&◌, ◌||◌, ◌==◌, List, [], ◌∷◌, Option, Some, None, map, bytes_eq, codes}
+use Rattle.std.specs.Prelude.{ℕ, nat_eq, Bool, true, false, not, ◌&&◌, ◌||◌, ◌==◌, List, [], ◌∷◌, Option, Some, None, map, bytes_eq, codes, find, is_some, option_map, option_and_then}
 use Rattle.std.specs.List.{list_any, list_all}
-use Rattle.std.specs.Option.{is_none}
+use Rattle.std.specs.Option.{is_none, option_or}
 use Rattle.std.specs.Borrow.{Bor}
 use Rattle.std.specs.Cmp.Lexicographic.{pointwise}
 use Rattle.sqlite_schema.specs.declared.schema.Kind.{Kind}
@@ -12,16 +12,48 @@ use Rattle.sqlite_schema.specs.Names.{same_name}
 use Rattle.sqlite_schema.specs.Rules.{kind_code}
 use Rattle.mailsql.specs.declared.schema.OurTable.{OurTable}
 use Rattle.mailsql.specs.declared.schema.OurTable.TheVariants as our
+use Rattle.mailsql.specs.declared.schema.Taken.{Taken}
+use Rattle.mailsql.specs.declared.schema.Taken.TheVariants as taken
 use Rattle.mailsql.specs.Tables.{column_of, table_of, meta_at, clerks_at, maildrops_at, counts_at, deposits_at, mail_at, rules_at, sheets_at, groups_at, members_at, messages_at}
 
--- the name is one of our tables', in ASCII letters of any case
+-- the first of these that is there
+abbrev pub first_there : List (OurTable × Bool) → Option OurTable
+first_there [] = None
+first_there ((which, true) ∷ more) = Some which
+first_there ((which, false) ∷ more) = first_there more
+
+-- the table of ours that has the name, in ASCII letters of any case
+abbrev pub our_table : List ℕ → Option OurTable
+our_table name = first_there (
+    (our.Meta, same_name name (codes "meta"))
+    ∷ (our.Clerks, same_name name (codes "clerks"))
+    ∷ (our.Maildrops, same_name name (codes "maildrops"))
+    ∷ (our.Counts, same_name name (codes "counts"))
+    ∷ (our.Deposits, same_name name (codes "deposits"))
+    ∷ (our.Mail, same_name name (codes "mail"))
+    ∷ (our.Rules, same_name name (codes "rules"))
+    ∷ (our.Sheets, same_name name (codes "sheets"))
+    ∷ (our.Groups, same_name name (codes "groups"))
+    ∷ (our.Members, same_name name (codes "members"))
+    ∷ (our.Messages, same_name name (codes "messages")) ∷ [])
+
+-- the name is one of our tables'
 abbrev pub is_our_name : List ℕ → Bool
-is_our_name name = list_any (same_name name) (codes "meta" ∷ codes "clerks" ∷ codes "maildrops" ∷ codes "counts" ∷ codes "deposits" ∷ codes "mail" ∷ codes "rules" ∷ codes "sheets" ∷ codes "groups" ∷ codes "members" ∷ codes "messages" ∷ [])
+is_our_name name = is_some (our_table name)
+
+-- our table whose name the first of these has that has one of ours
+abbrev pub first_named : {X : Type 0} → (X → List ℕ) → List X → Option OurTable
+first_named name xs = option_and_then (λ x. our_table (name x)) (find (λ x. is_our_name (name x)) xs)
+
+-- the first table, else the first index, else the first view that has the name of one of our tables
+abbrev pub first_taken : Schema → Option Taken
+first_taken schema = option_or (option_map taken.Table (first_named (λ t. t.name) schema.tables))
+    (option_or (option_map taken.Index (first_named (λ i. i.name) schema.indexes))
+    (option_map taken.View (first_named (λ v. v.name) schema.views)))
 
 -- a table, an index or a view has one of our tables' names
 abbrev pub is_taken : Schema → Bool
-is_taken schema =
-    list_any (λ t. is_our_name t.name) schema.tables || list_any (λ i. is_our_name i.name) schema.indexes || list_any (λ v. is_our_name v.name) schema.views
+is_taken schema = is_some (first_taken schema)
 
 -- the column is of this kind
 abbrev pub is_kind : Kind → Column → Bool
@@ -73,11 +105,6 @@ first_lacked [] = None
 first_lacked ((which, true) ∷ more) = first_lacked more
 first_lacked ((which, false) ∷ more) = Some which
 
--- the first, or else the second
-abbrev pub or_else : Option OurTable → Option OurTable → Option OurTable
-or_else (Some which) other = Some which
-or_else None other = other
-
 -- the first that these tables lack of those that stores of every version have
 abbrev pub lacked_common : List Table → Option OurTable
 lacked_common tables = first_lacked (
@@ -90,18 +117,18 @@ lacked_common tables = first_lacked (
 
 -- of those of version 1
 abbrev pub lacked_of_first : List Table → Option OurTable
-lacked_of_first tables = or_else (lacked_common tables) (first_lacked (
+lacked_of_first tables = option_or (lacked_common tables) (first_lacked (
     (our.Messages, list_any (is_table (messages_at 10)) tables) ∷ []))
 
 -- of those of version 2
 abbrev pub lacked_of_second : List Table → Option OurTable
-lacked_of_second tables = or_else (lacked_common tables) (first_lacked (
+lacked_of_second tables = option_or (lacked_common tables) (first_lacked (
     (our.Mail, list_any (is_table (mail_at 10)) tables)
     ∷ (our.Sheets, list_any (is_table (sheets_at 15)) tables) ∷ []))
 
 -- of ours
 abbrev pub lacked_of_third : List Table → Option OurTable
-lacked_of_third tables = or_else (lacked_common tables) (first_lacked (
+lacked_of_third tables = option_or (lacked_common tables) (first_lacked (
     (our.Mail, list_any (is_table (mail_at 10)) tables)
     ∷ (our.Sheets, list_any (is_table (sheets_at 15)) tables)
     ∷ (our.Groups, list_any (is_table (groups_at 17)) tables)

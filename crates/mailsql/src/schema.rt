@@ -1,15 +1,17 @@
 //! What the schema of a store tells: whether our tables' names are taken, and whether our columns
 //! and keys are there.
 
-ghost use Rattle.std.specs.Prelude.{◌≡◌, ◌≢◌, pos, true, false, ◌||◌, map, bytes_eq};
-ghost use Rattle.std.specs.List.{list_any};
+ghost use Rattle.std.specs.Prelude.{◌≡◌, ◌≢◌, pos, true, false, map, bytes_eq};
+ghost use Rattle.std.specs.Prelude.{option_copied};
+ghost use Rattle.std.specs.List.{find, list_any};
 ghost use Rattle.sqlite.specs.Held.{state};
 ghost use Rattle.mailsql.specs.MetaTable.{HasMetaRows};
 ghost use Rattle.mailsql.specs.Apart.{AreApart};
 ghost use Rattle.mailsql.specs.Rows.{IsOurs, IsOldSchema, IsReady, rows_in};
 ghost use Rattle.mailsql.specs.Tables.{no_schema, first_schema, second_schema, members_at};
 ghost use Rattle.mailsql.specs.Tables.{mail_at, messages_at, sheets_at, groups_at};
-ghost use Rattle.mailsql.specs.Names.{is_our_name, is_taken, is_kind, is_column, are_columns};
+ghost use Rattle.mailsql.specs.Names.{first_there, our_table, is_our_name, first_named};
+ghost use Rattle.mailsql.specs.Names.{first_taken, is_taken, is_kind, is_column, are_columns};
 ghost use Rattle.mailsql.specs.Names.{is_table, has_keys, are_places, has_meta_rows};
 ghost use Rattle.mailsql.specs.Names.{has_first_columns, has_second_columns, has_columns};
 ghost use Rattle.mailsql.specs.Names.{first_lacked, lacked_common, made, table_made};
@@ -36,51 +38,125 @@ pub enum OurTable {
     Members,
 }
 
-/// Whether the name is one of our tables', in ASCII letters of any case.
+/// What has the name of one of our tables: a table, an index or a view.
+#[derive(Clone, Copy, Debug, PartialEq, Eq)]
+pub enum Taken {
+    Table(OurTable),
+    Index(OurTable),
+    View(OurTable),
+}
+
+/// The first that is there.
+fn first_there(found: &[(OurTable, bool)]) -> Option<OurTable>
+    ensures { result ≡ first_there found.now }
+{
+    match found {
+        [] => None,
+        [(table, is_there), found @ ..] => {
+            if *is_there {
+                Some(*table)
+            } else {
+                first_there(found)
+            }
+        }
+    }
+}
+
+/// Our table of this name, in ASCII letters of any case; `None` where none of ours has it.
+fn our_table(name: &[u8]) -> Option<OurTable>
+    ensures { result ≡ our_table name.now }
+{
+    first_there(&[
+        (OurTable::Meta, same_name(name, b"meta")),
+        (OurTable::Clerks, same_name(name, b"clerks")),
+        (OurTable::Maildrops, same_name(name, b"maildrops")),
+        (OurTable::Counts, same_name(name, b"counts")),
+        (OurTable::Deposits, same_name(name, b"deposits")),
+        (OurTable::Mail, same_name(name, b"mail")),
+        (OurTable::Rules, same_name(name, b"rules")),
+        (OurTable::Sheets, same_name(name, b"sheets")),
+        (OurTable::Groups, same_name(name, b"groups")),
+        (OurTable::Members, same_name(name, b"members")),
+        (OurTable::Messages, same_name(name, b"messages")),
+    ])
+}
+
 fn is_our_name(name: &[u8]) -> bool
     ensures { result ≡ is_our_name name.now }
 {
-    same_name(name, b"meta")
-        | same_name(name, b"clerks")
-        | same_name(name, b"maildrops")
-        | same_name(name, b"counts")
-        | same_name(name, b"deposits")
-        | same_name(name, b"mail")
-        | same_name(name, b"rules")
-        | same_name(name, b"sheets")
-        | same_name(name, b"groups")
-        | same_name(name, b"members")
-        | same_name(name, b"messages")
+    our_table(name).is_some()
 }
 
-fn has_our_table(tables: &[Table]) -> bool
-    ensures { result ≡ list_any (λ t. is_our_name t.name) tables.now }
+fn table_named(tables: &[Table]) -> Option<&Table>
+    ensures { option_copied result ≡ find (λ t. is_our_name t.name) tables.now }
 {
     tables
         .iter()
-        .any(|table| is_our_name(table.name.as_slice()))
+        .find(|table| is_our_name(table.name.as_slice()))
 }
 
-fn has_our_index(indexes: &[Index]) -> bool
-    ensures { result ≡ list_any (λ i. is_our_name i.name) indexes.now }
+fn index_named(indexes: &[Index]) -> Option<&Index>
+    ensures { option_copied result ≡ find (λ i. is_our_name i.name) indexes.now }
 {
     indexes
         .iter()
-        .any(|index| is_our_name(index.name.as_slice()))
+        .find(|index| is_our_name(index.name.as_slice()))
 }
 
-fn has_our_view(views: &[View]) -> bool
-    ensures { result ≡ list_any (λ v. is_our_name v.name) views.now }
+fn view_named(views: &[View]) -> Option<&View>
+    ensures { option_copied result ≡ find (λ v. is_our_name v.name) views.now }
 {
-    views.iter().any(|view| is_our_name(view.name.as_slice()))
+    views.iter().find(|view| is_our_name(view.name.as_slice()))
 }
 
-fn takes_our_name(schema: &Schema) -> bool
-    ensures { result ≡ is_taken schema.now }
+fn taken_by_table(tables: &[Table]) -> Option<OurTable>
+    ensures { result ≡ first_named (λ t. t.name) tables.now }
 {
-    has_our_table(schema.tables.as_slice())
-        | has_our_index(schema.indexes.as_slice())
-        | has_our_view(schema.views.as_slice())
+    match table_named(tables) {
+        Some(table) => our_table(table.name.as_slice()),
+        None => None,
+    }
+}
+
+fn taken_by_index(indexes: &[Index]) -> Option<OurTable>
+    ensures { result ≡ first_named (λ i. i.name) indexes.now }
+{
+    match index_named(indexes) {
+        Some(index) => our_table(index.name.as_slice()),
+        None => None,
+    }
+}
+
+fn taken_by_view(views: &[View]) -> Option<OurTable>
+    ensures { result ≡ first_named (λ v. v.name) views.now }
+{
+    match view_named(views) {
+        Some(view) => our_table(view.name.as_slice()),
+        None => None,
+    }
+}
+
+fn first_taken(schema: &Schema) -> Option<Taken>
+    ensures { result ≡ first_taken schema.now }
+{
+    if let Some(table) = taken_by_table(schema.tables.as_slice()) {
+        return Some(Taken::Table(table));
+    }
+    if let Some(table) = taken_by_index(schema.indexes.as_slice()) {
+        return Some(Taken::Index(table));
+    }
+    match taken_by_view(schema.views.as_slice()) {
+        Some(table) => Some(Taken::View(table)),
+        None => None,
+    }
+}
+
+/// The first table of the store that has one of our tables' names, in ASCII letters of any case;
+/// else the first such index, else the first such view; `None` where no name of ours is taken.
+pub fn taken_name<S: Alter>(conn: &Connection<S>) -> Option<Taken>
+    ensures { result ≡ first_taken (state S.Store conn.now).now.schema }
+{
+    first_taken(conn.schema())
 }
 
 /// Whether a table, an index or a view of the store has one of our tables' names, in ASCII letters
@@ -92,7 +168,7 @@ pub fn is_taken<S: Alter>(conn: &Connection<S>) -> bool
     ensures old { IsOldSchema (state S.Store conn.now).now → result ≡ true }
     ensures marked { HasMetaRows (state S.Store conn.now).now → result ≡ true }
 {
-    takes_our_name(conn.schema())
+    taken_name(conn).is_some()
 }
 
 fn is_kind(column: &Column, kind: Kind) -> bool

@@ -73,17 +73,6 @@ stays_gone old begun new out settled shows gone = λ up.
     let was = shows.was_open in
     (was, ((gone.undone up).0 ∙ shows.committed_is ∙ sym (settled was), (gone.undone up).1 ∙ shows.committed_is), gone.autocommit ∙ sym out)
 
--- ---- the version row
-
-pub one_meta_row : (meta_rows : List MetaRow) (meta_row : MetaRow) → find (is_meta_row (codes "popbox")) meta_rows ≡ Some meta_row → meta_row.value ≡ version → length meta_rows ≡ 1 → meta_rows ≡ our_meta_row ∷ []
-one_meta_row [] meta_row found value one = cc
-one_meta_row (x ∷ y ∷ more) meta_row found value one = absurd (omega (arith, one))
-one_meta_row (x ∷ []) meta_row found value one = at (is_meta_row (codes "popbox") x) refl found
-  where
-    at : (b : Bool) → is_meta_row (codes "popbox") x ≡ b → cond b (Some x) None ≡ Some meta_row → x ∷ [] ≡ our_meta_row ∷ []
-    at true e same = let is : x ≡ meta_row = cc in let name : x.name ≡ codes "popbox" = bytes_are x.name (codes "popbox") e in let v : x.value ≡ version = ap (λ (m : MetaRow). m.value) is ∙ value in rw (name, v) refl
-    at false e same = cc
-
 -- ---- a connection outside a transaction
 
 pub outside : (inside : Bool) → true ≡ not inside → inside ≡ false

@@ -11,7 +11,7 @@ use Rattle.mailsql.specs.Changes.{PutsMetaRow}
 use Rattle.mailsql.specs.Uses.{marked}
 use Rattle.mailsql.specs.Rows.{Rows, IsOld, IsOldSchema, HasOldTables, rows_in, is_carried, completed, is_meta_row, IsKept, IsReady, IsBegunOn, IsHalted, GoesOn, Changes, MayLeave}
 use Rattle.sqlvault.specs.Keeps.{Keeps, our_meta_row, version}
-use Rattle.sqlvault.specs.Carries.{HasOlder, IsOfNoVersion, IsNoOlder, JudgesOlder, IsOfRows, IsOlder, IsCarried, IsUncarried, KeepsOlder, IsStoreOf, LeavesEither, brought, brought_in, old_meta_row, old_version}
+use Rattle.sqlvault.specs.Carries.{HasOlder, IsOfNoVersion, JudgesOlder, IsOfRows, IsOlder, IsCarried, IsUncarried, KeepsOlder, IsStoreOf, LeavesEither, brought, brought_in, old_meta_row, old_version}
 use Rattle.sqlvault.specs.Moves.{MovesOld, body_head, body_sheets}
 use Rattle.sqlvault.specs.Refusals.{is_memory, fault_of}
 use Rattle.sqlvault.specs.Adopts.{StaysAs, IsAdoptFault, IsBlank, LeavesEmptyToo}
@@ -212,68 +212,6 @@ order_uncarried carried s is other = (of_version carried (rows_in s.now.trees) i
     one_version false false e = refl
     one_version true false e = let m : old_meta_row true ≡ old_meta_row false = cc in let v : pos 1 ≡ pos 2 = ap (λ (x : MetaRow). x.value) m in cc
     one_version false true e = let m : old_meta_row false ≡ old_meta_row true = cc in let v : pos 2 ≡ pos 1 = ap (λ (x : MetaRow). x.value) m in cc
-
--- ---- the version row of an older version
-
-pub one_older : (carried : Bool) (meta_rows : List MetaRow) (meta_row : MetaRow) → find (is_meta_row (codes "popbox")) meta_rows ≡ Some meta_row → meta_row.value ≡ old_version carried → length meta_rows ≡ 1 → meta_rows ≡ old_meta_row carried ∷ []
-one_older carried [] meta_row found value one = cc
-one_older carried (x ∷ y ∷ more) meta_row found value one = absurd (omega (arith, one))
-one_older carried (x ∷ []) meta_row found value one = at (is_meta_row (codes "popbox") x) refl found
-  where
-    at : (b : Bool) → is_meta_row (codes "popbox") x ≡ b → cond b (Some x) None ≡ Some meta_row → x ∷ [] ≡ old_meta_row carried ∷ []
-    at true e same = let is : x ≡ meta_row = cc in let name : x.name ≡ codes "popbox" = bytes_are x.name (codes "popbox") e in let v : x.value ≡ old_version carried = ap (λ (m : MetaRow). m.value) is ∙ value in rw (name, v) refl
-    at false e same = cc
-
--- a version row that was found is the one that is of no version, or that is there alone
-found_same : (rows : Rows) (meta_row other : MetaRow) → find (is_meta_row (codes "popbox")) rows.meta_rows ≡ Some meta_row → find (is_meta_row (codes "popbox")) rows.meta_rows ≡ Some other → meta_row.value ≡ other.value
-found_same rows meta_row other a b = let e : Some meta_row ≡ Some other = sym a ∙ b in let m : meta_row ≡ other = cc in ap (λ (x : MetaRow). x.value) m
-
-found_alone : (carried : Bool) (rows : Rows) (meta_row : MetaRow) → find (is_meta_row (codes "popbox")) rows.meta_rows ≡ Some meta_row → rows.meta_rows ≡ old_meta_row carried ∷ [] → meta_row.value ≡ old_version carried
-found_alone carried rows meta_row a is = found_same rows meta_row (old_meta_row carried) a (ap (find (is_meta_row (codes "popbox"))) is)
-
-not_both : (carried : Bool) → version ≢ old_version carried
-not_both true e = cc
-not_both false e = cc
-
--- it is of no older version
-pub judged_no_older : (rows : Rows) (meta_row : MetaRow) (f : VaultFault) → find (is_meta_row (codes "popbox")) rows.meta_rows ≡ Some meta_row → IsNoOlder meta_row.value f → JudgesOlder rows f
-judged_no_older rows meta_row fault.NotOurs found is = (
-  λ none. none.3 (found_same rows none.0 meta_row none.1 found ∙ is),
-  λ carried alone. not_both carried (sym is ∙ found_alone carried rows meta_row found alone),
-)
-judged_no_older rows meta_row fault.OldVersion found is = (meta_row, found, is.0, is.1)
-judged_no_older rows meta_row fault.Store found is = absurd is
-judged_no_older rows meta_row fault.NoMemory found is = absurd is
-judged_no_older rows meta_row fault.NoMaildrop found is = absurd is
-judged_no_older rows meta_row fault.Conflict found is = absurd is
-judged_no_older rows meta_row fault.Full found is = absurd is
-judged_no_older rows meta_row fault.NotEmpty found is = absurd is
-judged_no_older rows meta_row fault.NoClerk found is = absurd is
-
-pub no_older_kinds : (value : ℤ) (f : VaultFault) → IsNoOlder value f → IsAdoptFault f
-no_older_kinds value fault.NotOurs is = tt
-no_older_kinds value fault.OldVersion is = tt
-no_older_kinds value fault.Store is = tt
-no_older_kinds value fault.NoMemory is = tt
-no_older_kinds value fault.NoMaildrop is = absurd is
-no_older_kinds value fault.Conflict is = absurd is
-no_older_kinds value fault.Full is = absurd is
-no_older_kinds value fault.NotEmpty is = absurd is
-no_older_kinds value fault.NoClerk is = absurd is
-
--- there is none
-pub judged_none : (rows : Rows) → find (is_meta_row (codes "popbox")) rows.meta_rows ≡ None → JudgesOlder rows fault.NotOurs
-judged_none rows none = (
-  λ other. let e : None ≡ Some other.0 = sym none ∙ other.1 in cc,
-  λ carried alone. let e : None ≡ Some (old_meta_row carried) = sym none ∙ ap (find (is_meta_row (codes "popbox"))) alone in cc,
-)
-
--- it is there, with others
-pub judged_more : (carried : Bool) (rows : Rows) (meta_row : MetaRow) → find (is_meta_row (codes "popbox")) rows.meta_rows ≡ Some meta_row → meta_row.value ≡ old_version carried → length rows.meta_rows ≢ 1 → JudgesOlder rows fault.NotOurs
-judged_more carried rows meta_row found value more = (
-  λ none. none.2 carried (found_same rows none.0 meta_row none.1 found ∙ value),
-  λ other alone. more (ap length alone),
-)
 
 -- ---- behind queries that changed nothing
 

@@ -91,12 +91,6 @@ IsOfRows NoMemory = ⊤
 IsOfRows NotOurs = ⊤
 IsOfRows _ = ⊥
 
--- why a version row's number is no older version's: it is ours, or unknown
-abbrev pub IsNoOlder : ℤ → VaultFault → Type 0
-IsNoOlder value NotOurs = value ≡ version
-IsNoOlder value OldVersion = ((carried : Bool) → value ≢ old_version carried) × (value ≢ version)
-IsNoOlder value _ = ⊥
-
 -- what an older store's rows of `meta` are where the check of the version answers this fault
 abbrev pub JudgesOlder : Rows → VaultFault → Type 0
 JudgesOlder rows Store = ⊤

@@ -20,3 +20,4 @@ pub mod Carries
 pub mod Older
 pub mod Again
 pub mod Pages
+pub mod Versions

@@ -22,21 +22,19 @@ use crate::carry::carry_marked;
 use crate::part::are_rows_sound;
 use crate::refusal::Refusal;
 use crate::transaction::{begin, end, undo};
+use crate::version::{NEWEST, find_version, ours};
 use mailsql::schema::{has_columns, has_meta_rows, is_taken};
 use mailsql::{meta, tables};
 use sqlite::{Alter, Connection, Error};
 use std::alloc::Global;
 use vault::VaultFault;
 
-/// The version of the layout of the tables.
-pub(crate) const VERSION: i64 = 3;
-
 /// Makes the tables and the version row, inside a transaction.
 fn fill<S: Alter>(conn: &mut Connection<S>) -> Result<(), Error>
     ensures { Builds S.Store conn.old conn.new IsBegun (λ _ rows. rows ≡ marked version) result }
 {
     match tables::create_tables(conn) {
-        Ok(()) => meta::add_meta_row(conn, b"popbox", VERSION),
+        Ok(()) => meta::add_meta_row(conn, b"popbox", NEWEST),
         Err(error) => Err(error),
     }
 }
@@ -75,23 +73,11 @@ fn judge_meta_rows<S: Alter>(alloc: Global, conn: &mut Connection<S>) -> Result<
         → IsOfUnknownVersion (state S.Store conn.old) → IsAllCommitted (state S.Store conn.old)
         → IsVersionRefused (state S.Store conn.old) (state S.Store conn.new) (answer_of result) }
 {
-    match meta::find_meta_row(alloc, conn, b"popbox") {
-        Ok(Some(meta_row)) => {
-            if meta_row.value != VERSION {
-                return Err(Refusal::Answered(VaultFault::OldVersion));
-            }
-        }
-        Ok(None) => return Err(Refusal::Answered(VaultFault::NotOurs)),
-        Err(error) => return Err(Refusal::Met(error)),
-    }
-    match meta::all_meta_rows(alloc, conn) {
-        Ok(meta_rows) => {
-            if meta_rows.len() == 1 {
-                Ok(())
-            } else {
-                Err(Refusal::Answered(VaultFault::NotOurs))
-            }
-        }
+    match find_version(alloc, conn) {
+        Ok(version) => match ours(version) {
+            Ok(()) => Ok(()),
+            Err(fault) => Err(Refusal::Answered(fault)),
+        },
         Err(error) => Err(Refusal::Met(error)),
     }
 }

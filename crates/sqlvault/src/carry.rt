@@ -1,12 +1,11 @@
 //! Carrying an older store over.
-ghost use Rattle.std.specs.Prelude.{◌≡◌, true, false, Bool, IfOk, IfErr};
+ghost use Rattle.std.specs.Prelude.{◌≡◌, true, false, Bool, IfErr};
 ghost use Rattle.sqlite.specs.Held.{state};
 ghost use Rattle.sqlite.specs.State.{HasCleanDisk};
 ghost use Rattle.mailsql.specs.Tables.{old_schema};
 ghost use Rattle.mailsql.specs.Rows.{HasOldTables, rows_in};
 ghost use Rattle.sqlvault.specs.Adopts.{IsAdoptFault, IsOfUnknownVersion, IsVersionRefused};
-ghost use Rattle.sqlvault.specs.Carries.{HasOlder, IsOlder, IsOfRows, IsNoOlder, IsOfOlderVersion};
-ghost use Rattle.sqlvault.specs.Carries.{old_version};
+ghost use Rattle.sqlvault.specs.Carries.{HasOlder, IsOlder, IsOfRows, IsOfOlderVersion};
 ghost use Rattle.sqlvault.specs.Moves.{Builds};
 ghost use Rattle.sqlvault.specs.Older.{IsAllCommitted, IsBegunOlder, Brings};
 ghost use Rattle.sqlvault.specs.Older.{AsksOlder, CarriesOlder};
@@ -14,22 +13,16 @@ ghost use Rattle.sqlvault.specs.Refusals.{answer_of, told};
 ghost use Rattle.sqlvault.specs.Stands.{WasClean};
 ghost use Rattle.sqlvault.specs.Transactions.{Undoes};
 
-use crate::adopt::VERSION;
 use crate::moves::move_old;
 use crate::part::are_rows_sound;
 use crate::refusal::Refusal;
 use crate::transaction::{begin, end, roll_back, undo};
+use crate::version::{NEWEST, find_version, older};
 use mailsql::schema::{has_first_columns, has_second_columns};
 use mailsql::{meta, tables};
 use sqlite::{Alter, Connection, Error};
 use std::alloc::Global;
 use vault::VaultFault;
-
-/// Version 1 of the layout: one table has the messages and their texts.
-const FIRST: i64 = 1;
-
-/// Version 2 of the layout: there are no groups.
-const SECOND: i64 = 2;
 
 /// Brings a store of version 1 (`is_first`) or 2 (not `is_first`) to our version, inside a
 /// transaction: makes the tables that it lacks, moves the messages of version 1, and puts our
@@ -42,7 +35,7 @@ fn bring<S: Alter>(alloc: Global, conn: &mut Connection<S>, is_first: bool) -> R
         Err(error) => return Err(error),
     }
     match move_old(alloc, conn, is_first) {
-        Ok(()) => meta::put_meta_row(conn, b"popbox", VERSION),
+        Ok(()) => meta::put_meta_row(conn, b"popbox", NEWEST),
         Err(error) => Err(error),
     }
 }
@@ -91,23 +84,6 @@ fn unsound<S: Alter>(conn: &mut Connection<S>) -> Refusal
     }
 }
 
-/// True for version 1, false for version 2. `NotOurs` for our version, `OldVersion` for any other.
-fn version_of(value: i64) -> Result<bool, VaultFault>
-    ensures older { IfOk result (λ is_first. value ≡ old_version is_first) }
-    ensures fault { IfErr result (IsNoOlder value) }
-{
-    if value == FIRST {
-        return Ok(true);
-    }
-    if value == SECOND {
-        return Ok(false);
-    }
-    if value == VERSION {
-        return Err(VaultFault::NotOurs);
-    }
-    Err(VaultFault::OldVersion)
-}
-
 /// The older version of the store's one version row: true for 1, false for 2. `OldVersion` where
 /// our version row has an unknown version; `NotOurs` where it has our version, is missing or isn't
 /// alone.
@@ -120,22 +96,11 @@ fn find_older<S: Alter>(alloc: Global, conn: &mut Connection<S>) -> Result<bool,
         → IsOfUnknownVersion (state S.Store conn.old) → IsAllCommitted (state S.Store conn.old)
         → IsVersionRefused (state S.Store conn.old) (state S.Store conn.new) (answer_of result) }
 {
-    let is_first = match meta::find_meta_row(alloc, conn, b"popbox") {
-        Ok(Some(meta_row)) => match version_of(meta_row.value) {
-            Ok(is_first) => is_first,
-            Err(fault) => return Err(Refusal::Answered(fault)),
+    match find_version(alloc, conn) {
+        Ok(version) => match older(version) {
+            Ok(is_first) => Ok(is_first),
+            Err(fault) => Err(Refusal::Answered(fault)),
         },
-        Ok(None) => return Err(Refusal::Answered(VaultFault::NotOurs)),
-        Err(error) => return Err(Refusal::Met(error)),
-    };
-    match meta::all_meta_rows(alloc, conn) {
-        Ok(meta_rows) => {
-            if meta_rows.len() == 1 {
-                Ok(is_first)
-            } else {
-                Err(Refusal::Answered(VaultFault::NotOurs))
-            }
-        }
         Err(error) => Err(Refusal::Met(error)),
     }
 }

@@ -23,8 +23,10 @@ mod stop_laws;
 mod totals;
 mod transaction;
 pub mod uses;
+mod version;
 
 pub use part::{Part, unsound_part};
 pub use refusal::Refusal;
 pub use sql_vault::SqlVault;
 pub use stop_laws::adopt_again;
+pub use version::{NEWEST, OLDEST, StoreVersion, find_version};

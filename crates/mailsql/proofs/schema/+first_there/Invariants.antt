@@ -1,0 +1,6 @@
+-- what is left
+use Rattle.std.proofs.Common.{length}
+use Rattle.mailsql.proofs.schema.+first_there.Given as goal
+
+abbrev pub decreases-first_there : goal.decreases-first_there
+decreases-first_there l = length l.found.now
