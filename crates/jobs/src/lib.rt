@@ -10,8 +10,6 @@ mod resting;
 mod running;
 mod sitting;
 mod talking;
-#[cfg(test)]
-mod tests;
 mod twice;
 mod whole_laws;
 

@@ -6,8 +6,6 @@
 #![tactic(auto)]
 
 mod line;
-#[cfg(test)]
-mod tests;
 mod wire;
 
 pub use line::ProxyLine;

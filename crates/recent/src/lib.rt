@@ -4,8 +4,6 @@
 
 mod kept;
 mod recent;
-#[cfg(test)]
-mod tests;
 mod totals;
 
 pub use recent::Recent;

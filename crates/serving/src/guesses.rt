@@ -56,7 +56,7 @@ fn canonical_origin(address: &IpAddr) -> u64
 /// The number by which an address counts: that of its 32 bits for an IPv4 address, also where it is
 /// written as an IPv6 one; for another IPv6 address that of its first 64 bits, since one client has
 /// all that begin with them.
-pub(crate) fn origin_of(address: &IpAddr) -> u64
+pub fn origin_of(address: &IpAddr) -> u64
     ensures four { MatchIp address.now (λ a. result ≡ ipv4_bits a) (λ _. ⊤) }
     ensures six { MatchIp address.now (λ _. ⊤)
         (λ a. (c : declared.IpAddr) × IsCanonicalOf a c × (result ≡ origin_by c)) }
@@ -88,7 +88,7 @@ fn first_of(refusals: &[Refusal], origin: u64) -> Option<&Refusal>
 
 /// The last refusal of each origin, the oldest first, of 1,024 at most.
 #[derive(Drop)]
-pub(crate) struct Guesses {
+pub struct Guesses {
     /// Logins are kept back behind a refusal.
     pub(crate) are_slow: bool,
     pub(crate) refusals: ArrayVec<Refusal, MOST_ORIGINS>,
@@ -96,7 +96,7 @@ pub(crate) struct Guesses {
 
 impl Guesses {
     /// None was refused, and none is kept back.
-    pub(crate) fn new() -> Guesses
+    pub fn new() -> Guesses
         ensures slow { result.are_slow ≡ false }
         ensures refusals { result.refusals.items ≡ [] }
     {
@@ -114,7 +114,7 @@ impl Guesses {
     }
 
     /// Whether the next login of an origin is kept back at this moment.
-    pub(crate) fn hold_back(&self, origin: u64, now: u64) -> bool
+    pub fn hold_back(&self, origin: u64, now: u64) -> bool
         ensures { result ≡ holds_back now (refusal_of origin self.now.refusals.items) }
     {
         match self.last(origin) {
@@ -143,7 +143,7 @@ impl Guesses {
     }
 
     /// A login of an origin was refused at this moment.
-    pub(crate) fn refuse(&mut self, origin: u64, now: u64)
+    pub fn refuse(&mut self, origin: u64, now: u64)
         ensures slow { self.new.are_slow ≡ self.old.are_slow }
         ensures refusals { self.new.refusals.items
             ≡ with_room (without origin self.old.refusals.items)

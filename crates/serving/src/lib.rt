@@ -31,8 +31,6 @@ mod script_wire;
 mod server;
 mod sockets;
 mod spool;
-#[cfg(test)]
-mod tests;
 mod turn;
 mod wire;
 
@@ -40,6 +38,7 @@ pub use counts::Counts;
 pub use file_name::{FileName, names_read_back};
 pub use file_notes::FileNotes;
 pub use folder_spool::FolderSpool;
+pub use guesses::{Guesses, origin_of};
 pub use hearings::Hearings;
 pub use links::{Links, MOST_LINKS, Seat};
 pub use listener::{Asked, Listener, NoListener};

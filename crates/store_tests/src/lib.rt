@@ -5,6 +5,10 @@
 #[cfg(test)]
 mod older_stores;
 #[cfg(test)]
+mod opened_twice;
+#[cfg(test)]
+mod recents;
+#[cfg(test)]
 mod refusals;
 #[cfg(test)]
 mod stopping;

@@ -8,6 +8,8 @@ mod folders;
 #[cfg(test)]
 mod loopback;
 #[cfg(test)]
+mod proxied;
+#[cfg(test)]
 mod requests;
 #[cfg(test)]
 mod requests_compared;

@@ -1,8 +1,7 @@
 //! Guesses that wait: a login is kept back behind one that was refused.
 
-use super::scenes::{Act, Settings, play_set};
-use crate::guesses::{Guesses, origin_of};
-use crate::script_spool::ScriptSpool;
+use crate::scenes::{Act, Settings, play_set};
+use serving::{Guesses, ScriptSpool, origin_of};
 use std::alloc::Global;
 use std::net::{IpAddr, Ipv4Addr, Ipv6Addr};
 use std::test::Fail;
@@ -154,24 +153,23 @@ fn fast_ones_do_not_wait(rt: HostRuntime) -> Result<(), Fail> {
     plays(rt.alloc(), &FAST, &[], false, &[four(1)])
 }
 
-/// Guesses of so many origins: how many are known, and whether the first and the last are kept
-/// back.
-fn many(count: u64) -> (usize, bool, bool) {
+/// Guesses of so many origins: whether the first and the last are kept back.
+fn many(count: u64) -> (bool, bool) {
     let mut guesses = Guesses::new();
     for origin in 0..count {
         guesses.refuse(origin, 100);
     }
     let first = guesses.hold_back(0, 100);
     let last = guesses.hold_back(count.saturating_sub(1), 100);
-    (guesses.refusals.len(), first, last)
+    (first, last)
 }
 
 #[test]
 fn the_oldest_goes(_rt: HostRuntime) -> Result<(), Fail> {
-    if many(1024) != (1024, true, true) {
+    if many(1024) != (true, true) {
         return Err(Fail::new("1,024 have room"));
     }
-    if many(1025) != (1024, false, true) {
+    if many(1025) != (false, true) {
         return Err(Fail::new("of 1,025 the oldest goes"));
     }
     Ok(())

@@ -1,7 +1,7 @@
 //! Clients that don't log in within the seconds that they are given.
 
-use super::scenes::{Act, Settings, play_set};
-use crate::script_spool::ScriptSpool;
+use crate::scenes::{Act, Settings, play_set};
+use serving::ScriptSpool;
 use std::alloc::{AllocError, Global};
 use std::test::Fail;
 

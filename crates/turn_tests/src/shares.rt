@@ -1,14 +1,10 @@
 //! How much of a long reply one turn writes: all of it on a link that is alone, and a share beside
 //! another; and a share of a long response.
 
-use super::two_clerks::{name, office_of_two};
-use crate::links::Links;
-use crate::listener::NoListener;
-use crate::script_spool::ScriptSpool;
-use crate::script_wire::ScriptWire;
-use crate::turn::{begin, serve_turn};
+use crate::two_clerks::{name, office_of_two};
 use creds::DepositId;
 use office::{AdminCommand, Event, Office};
+use serving::{Links, NoListener, ScriptSpool, ScriptWire, begin, serve_turn};
 use std::alloc::Global;
 use std::test::Fail;
 use vault::PlainVault;

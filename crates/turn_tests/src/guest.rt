@@ -1,11 +1,10 @@
 //! What one link must be told, reckoned by an office that is given each line, and each request,
 //! whole and only when it may act, and of which all is taken at once.
-use super::heard::Heard;
-use super::stream::{Stream, front, line_len};
-use crate::listener::Listener;
-use crate::wire::Port;
+use crate::heard::Heard;
+use crate::stream::{Stream, front, line_len};
 use adminhttp::{Got, Request, response};
 use office::{Account, Event, Office, Outcome};
+use serving::{Listener, Port};
 use std::alloc::{AllocError, Global};
 use vault::PlainVault;
 

@@ -1,6 +1,6 @@
 //! What no clause says: that a store in memory enough is opened twice.
-use crate::open_twice;
 use creds::Name;
+use jobs::open_twice;
 use office::{AdminCommand, Answer, Event, Limits, Outcome};
 use std::test::Fail;
 

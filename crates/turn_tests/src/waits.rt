@@ -1,7 +1,7 @@
 //! Logins that wait for a lock: bob comes to a maildrop while ann has it.
 
-use super::scenes::{Act, Settings, play_set};
-use crate::script_spool::ScriptSpool;
+use crate::scenes::{Act, Settings, play_set};
+use serving::ScriptSpool;
 use std::alloc::Global;
 use std::test::Fail;
 

@@ -1,5 +1,5 @@
 //! Lines of proxies, and links behind them.
-use crate::{ProxiedWire, ProxyLine};
+use proxy::{ProxiedWire, ProxyLine};
 use serving::{Io, Link, Port, ScriptWire, Wire};
 use std::alloc::{AllocError, Global};
 use std::io;

@@ -1,5 +1,5 @@
 //! What clients and the administration send by chance.
-use super::chance::Chance;
+use crate::chance::Chance;
 use std::alloc::{AllocError, Global};
 
 /// The maildrops.

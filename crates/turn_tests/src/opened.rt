@@ -1,12 +1,8 @@
 //! The listener hears which connection each link got.
 
-use super::two_clerks::office_of_two;
-use crate::listener::{Asked, Listener};
-use crate::script_spool::ScriptSpool;
-use crate::script_wire::ScriptWire;
-use crate::turn::{begin, serve_turn};
-use crate::wire::Link;
+use crate::two_clerks::office_of_two;
 use office::Account;
+use serving::{Asked, Link, Listener, ScriptSpool, ScriptWire, begin, serve_turn};
 use std::test::Fail;
 
 /// The last link that was opened, its connection, and how many there were.

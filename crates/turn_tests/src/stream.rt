@@ -1,5 +1,4 @@
 //! Octets that come one behind the other, and go from the first on.
-use crate::octets::rest_of;
 use std::alloc::{AllocError, Global};
 
 /// Octets, of which the first ones are gone.
@@ -20,7 +19,8 @@ impl Stream {
 
     /// Those that came and are not gone.
     pub fn rest(&self) -> &[u8] {
-        rest_of(self.octets.as_slice(), self.gone)
+        let octets = self.octets.as_slice();
+        &octets[self.gone.min(octets.len())..]
     }
 
     /// Whether all are gone.

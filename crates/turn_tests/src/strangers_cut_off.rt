@@ -4,10 +4,8 @@
 //! connection is ready is read once, and what is owed before and behind that is written as long as
 //! it is taken.
 
-use super::scenes::{Act, Scene, Stage, cut_by, cut_off, staged, turns};
-use crate::folder_spool::FolderSpool;
-use crate::script_links::Stop;
-use crate::script_spool::ScriptSpool;
+use crate::scenes::{Act, Scene, Stage, cut_by, cut_off, staged, turns};
+use serving::{FolderSpool, ScriptSpool, Stop};
 use std::alloc::{AllocError, Global};
 use std::fs;
 use std::test::Fail;

@@ -1,7 +1,7 @@
 //! A reply is written in the turn that read its line.
 
-use super::scenes::{Act, Settings, play_set};
-use crate::script_spool::ScriptSpool;
+use crate::scenes::{Act, Settings, play_set};
+use serving::ScriptSpool;
 use std::alloc::Global;
 use std::test::Fail;
 

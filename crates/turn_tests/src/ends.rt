@@ -1,12 +1,8 @@
 //! Why a connection ended, as a server's listener hears it: of one that was idle, and of one that
 //! took too long to log in.
-use super::scenes::staged;
-use crate::listener::{Asked, Listener};
-use crate::script_links::Stop;
-use crate::script_spool::ScriptSpool;
-use crate::turn::serve_turn;
-use crate::wire::Link;
+use crate::scenes::staged;
 use office::{Account, End};
+use serving::{Asked, Link, Listener, ScriptSpool, Stop, serve_turn};
 use std::alloc::{AllocError, Global};
 use std::test::Fail;
 

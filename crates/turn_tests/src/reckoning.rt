@@ -1,8 +1,8 @@
 //! What must happen on all links, reckoned beside a server.
-use super::guest::Guest;
-use super::heard::Heard;
-use crate::wire::Port;
+use crate::guest::Guest;
+use crate::heard::Heard;
 use office::Office;
+use serving::Port;
 use std::alloc::{AllocError, Global};
 use vault::PlainVault;
 

@@ -1,7 +1,7 @@
 //! What no clause says: which calls are answered without the vault inside.
-use crate::recent::Recent;
 use creds::{DepositId, Name};
 use mailtext::canon;
+use recent::Recent;
 use std::alloc::Global;
 use std::test::Fail;
 use vault::{PlainVault, Refusing, Vault, VaultFault};

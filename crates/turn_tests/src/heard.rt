@@ -1,9 +1,8 @@
 //! What was judged, line by line: as a server's listener heard it, and as the office that reckons
 //! told it.
-use crate::listener::{Asked, Listener};
-use crate::wire::Link;
 use creds::LoginName;
 use office::{Account, Removal, Verdict, Way};
+use serving::{Asked, Link, Listener};
 use session::Removed;
 use std::alloc::{AllocError, Global};
 

@@ -1,16 +1,14 @@
 //! Turns over a wire by chance: clients and requests in pieces, that wait, end and break, beside a
 //! reckoning that is given whole lines.
-use super::chance::Chance;
-use super::heard::Heard;
-use super::random_wire::RandomWire;
-use super::reckoning::{Counts, Reckoning};
-use super::sent::{MAILDROPS, some_line, some_maildrop};
-use super::two_clerks::{name, office_of_two};
-use crate::links::Links;
-use crate::script_spool::ScriptSpool;
-use crate::turn::{begin, serve_turn};
+use crate::chance::Chance;
+use crate::heard::Heard;
+use crate::random_wire::RandomWire;
+use crate::reckoning::{Counts, Reckoning};
+use crate::sent::{MAILDROPS, some_line, some_maildrop};
+use crate::two_clerks::{name, office_of_two};
 use creds::DepositId;
 use office::{Answer, Event, Office, Outcome, read_number};
+use serving::{Links, ScriptSpool, begin, serve_turn};
 use std::alloc::{AllocError, Global};
 use std::fs;
 use std::test::Fail;

@@ -1,16 +1,10 @@
 //! Scenes over a wire in memory: who comes, what is sent and what each must be told; played as they
 //! stand, and with a fault in place of each read and write in turn.
 
-use super::two_clerks::{name, office_of_two};
-use crate::links::Links;
-use crate::listener::NoListener;
-use crate::script_links::Stop;
-use crate::script_wire::ScriptWire;
-use crate::spool::Spool;
-use crate::turn::{begin, serve_turn};
-use crate::wire::Port;
+use crate::two_clerks::{name, office_of_two};
 use creds::DepositId;
 use office::{Event, Office};
+use serving::{Links, NoListener, Port, ScriptWire, Spool, Stop, begin, serve_turn};
 use std::alloc::{AllocError, Global};
 use std::net::IpAddr;
 use std::test::Fail;

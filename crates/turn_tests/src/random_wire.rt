@@ -3,11 +3,11 @@
 ghost use Rattle.std.specs.Prelude.{◌≡◌, length};
 ghost use Rattle.serving.specs.Wires.{IsWithin};
 
-use super::chance::Chance;
-use super::reckoning::Reckoning;
-use super::sent::some_request;
-use super::stream::front;
-use crate::wire::{Io, Link, Port, Wire};
+use crate::chance::Chance;
+use crate::reckoning::Reckoning;
+use crate::sent::some_request;
+use crate::stream::front;
+use serving::{Io, Link, Port, Wire};
 use std::net::IpAddr;
 
 /// A wire by chance.
