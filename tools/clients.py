@@ -18,8 +18,9 @@ maildrop = "*"
 class = "*"
 actions = ["open", "read", "remove"]
 """
-# How many seconds a server's start may take, a reply be on its way, and a file lie in the spool.
-START, REPLY, SPOOL = 120, 90, 120
+# What ends a wait for a server that hangs, in seconds: for its start, for a reply, and for the spool.
+# A silent client is ended after 600, so a reply that comes then isn't waited for.
+START, REPLY, SPOOL = 600, 300, 600
 
 
 class Wrong(Exception):

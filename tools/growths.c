@@ -25,7 +25,7 @@ extern void *__libc_malloc(size_t size);
 extern void *__libc_realloc(void *block, size_t size);
 extern void *__libc_memalign(size_t align, size_t size);
 
-enum { SHOWN = 5, SECONDS = 60 };
+enum { SHOWN = 5, SECONDS = 600 };
 
 static int is_off = 1;
 static unsigned long grown, one_of = 1, first, growths, own, failed, shown;
