@@ -18,7 +18,7 @@ maildrop = "*"
 class = "*"
 actions = ["open", "read", "remove"]
 """
-# What ends a wait for a server that hangs, in seconds: for its start, for a reply, and for the spool.
+# What ends a wait for a server that hangs, in seconds: for its start, a reply, and the spool.
 # A silent client is ended after 600, so a reply that comes then isn't waited for.
 START, REPLY, SPOOL = 600, 300, 600
 
