@@ -23,6 +23,8 @@ import time
 # How many seconds a program's session may take from its start, and its end; and how long a program
 # is looked at behind its session: what it shows and writes then.
 SESSION, END, AFTER = 60, 15, 4
+# How many octets the relay reads at once, at most.
+PIECE = 65_536
 DAY = 86_400
 
 
@@ -48,10 +50,18 @@ def write(path, text):
 
 
 class Session:
-    """What passed in one connection: lines ("C", sent) and ("S", status line)."""
+    """What passed in one connection: lines ("C", sent) and ("S", status line); but not a proxy's
+    first line, which is no command of the program."""
 
     def __init__(self):
         self.lines, self.ended = [], threading.Event()
+
+    def note(self, who, line):
+        """Keeps a line, its end cut off. Gives it as text."""
+        text = line.rstrip(b"\r\n").decode("latin-1")
+        if who == "C" and not text.startswith("PROXY ") or text.startswith(("+OK", "-ERR")):
+            self.lines.append((who, text))
+        return text
 
     def sent(self, verb):
         """The lines that the program sent with this command."""
@@ -69,7 +79,8 @@ class Session:
 
 
 class Relay:
-    """Takes connections, hands what comes to the server and back, and keeps what was said."""
+    """Takes connections, hands what comes to the server and back in the pieces in which it came,
+    and keeps what was said."""
 
     def __init__(self, port):
         self.to, self.sessions, self.hold = port, [], lambda line: None
@@ -89,15 +100,19 @@ class Relay:
                     threading.Thread(target=self.pass_on, args=words, daemon=True).start()
 
     def pass_on(self, session, who, source, target):
-        """Hands each line on, until one side ends."""
-        with contextlib.suppress(OSError), source.makefile("rb") as lines:
-            for line in lines:
-                text = line.rstrip(b"\r\n").decode("latin-1")
-                if who == "C" or text.startswith(("+OK", "-ERR")):
-                    session.lines.append((who, text))
-                if who == "C":
-                    self.hold(text)
-                target.sendall(line)
+        """Hands each piece on, until one side ends. A piece in which lines of the program end is
+        held until `hold` is back from each."""
+        rest = b""
+        with contextlib.suppress(OSError):
+            while piece := source.recv(PIECE):
+                *lines, rest = (rest + piece).split(b"\n")
+                for line in lines:
+                    text = session.note(who, line)
+                    if who == "C":
+                        self.hold(text)
+                target.sendall(piece)
+        if rest:
+            session.note(who, rest)
         for it in (source, target):
             with contextlib.suppress(OSError):
                 it.shutdown(socket.SHUT_RDWR)
