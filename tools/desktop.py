@@ -80,10 +80,11 @@ class Session:
 
 class Relay:
     """Takes connections, hands what comes to the server and back in the pieces in which it came,
-    and keeps what was said."""
+    and keeps what was said. `first` is what the server is sent before."""
 
-    def __init__(self, port):
+    def __init__(self, port, first=b""):
         self.to, self.sessions, self.hold = port, [], lambda line: None
+        self.first = first
         self.listener = socket.create_server(("127.0.0.1", 0))
         self.port = self.listener.getsockname()[1]
         threading.Thread(target=self.accept, daemon=True).start()
@@ -93,6 +94,7 @@ class Relay:
             while True:
                 client, _ = self.listener.accept()
                 server = socket.create_connection(("127.0.0.1", self.to))
+                server.sendall(self.first)
                 session = Session()
                 self.sessions.append(session)
                 for who, ends in (("C", (client, server)), ("S", (server, client))):
@@ -184,16 +186,15 @@ class Screen:
         with os.fdopen(reads) as told:
             self.display = f":{told.readline().strip()}"
 
+    def do(self, *words):
+        """Has xdotool do this. Gives what it printed."""
+        how = {"env": {**os.environ, "DISPLAY": self.display}, "capture_output": True, "text": True}
+        return subprocess.run(["xdotool", *words], **how).stdout
+
     def titles(self):
         """The titles of all windows that are shown."""
-        env = {**os.environ, "DISPLAY": self.display}
-        search = ["xdotool", "search", "--onlyvisible", "--name", "."]
-        found = set()
-        how = {"env": env, "capture_output": True, "text": True}
-        for window in subprocess.run(search, **how).stdout.split():
-            asked = ["xdotool", "getwindowname", window]
-            found.add(subprocess.run(asked, **how).stdout.strip())
-        return found - {""}
+        windows = self.do("search", "--onlyvisible", "--name", ".").split()
+        return {self.do("getwindowname", it).strip() for it in windows} - {""}
 
     def end(self):
         end(self.run)
@@ -202,11 +203,13 @@ class Screen:
 
 class Program:
     """A mail program with one account, at a port of 127.0.0.1. `days` is after how many days it
-    removes a message from the server, and 0 means at once; `apop` and `tls` how it logs in."""
+    removes a message from the server, and 0 means at once; `apop` and `tls` how it logs in. It
+    keeps the password, unless `asks`: then it shows a box, into which `answer` writes."""
 
-    def __init__(self, screen, folder, port, user, password, days, apop=False, tls=None):
+    def __init__(self, screen, folder, port, user, password, days, apop=False, tls=None, asks=False):
         self.screen, self.home, self.port, self.tls = screen, folder, port, tls
         self.user, self.password, self.days, self.apop = user, password, days, apop
+        self.asks = asks
         self.titles, self.run = set(), None
         for it in ("run", "tmp"):
             os.makedirs(f"{folder}/{it}", mode=0o700)
@@ -255,6 +258,16 @@ class Program:
         """The titles that were shown but those of its ordinary windows."""
         titles = (it for it in self.titles if not re.fullmatch(self.ordinary, it))
         return sorted(it.replace(self.user, "USER") for it in titles)
+
+    def answer(self):
+        """Types the password into the box that is shown."""
+        (title,) = self.boxes()
+        title = title.replace("USER", self.user)
+        (window,) = self.screen.do("search", "--onlyvisible", "--name", title).split()
+        self.screen.do("windowfocus", "--sync", window)
+        time.sleep(1)
+        self.screen.do("type", "--delay", "100", self.password)
+        self.screen.do("key", "Return")
 
     def begin(self, relay):
         """Starts the program, which checks for mail. Gives what tells its session, once it has
@@ -385,6 +398,8 @@ class Thunderbird(Program):
 
     def logins(self):
         """What the file of passwords has."""
+        if self.asks:
+            return {"nextId": 1, "logins": [], "version": 3}
         user, password = logins_of(self.profile, self.user, self.password)
         origin, now = "mailbox://127.0.0.1", int(time.time() * 1000)
         login = {
@@ -575,7 +590,7 @@ class Evolution(Program):
             **{name: it for name, it in super().env().items() if not name.startswith("DBUS")},
             "GSETTINGS_BACKEND": "keyfile",
             "WEBKIT_DISABLE_SANDBOX_THIS_IS_DANGEROUS": "1",
-            "SECRET": self.password,
+            "SECRET": "" if self.asks else self.password,
         }
 
     def words(self):
@@ -651,7 +666,7 @@ prompt-check-if-default-mailer=false
 SESSION_OF_EVOLUTION = """
 echo "$DBUS_SESSION_BUS_ADDRESS" >"$HOME/bus"
 printf x | gnome-keyring-daemon --unlock --components=secrets >/dev/null
-printf %s "$SECRET" | secret-tool store --label=pop e-source-uid pop \\
+[ -z "$SECRET" ] || printf %s "$SECRET" | secret-tool store --label=pop e-source-uid pop \\
     eds-origin evolution-data-server
 evolution --component=mail
 """
