@@ -206,7 +206,9 @@ class Program:
     removes a message from the server, and 0 means at once; `apop` and `tls` how it logs in. It
     keeps the password, unless `asks`: then it shows a box, into which `answer` writes."""
 
-    def __init__(self, screen, folder, port, user, password, days, apop=False, tls=None, asks=False):
+    def __init__(
+        self, screen, folder, port, user, password, days, apop=False, tls=None, asks=False
+    ):
         self.screen, self.home, self.port, self.tls = screen, folder, port, tls
         self.user, self.password, self.days, self.apop = user, password, days, apop
         self.asks = asks
