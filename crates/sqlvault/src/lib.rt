@@ -27,6 +27,6 @@ mod version;
 
 pub use part::{Part, unsound_part};
 pub use refusal::Refusal;
-pub use sql_vault::SqlVault;
+pub use sql_vault::{SqlVault, let_go};
 pub use stop_laws::adopt_again;
 pub use version::{NEWEST, OLDEST, StoreVersion, find_version};

@@ -15,7 +15,8 @@ use crate::{clerks, deposit, mail, maildrops, pages, rules, totals};
 use creds::{Credential, DepositId, Name};
 use mailtext::MailText;
 use policy::Policy;
-use sqlite::{Alter, Connection, Error, ErrorCode, FileFrom, FileStore, MemStore, Start};
+use sqlite::{Alter, Connection, Error, ErrorCode, FileFrom, FileStore, Files, MemStore, Start};
+use sqlite_disk::Disk;
 use std::alloc::Global;
 use std::marker::Model;
 use vault::{Deposited, Head, MessageKey, Total, Vault, VaultFault};
@@ -135,11 +136,55 @@ fn take<S: Alter + Drop>(alloc: Global, conn: Connection<S>) -> Result<SqlVault<
     }
 }
 
+/// Lets a connection to two files go, and the files with it, as dropping it does. Nothing is
+/// written. A crate that drops one itself proves again how each of its parts is dropped.
+pub fn let_go<D: Disk + Drop>(conn: Connection<FileStore<D>>) {
+    let _gone = conn;
+}
+
 /// Why an opening was refused, as the vault's fault. Drops what came with the error.
 fn unopened<T: Drop>(refused: (Error, T)) -> VaultFault
     ensures { result ≡ open_fault refused.0 }
 {
     open_fault(&refused.0)
+}
+
+impl<D: Disk + Drop> SqlVault<FileStore<D>> {
+    ghost use Rattle.sqlite_wal.specs.Reads.{AreClean};
+    ghost use Rattle.sqlite.specs.Closing.{IsCopied};
+    ghost use Rattle.sqlite.specs.Files.{file_state};
+    ghost use Rattle.sqlite.specs.State.{IsLive};
+
+    /// Adopts a connection to two files, as [`SqlVault::adopt`] does. Where it is refused, it is
+    /// dropped, and the files with it, as [`let_go`] does.
+    pub fn adopt_files(
+        alloc: Global,
+        conn: Connection<FileStore<D>>,
+    ) -> Result<SqlVault<FileStore<D>>, VaultFault>
+        ensures adopted { IfOk result (λ vault. HasCleanDisk (file_state vault.conn)
+            → HasCleanDisk (file_state conn) × (IsKnown (file_state conn)
+            → IsAdopted (file_state conn) (file_state vault.conn))) }
+        ensures kinds { IfErr result IsAdoptFault }
+        ensures uncounted { IfOk result (λ vault. vault.faults ≡ 0) }
+    {
+        take(alloc, conn)
+    }
+
+    /// Closes the store, as `close_files` of `sqlite` does its connection. It gives the files back
+    /// beside an error too: nothing is lost then, but the next opening has the log to read.
+    pub fn close_files(self) -> Result<Files<D>, (Error, Files<D>)>
+        ensures live { IsLive (file_state self.conn) }
+        ensures copied { IfOk result (λ files. AreClean D.Disk files.log files.db
+            → IsCopied self.conn files) }
+    {
+        let conn = self.conn;
+        // It tells the proof that a database that is open lists its tables.
+        let _schema = conn.schema();
+        match conn.close_files() {
+            Ok(files) => Ok(files),
+            Err((error, store)) => Err((error, store.close())),
+        }
+    }
 }
 
 impl<S: Alter> SqlVault<S> {
