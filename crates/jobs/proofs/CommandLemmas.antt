@@ -1,18 +1,18 @@
 -- What the commands of the program did, by what they say of the store that they left.
-use Rattle.std.proofs.Common.{◌≡◌, ◌≤◌, ◌⊎◌, ℕ, Bool, zero, suc, inl, inr, refl, sym, ◌∙◌, ap, subst, arith, List, [], ◌∷◌, Option, Result, Ok, Err, map, true}
+use Rattle.std.proofs.Common.{◌≡◌, ◌≤◌, ◌⊎◌, ℕ, Bool, zero, suc, inl, inr, refl, sym, ◌∙◌, ap, arith, List, [], ◌∷◌, Option, Result, Ok, Err, map, true}
 use Rattle.std.specs.Io.KnownBytes.{IsAtEnd}
 use Rattle.creds.specs.Names.{by_name}
 use Rattle.vault.specs.declared.answer.Total.{Total}
 use Rattle.vault.specs.declared.fault.VaultFault.{VaultFault}
 use Rattle.vault.specs.declared.fault.VaultFault.TheVariants as fault
 use Rattle.vault.specs.Calls.{has_grown, seen_as, IsAnswer}
-use Rattle.vault.specs.Changes.{Contents, records_of, totals, total_in}
+use Rattle.vault.specs.Changes.{Contents, totals, total_in}
 use Rattle.vault.specs.Records.{Records, Agree, in_maildrop}
 use Rattle.office.specs.Events.{Trace}
 use Rattle.office.specs.Stands.{Keeps}
 use Rattle.converse.specs.Script.{ScriptLine}
 use Rattle.converse.specs.Played.{HasRun, HasRunInPart}
-use Rattle.converse.specs.Runs.{HasTalked, HasStopped, HasBroken}
+use Rattle.converse.specs.Runs.{HasTalked, HasStopped}
 use Rattle.converse.specs.Streams.{Reading, Writing, Reads, Writes, reads_failed, writes_failed}
 use Rattle.jobs.specs.Commands.{AreLinesOf, HasReplayed, HasConversed, IsLook}
 

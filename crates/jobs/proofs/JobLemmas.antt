@@ -1,5 +1,5 @@
 -- What a store keeps, from its opening over a job to its closing.
-use Rattle.std.proofs.Common.{◌≡◌, ◌∙◌, ℕ, Bool, true, false, Result, Ok, Err, subst}
+use Rattle.std.proofs.Common.{◌≡◌, ◌∙◌, inl, refl, [], ℕ, Bool, true, false, Result, Ok, Err, subst}
 use Rattle.std.specs.Prelude.{◌&&◌, IfOk, if◌then◌else◌, is_ok}
 use Rattle.sqlite_disk.specs.declared.Disk.{Ghosts}
 use Rattle.sqlite_disk.specs.declared.Files.{Files}
@@ -11,13 +11,14 @@ use Rattle.sqlite_store.specs.declared.store.FileStore.{FileStore}
 use Rattle.sqlite.specs.declared.error.Error.{Error}
 use Rattle.sqlite.specs.Files.{file_state, image_of}
 use Rattle.sqlite.specs.Held.{Held}
-use Rattle.sqlite.specs.State.{HasCleanDisk}
+use Rattle.sqlite.specs.State.{State, HasCleanDisk}
 use Rattle.vault.specs.declared.fault.VaultFault.{VaultFault}
 use Rattle.vault.specs.Calls.{IsDone}
-use Rattle.vault.specs.Changes.{Contents, records_of}
+use Rattle.vault.specs.Changes.{Contents}
 use Rattle.vault.specs.Plain.{no_contents}
 use Rattle.office.specs.Events.{Trace}
-use Rattle.office.specs.Stands.{Keeps, begun}
+use Rattle.office.specs.Laws.{IsNewOrBegun}
+use Rattle.office.specs.Stands.{Keeps}
 use Rattle.jobs.specs.Resting.{Rests, IsUnmade}
 use Rattle.sqlvault.specs.Stands.{Holds}
 use Rattle.jobs.specs.Jobs.{Leaves}
@@ -26,6 +27,21 @@ use Rattle.jobs.specs.Sittings.{unused}
 -- what one store holds another holds, so it keeps the same traces
 pub keeps_on : (H G : Contents → Type 0) (T : Trace) → ((c : Contents) → H c → G c) → Keeps H T → Keeps G T
 keeps_on H G T on k = record { contents = k.contents; held = on k.contents k.held; agree = k.agree; sound = k.sound; formed = k.formed; began = k.began }
+
+none_begun : IsNewOrBegun []
+unfolding IsNewOrBegun
+none_begun = inl refl
+
+-- a store that holds nothing keeps the trace in which nothing was done
+pub unused_kept : (s : State) → Holds s no_contents → Keeps (Holds s) unused
+unused_kept s h = record {
+  contents = no_contents;
+  held = h;
+  agree = record { clerks = refl; credentials = λ name. refl; maildrops = refl; messages = λ d. refl; receipts = λ d id. refl; counts = λ d class. refl; policy = refl };
+  sound = h.sound.records;
+  formed = refl;
+  began = none_begun;
+}
 
 -- ---- disks that tell no lie
 
@@ -70,15 +86,14 @@ module _ {D : Type 0} {g : Ghosts D} (Tells : Type 0) (Does : Trace → Trace �
 
   pub new_left : (image : Image) (opened : Held (FileStore D g)) (n : ℕ) (r : Result (Files D) (Error × Files D))
       → (HasCleanDisk (file_state opened) → IsUnmade image → Holds (file_state opened) no_contents)
-      → ((c : Contents) → Holds (file_state opened) c → HasCleanDisk (file_state opened) → Keeps (Holds (file_state opened)) (begun (records_of c)))
       → n ≡ 0
       → IfOk r (λ files. Tells → AreClean g files.log files.db → (T : Trace) → Keeps (Holds (file_state opened)) T → Leaves Does T n (image_of g files))
       → IfOk r (λ files. Tells → AreClean g files.log files.db → HasCleanDisk (file_state opened))
       → IfOk r (λ files. Tells → AreClean g files.log files.db → IsUnmade image → Leaves Does unused 0 (image_of g files))
-  new_left image opened n (Ok files) new own zero left clean = λ tells honest unmade.
+  new_left image opened n (Ok files) new zero left clean = λ tells honest unmade.
       let good = clean tells honest in
-      subst (λ first. Leaves Does unused first (image_of g files)) zero (left tells honest unused (own no_contents (new good unmade) good))
-  new_left image opened n (Err refused) new own zero left clean = tt
+      subst (λ first. Leaves Does unused first (image_of g files)) zero (left tells honest unused (unused_kept (file_state opened) (new good unmade)))
+  new_left image opened n (Err refused) new zero left clean = tt
 
 -- ---- a call that only looks
 

@@ -1,5 +1,5 @@
 -- A store that was closed, and is opened again.
-use Rattle.std.proofs.Common.{◌≡◌, ◌<◌, inl, inr, ℕ, List, [], length, IsTrue, Result, Ok, Err, sym, ap, subst, ◌∙◌, arith}
+use Rattle.std.proofs.Common.{◌≡◌, inl, inr, ℕ, List, [], length, IsTrue, Result, Ok, Err, sym, ap, subst, ◌∙◌, arith}
 use Rattle.std.specs.Prelude.{IfOk}
 use Rattle.std.proofs.Math.Logic.{∥∥₁_elim}
 use Rattle.sqlite_disk.specs.declared.Disk.{Ghosts}
@@ -138,13 +138,11 @@ module _ {D : Type 0} {g : Ghosts D} where
   clean_files files first (Err fault) finds adopted = tt
 
   -- closed, the store rests in its files
-  pub rests_closed : (old conn : Held (FileStore D g)) (files : Files D) (c : Contents) → conn ≡ old → IsLive (file_state conn) → IsCopied conn files → Holds (file_state old) c → Rests (image_of g files) c
-  rests_closed old conn files c e live copied h =
-      rests_in (image_of g files) (file_state conn) c live copied.was_open (subst (λ (x : Held (FileStore D g)). Holds (file_state x) c) (sym e) h) copied.seen.both
+  pub rests_closed : (conn : Held (FileStore D g)) (files : Files D) (c : Contents) → IsLive (file_state conn) → IsCopied conn files → Holds (file_state conn) c → Rests (image_of g files) c
+  rests_closed conn files c live copied h = rests_in (image_of g files) (file_state conn) c live copied.was_open h copied.seen.both
 
-  pub rests_left : (old conn : Held (FileStore D g)) (files : Files D) (c : Contents) (image : Image) → conn ≡ old → IsLive (file_state conn) → IsCopied conn files → Holds (file_state old) c → outcomes g files.log files.db image → Rests image c
-  rests_left old conn files c image e live copied h may =
-      rests_in image (file_state conn) c live copied.was_open (subst (λ (x : Held (FileStore D g)). Holds (file_state x) c) (sym e) h) (copied.left image may).both
+  pub rests_left : (conn : Held (FileStore D g)) (files : Files D) (c : Contents) (image : Image) → IsLive (file_state conn) → IsCopied conn files → Holds (file_state conn) c → outcomes g files.log files.db image → Rests image c
+  rests_left conn files c image live copied h may = rests_in image (file_state conn) c live copied.was_open h (copied.left image may).both
 
   -- what rested in the files that a store was closed to is held again
   pub held_again : (old : Held (FileStore D g)) (files : Files D) (r : Result (Opened (FileStore D g)) VaultFault)
@@ -161,6 +159,3 @@ module _ {D : Type 0} {g : Ghosts D} where
       → IfOk r (λ vault. HasCleanDisk (file_state vault.conn) → HasCleanDisk (file_state old))
   clean_again old files (Ok vault) honest was = λ clean. was (honest clean)
   clean_again old files (Err fault) honest was = tt
-
-  pub was_clean : (old conn : Held (FileStore D g)) (files : Files D) → conn ≡ old → IsCopied conn files → HasCleanDisk (file_state old)
-  was_clean old conn files e copied = subst (λ (x : Held (FileStore D g)). HasCleanDisk (file_state x)) e copied.was_clean

@@ -4,16 +4,15 @@ ghost use Rattle.sqlite_wal.specs.Reads.{AreClean};
 ghost use Rattle.sqlite_wal.specs.Files.{outcomes};
 ghost use Rattle.sqlite_wal.specs.Recovery.{Image};
 ghost use Rattle.sqlite.specs.Files.{file_state, image_of};
-ghost use Rattle.sqlite.specs.Held.{state};
-ghost use Rattle.sqlite.specs.State.{HasCleanDisk, IsLive};
+ghost use Rattle.sqlite.specs.State.{HasCleanDisk};
 ghost use Rattle.vault.specs.Changes.{Contents};
 ghost use Rattle.vault.specs.Plain.{no_contents};
-ghost use Rattle.sqlvault.specs.Adopts.{IsAdoptFault, IsKnown, IsAdopted};
+ghost use Rattle.sqlvault.specs.Adopts.{IsAdoptFault};
 ghost use Rattle.sqlvault.specs.Refusals.{open_fault};
 ghost use Rattle.sqlvault.specs.Stands.{Holds};
 ghost use Rattle.jobs.specs.Resting.{Rests, IsUnmade};
 
-use sqlite::{Alter, Connection, Error, ErrorCode, FileStore, Files, Options};
+use sqlite::{Connection, Error, ErrorCode, FileStore, Files, Options};
 use sqlite_disk::Disk;
 use sqlvault::SqlVault;
 use std::alloc::Global;
@@ -43,22 +42,8 @@ pub fn open_files<D: Disk + Drop>(
         return Err(VaultFault::Store);
     }
     match Connection::open_files(alloc, files, options) {
-        Ok(conn) => take(alloc, conn),
+        Ok(conn) => SqlVault::adopt_files(alloc, conn),
         Err((error, _left)) => Err(open_fault(&error)),
-    }
-}
-
-/// Adopts a connection, and drops it where it is refused.
-fn take<S: Alter + Drop>(alloc: Global, conn: Connection<S>) -> Result<SqlVault<S>, VaultFault>
-    ensures adopted { IfOk result (λ vault. HasCleanDisk (state S.Store vault.conn)
-        → HasCleanDisk (state S.Store conn) × (IsKnown (state S.Store conn)
-        → IsAdopted (state S.Store conn) (state S.Store vault.conn))) }
-    ensures kinds { IfErr result IsAdoptFault }
-    ensures uncounted { IfOk result (λ vault. vault.faults ≡ 0) }
-{
-    match SqlVault::adopt(alloc, conn) {
-        Ok(vault) => Ok(vault),
-        Err((fault, _conn)) => Err(fault),
     }
 }
 
@@ -75,13 +60,6 @@ pub fn open_fault(error: &Error) -> VaultFault
     }
 }
 
-/// For the proof: while a connection is open, its database lists its tables.
-pub(crate) fn tables_are_listed<S: Alter>(conn: &Connection<S>)
-    ensures live { IsLive (state S.Store conn.now) }
-{
-    let _schema = conn.schema();
-}
-
 /// Closes a store: what it holds then rests in its files, in the database's file alone, and also
 /// after a crash. An error gives the files as they are: nothing that was done is lost, but the next
 /// opening has the log to read.
@@ -94,11 +72,9 @@ pub fn close<D: Disk + Drop>(vault: SqlVault<FileStore<D>>) -> Result<Files<D>, 
     ensures clean { IfOk result (λ files. AreClean D.Disk files.log files.db
         → HasCleanDisk (file_state vault.conn)) }
 {
-    let conn = vault.into_connection();
-    tables_are_listed(&conn);
-    match conn.close_files() {
+    match vault.close_files() {
         Ok(files) => Ok(files),
-        Err((error, store)) => Err((error, store.close())),
+        Err(refused) => Err(refused),
     }
 }
 

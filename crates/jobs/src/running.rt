@@ -15,7 +15,6 @@ ghost use Rattle.jobs.specs.Sittings.{unused};
 use crate::Job;
 use crate::opening::{Careful, open};
 use crate::resting::close;
-use office::own_trace_is_kept;
 use sqlite::{Error, FileFrom, FileStore, Files};
 use sqlite_disk::Disk;
 use sqlvault::SqlVault;
@@ -66,10 +65,7 @@ pub fn open_do_close<S: Careful, J: Job + Drop>(
     ensures kinds { IfErr result IsAdoptFault }
 {
     match open(rt, path, start) {
-        Ok(vault) => {
-            own_trace_is_kept(&vault);
-            Ok(do_and_close(vault, job))
-        }
+        Ok(vault) => Ok(do_and_close(vault, job)),
         Err(fault) => Err(fault),
     }
 }

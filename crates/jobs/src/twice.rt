@@ -5,9 +5,9 @@ ghost use Rattle.office.specs.Seen.{event_seen};
 ghost use Rattle.office.specs.Stands.{Keeps, StandsFor};
 ghost use Rattle.jobs.specs.Sittings.{holds, unused, opened, sat};
 
-use crate::resting::{open_files, reopen};
+use crate::resting::{close, open_files, reopen};
 use crate::sitting::sit_once;
-use office::{Event, Limits, Office, OpenFault, Outcome, own_trace_is_kept};
+use office::{Event, Limits, Office, OpenFault, Outcome};
 use sqlite::{FileStore, Files, Options};
 use sqlite_disk::Memory;
 use sqlvault::SqlVault;
@@ -55,12 +55,16 @@ fn make(alloc: Global) -> Result<SqlVault<FileStore<Memory>>, TwiceFault>
         db: Memory::new(alloc),
     };
     match open_files(alloc, files, Options::new(1)) {
-        Ok(vault) => {
-            own_trace_is_kept(&vault);
-            Ok(vault)
-        }
+        Ok(vault) => Ok(vault),
         Err(fault) => Err(TwiceFault::Store(fault)),
     }
+}
+
+/// Closes a store over which no office was opened, and gives the fault. The store is not dropped
+/// here: that would prove again how each part of a connection is dropped.
+fn refused(fault: OpenFault, vault: SqlVault<FileStore<Memory>>) -> TwiceFault {
+    let _ = close(vault);
+    TwiceFault::Office(fault)
 }
 
 /// Opens an office over the store for one event.
@@ -77,7 +81,7 @@ fn sit(
 {
     match sit_once(alloc, vault, host, boot, limits, event) {
         Ok(sat) => Ok(sat),
-        Err((fault, _vault)) => Err(TwiceFault::Office(fault)),
+        Err((fault, vault)) => Err(refused(fault, vault)),
     }
 }
 
@@ -108,6 +112,6 @@ fn seat(
 {
     match Office::open(alloc, vault, host, boot, limits) {
         Ok(office) => Ok(office),
-        Err((fault, _vault)) => Err(TwiceFault::Office(fault)),
+        Err((fault, vault)) => Err(refused(fault, vault)),
     }
 }

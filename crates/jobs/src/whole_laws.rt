@@ -1,18 +1,24 @@
 //! A store that is opened again after a stop, whatever tables the opening finds.
 ghost use Rattle.std.specs.Prelude.{◌≡◌, ◌⊎◌, IfOk, IfErr, IsTrue};
 ghost use Rattle.sqlite.specs.Held.{Held, state};
-ghost use Rattle.sqlite.specs.State.{HasCleanDisk};
+ghost use Rattle.sqlite.specs.State.{HasCleanDisk, IsLive};
 ghost use Rattle.vault.specs.declared.fault.VaultFault.TheVariants.{Store, NoMemory};
 ghost use Rattle.vault.specs.Changes.{Contents};
 ghost use Rattle.sqlvault.specs.Carries.{KeepsOlder};
 ghost use Rattle.sqlvault.specs.Stands.{Holds};
 ghost use Rattle.jobs.specs.Stopped.{FindsWhole, StopsCarrying};
 
-use crate::resting::tables_are_listed;
 use sqlite::{Alter, Connection};
 use sqlvault::SqlVault;
 use std::alloc::Global;
 use vault::VaultFault;
+
+/// For the proof: while a connection is open, its database lists its tables.
+fn tables_are_listed<S: Alter>(conn: &Connection<S>)
+    ensures live { IsLive (state S.Store conn.now) }
+{
+    let _schema = conn.schema();
+}
 
 /// Adopts a connection that was just opened after a stop between two calls of a store, while its
 /// connection `stopped` was open, and that found what the stop may leave. The new store holds the
