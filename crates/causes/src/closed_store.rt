@@ -3,7 +3,7 @@
 use mailsql::schema::{OurTable, Taken, has_meta_rows, lacked_table, taken_name};
 use sqlite::{Alter, Connection, Wary};
 use sqlite_std_file::OpenError;
-use sqlvault::{NEWEST, OLDEST, Part, StoreVersion, find_version, unsound_part};
+use sqlvault::{NEWEST, OLDEST, Part, StoreVersion, find_version, let_go, unsound_part};
 use std::alloc::Global;
 use std::io::{ErrorKind, Write};
 use std::{fs, io};
@@ -28,25 +28,32 @@ pub fn tell_closed_store<E: Write>(
     if fault == VaultFault::NoMemory {
         return tell_size(rt, err, path);
     }
-    match sqlite_std_file::open(rt, path, Wary) {
-        Ok(_) => {}
-        Err(OpenError::Busy) => {
-            return writeln!(
-                err,
-                "why: {path}: another process has it open, popbox or sqlite3"
-            );
-        }
-        Err(OpenError::Io(error)) if error.kind() == ErrorKind::Unsupported => {
-            return writeln!(err, "why: {path}: it is no file, or a file of two names");
-        }
-        Err(error) => return writeln!(err, "why: {path}: {error}"),
+    if let Err(error) = sqlite_std_file::open(rt, path, Wary) {
+        return tell_unopened(err, path, error);
     }
     match Connection::open_from(rt, path, false, Wary) {
         Ok(mut conn) => {
-            write!(err, "why: {path}: ")?;
-            tell_tables(rt.alloc(), err, &mut conn, fault)
+            let told = tell_tables(rt.alloc(), err, path, &mut conn, fault);
+            let_go(conn);
+            told
         }
         Err((error, _)) => writeln!(err, "why: {path}: {error}"),
+    }
+}
+
+/// Tells why the files of a store can't be opened.
+fn tell_unopened<E: Write>(err: &mut E, path: &str, error: OpenError) -> io::Result<()> {
+    match error {
+        OpenError::Busy => {
+            writeln!(
+                err,
+                "why: {path}: another process has it open, popbox or sqlite3"
+            )
+        }
+        OpenError::Io(error) if error.kind() == ErrorKind::Unsupported => {
+            writeln!(err, "why: {path}: it is no file, or a file of two names")
+        }
+        error => writeln!(err, "why: {path}: {error}"),
     }
 }
 
@@ -74,9 +81,11 @@ fn octets_of(rt: &HostRuntime, path: &str) -> u64 {
 fn tell_tables<S: Alter, E: Write>(
     alloc: Global,
     err: &mut E,
+    path: &str,
     conn: &mut Connection<S>,
     fault: VaultFault,
 ) -> io::Result<()> {
+    write!(err, "why: {path}: ")?;
     match fault {
         VaultFault::OldVersion | VaultFault::NotOurs => {
             if has_meta_rows(conn) {
