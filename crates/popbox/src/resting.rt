@@ -10,8 +10,9 @@ use converse::{Fault, Noted, tell_fault};
 use creds::Name;
 use jobs::{check_all, open_fault};
 use mailsql::meta::find_meta_row;
-use sqlite::{Alter, Connection, Error, ErrorCode, Wary};
-use sqlvault::SqlVault;
+use sqlite::{Alter, Connection, Error, ErrorCode, FileStore, Wary};
+use sqlite_disk::Disk;
+use sqlvault::{SqlVault, let_go};
 use std::alloc::Global;
 use std::fs::{File, OpenOptions};
 use std::io::{BufWriter, ErrorKind, Read, Write};
@@ -170,9 +171,9 @@ pub fn tell_closed<E: Write>(
 
 /// Adopts the store of a connection, and does an errand over it. The log isn't copied into the file
 /// at the end, as other commands do: both stay as they are.
-fn run_over_connection<A: Alter + Drop, E: Write>(
+fn run_over_connection<D: Disk + Drop, E: Write>(
     rt: &HostRuntime,
-    conn: Connection<A>,
+    conn: Connection<FileStore<D>>,
     errand: &Errand<'_>,
     path: &str,
     options: &ArgMatches<'_>,
@@ -182,21 +183,29 @@ fn run_over_connection<A: Alter + Drop, E: Write>(
         Ok(vault) => vault,
         Err(closed) => return Ok(tell_closed(rt, err, is_verbose(options), path, &closed)),
     };
-    match errand {
+    let done = match errand {
         Errand::Check(octets) => check_over(rt, &mut vault, *octets, options, err),
         Errand::Export(maildrop, folder) => {
             export_over(rt, &mut vault, maildrop, folder, path, options, err)
         }
-    }
+    };
+    let_go(vault.into_connection());
+    done
 }
 
-/// Adopts the store of a connection, which changes nothing in it.
-pub fn adopt<A: Alter + Drop>(alloc: Global, conn: Connection<A>) -> Result<SqlVault<A>, Closed> {
+/// Adopts the store of a connection, which changes nothing in it. A refused one is let go.
+pub fn adopt<D: Disk + Drop>(
+    alloc: Global,
+    conn: Connection<FileStore<D>>,
+) -> Result<SqlVault<FileStore<D>>, Closed> {
     let mut conn = conn;
-    judge_version(alloc, &mut conn)?;
-    match SqlVault::adopt(alloc, conn) {
+    if let Err(closed) = judge_version(alloc, &mut conn) {
+        let_go(conn);
+        return Err(closed);
+    }
+    match SqlVault::adopt_files(alloc, conn) {
         Ok(vault) => Ok(vault),
-        Err((fault, _)) => Err(Closed::Refused(fault)),
+        Err(fault) => Err(Closed::Refused(fault)),
     }
 }
 

@@ -6,7 +6,9 @@ use creds::Name;
 use jobs::open_fault;
 use policy::Policy;
 use review::Kept;
-use sqlite::{Alter, Connection, Wary};
+use sqlite::{Connection, FileStore, Wary};
+use sqlite_disk::Disk;
+use sqlvault::let_go;
 use std::alloc::Global;
 use std::io::Write;
 use vault::{Total, Vault, VaultFault};
@@ -35,9 +37,9 @@ pub fn read_store<E: Write>(
 }
 
 /// Reads the store of a connection.
-fn read_connection<A: Alter + Drop, E: Write>(
+fn read_connection<D: Disk + Drop, E: Write>(
     rt: &HostRuntime,
-    conn: Connection<A>,
+    conn: Connection<FileStore<D>>,
     path: &str,
     is_verbose: bool,
     err: &mut E,
@@ -49,6 +51,7 @@ fn read_connection<A: Alter + Drop, E: Write>(
     let policy = vault.policy();
     let clerks = vault.clerk_names();
     let totals = vault.maildrops();
+    let_go(vault.into_connection());
     match stored_of(rt.alloc(), policy, clerks, totals) {
         Ok(stored) => Ok(stored),
         Err(fault) => Err(tell_fault(err, Fault::from(fault))),
