@@ -1,10 +1,14 @@
 /*
- * Tells what reaches the disk: tools/check-program has the loader put this before the C library.
- * To the file that CALLS names it adds a line for each call: `write NAME` and `sync NAME`, by the
- * name of the open file; `rename NAME`, by the old one. It calls the system alone.
+ * Tells what reaches the disk: tools/check-program and tools/check-scripts have the loader put this
+ * before the C library. To the file that CALLS names it adds a line for each call: `write NAME` and
+ * `sync NAME`, by the name of the open file; `rename NAME`, by the old one. A sync or rename whose
+ * line fits the pattern FAILS, as `sync *.db`, fails with EIO and is left out. It calls the
+ * system alone.
  */
 #define _GNU_SOURCE
+#include <errno.h>
 #include <fcntl.h>
+#include <fnmatch.h>
 #include <limits.h>
 #include <stdio.h>
 #include <stdlib.h>
@@ -24,13 +28,43 @@ static void tell(const char *word, const char *name)
     syscall(SYS_close, file);
 }
 
+/* The name of an open file, or an empty one. */
+static void name_open(int file, char name[PATH_MAX])
+{
+    char link[32];
+    ssize_t count;
+    snprintf(link, sizeof link, "/proc/self/fd/%d", file);
+    count = readlink(link, name, PATH_MAX - 1);
+    name[count > 0 ? count : 0] = 0;
+}
+
 /* The same of an open file. */
 static void tell_open(const char *word, int file)
 {
-    char link[32], name[PATH_MAX] = "";
-    snprintf(link, sizeof link, "/proc/self/fd/%d", file);
-    if (readlink(link, name, sizeof name - 1) > 0)
+    char name[PATH_MAX];
+    name_open(file, name);
+    if (*name)
         tell(word, name);
+}
+
+/* Whether a call of this line is to fail. */
+static int fails(const char *word, const char *name)
+{
+    char line[PATH_MAX + 16];
+    const char *pattern = getenv("FAILS");
+    snprintf(line, sizeof line, "%s %s", word, name);
+    if (!pattern || fnmatch(pattern, line, 0))
+        return 0;
+    errno = EIO;
+    return 1;
+}
+
+/* Whether a sync of an open file is to fail. */
+static int fails_open(int file)
+{
+    char name[PATH_MAX];
+    name_open(file, name);
+    return fails("sync", name);
 }
 
 ssize_t write(int file, const void *octets, size_t count)
@@ -41,7 +75,7 @@ ssize_t write(int file, const void *octets, size_t count)
 
 int fsync(int file)
 {
-    int failed = (int)syscall(SYS_fsync, file);
+    int failed = fails_open(file) ? -1 : (int)syscall(SYS_fsync, file);
     if (!failed)
         tell_open("sync", file);
     return failed;
@@ -49,14 +83,21 @@ int fsync(int file)
 
 int fdatasync(int file)
 {
-    int failed = (int)syscall(SYS_fdatasync, file);
+    int failed = fails_open(file) ? -1 : (int)syscall(SYS_fdatasync, file);
     if (!failed)
         tell_open("sync", file);
     return failed;
 }
 
+int renameat2(int from, const char *old, int into, const char *name, unsigned flags)
+{
+    if (fails("rename", old))
+        return -1;
+    tell("rename", old);
+    return (int)syscall(SYS_renameat2, from, old, into, name, flags);
+}
+
 int rename(const char *old, const char *name)
 {
-    tell("rename", old);
-    return (int)syscall(SYS_renameat, AT_FDCWD, old, AT_FDCWD, name);
+    return renameat2(AT_FDCWD, old, AT_FDCWD, name, 0);
 }
