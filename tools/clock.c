@@ -1,8 +1,9 @@
 /*
  * A clock that can be set on: tools/check-server has the loader put this before the C library. To
  * each moment that a program asks for are added the seconds that the file named by CLOCK holds, and
- * once a moment was told with them, the file named by SEEN holds them too. It calls the system
- * alone, since a program may ask before the C library's own parts are ready.
+ * once a moment was told with them, the file named by SEEN holds them too. With STILL, the moments
+ * that don't depend on the date stay the first one otherwise, so that a slow machine loses no time.
+ * It calls the system alone, since a program may ask before the C library's own parts are ready.
  */
 #define _GNU_SOURCE
 #include <fcntl.h>
@@ -40,9 +41,20 @@ static long added(void)
     return seconds;
 }
 
+/* Keeps a clock at the first moment that it told. */
+static void keep(struct timespec *now)
+{
+    static struct timespec first;
+    if (!first.tv_sec && !first.tv_nsec)
+        first = *now;
+    *now = first;
+}
+
 int clock_gettime(clockid_t clock, struct timespec *now)
 {
     int failed = (int)syscall(SYS_clock_gettime, clock, now);
+    if (!failed && clock != CLOCK_REALTIME && getenv("STILL"))
+        keep(now);
     if (!failed)
         now->tv_sec += added();
     return failed;
