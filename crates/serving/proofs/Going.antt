@@ -14,9 +14,8 @@ use Rattle.serving.specs.Calls.{Call}
 use Rattle.serving.specs.Spools.{FileCall}
 use Rattle.serving.specs.Hearing.{Hearing}
 use Rattle.serving.specs.Works.{is_failed}
-use Rattle.serving.specs.HttpTurns.{AllGoOn}
 use Rattle.serving.specs.Turns.{Works}
-use Rattle.serving.specs.Running.{AreTurns, NoTurn, OneMore, HasGoneOn, answers, HasTurned}
+use Rattle.serving.specs.Running.{AreTurns, NoTurn, OneMore, HasGoneOn, LeavesAsFound, answers, HasTurned}
 use Rattle.serving.specs.declared.links.Links.{Links}
 use Rattle.serving.proofs.Working.{newly_then, grown_more}
 
@@ -43,11 +42,11 @@ module _ {V W S H : Type 0} (Holds : V → Contents → Type 0) (Faults : V → 
   gone_more : (moments : List ℕ) (l : Links) (o : Office V) (w : W) (s : S) (h : H) (l1 : Links) (o1 : Office V) (w1 : W) (s1 : S) (h1 : H) (now : ℕ) (l2 : Links) (o2 : Office V) (w2 : W) (s2 : S) (h2 : H)
       → (a : HasGoneOn Holds Faults Asked AskedFiles Heard T moments l o w s h l1 o1 w1 s1 h1)
       → Works Holds Faults Asked AskedFiles Heard (trace_of T.base (a.given ++ T.log)) now l1 o1 w1 s1 h1 o2 l2 w2 s2 h2
-      → AllGoOn now l2
+      → LeavesAsFound now l1 l2
       → HasGoneOn Holds Faults Asked AskedFiles Heard T (moments ++ now ∷ []) l o w s h l2 o2 w2 s2 h2
-  gone_more moments l o w s h l1 o1 w1 s1 h1 now l2 o2 w2 s2 h2 a turn live = record {
+  gone_more moments l o w s h l1 o1 w1 s1 h1 now l2 o2 w2 s2 h2 a turn left = record {
     given = turn.given ++ a.given;
-    turns = OneMore moments a.given l1 o1 w1 s1 h1 now l2 o2 w2 s2 h2 a.turns turn live;
+    turns = OneMore moments a.given l1 o1 w1 s1 h1 now l2 o2 w2 s2 h2 a.turns turn left;
     stands = subst (λ x. StandsFor Holds o2 (trace_of T.base x)) (sym (append_assoc turn.given a.given T.log)) turn.stands;
     admitted = newly_then T.base T.log a.given turn.given a.admitted turn.is.admitted;
     counted = (let p = a.counted in let q = turn.counted in omega (arith, p, q));
@@ -73,13 +72,13 @@ module _ {V W S H C : Type 0} (Holds : V → Contents → Type 0) (IsClean : V �
       → ((before : List (Option ℕ)) → Gave k1 before → Gave k2 (before ++ Some now ∷ []))
       → (IsClean (vault_of o2) → IsClean (vault_of o1))
       → ((T : Trace) → StandsFor Holds o1 T → IsClean (vault_of o2) → Works Holds Faults Asked AskedFiles Heard T now l1 o1 w1 s1 h1 o2 l2 w2 s2 h2)
-      → AllGoOn now l2
+      → LeavesAsFound now l1 l2
       → HasTurned Holds IsClean Faults Asked AskedFiles Heard Gave false (moments ++ now ∷ []) l o w s h k l2 o2 w2 s2 h2 k2
-  turned_more moments l1 o1 w1 s1 h1 k1 now l2 o2 w2 s2 h2 k2 a called clean works live = record {
+  turned_more moments l1 o1 w1 s1 h1 k1 now l2 o2 w2 s2 h2 k2 a called clean works left = record {
     gave = λ before g. subst (Gave k2) (one_more before moments now) (called (before ++ answers false moments) (a.gave before g));
     each = λ T stands z.
         (let g = a.each T stands (clean z) in
-        gone_more Holds Faults Asked AskedFiles Heard T moments l o w s h l1 o1 w1 s1 h1 now l2 o2 w2 s2 h2 g (works (trace_of T.base (g.given ++ T.log)) g.stands z) live);
+        gone_more Holds Faults Asked AskedFiles Heard T moments l o w s h l1 o1 w1 s1 h1 now l2 o2 w2 s2 h2 g (works (trace_of T.base (g.given ++ T.log)) g.stands z) left);
   }
 
   pub turned_stopped : (moments : List ℕ) (l1 : Links) (o1 : Office V) (w1 : W) (s1 : S) (h1 : H) (k1 k2 : C)

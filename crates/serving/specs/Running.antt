@@ -12,9 +12,19 @@ use Rattle.serving.specs.Calls.{Call}
 use Rattle.serving.specs.Spools.{FileCall}
 use Rattle.serving.specs.Hearing.{Hearing}
 use Rattle.serving.specs.Works.{AreNewlyAdmitted, is_failed}
-use Rattle.serving.specs.HttpTurns.{AllGoOn}
+use Rattle.serving.specs.HttpTurns.{AllGoOn, AreFew}
+use Rattle.serving.specs.Newcomers.{AllHaveSeats}
+use Rattle.serving.specs.Settings.{settings}
 use Rattle.serving.specs.Turns.{Works}
 use Rattle.serving.specs.declared.links.Links.{Links}
+
+-- What the next turn finds as the first one did: how the loop was set, and that those who haven't
+-- logged in have seats; and that the administration's links are few, and none of them is over.
+pub record LeavesAsFound (now : ℕ) (links links_then : Links) : Type 0 where
+  pub set : settings links_then ≡ settings links
+  pub seated : AllHaveSeats links → AllHaveSeats links_then
+  pub few : AreFew links → AreFew links_then
+  pub ongoing : AllGoOn now links_then
 
 -- The turns of these moments were done, the oldest first, and gave these events: each turn works,
 -- from the trace with the events of those before it.
@@ -32,7 +42,7 @@ pub data AreTurns {V W S H : Type 0} (Holds : V → Contents → Type 0) (Faults
       moments given links1 office1 wire1 spool1 listener1
       → (turn : Works Holds Faults Asked AskedFiles Heard (trace_of T.base (given ++ T.log)) now
       links1 office1 wire1 spool1 listener1 office2 links2 wire2 spool2 listener2)
-      → AllGoOn now links2
+      → LeavesAsFound now links1 links2
       → AreTurns Holds Faults Asked AskedFiles Heard T links office wire spool listener
       (moments ++ now ∷ []) (turn.given ++ given) links2 office2 wire2 spool2 listener2
 

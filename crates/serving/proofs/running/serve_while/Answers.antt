@@ -32,7 +32,8 @@ loop-turn-preserved g c =
         one_longer m.0 now k._turn m.1,
         turned_more g.V.Vault.holds g.V.Vault.is_clean g.V.Vault.faults g.W.Wire.asked g.S.Spool.asked g.L.Listener.heard g.C.Clock.gave c.args.links.now c.args.office.now c.args.wire.now c.args.spool.now c.args.listener.now c.args.clock.now
             m.0 k.links k.office k.wire k.spool k.listener k.clock now x.new.links x.new.office x.new.wire x.new.spool x.new.listener c.moment.new.self m.2
-            c.in-Some.ensures.called x.ensures.clean x.ensures.works x.ensures.ongoing,
+            c.in-Some.ensures.called x.ensures.clean x.ensures.works
+            (record { set = x.ensures.settings; seated = x.ensures.seated; few = x.ensures.few; ongoing = x.ensures.ongoing }),
       );
       few = λ a. x.ensures.few (k.invariant.few a);
       seated = λ h. x.ensures.seated (k.invariant.seated h);
