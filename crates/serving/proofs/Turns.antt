@@ -25,8 +25,10 @@ use Rattle.serving.specs.declared.links.Seat.{Seat}
 use Rattle.serving.specs.Wires.{is_fault, opened_by}
 use Rattle.serving.specs.Hearing.{Hearing, WithHeard}
 use Rattle.serving.proofs.Hearing.{unheard}
-use Rattle.serving.specs.Works.{Also, waits, arrivals, arrival_of, closings, closing_of, none_waited, tells_none, is_read_of, is_later_of, is_taking_of, is_cut_of, is_cut, most_writes, octets_taken, had_its_turn, moments, openings, is_opening, refusals, is_refusal, AreNewlyAdmitted, HasCause, AreCaused, WasGiven, WasAsked, Part, Asking, Giving, IsQuiet, IsQuietFor, Came, seat_of, unseated_of, link_of, HaveCome, HasAccepted, AreAccepted, OwesNothing, IsWritten, IsWrittenOut, IsNotReady, IsUnread, IsHeard, IsReadOnce, NotReady, WasRead, HasLooked, Unlooked, NothingCame, PieceCame, IsReadByLine, IsHeldBack, most_at_once, IsKeptBack, Way, HadTurn, HadTurns}
-use Rattle.serving.specs.Paces.{is_free, first_line, part_by}
+use Rattle.serving.specs.Works.{Also, waits, arrivals, arrival_of, closings, closing_of, none_waited, tells_none, is_read_of, is_later_of, is_taking_of, is_cut_of, is_cut, most_writes, octets_taken, had_its_turn, moments, openings, is_opening, refusals, is_refusal, AreNewlyAdmitted, HasCause, AreCaused, WasGiven, WasAsked, Part, Asking, Giving, IsQuiet, IsQuietFor, Came, seat_of, unseated_of, link_of, HaveCome, HasAccepted, AreAccepted, OwesNothing, IsWritten, IsWrittenOut, IsNotReady, IsUnread, IsHeard, IsReadOnce, NotReady, WasRead, HasLooked, Unlooked, NothingCame, PieceCame, IsReadByLine, IsHeldBack, reads_by_line, most_at_once, IsKeptBack, Way, HadTurn, HadTurns}
+use Rattle.serving.specs.Paces.{first_line}
+use Rattle.serving.specs.declared.guesses.Refusal.{Refusal}
+use Rattle.creds.specs.declared.login_name.LoginName.{LoginName}
 use Rattle.serving.specs.declared.pace.Pace.{Pace}
 use Rattle.office.specs.Waiting as waiting
 use Rattle.office.specs.Logins.{brings_login}
@@ -68,6 +70,12 @@ kept_more T c piece wait may may2 more h =
     (λ (w : waiting.waits T c piece wait ≡ true). inl w)
     (λ (b : (may ≡ true) × (brings_login T c piece ≡ true)). inr (more b.0, b.1))
     h
+
+-- and lines are read one at a time there too
+line_more : (wait wait2 : ℕ) (may may2 : Bool) → wait2 ≡ wait → (may ≡ true → may2 ≡ true) → reads_by_line wait may ≡ true → reads_by_line wait2 may2 ≡ true
+line_more wait wait2 may true same more h = refl
+line_more wait wait2 true false same more h = let k : false ≡ true = more refl in cc
+line_more wait wait2 false false same more h = ap (λ n. not (n == 0)) same ∙ h
 
 module _ {V : Type 0} (Holds : V → Contents → Type 0) (IsClean : V → Type 0) (Faults : V → ℕ) where
   pub wrote_some : (o o1 : Office V) (seat : Seat) (n : ℕ) (octets : List ℕ) (m : EventTag) → 0 < n
@@ -156,50 +164,41 @@ module _ {V : Type 0} (Holds : V → Contents → Type 0) (IsClean : V → Type 
         let k : (room == most_at_once) ≡ true = eq-eqb room most_at_once e in
         rw (n, k) refl
 
-    piece_by : (room : ℕ) (free : Bool) (piece : List ℕ) → room ≡ part_by false free 4096 piece → (free ≡ true → room ≡ most_at_once) × (free ≡ false → room ≡ first_line piece)
-    piece_by room true piece e = (λ f. e, λ f. absurd (true≢false f))
-    piece_by room false piece e = (λ f. absurd (true≢false (sym f)), λ f. e)
-
     -- what was looked at was read, all or by its line
-    heard_so : (o : Office V) (seat : Seat) (pace : Pace) (room : ℕ) (io : Io) (octets : List ℕ) (looks : List Call) → (room == 0) ≡ false → (is_free pace ≡ false → may ≡ true) → HasLooked Holds o seat wait pace room looks
-        → (list_any (is_read_of seat.link) (looks ++ Read Pop seat.link room io octets ∷ []) ≡ true) ⊎ IsReadByLine (looks ++ Read Pop seat.link room io octets ∷ []) may seat
-    heard_so o seat pace room io octets looks some line (Unlooked e f) = inl (any_right (is_read_of seat.link) [] (Read Pop seat.link 4096 io octets ∷ []) (whole_read seat 4096 io octets refl))
-    heard_so o seat pace room io octets looks some line (NothingCame i e) =
+    heard_so : (o : Office V) (seat : Seat) (pace : Pace) (refusals : List Refusal) (room : ℕ) (login : Option LoginName) (io : Io) (octets : List ℕ) (looks : List Call) → (room == 0) ≡ false → (pace.by_line ≡ true → reads_by_line wait may ≡ true) → HasLooked Holds o seat pace refusals room login looks
+        → (list_any (is_read_of seat.link) (looks ++ Read Pop seat.link room io octets ∷ []) ≡ true) ⊎ IsReadByLine (looks ++ Read Pop seat.link room io octets ∷ []) (reads_by_line wait may) seat
+    heard_so o seat pace refusals room _ io octets looks some line (Unlooked e) = inl (any_right (is_read_of seat.link) [] (Read Pop seat.link 4096 io octets ∷ []) (whole_read seat 4096 io octets refl))
+    heard_so o seat pace refusals room _ io octets looks some line (NothingCame i e) =
         inl (any_right (is_read_of seat.link) (Looked Pop seat.link i [] ∷ []) (Read Pop seat.link 4096 io octets ∷ []) (whole_read seat 4096 io octets refl))
-    heard_so o seat pace room io octets looks some line (PieceCame n piece count lies is part) =
-        let k = piece_by count (is_free pace) piece (part some) in
+    heard_so o seat pace refusals room _ io octets looks some line (PieceCame n piece count login by_line lies is brought part) =
         let call = Read Pop seat.link count io octets in
         let look = Looked Pop seat.link (Count n) piece in
-        ⊎_elim
-        (λ (f : is_free pace ≡ true). inl (any_right (is_read_of seat.link) (look ∷ []) (call ∷ []) (whole_read seat count io octets (k.0 f))))
-        (λ (f : is_free pace ≡ false).
         inr (record {
           piece = piece;
           io = Count n;
           io_then = io;
           octets = octets;
-          held = line f;
+          held = line by_line;
           shown = (0, omega arith, refl);
-          read = subst (λ r. Contains (look ∷ call ∷ []) (Read Pop seat.link r io octets)) (k.1 f) (1, omega arith, refl);
-        }))
-        (cases_Bool (is_free pace))
+          read = subst (λ r. Contains (look ∷ call ∷ []) (Read Pop seat.link r io octets)) (part some) (1, omega arith, refl);
+        })
 
     -- it was looked at first
-    pub heard_behind : (o : Office V) (seat : Seat) (pace : Pace) (room : ℕ) (given : Log) (looks calls : List Call) → IsQuietFor (seat ∷ []) [] looks → HasLooked Holds o seat wait pace room looks
-        → (room == 0) ≡ false → (is_free pace ≡ false → may ≡ true) → IsReadOnce Holds o seat room given calls → IsHeard Holds o seat wait may given (looks ++ calls)
-    heard_behind o seat pace room _ looks _ quiet looked some line (NotReady idle) = record {
+    pub heard_behind : (o : Office V) (seat : Seat) (pace : Pace) (refusals : List Refusal) (room : ℕ) (login : Option LoginName) (given : Log) (looks calls : List Call) → IsQuietFor (seat ∷ []) [] looks → HasLooked Holds o seat pace refusals room login looks
+        → (room == 0) ≡ false → (pace.by_line ≡ true → reads_by_line wait may ≡ true) → IsReadOnce Holds o seat room given calls → IsHeard Holds o seat wait may given (looks ++ calls)
+    heard_behind o seat pace refusals room login _ looks _ quiet looked some line (NotReady idle) = record {
       of_seat = of_then (seat ∷ []) [] [] looks [] quiet (of_none (seat ∷ []));
       heard = inr (inr (refl, inl idle));
     }
-    heard_behind o seat pace room _ looks _ quiet looked some line (WasRead io octets given q) =
+    heard_behind o seat pace refusals room login _ looks _ quiet looked some line (WasRead io octets given q) =
         let call = Read Pop seat.link room io octets in
         record {
           of_seat = subst (λ g. IsQuietFor (seat ∷ []) g (looks ++ call ∷ [])) (append-nil given)
               (of_then (seat ∷ []) [] given looks (call ∷ []) quiet q);
           heard = ⊎_elim
               (λ (all : list_any (is_read_of seat.link) (looks ++ call ∷ []) ≡ true). inl all)
-              (λ (u : IsReadByLine (looks ++ call ∷ []) may seat). inr (inl u))
-              (heard_so o seat pace room io octets looks some line looked);
+              (λ (u : IsReadByLine (looks ++ call ∷ []) (reads_by_line wait may) seat). inr (inl u))
+              (heard_so o seat pace refusals room login io octets looks some line looked);
         }
 
   -- ---- a link
@@ -276,10 +275,10 @@ module _ {V : Type 0} (Holds : V → Contents → Type 0) (IsClean : V → Type 
     turns = λ B L s k. All-cons (HadTurn way B L (g2 ++ g1) (trace_of B ((g2 ++ g1) ++ L)) (c1 ++ c2)) seat [] (by B L s k b.heard) (All-nil (HadTurn way B L (g2 ++ g1) (trace_of B ((g2 ++ g1) ++ L)) (c1 ++ c2)));
   } where
     by : (B : Records) (L : Log) → StandsFor Holds o (trace_of B L) → IsClean (vault_of o2)
-        → (list_any (is_read_of seat.link) c2 ≡ true) ⊎ (IsReadByLine c2 way.may seat ⊎ ((g2 ≡ []) × (IsNotReady Holds o1 seat.connection ⊎ IsUnread Holds o1 seat way.wait way.may c2)))
+        → (list_any (is_read_of seat.link) c2 ≡ true) ⊎ (IsReadByLine c2 (reads_by_line way.wait way.may) seat ⊎ ((g2 ≡ []) × (IsNotReady Holds o1 seat.connection ⊎ IsUnread Holds o1 seat way.wait way.may c2)))
         → HadTurn way B L (g2 ++ g1) (trace_of B ((g2 ++ g1) ++ L)) (c1 ++ c2) seat
     by B L s k (inl r) here = inl (turn_right way.share way.hurries seat.link c1 c2 (turn_read way.share way.hurries seat.link c2 r))
-    by B L s k (inr (inl u)) here = inr (inl (line_right way.may seat c1 c2 u))
+    by B L s k (inr (inl u)) here = inr (inl (line_right (reads_by_line way.wait way.may) seat c1 c2 u))
     by B L s k (inr (inr (none, inl idle))) here =
         inl (served_unless o o1 o2 way seat g1 c1 c2 wa wb.clean a idle B L s k (subst (λ g. is_open (trace_of B ((g ++ g1) ++ L)) seat.connection ≡ true) none here))
     by B L s k (inr (inr (none, inr u))) here =
@@ -316,7 +315,7 @@ module _ {V : Type 0} (Holds : V → Contents → Type 0) (IsClean : V → Type 
   } where
     by : (B : Records) (L : Log) (q : Seat) → (had_its_turn way.share way.hurries q.link c ≡ true) ⊎ IsHeldBack B L g c way.wait way.may q → (had_its_turn way2.share way2.hurries q.link c ≡ true) ⊎ IsHeldBack B L g c way2.wait way2.may q
     by B L q (inl t) = inl (subst (λ n. had_its_turn n way2.hurries q.link c ≡ true) (sym share) (turn_hurried way.share way.hurries way2.hurries q.link c still t))
-    by B L q (inr (inl u)) = inr (inl (record { piece = u.piece; io = u.io; io_then = u.io_then; octets = u.octets; held = may u.held; shown = u.shown; read = u.read }))
+    by B L q (inr (inl u)) = inr (inl (record { piece = u.piece; io = u.io; io_then = u.io_then; octets = u.octets; held = line_more way.wait way2.wait way.may way2.may wait may u.held; shown = u.shown; read = u.read }))
     by B L q (inr (inr u)) =
         inr (inr (record {
           piece = u.piece;
@@ -374,16 +373,16 @@ module _ {V W H : Type 0} (Holds : V → Contents → Type 0) (IsClean : V → T
       → Part Holds IsClean Faults Asked o w o w1 (WithHeard Holds IsClean Heard o l o l (Also (IsHeard Holds o seat wait may) N))
   heard_asked o w w1 l seat wait may N calls asked a n = record { given = []; calls = calls; was_given = given_none Holds IsClean Faults o; was_asked = asked; facts = (unheard Holds IsClean Heard o l, (a, n)) }
 
-  pub heard_after : (o o1 : Office V) (w w1 w2 : W) (l l1 : H) (seat : Seat) (wait : ℕ) (may : Bool) (pace : Pace) (room : ℕ) (M N : List Call → Type 0) (looks : List Call) → ((c : List Call) → M c → N (looks ++ c))
-      → IsQuietFor (seat ∷ []) [] looks → HasLooked Holds o seat wait pace room looks → (room == 0) ≡ false → (is_free pace ≡ false → may ≡ true) → WasAsked Asked w w1 looks
+  pub heard_after : (o o1 : Office V) (w w1 w2 : W) (l l1 : H) (seat : Seat) (wait : ℕ) (may : Bool) (pace : Pace) (refusals : List Refusal) (room : ℕ) (login : Option LoginName) (M N : List Call → Type 0) (looks : List Call) → ((c : List Call) → M c → N (looks ++ c))
+      → IsQuietFor (seat ∷ []) [] looks → HasLooked Holds o seat pace refusals room login looks → (room == 0) ≡ false → (pace.by_line ≡ true → reads_by_line wait may ≡ true) → WasAsked Asked w w1 looks
       → Part Holds IsClean Faults Asked o w1 o1 w2 (WithHeard Holds IsClean Heard o l o1 l1 (Also (IsReadOnce Holds o seat room) M))
       → Part Holds IsClean Faults Asked o w o1 w2 (WithHeard Holds IsClean Heard o l o1 l1 (Also (IsHeard Holds o seat wait may) N))
-  heard_after o o1 w w1 w2 l l1 seat wait may pace room M N looks more quiet looked some line asked a = record {
+  heard_after o o1 w w1 w2 l l1 seat wait may pace refusals room login M N looks more quiet looked some line asked a = record {
     given = a.given;
     calls = looks ++ a.calls;
     was_given = a.was_given;
     was_asked = asked_then Asked w w1 w2 looks a.calls asked a.was_asked;
-    facts = (a.facts.0, (heard_behind Holds IsClean Faults wait may o seat pace room a.given looks a.calls quiet looked some line a.facts.1.0, more a.calls a.facts.1.1));
+    facts = (a.facts.0, (heard_behind Holds IsClean Faults wait may o seat pace refusals room login a.given looks a.calls quiet looked some line a.facts.1.0, more a.calls a.facts.1.1));
   }
 
   -- a read that had room for so many octets of a buffer

@@ -33,10 +33,11 @@ ghost use Rattle.arrayvec.specs.ArrayVec.{array_vec_len};
 use crate::files::serve_spool;
 use crate::links::{Clients, Links, MOST_LINKS, Seat};
 use crate::listener::Listener;
-use crate::pace::{MOST_AT_ONCE, next_part, origin_at, pace_behind, pace_of};
+use crate::pace::{MOST_AT_ONCE, Pace, next_part, pace_at};
 use crate::requests::{accept_requests, serve_requests};
 use crate::spool::Spool;
 use crate::wire::{Io, Port, Wire};
+use creds::LoginName;
 use office::{Account, End, Event, Office, Outcome, taken_is_sent};
 use std::alloc::Global;
 use vault::Vault;
@@ -159,40 +160,42 @@ fn read_once<V: Vault, W: Wire, L: Listener>(
     }
 }
 
-/// Notes how the line went that was read last of a client that hadn't logged in before: whether it
-/// was refused, where so many refusals were before, or has logged in. Its next line is read in the
-/// next turn, which doesn't wait.
+/// Notes how the login went that a line brought which was read of a client that hadn't logged in
+/// before: whether it was refused, where so many refusals were before, or the client has logged in.
+/// A line that brought none changes nothing.
 fn note_guess<V: Vault>(
     office: &Office<V>,
     links: &mut Clients,
     connection: u64,
-    origin: Option<u64>,
+    pace: Pace,
+    login: &Option<LoginName>,
     before: u8,
-    now: u64,
 )
     ensures seats { links.new.seats ≡ links.old.seats }
     ensures aside { KeepsAside links.old links.new }
-    ensures hurried { links.old.hurries ≡ true → links.new.hurries ≡ true }
+    ensures hurries { links.new.hurries ≡ links.old.hurries }
     ensures noted { (T : Trace) → StandsFor V.holds office.now T
-        → AreNotedSo now origin (nat_lt before (refusals T connection))
+        → AreNotedSo pace.now pace.origin login.now (nat_lt before (refusals T connection))
         (live (history T) connection) links.old.guesses.refusals.items
         links.new.guesses.refusals.items }
 {
-    let Some(origin) = origin else {
+    let Some(origin) = pace.origin else {
         return;
     };
-    links.hurries = true;
+    let Some(name) = login else {
+        return;
+    };
     if office.refusals(connection) > before {
-        links.guesses.refuse(origin, now);
+        links.guesses.refuse(origin, name, pace.now);
         return;
     }
     if office.is_logged_in(connection) {
-        links.guesses.forget(origin);
+        links.guesses.forget(origin, name);
     }
 }
 
 /// Reads a piece from a link whose connection waits for octets, but no login that is kept back.
-/// Whether octets came.
+/// Whether octets came. Behind a line that was read by itself the next turn doesn't wait.
 fn read_piece<V: Vault, W: Wire, L: Listener>(
     office: &mut Office<V>,
     wire: &mut W,
@@ -216,19 +219,18 @@ fn read_piece<V: Vault, W: Wire, L: Listener>(
     if !office.ready(seat.connection) {
         return false;
     }
-    let origin = origin_at(office, wire, seat, &links.guesses);
-    let pace = pace_of(&links.guesses, origin, now);
-    let pace = pace_behind(pace, links.is_freed, office.is_logged_in(seat.connection));
-    let part = next_part(office, wire, seat, links.wait, pace);
-    if part == 0 {
+    let pace = pace_at(office, wire, links, seat, now);
+    let part = next_part(office, wire, &links.guesses, seat, pace);
+    if part.count == 0 {
         return false;
     }
     let before = office.refusals(seat.connection);
     let mut room = [0; MOST_AT_ONCE];
-    if !read_once(office, wire, listener, seat, &mut room[..part]) {
+    if !read_once(office, wire, listener, seat, &mut room[..part.count]) {
         return false;
     }
-    note_guess(office, links, seat.connection, origin, before, now);
+    links.hurries |= pace.by_line;
+    note_guess(office, links, seat.connection, pace, &part.login, before);
     true
 }
 

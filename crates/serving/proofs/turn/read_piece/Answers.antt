@@ -1,12 +1,11 @@
 use Rattle.serving.proofs.Looking.{serving_seen}
 use Rattle.std.proofs.Common.{rules, ◌≡◌, ◌==◌, ◌∙◌, ◌||◌, ◌++◌, true, false, [], sym, ap, subst}
 use Rattle.office.specs.Taken.{trace_of}
-use Rattle.serving.specs.Paces.{is_shut, is_free}
-use Rattle.serving.specs.Works.{IsHeard, may_keep, HurriesBy, is_moving}
+use Rattle.serving.specs.Works.{IsHeard, IsUnread, may_keep, reads_by_line, HurriesBy, is_moving}
 use Rattle.serving.proofs.Working.{part_none, part_asking, part_then, part_so}
 use Rattle.serving.proofs.Hearing.{unheard}
 use Rattle.serving.proofs.Turns.{heard_none, heard_unread, heard_asked, heard_after, read_part}
-use Rattle.serving.proofs.Unread.{shut_so, line_so, looked_quiet, unread_so}
+use Rattle.serving.proofs.Unread.{may_so, line_so, looked_quiet, unread_so}
 use Rattle.serving.proofs.Working.{any_right}
 use Rattle.serving.proofs.Resting.{hurried_quiet, hurried_moved}
 use Rattle.serving.proofs.turn.read_piece.Goals as goal
@@ -38,14 +37,17 @@ returns-then-part-eq0-clause-works g c =
     let links = c.args.links.now in
     let seat = c.args.seat in
     let may = may_keep links in
-    let pace = c.pace_behind-pace.result in
+    let p = c.pace_at-pace in
+    let pace = p.result in
+    let refusals = links.guesses.refusals.items in
     let part = c.next_part-part in
     let a = part.ensures.works in
-    let none : part.result ≡ 0 = search rules in
-    let shut : is_shut pace ≡ true → may ≡ true = shut_so links.is_freed c.is_logged_in.result links.guesses.are_slow c.args.now links.guesses c.origin_at-origin.result pace (search rules) c.origin_at-origin.ensures.fast in
+    let none : part.result.count ≡ 0 = search rules in
+    let unread = subst (λ w. IsUnread Holds o seat w may a.calls) p.ensures.wait
+    (unread_so Holds o seat pace refusals may part.result.count part.result.login a.calls (may_so links.guesses.are_slow links.is_freed pace.is_shut pace.origin p.ensures.shut p.ensures.fast) none a.facts) in
     heard_asked Holds IsClean g.V.Vault.faults g.W.Wire.asked g.L.Listener.heard o c.args.wire.now part.new.wire c.args.listener.now seat links.wait may (HurriesBy links.hurries (links.hurries || false)) a.calls a.was_asked
-    (heard_unread Holds IsClean g.V.Vault.faults links.wait may o seat a.calls (looked_quiet Holds o seat links.wait pace part.result a.calls a.facts)
-    (unread_so Holds o seat links.wait pace may part.result a.calls shut none a.facts)) (hurried_quiet links.hurries a.calls)
+    (heard_unread Holds IsClean g.V.Vault.faults links.wait may o seat a.calls (looked_quiet Holds o seat pace refusals part.result.count part.result.login a.calls a.facts)
+    unread) (hurried_quiet links.hurries a.calls)
 
 pub returns-then-not-read_once-clause-works : goal.returns-then-not-read_once-clause-works
 returns-then-not-read_once-clause-works g c =
@@ -53,12 +55,15 @@ returns-then-not-read_once-clause-works g c =
     let seat = c.args.seat in
     let part = c.next_part-part in
     let a = part.ensures.works in
-    let quiet = looked_quiet g.V.Vault.holds c.args.office.now seat links.wait c.pace_behind-pace.result part.result a.calls a.facts in
-    let pace = c.pace_behind-pace.result in
-    let some : (part.result == 0) ≡ false = search rules in
-    let line : is_free pace ≡ false → may_keep links ≡ true = line_so links.is_freed c.is_logged_in.result links.guesses.are_slow c.args.now links.guesses c.origin_at-origin.result pace (search rules) c.origin_at-origin.ensures.fast in
-    heard_after g.V.Vault.holds g.V.Vault.is_clean g.V.Vault.faults g.W.Wire.asked g.L.Listener.heard c.args.office.now c.read_once.new.office c.args.wire.now part.new.wire c.read_once.new.wire c.args.listener.now c.read_once.new.listener seat links.wait (may_keep links) pace part.result (HurriesBy false c.read_once.result) (HurriesBy links.hurries (links.hurries || false)) a.calls (λ cs m. hurried_quiet links.hurries (a.calls ++ cs)) quiet a.facts some line a.was_asked
-    (read_part g.V.Vault.holds g.V.Vault.is_clean g.V.Vault.faults g.W.Wire.asked g.L.Listener.heard c.args.office.now c.read_once.new.office part.new.wire c.read_once.new.wire c.args.listener.now c.read_once.new.listener seat part.result _ (HurriesBy false c.read_once.result) c.read_once.ensures.works part.ensures.most)
+    let p = c.pace_at-pace in
+    let pace = p.result in
+    let refusals = links.guesses.refusals.items in
+    let quiet = looked_quiet g.V.Vault.holds c.args.office.now seat pace refusals part.result.count part.result.login a.calls a.facts in
+    let some : (part.result.count == 0) ≡ false = search rules in
+    let line : pace.by_line ≡ true → reads_by_line links.wait (may_keep links) ≡ true = λ b.
+    subst (λ w. reads_by_line w (may_keep links) ≡ true) p.ensures.wait (line_so links.guesses.are_slow links.is_freed pace.is_shut pace.wait pace.origin p.ensures.shut p.ensures.fast (p.ensures.lines b)) in
+    heard_after g.V.Vault.holds g.V.Vault.is_clean g.V.Vault.faults g.W.Wire.asked g.L.Listener.heard c.args.office.now c.read_once.new.office c.args.wire.now part.new.wire c.read_once.new.wire c.args.listener.now c.read_once.new.listener seat links.wait (may_keep links) pace refusals part.result.count part.result.login (HurriesBy false c.read_once.result) (HurriesBy links.hurries (links.hurries || false)) a.calls (λ cs m. hurried_quiet links.hurries (a.calls ++ cs)) quiet a.facts some line a.was_asked
+    (read_part g.V.Vault.holds g.V.Vault.is_clean g.V.Vault.faults g.W.Wire.asked g.L.Listener.heard c.args.office.now c.read_once.new.office part.new.wire c.read_once.new.wire c.args.listener.now c.read_once.new.listener seat part.result.count _ (HurriesBy false c.read_once.result) c.read_once.ensures.works part.ensures.most)
 
 pub returns-clause-works : goal.returns-clause-works
 returns-clause-works g c =
@@ -67,10 +72,14 @@ returns-clause-works g c =
     let seat = c.args.seat in
     let part = c.next_part-part in
     let a = part.ensures.works in
-    let quiet = looked_quiet g.V.Vault.holds c.args.office.now seat links.wait c.pace_behind-pace.result part.result a.calls a.facts in
-    let pace = c.pace_behind-pace.result in
-    let some : (part.result == 0) ≡ false = search rules in
-    let line : is_free pace ≡ false → may_keep links ≡ true = line_so links.is_freed c.is_logged_in.result links.guesses.are_slow c.args.now links.guesses c.origin_at-origin.result pace (search rules) c.origin_at-origin.ensures.fast in
-    heard_after g.V.Vault.holds g.V.Vault.is_clean g.V.Vault.faults g.W.Wire.asked g.L.Listener.heard c.args.office.now c.read_once.new.office c.args.wire.now part.new.wire c.read_once.new.wire c.args.listener.now c.read_once.new.listener seat links.wait (may_keep links) pace part.result (HurriesBy false c.read_once.result) (HurriesBy links.hurries (c.note_guess.new.links.hurries || true)) a.calls
-    (λ cs m. hurried_moved links.hurries (c.note_guess.new.links.hurries || true) (a.calls ++ cs) (any_right is_moving a.calls cs (m came))) quiet a.facts some line a.was_asked
-    (read_part g.V.Vault.holds g.V.Vault.is_clean g.V.Vault.faults g.W.Wire.asked g.L.Listener.heard c.args.office.now c.read_once.new.office part.new.wire c.read_once.new.wire c.args.listener.now c.read_once.new.listener seat part.result _ (HurriesBy false c.read_once.result) c.read_once.ensures.works part.ensures.most)
+    let p = c.pace_at-pace in
+    let pace = p.result in
+    let refusals = links.guesses.refusals.items in
+    let quiet = looked_quiet g.V.Vault.holds c.args.office.now seat pace refusals part.result.count part.result.login a.calls a.facts in
+    let some : (part.result.count == 0) ≡ false = search rules in
+    let line : pace.by_line ≡ true → reads_by_line links.wait (may_keep links) ≡ true = λ b.
+    subst (λ w. reads_by_line w (may_keep links) ≡ true) p.ensures.wait (line_so links.guesses.are_slow links.is_freed pace.is_shut pace.wait pace.origin p.ensures.shut p.ensures.fast (p.ensures.lines b)) in
+    let hurries = c.note_guess.new.links.hurries || true in
+    heard_after g.V.Vault.holds g.V.Vault.is_clean g.V.Vault.faults g.W.Wire.asked g.L.Listener.heard c.args.office.now c.read_once.new.office c.args.wire.now part.new.wire c.read_once.new.wire c.args.listener.now c.read_once.new.listener seat links.wait (may_keep links) pace refusals part.result.count part.result.login (HurriesBy false c.read_once.result) (HurriesBy links.hurries hurries) a.calls
+    (λ cs m. hurried_moved links.hurries hurries (a.calls ++ cs) (any_right is_moving a.calls cs (m came))) quiet a.facts some line a.was_asked
+    (read_part g.V.Vault.holds g.V.Vault.is_clean g.V.Vault.faults g.W.Wire.asked g.L.Listener.heard c.args.office.now c.read_once.new.office part.new.wire c.read_once.new.wire c.args.listener.now c.read_once.new.listener seat part.result.count _ (HurriesBy false c.read_once.result) c.read_once.ensures.works part.ensures.most)
