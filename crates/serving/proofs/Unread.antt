@@ -1,5 +1,5 @@
 -- What was looked at on a link, and stays unread.
-use Rattle.std.proofs.Common.{◌≡◌, ℕ, zero, suc, ◌<◌, Bool, true, false, not, ◌&&◌, ◌||◌, ◌==◌, List, [], ◌∷◌, length, position, is_some, refl, sym, ◌∙◌, ap, arith, Some, None, Option, ⊎_elim, ◌⊎◌, inl, inr, true≢false}
+use Rattle.std.proofs.Common.{◌≡◌, ℕ, zero, suc, ◌<◌, Bool, true, false, not, ◌&&◌, ◌||◌, ◌==◌, List, [], ◌∷◌, length, position, is_some, nat_lt, refl, sym, ◌∙◌, ap, arith, Some, None, Option, ⊎_elim, ◌⊎◌, inl, inr, true≢false}
 use Rattle.std.specs.Bool.{if◌then◌else◌}
 use Rattle.std.specs.List.{Contains}
 use Rattle.std.proofs.lemmas.Bool.{or_cases}
@@ -18,7 +18,7 @@ use Rattle.serving.specs.declared.wire.Io.TheVariants.{Count}
 use Rattle.serving.specs.declared.links.Seat.{Seat}
 use Rattle.serving.specs.declared.pace.Pace.{Pace}
 use Rattle.serving.specs.declared.guesses.Refusal.{Refusal}
-use Rattle.serving.specs.Paces.{reads_lines, is_paced, keeps, is_held, first_line, line_by, part_by}
+use Rattle.serving.specs.Paces.{reads_lines, most_paced, is_paced, keeps, is_held, first_line, line_by, part_by}
 use Rattle.serving.specs.Works.{HasCause, IsQuietFor, IsKeptBack, IsUnread, reads_by_line, HasLooked, Unlooked, NothingCame, PieceCame}
 
 line_some : (newline : Option ℕ) (all : ℕ) → 0 < all → line_by newline all ≡ 0 → ⊥
@@ -35,13 +35,17 @@ paced_so : (now : ℕ) (origin : Option ℕ) (name : LoginName) (refusals : List
 paced_so now None name refusals h = cc
 paced_so now (Some origin) name refusals h = refl
 
+and_second : (a b : Bool) → (a && b) ≡ true → b ≡ true
+and_second true b e = e
+and_second false b e = cc
+
 kept_by : (pace : Pace) (refusals : List Refusal) (login : Option LoginName) → keeps pace refusals login ≡ true → ((pace.is_shut ≡ true) ⊎ (is_some pace.origin ≡ true)) × (is_some login ≡ true)
 kept_by pace refusals None h = cc
 kept_by pace refusals (Some name) h = (
   ⊎_elim
       (λ (s : pace.is_shut ≡ true). inl s)
-      (λ (p : is_paced pace.now pace.origin name refusals ≡ true). inr (paced_so pace.now pace.origin name refusals p))
-      (or_cases pace.is_shut (is_paced pace.now pace.origin name refusals) h),
+      (λ (p : (nat_lt pace.waited most_paced && is_paced pace.now pace.origin name refusals) ≡ true). inr (paced_so pace.now pace.origin name refusals (and_second (nat_lt pace.waited most_paced) (is_paced pace.now pace.origin name refusals) p)))
+      (or_cases pace.is_shut (nat_lt pace.waited most_paced && is_paced pace.now pace.origin name refusals) h),
   refl,
 )
 

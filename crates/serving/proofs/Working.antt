@@ -26,7 +26,7 @@ use Rattle.serving.specs.Calls.{Call, Looked, Read}
 use Rattle.serving.specs.declared.wire.Port.TheVariants.{Pop}
 use Rattle.serving.specs.declared.links.Seat.{Seat}
 use Rattle.serving.specs.declared.newcomers.Newcomer.{Newcomer}
-use Rattle.serving.specs.Works.{waits, arrivals, closings, is_beside, is_read_of, is_later_of, is_taking_of, is_cut_of, is_cut, most_writes, octets_taken, is_written_out, had_its_turn, moments, moment_of, openings, is_opening, refusals, is_refusal, AreNewlyAdmitted, is_failed, IsLateGone, AreLateGone, HasCause, AreCaused, WasGiven, WasAsked, Part, Asking, Giving, IsQuiet, IsQuietFor, IsKeptBack, StaysUnread, IsReadByLine, IsHeldBack, reads_by_line, Way, HadTurn}
+use Rattle.serving.specs.Works.{waits, arrivals, closings, is_beside, is_read_of, is_later_of, is_taking_of, is_cut_of, is_cut, most_writes, octets_taken, is_written_out, had_its_turn, moments, moment_of, openings, is_opening, refusals, is_refusal, AreNewlyAdmitted, is_failed, IsLateGone, AreLateGone, HasCause, AreCaused, WasGiven, WasAsked, Part, Asking, Giving, IsQuiet, IsQuietFor, IsKeptBack, StaysUnread, IsReadByLine, IsHeldBack, reads_by_line, LiesUnread, Way, HadTurn}
 use Rattle.serving.proofs.Staying.{Fewer, fewer_framed, frame_read, frame_took, frame_gone, fewer_tick, deposit_same, fewer_command}
 
 -- ---- one after the other
@@ -318,6 +318,12 @@ module _ (B : Records) (L : Log) (wait : ℕ) (may : Bool) (s : Seat) where
     is = ap (λ g. g ++ g1) u.is ∙ append_assoc u.later u.front g1;
     kept = subst (λ l. IsKeptBack (trace_of B l) s.connection u.piece wait may) (sym (append_assoc u.front g1 L)) u.kept;
   }
+
+pub lies_left : (B : Records) (L : Log) (wait : ℕ) (may : Bool) (seats : List Seat) (c : ℕ) (g1 g2 : Log) (c1 c2 : List Call) → LiesUnread B L g1 c1 wait may seats c → LiesUnread B L (g2 ++ g1) (c1 ++ c2) wait may seats c
+lies_left B L wait may seats c g1 g2 c1 c2 u = record { seat = u.seat; among = u.among; is = u.is; unread = unread_left B L wait may u.seat g1 g2 c1 c2 u.unread }
+
+pub lies_right : (B : Records) (L : Log) (wait : ℕ) (may : Bool) (seats : List Seat) (c : ℕ) (g1 g2 : Log) (c1 c2 : List Call) → LiesUnread B (g1 ++ L) g2 c2 wait may seats c → LiesUnread B L (g2 ++ g1) (c1 ++ c2) wait may seats c
+lies_right B L wait may seats c g1 g2 c1 c2 u = record { seat = u.seat; among = u.among; is = u.is; unread = unread_right B L wait may u.seat g1 g2 c1 c2 u.unread }
 
 -- ---- links that are read by lines
 

@@ -1,7 +1,8 @@
 -- Logins that were refused, and those that are kept back behind them: an address counts by a number,
 -- its origin, and a list has the last refusal of each origin and login name, the oldest refusal
 -- first.
-use Rattle.std.specs.Prelude.{◌≡◌, ℕ, Bool, true, false, not, ◌&&◌, ◌+◌, ◌-◌, ◌*◌, ◌==◌, nat_lt, nat_le}
+use Rattle.std.specs.Prelude.{◌≡◌, ℕ, Bool, true, false, not, ◌&&◌, ◌+◌, ◌-◌, ◌*◌, ◌==◌, nat_lt}
+use Rattle.std.specs.Prelude.{nat_le}
 use Rattle.std.specs.Prelude.{min, List, [], ◌∷◌, ◌++◌, length, drop, filter, find, slice_index}
 use Rattle.std.specs.Prelude.{Option, Some, None, if◌then◌else◌}
 use Rattle.std.specs.Net.Addr.{ipv4_bits, ipv6_segments}
@@ -70,10 +71,11 @@ one_more now origin name refusals = record {
 -- What becomes of the refusals behind a line of a client that counts by an origin: where it was a
 -- login that was refused, one more under its name; where the client is logged in by it, none of its
 -- origin and name. Else they stay.
-abbrev pub AreNotedSo : (now : ℕ) (origin : Option ℕ) (login : Option LoginName) (was_refused is_logged_in : Bool) (refusals refusals_then : List Refusal) → Type 0
-AreNotedSo now None login was_refused is_logged_in refusals refusals_then = refusals_then ≡ refusals
-AreNotedSo now (Some origin) None was_refused is_logged_in refusals refusals_then = refusals_then ≡ refusals
-AreNotedSo now (Some origin) (Some name) true is_logged_in refusals refusals_then =
-    refusals_then ≡ with_room (without origin name refusals) ++ one_more now origin name refusals ∷ []
-AreNotedSo now (Some origin) (Some name) false true refusals refusals_then = refusals_then ≡ without origin name refusals
-AreNotedSo now (Some origin) (Some name) false false refusals refusals_then = refusals_then ≡ refusals
+abbrev pub AreNotedSo : (now : ℕ) (origin : Option ℕ) (login : Option LoginName)
+    (was_refused is_logged_in : Bool) (old new : List Refusal) → Type 0
+AreNotedSo now None login was_refused is_logged_in old new = new ≡ old
+AreNotedSo now (Some origin) None was_refused is_logged_in old new = new ≡ old
+AreNotedSo now (Some origin) (Some name) true is_logged_in old new =
+    new ≡ with_room (without origin name old) ++ one_more now origin name old ∷ []
+AreNotedSo now (Some origin) (Some name) false true old new = new ≡ without origin name old
+AreNotedSo now (Some origin) (Some name) false false old new = new ≡ old

@@ -1,5 +1,6 @@
 -- Logins that are kept back: what comes on a link stays unread, or is read a line at a time.
-use Rattle.std.specs.Prelude.{◌≡◌, ℕ, Bool, true, false, not, ◌&&◌, ◌||◌, ◌==◌, List, length, position, suc, Option, Some, None, is_some}
+use Rattle.std.specs.Prelude.{◌≡◌, ℕ, Bool, true, false, not, ◌&&◌, ◌||◌, ◌==◌, nat_lt, List, length}
+use Rattle.std.specs.Prelude.{position, suc, Option, Some, None, is_some}
 use Rattle.creds.specs.declared.login_name.LoginName.{LoginName}
 use Rattle.office.specs.Events.{Trace}
 use Rattle.office.specs.Waiting.{waits}
@@ -20,17 +21,22 @@ abbrev pub is_paced : (now : ℕ) → (origin : Option ℕ) → LoginName → Li
 is_paced now None name refusals = false
 is_paced now (Some origin) name refusals = holds_back now (refusal_of origin name refusals)
 
+-- for how many seconds a login is kept back behind refusals at most, however many come meanwhile
+abbrev pub most_paced : ℕ
+most_paced = 15
+
 -- A login is kept back, whatever its maildrop: behind a session that ended in this turn, so that in
 -- the next turn those who wait for its maildrop are tried by number; or behind a refusal.
 abbrev pub keeps : Pace → List Refusal → (login : Option LoginName) → Bool
 keeps pace refusals None = false
-keeps pace refusals (Some name) = pace.is_shut || is_paced pace.now pace.origin name refusals
+keeps pace refusals (Some name) = pace.is_shut
+    || (nat_lt pace.waited most_paced && is_paced pace.now pace.origin name refusals)
 
 -- a session ended, where logins wait
 abbrev pub has_freed : (wait : ℕ) → (was_logged_in is_logged_in : Bool) → Bool
 has_freed wait was_logged_in is_logged_in = not (wait == 0) && (was_logged_in && not is_logged_in)
 
--- a piece stays unread: its next line is a login that waits for its maildrop's lock, or is kept back
+-- a piece stays unread: its next line is a login that waits for its lock, or is kept back
 abbrev pub is_held : Trace → (connection : ℕ) → (piece : List ℕ) → Pace → List Refusal → Bool
 is_held T connection piece pace refusals =
     waits T connection piece pace.wait || keeps pace refusals (login_brought T connection piece)
@@ -48,11 +54,9 @@ abbrev pub part_by : (is_held : Bool) → (piece : List ℕ) → ℕ
 part_by true piece = 0
 part_by false piece = first_line piece
 
--- While a link is served, these stay: the settings, who hasn't logged in, and which spool file was
--- tried last.
+-- While a link is served, these stay: the settings, and which spool file was tried last.
 pub record LeavesSettings (links links_then : Clients) : Type 0 where
   pub set : settings_of links_then ≡ settings_of links
-  pub newcomers : links_then.newcomers ≡ links.newcomers
   pub last : links_then.last ≡ links.last
 
 -- and while it is read from, whether a session ended in this turn

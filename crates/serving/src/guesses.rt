@@ -18,8 +18,9 @@ const MOST_REFUSALS: usize = 1024;
 /// For how many seconds a first refusal keeps the next login back.
 const FIRST_SECONDS: u64 = 1;
 
-/// For how many seconds any refusal does at most.
-const MOST_SECONDS: u64 = 15;
+/// For how many seconds any refusal does at most, and for how many a login is kept back at most,
+/// however many others are refused meanwhile.
+pub(crate) const MOST_SECONDS: u64 = 15;
 
 /// A refusal that is so many seconds old counts no more.
 const OLD_SECONDS: u64 = 600;

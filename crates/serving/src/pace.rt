@@ -1,19 +1,21 @@
 //! How what comes on a client's link is read: as it comes, or a line at a time, and but for logins
 //! that are kept back.
 ghost use Rattle.std.specs.Prelude.{◌≡◌, ◌≤◌, ◌<◌, ◌==◌, ◌&&◌, not, ℕ, List, true, false, None};
-ghost use Rattle.std.specs.Prelude.{length, position};
+ghost use Rattle.std.specs.Prelude.{length, position, nat_lt};
 ghost use Rattle.office.specs.Events.{Trace};
 ghost use Rattle.office.specs.Trace.{history};
 ghost use Rattle.office.specs.Sessions.{live};
-ghost use Rattle.office.specs.Logins.{login_brought as login_brought_at};
+ghost use Rattle.office.specs.Logins.{login_brought as login_brought_at, refusals};
+ghost use Rattle.serving.specs.Guesses.{AreNotedSo};
 ghost use Rattle.office.specs.Stands.{StandsFor};
 ghost use Rattle.serving.specs.Wires.{ToldOfPorts};
 ghost use Rattle.serving.specs.Works.{Asking, HasLooked};
 ghost use Rattle.serving.specs.Paces.{reads_lines as reads_lines_by, is_paced as is_paced_by};
-ghost use Rattle.serving.specs.Paces.{keeps as keeps_by, is_held};
+ghost use Rattle.serving.specs.Paces.{keeps as keeps_by, is_held, KeepsAside};
 ghost use Rattle.serving.specs.Paces.{first_line as first_line_of, part_by};
+ghost use Rattle.serving.specs.Newcomers.{newcomer, waited_of};
 
-use crate::guesses::{Guesses, origin_of};
+use crate::guesses::{Guesses, MOST_SECONDS, origin_of};
 use crate::links::{Clients, Seat};
 use crate::wire::{Io, Port, Wire};
 use creds::LoginName;
@@ -34,11 +36,14 @@ pub(crate) struct Pace {
     pub(crate) wait: u64,
     /// By which number the client's guesses count, if they do.
     pub(crate) origin: Option<u64>,
+    /// For how many seconds the login that comes next has lain unread; 0 for a new one.
+    pub(crate) waited: u64,
     /// The moment, in seconds.
     pub(crate) now: u64,
 }
 
 /// How much of what comes on a link is read, and whom its next line would log in.
+#[derive(Drop)]
 pub(crate) struct Part {
     /// How many octets are read; 0 where what came stays unread.
     pub(crate) count: usize,
@@ -90,6 +95,8 @@ pub(crate) fn pace_at<V: Vault, W: Wire>(
     ensures wait { result.wait ≡ links.now.wait }
     ensures shut { result.is_shut ≡ links.now.is_freed }
     ensures now { result.now ≡ now }
+    ensures waited { result.waited
+        ≡ waited_of now (newcomer seat.connection links.now.newcomers.newcomers.items) }
     ensures lines { result.by_line ≡ true
         → reads_lines_by result.wait result.is_shut result.origin ≡ true }
     ensures line { (T : Trace) → StandsFor V.holds office.now T
@@ -103,6 +110,7 @@ pub(crate) fn pace_at<V: Vault, W: Wire>(
         is_shut: links.is_freed,
         wait: links.wait,
         origin,
+        waited: links.newcomers.waited(seat.connection, now),
         now,
     }
 }
@@ -127,7 +135,7 @@ fn keeps(guesses: &Guesses, pace: Pace, login: &Option<LoginName>) -> bool
             if pace.is_shut {
                 return true;
             }
-            is_paced(guesses, pace.origin, name, pace.now)
+            pace.waited < MOST_SECONDS && is_paced(guesses, pace.origin, name, pace.now)
         }
     }
 }
@@ -226,5 +234,40 @@ pub(crate) fn next_part<V: Vault, W: Wire>(
     match wire.look(Port::Pop, seat.link, &mut room) {
         Io::Count(count) => part_of_piece(office, guesses, seat.connection, &room[..count], pace),
         _ => all,
+    }
+}
+
+/// Notes how the login went that a line brought which was read of a client that hadn't logged in
+/// before: whether it was refused, where so many refusals were before, or the client has logged in.
+/// A line that brought none changes nothing.
+pub(crate) fn note_guess<V: Vault>(
+    office: &Office<V>,
+    links: &mut Clients,
+    connection: u64,
+    pace: Pace,
+    login: &Option<LoginName>,
+    before: u8,
+)
+    ensures seats { links.new.seats ≡ links.old.seats }
+    ensures aside { KeepsAside links.old links.new }
+    ensures newcomers { links.new.newcomers ≡ links.old.newcomers }
+    ensures hurries { links.new.hurries ≡ links.old.hurries }
+    ensures noted { (T : Trace) → StandsFor V.holds office.now T
+        → AreNotedSo pace.now pace.origin login.now (nat_lt before (refusals T connection))
+        (live (history T) connection) links.old.guesses.refusals.items
+        links.new.guesses.refusals.items }
+{
+    let Some(origin) = pace.origin else {
+        return;
+    };
+    let Some(name) = login else {
+        return;
+    };
+    if office.refusals(connection) > before {
+        links.guesses.refuse(origin, name, pace.now);
+        return;
+    }
+    if office.is_logged_in(connection) {
+        links.guesses.forget(origin, name);
     }
 }

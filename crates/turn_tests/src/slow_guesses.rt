@@ -1,4 +1,5 @@
-//! Guesses that wait: a login is kept back behind one of the same address and name that was refused.
+//! Guesses that wait: a login is kept back behind one of the same address and name that was
+//! refused.
 
 use crate::scenes::{Act, Settings, play_set};
 use creds::LoginName;

@@ -35,8 +35,8 @@ returns-in_default-clause-works g c =
       facts = NothingCame io no;
     }
 
-pub returns-then-not-by_line-clause-works : goal.returns-then-not-by_line-clause-works
-returns-then-not-by_line-clause-works g c = record {
+pub returns-then-not-pace-clause-works : goal.returns-then-not-pace-clause-works
+returns-then-not-pace-clause-works g c = record {
   calls = [];
   was_asked = asked_none g.W.Wire.asked c.args.wire.now;
   facts = Unlooked (search rules);
