@@ -45,8 +45,10 @@ def wait_for(is_so, said, seconds=REPLY):
 class Client:
     """A connection to a port of 127.0.0.1."""
 
-    def __init__(self, port, receives=None):
+    def __init__(self, port, receives=None, source=None):
         self.socket = socket.socket()
+        if source:
+            self.socket.bind((source, 0))
         if receives:
             self.socket.setsockopt(socket.SOL_SOCKET, socket.SO_RCVBUF, receives)
         self.socket.settimeout(REPLY)

@@ -1,4 +1,4 @@
--- Which piece of a connection brings a login, and which would meet a lock, by what is kept and by
+-- Whom a piece of a connection would log in, and which would meet a lock, by what is kept and by
 -- the trace.
 use Rattle.std.proofs.Common.{◌≡◌, ℕ, ◌+◌, Bool, true, false, not, ◌&&◌, List, [], ◌∷◌, ◌++◌, drop, map}
 use Rattle.std.proofs.Common.{Option, Some, None, is_some, slice_get, append-nil, nat_le}
@@ -23,7 +23,7 @@ use Rattle.office.specs.Answered.{name_cmp, is_locked_by}
 use Rattle.office.specs.Stands.{Seen, Matches, IsSession, seen, untaken_of}
 use Rattle.office.specs.Waiting.{login_asked, is_held_for, coming_login, next_login, meets_lock, waits}
 use Rattle.office.specs.Waiting.{line_with, kept_waits}
-use Rattle.office.specs.Logins.{brings_login}
+use Rattle.office.specs.Logins.{login_brought}
 use Rattle.office.proofs.Hearing.{at_drop, at_end, pieces_none}
 use Rattle.office.proofs.Owing.{none_owed}
 
@@ -114,10 +114,10 @@ module _ (c : Contents) (T : Trace) (n : ℕ) (p : List ℕ) (k : Kept) (m : Mat
       ap₂ (λ b u. coming_login b u (line_with k p)) live m.user
       ∙ ap (λ x. coming_login s.live s.user x) next
 
-  -- whether it brings a login
-  pub brings_so : is_some coming_by_kept ≡ brings_login T n p
-  brings_so =
-      ap is_some login_so ∙ sym (ap (λ b. b && is_some (next_login T n p)) ready)
+  -- whom it would log in
+  pub brought_so : coming_by_kept ≡ login_brought T n p
+  brought_so =
+      login_so ∙ sym (ap (λ (b : Bool). if b then next_login T n p else None) ready)
 
   -- whether it waits
   pub waits_so : (locks : BTreeMap (List ℕ) ℕ)

@@ -1,6 +1,7 @@
--- Logging in, as a trace tells it: how often a connection was refused, and which piece of its
--- octets brings a login.
-use Rattle.std.specs.Prelude.{ℕ, Bool, ◌&&◌, List, min, is_some, if◌then◌else◌}
+-- Logging in, as a trace tells it: how often a connection was refused, and whom a piece of its
+-- octets would log in.
+use Rattle.std.specs.Prelude.{ℕ, Bool, List, min, Option, None, is_some, if◌then◌else◌}
+use Rattle.creds.specs.declared.login_name.LoginName.{LoginName}
 use Rattle.office.specs.Connections.{failures}
 use Rattle.office.specs.Events.{Trace}
 use Rattle.office.specs.Trace.{history, is_open, is_ready}
@@ -11,6 +12,10 @@ use Rattle.office.specs.Waiting.{next_login}
 abbrev pub refusals : Trace → ℕ → ℕ
 refusals T c = if is_open T c then min (failures (history T) c) most_failures else 0
 
--- octets may come on a connection, and with this piece its next line is a login
+-- whom a connection's next line would log in, with this piece; nobody where no octets may come
+abbrev pub login_brought : Trace → ℕ → (piece : List ℕ) → Option LoginName
+login_brought T c piece = if is_ready T c then next_login T c piece else None
+
+-- its next line is a login
 abbrev pub brings_login : Trace → ℕ → (piece : List ℕ) → Bool
-brings_login T c piece = is_ready T c && is_some (next_login T c piece)
+brings_login T c piece = is_some (login_brought T c piece)

@@ -1,13 +1,14 @@
 //! Questions about logins: whether a connection is logged in, how many credentials it had refused,
-//! and whether a piece of octets brings a login.
+//! and whom a piece of octets would log in.
 ghost use Rattle.std.specs.Prelude.{◌≡◌};
 ghost use Rattle.office.specs.Events.{Trace};
 ghost use Rattle.office.specs.Trace.{history};
 ghost use Rattle.office.specs.Sessions.{live};
 ghost use Rattle.office.specs.Stands.{StandsFor};
-ghost use Rattle.office.specs.Logins.{refusals as refusals_at, brings_login as brings_login_at};
+ghost use Rattle.office.specs.Logins.{refusals as refusals_at, login_brought as login_brought_at};
 
 use crate::Office;
+use creds::LoginName;
 use vault::Vault;
 
 impl<V: Vault> Office<V> {
@@ -38,22 +39,24 @@ impl<V: Vault> Office<V> {
         }
     }
 
-    /// Whether a piece that isn't given yet brings a login that the office would judge: octets may
-    /// come on connection `c`, nobody is in session on it, and its next line, with this piece
-    /// behind what came before, is a PASS with a login name in force, or an APOP.
+    /// Whom a piece that isn't given yet would log in, with the next line of connection `c`: the
+    /// name in force for a PASS, its own for an APOP. `None` where no octets may come on it, where
+    /// somebody is in session on it, or where its next line, with this piece behind what came
+    /// before, isn't whole or is no login that would be judged.
     ///
     /// It reads the line as the office would. It asks no store, takes no memory and changes
-    /// nothing. Lines behind the next one aren't looked at.
-    pub fn brings_login(&self, c: u64, piece: &[u8]) -> bool
+    /// nothing: whether there is such a clerk or maildrop isn't looked at. Lines behind the next
+    /// one aren't looked at either.
+    pub fn login_brought(&self, c: u64, piece: &[u8]) -> Option<LoginName>
         ensures { (T : Trace) → StandsFor V.holds self.now T
-            → result ≡ brings_login_at T c piece.now }
+            → result ≡ login_brought_at T c piece.now }
     {
         let Some(connection) = self.connections.get(&c) else {
-            return false;
+            return None;
         };
         if !connection.owes_nothing() {
-            return false;
+            return None;
         }
-        connection.coming_login(piece).is_some()
+        connection.coming_login(piece)
     }
 }

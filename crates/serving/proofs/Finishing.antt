@@ -1,5 +1,5 @@
 -- What the parts of a turn do together.
-use Rattle.std.proofs.Common.{◌≡◌, ◌||◌, ◌==◌, ℕ, zero, suc, ◌+◌, ◌<◌, ◌≤◌, Bool, true, false, not, List, [], ◌∷◌, ◌++◌, length, map, refl, sym, ◌∙◌, ap, arith, Some, None, Option, ⊎_elim, ◌⊎◌, inl, inr, subst, append_assoc, true≢false}
+use Rattle.std.proofs.Common.{◌≡◌, ◌||◌, ◌==◌, ℕ, zero, suc, ◌+◌, ◌<◌, ◌≤◌, Bool, true, false, not, List, [], ◌∷◌, ◌++◌, length, get_or, map, refl, sym, ◌∙◌, ap, arith, Some, None, Option, ⊎_elim, ◌⊎◌, inl, inr, subst, append_assoc, true≢false}
 use Rattle.std.specs.Bool.{⊤}
 use Rattle.std.specs.List.{All, Contains, list_any, filter, filter_map}
 use Rattle.std.proofs.lemmas.List.{append-nil}
@@ -17,7 +17,7 @@ use Rattle.serving.specs.Calls.{Call, Waited}
 use Rattle.serving.specs.declared.links.Seat.{Seat}
 use Rattle.serving.specs.declared.links.Links.{Links}
 use Rattle.serving.specs.declared.newcomers.Newcomer.{Newcomer}
-use Rattle.serving.specs.Works.{is_beside, waits, wait_of, arrivals, arrival_of, closings, closing_of, none_waited, tells_none, is_cut_of, is_cut, moments, moment_of, openings, is_opening, refusals, is_refusal, HasCause, AreCaused, WasGiven, WasAsked, Part, Asking, Giving, IsQuiet, IsQuietFor, IsPassed, Came, seat_of, unseated_of, link_of, HasAccepted, AreAccepted, most_links, HadTurn, WereServed, AreDeposits, is_open_seat, is_shut_seat, closing, AreClosed, link_of_seat, IsLateGone, AreLateGone, Also, HurriesBy, Releases, way_by, has_moved, is_moving}
+use Rattle.serving.specs.Works.{is_beside, waits, wait_of, arrivals, arrival_of, closings, closing_of, none_waited, tells_none, is_cut_of, is_cut, moments, moment_of, openings, is_opening, refusals, is_refusal, HasCause, AreCaused, WasGiven, WasAsked, Part, Asking, Giving, IsQuiet, IsQuietFor, IsPassed, Came, seat_of, unseated_of, link_of, HasAccepted, AreAccepted, most_links, HadTurn, IsNotedSo, WereServed, AreDeposits, is_open_seat, is_shut_seat, closing, AreClosed, link_of_seat, IsLateGone, AreLateGone, Also, HurriesBy, Releases, way_by, has_moved, is_moving}
 use Rattle.serving.specs.Spools.{FileCall}
 use Rattle.serving.specs.HttpWorks.{AskedApart, DidApart, HasAcceptedBeside, HadHttpTurns}
 use Rattle.serving.specs.declared.requests.Exchange.{Exchange}
@@ -31,10 +31,11 @@ use Rattle.serving.proofs.Arriving.{shut_moved}
 use Rattle.serving.proofs.Hearing.{told_then, turn_heard}
 use Rattle.serving.proofs.Turns.{served_so}
 use Rattle.serving.proofs.Freeing.{freed_left, freed_right}
-use Rattle.serving.specs.Newcomers.{newcomer, AllHaveSeats, IsNewlyNoted}
-use Rattle.serving.specs.Late.{HasLived, IsInTime, IsNotedSince, HasEndedLate}
-use Rattle.serving.proofs.Timely.{late_kept, lived_left, lived_right}
-use Rattle.serving.proofs.Working.{or_true, given_then, asked_then, none_of, count_joined, any_left, any_right, quiet_none, caused_more, fewer_quiet, fewer_gone, none_joined, turned_left, turned_right}
+use Rattle.serving.specs.Newcomers.{newcomer, lies_unread, AllHaveSeats, IsSettled, CountsFrom, IsComer}
+use Rattle.serving.specs.Late.{HasLived, IsNotedSince, HasEndedLate}
+use Rattle.serving.proofs.Timely.{lived_left, lived_right}
+use Rattle.serving.proofs.Settling.{late_still}
+use Rattle.serving.proofs.Working.{or_true, given_then, asked_then, none_of, count_joined, any_left, any_right, lies_left, lies_right, quiet_none, caused_more, fewer_quiet, fewer_gone, none_joined, turned_left, turned_right}
 
 -- ---- deposits
 
@@ -157,11 +158,11 @@ module _ {V W S H : Type 0} (Holds : V → Contents → Type 0) (IsClean : V →
       → (acc : Part Holds IsClean Faults Asked o1 w1 o2 w2 (AreAccepted Holds IsClean o1 o2 links.clients.seats.items seats2 64 goes))
       → Asking Asked w2 w3 (AskedApart (HasAcceptedBeside now 64 more links.requests.exchanges.items held))
       → WasTold Heard l1 l2 []
-      → Part Holds IsClean Faults Asked o2 w3 o3 w4 (WithHeard Holds IsClean Heard o2 l2 o3 l3 (Also (WereServed Holds IsClean o2 o3 (settings links) freed hurrying seats2 seats2) (HurriesBy freed hurrying)))
+      → Part Holds IsClean Faults Asked o2 w3 o3 w4 (WithHeard Holds IsClean Heard o2 l2 o3 l3 (Also (WereServed Holds IsClean o2 o3 (settings links) freed hurrying n1 seats2 seats2) (HurriesBy freed hurrying)))
       → (freed ≡ true → hurrying ≡ true) → (hurrying ≡ true → hurried ≡ true)
       → Part Holds IsClean Faults Asked o3 w4 o4 w5 (Also (DidApart Holds IsClean o3 o4 (HeardApart Heard l3 l4 (λ B L. HadHttpTurns now B L held links_then.requests.exchanges.items))) (HurriesBy false links_then.requests.hurries))
-      → ((c : ℕ) (n : Newcomer) → newcomer c links.clients.newcomers.newcomers.items ≡ Some n → newcomer c n1 ≡ Some n)
-      → (AllHaveSeats links → (links.clients.newcomers.seconds == 0) ≡ false → All (IsNewlyNoted now links.clients.newcomers.newcomers.items n1) (filter_map seat_of acc.facts.came))
+      → ((c : ℕ) (n : Newcomer) → newcomer c links.clients.newcomers.newcomers.items ≡ Some n → IsSettled now (Some n) (newcomer c n1))
+      → (AllHaveSeats links → All (IsComer now links.clients.newcomers.newcomers.items n1) (filter_map seat_of acc.facts.came))
       → Giving Holds IsClean Faults o4 o5 (λ g. AreLateGone now links.clients.newcomers.seconds links.clients.newcomers.newcomers.items g × HasEndedLate Holds IsClean o4 o5 now links.clients.newcomers.seconds n1 n2 seats2 g × WasTold Heard l4 l5 (late_ends g))
       → ((U : Trace) → StandsFor Holds o5 U → (c : ℕ) → is_open U c ≡ true → newcomer c links_then.clients.newcomers.newcomers.items ≡ newcomer c n2)
       → ((U : Trace) → StandsFor Holds o5 U → Asking Asked w5 w6 (λ calls. AreClosed U seats2 links_then.clients.seats.items calls × HurriesBy hurrying hurried calls × Releases links.clients.wait hurried calls))
@@ -212,7 +213,13 @@ module _ {V W S H : Type 0} (Holds : V → Contents → Type 0) (IsClean : V →
       let C5 : List Call = ((((cp ++ ca) ++ cq) ++ cl) ++ cr) ++ cx in
       let filed = spool.facts (trace_of B ((gz ++ G3) ++ L)) (subst (λ l. StandsFor Holds o5 (trace_of B l)) (sym (append_assoc gz G3 L)) s5) k6 in
       let sleeps_not : hurried ≡ true → millis_of links_then ≡ 0 = λ e. no_wait links_then (filed.1 ∙ is_left hurried (has_dealt spool.calls) e) in
-      let had = served_so Holds IsClean Faults o2 o3 (way_by (settings links) (length seats2) freed hurrying) way seats2 seats2 gl cl refl refl (λ e. e) (λ e. ap (λ n. n == 0) (sleeps_not (still e))) served.facts.1.0.turns in
+      let had = served_so Holds IsClean Faults o2 o3 (way_by (settings links) (length seats2) freed hurrying) way n1 seats2 seats2 gl cl refl refl (λ e. e) (λ e. ap (λ n. n == 0) (sleeps_not (still e))) served.facts.1.0.turns in
+      let unread : All (IsNotedSo n1 B L G4 C5 way.wait way.may seats2) seats2 =
+      All-weaker (IsNotedSo n1 B (G1 ++ L) gl cl way.wait way.may seats2) (IsNotedSo n1 B L G4 C5 way.wait way.may seats2)
+      (λ q h e.
+      lies_left B L way.wait way.may seats2 q.connection G3 gx ((((cp ++ ca) ++ cq) ++ cl) ++ cr) cx
+      (lies_left B L way.wait way.may seats2 q.connection G2 gr (((cp ++ ca) ++ cq) ++ cl) cr (lies_right B L way.wait way.may seats2 q.connection G1 gl ((cp ++ ca) ++ cq) cl (h e))))
+      seats2 (had.noted_so B (G1 ++ L) s2 k3) in
       let come = acc.facts.come in
       let moment : Event × EventTag = (event.Tick now, pass.facts.event_tag) in
       let idle_heard = idle_ends (trace_of B (moment ∷ L)) links.clients.seats.items in
@@ -377,25 +384,34 @@ module _ {V W S H : Type 0} (Holds : V → Contents → Type 0) (IsClean : V →
           closed = filter_map-append closing_of ((((cp ++ ca) ++ cq) ++ cl) ++ cr) cx
               ∙ (ap (λ zs. zs ++ closings cx) (seen_first cp ca cq cl cr cx closing_of asked.facts.0.no_closings lq.no_closings rq.no_closings ∙ (only_last closing_of cp ca closings_p ∙ come.closed))
               ∙ ap (λ zs. filter_map unseated_of came ++ zs) (closings_x ∙ ap (map link_of_seat) shut_same));
-          timely = All-weaker (IsInTime now seconds n1 B (G3 ++ L) gz trace4) (IsInTime now seconds newcomers B L G4 after)
-              (λ q t is_late_now here.
-              lived_right B L G3 gx q.connection
-              (lived_left B (G3 ++ L) gz gs q.connection (t (late_kept now seconds newcomers n1 q.connection (keeps q.connection) is_late_now) (sym (same q.connection) ∙ here))))
-              seats2 (late.facts.1.each B (G3 ++ L) s4 k5);
+          timely = λ i d within is_late_now here.
+              (let q = get_or seats2 i d in
+              ⊎_elim
+              (λ (u : HasLived B (G3 ++ L) gz q.connection). inl (lived_right B L G3 gx q.connection (lived_left B (G3 ++ L) gz gs q.connection u)))
+              (λ (h : lies_unread (newcomer q.connection n1) ≡ true). inr (unread i d within h))
+              (late.facts.1.each B (G3 ++ L) s4 k5 i d within (late_still now seconds newcomers n1 q.connection (keeps q.connection) is_late_now) (sym (same q.connection) ∙ here)));
           noted = λ c n is here.
               ⊎_elim
-              (λ (e : newcomer c n2 ≡ newcomer c n1). inl (forgets trace4 s5 c (sym (same c) ∙ here) ∙ (e ∙ keeps c n is)))
+              (λ (e : newcomer c n2 ≡ newcomer c n1). inl (subst (IsSettled now (Some n)) (sym (forgets trace4 s5 c (sym (same c) ∙ here) ∙ e)) (keeps c n is)))
               (λ (u : HasLived B (G3 ++ L) gz c). inr (lived_right B L G3 gx c (lived_left B (G3 ++ L) gz gs c u)))
               (late.facts.1.noted B (G3 ++ L) s4 k5 c);
-          newly = λ h on.
-              All-weaker (IsNewlyNoted now newcomers n1) (IsNotedSince now newcomers links_then.clients.newcomers.newcomers.items B L G4 after)
+          newly = λ h.
+              All-weaker (IsComer now newcomers n1) (IsNotedSince now newcomers links_then.clients.newcomers.newcomers.items B L G4 after)
               (λ q k none_before here.
               (let c = q.connection in
               ⊎_elim
-              (λ (e : newcomer c n2 ≡ newcomer c n1). inl (forgets trace4 s5 c (sym (same c) ∙ here) ∙ (e ∙ k none_before)))
+              (λ (e : newcomer c n2 ≡ newcomer c n1). inl (subst (CountsFrom now) (sym (forgets trace4 s5 c (sym (same c) ∙ here) ∙ e)) (k none_before)))
               (λ (u : HasLived B (G3 ++ L) gz c). inr (lived_right B L G3 gx c (lived_left B (G3 ++ L) gz gs c u)))
               (late.facts.1.noted B (G3 ++ L) s4 k5 c)))
-              (filter_map seat_of came) (comers h on);
+              (filter_map seat_of came) (comers h);
+          counts = λ i d within is_unread here.
+              (let q = get_or seats2 i d in
+              let c = q.connection in
+              ⊎_elim
+              (λ (e : newcomer c n2 ≡ newcomer c n1).
+              inr (unread i d within (ap lies_unread (sym (forgets trace4 s5 c (sym (same c) ∙ here) ∙ e)) ∙ is_unread)))
+              (λ (u : HasLived B (G3 ++ L) gz c). inl (lived_right B L G3 gx c (lived_left B (G3 ++ L) gz gs c u)))
+              (late.facts.1.noted B (G3 ++ L) s4 k5 c));
           left = x.facts.0.left ∙ open_same;
         };
       }

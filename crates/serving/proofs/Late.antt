@@ -3,7 +3,7 @@ use Rattle.std.proofs.Common.{◌≡◌, ◌≤◌, ℕ, zero, suc, ◌-◌, ◌
 use Rattle.std.specs.Bool.{if◌then◌else◌}
 use Rattle.std.proofs.lemmas.Bool.{cases_Bool}
 use Rattle.serving.specs.declared.newcomers.Newcomer.{Newcomer}
-use Rattle.serving.specs.Newcomers.{newcomer, others, is_late_by, noted}
+use Rattle.serving.specs.Newcomers.{newcomer, others, spent, is_late_by, noted}
 use Rattle.serving.specs.Works.{is_late, AreNoMoreLate, IsLateGone}
 use Rattle.office.specs.Events.{Event, EventTag}
 use Rattle.office.specs.Events as event
@@ -86,12 +86,12 @@ and_second : (a b : Bool) → (a && b) ≡ true → b ≡ true
 and_second true b e = e
 and_second false b e = cc
 
-not_yet : (now seconds : ℕ) (n : Newcomer) → n.since ≡ now → late_if now seconds (Some n) ≡ true → ⊥
-not_yet now seconds n is e =
-    let some : not (seconds == 0) ≡ true = and_first (not (seconds == 0)) (nat_le seconds (now - n.since)) e in
-    let late : nat_le seconds (now - n.since) ≡ true = and_second (not (seconds == 0)) (nat_le seconds (now - n.since)) e in
-    let long : seconds ≤ now - n.since = leb-true seconds (now - n.since) late in
-    let none : seconds ≡ 0 = omega (arith, long, is) in
+not_yet : (now seconds c : ℕ) → late_if now seconds (Some (record { connection = c; since = now; held = None })) ≡ true → ⊥
+not_yet now seconds c e =
+    let some : not (seconds == 0) ≡ true = and_first (not (seconds == 0)) (nat_le seconds (now - now)) e in
+    let late : nat_le seconds (now - now) ≡ true = and_second (not (seconds == 0)) (nat_le seconds (now - now)) e in
+    let long : seconds ≤ now - now = leb-true seconds (now - now) late in
+    let none : seconds ≡ 0 = omega (arith, long) in
     let k : (seconds == 0) ≡ true = eq-eqb seconds 0 none in
     true≢false (sym some ∙ ap not k)
 
@@ -113,10 +113,10 @@ late_others now seconds d xs = λ c h.
 pub late_noted : (now seconds connection : ℕ) (is_noted : Bool) (xs : List Newcomer) → AreNoMoreLate now seconds xs (noted is_noted connection now xs)
 late_noted now seconds connection false xs = λ c h. h
 late_noted now seconds connection true xs = λ c h.
-    (let n : Newcomer = record { connection = connection; since = now } in
+    (let n : Newcomer = record { connection = connection; since = now; held = None } in
     ⊎_elim
     (λ (e : newcomer c (xs ++ n ∷ []) ≡ newcomer c xs). sym (ap (late_if now seconds) e) ∙ h)
-    (λ (e : newcomer c (xs ++ n ∷ []) ≡ Some n). absurd (not_yet now seconds n refl (sym (ap (late_if now seconds) e) ∙ h)))
+    (λ (e : newcomer c (xs ++ n ∷ []) ≡ Some n). absurd (not_yet now seconds connection (sym (ap (late_if now seconds) e) ∙ h)))
     (one_more c n xs))
 
 pub late_forgotten : (now seconds d : ℕ) (xs ys : List Newcomer) → ys ≡ others d xs → AreNoMoreLate now seconds xs ys

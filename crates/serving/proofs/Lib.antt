@@ -28,3 +28,4 @@ pub mod Freeing
 pub mod Timely
 pub mod Newly
 pub mod Resting
+pub mod Settling

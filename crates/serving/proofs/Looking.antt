@@ -1,5 +1,5 @@
 -- What was only looked at on a link is served still.
-use Rattle.std.proofs.Common.{List, ◌≡◌, Bool, true, false, ◌||◌, ◌&&◌}
+use Rattle.std.proofs.Common.{List, ◌≡◌, Bool, true, false, ◌||◌}
 use Rattle.vault.specs.Changes.{Contents}
 use Rattle.office.specs.Events.{Trace}
 use Rattle.office.specs.declared.office.Office.{Office}
@@ -22,6 +22,6 @@ serving_seen Holds Tells T beside office wire seen seats these same s = record {
   adds = s.adds;
 }
 
--- a login that waits for no lock stays unread where logins are kept back
-pub held_by_login : (waits shut login held : Bool) → waits ≡ false → shut ≡ true → held ≡ login → held ≡ (waits || (shut && login))
-held_by_login waits shut login held e f h = rw (e, f) h
+-- a login that waits for no lock stays unread where it is kept back
+pub held_by_login : (waits kept held : Bool) → waits ≡ false → held ≡ kept → held ≡ (waits || kept)
+held_by_login waits kept held e h = rw e h

@@ -1,5 +1,5 @@
 -- Newcomers, each with its seat, and those that are noted anew.
-use Rattle.std.proofs.Common.{◌≡◌, ◌≤◌, ◌<◌, ℕ, zero, suc, ◌==◌, ◌&&◌, not, Bool, true, false, List, [], ◌∷◌, ◌++◌, length, drop, get_or, refl, sym, ◌∙◌, ap, arith, Some, None, ⊎_elim, ◌⊎◌, inl, inr, subst, eq-eqb, eqb-true, append_assoc}
+use Rattle.std.proofs.Common.{◌≡◌, ◌≤◌, ◌<◌, ℕ, zero, suc, ◌==◌, Bool, true, false, List, [], ◌∷◌, ◌++◌, length, drop, get_or, refl, sym, ◌∙◌, ap, arith, Some, None, ⊎_elim, ◌⊎◌, inl, inr, subst, eq-eqb, eqb-true, append_assoc}
 use Rattle.std.specs.List.{All, remove}
 use Rattle.std.proofs.lemmas.Bool.{cases_Bool}
 use Rattle.std.proofs.lemmas.List.{append-nil}
@@ -38,7 +38,7 @@ seated_noted false link c now ns ns2 seats seats2 is at h =
     subst (λ l. HaveSeats l seats2) (sym is) (subst (HaveSeats ns) (sym at) (seat_more ns seats s h))
 seated_noted true link c now ns ns2 seats seats2 is at h =
     let s : Seat = record { link = link; connection = c } in
-    let n : Newcomer = record { connection = c; since = now } in
+    let n : Newcomer = record { connection = c; since = now; held = None } in
     subst (λ l. HaveSeats l seats2) (sym is) (subst (HaveSeats (ns ++ n ∷ [])) (sym at) (newcomer_more ns seats n s refl h))
 
 pub seated_others : (c : ℕ) (ns : List Newcomer) (seats : List Seat) → HaveSeats ns seats → HaveSeats (others c ns) seats
@@ -90,22 +90,19 @@ passed_last c n (x ∷ xs) e =
 each_noted : (b : Bool) (c now : ℕ) (xs ys : List Newcomer) → ys ≡ noted b c now xs → AreNotedNow now xs ys
 each_noted false c now xs ys is = λ q. inl (ap (newcomer q) is)
 each_noted true c now xs ys is = λ q.
-    (let n : Newcomer = record { connection = c; since = now } in
+    (let n : Newcomer = record { connection = c; since = now; held = None } in
     ⊎_elim
     (λ (e : (c == q) ≡ true).
     ⊎_elim
     (λ (f : newcomer q (xs ++ n ∷ []) ≡ newcomer q xs). inl (ap (newcomer q) is ∙ f))
-    (λ (f : newcomer q (xs ++ n ∷ []) ≡ Some n). inr (ap (newcomer q) is ∙ (f ∙ ap (λ k. Some (record { connection = k; since = now })) (eqb-true c q e))))
+    (λ (f : newcomer q (xs ++ n ∷ []) ≡ Some n). inr (ap (newcomer q) is ∙ (f ∙ ap (λ k. Some (record { connection = k; since = now; held = None })) (eqb-true c q e))))
     (one_more q n xs))
     (λ (e : (c == q) ≡ false). inl (ap (newcomer q) is ∙ passed_last q n xs e))
     (cases_Bool (c == q)))
 
 newly_one : (b : Bool) (link : Link) (c now : ℕ) (xs ys : List Newcomer) → b ≡ true → ys ≡ noted b c now xs → IsNewlyNoted now xs ys (record { link = link; connection = c })
 newly_one false link c now xs ys e is = cc
-newly_one true link c now xs ys e is = λ none. ap (newcomer c) is ∙ found_last c (record { connection = c; since = now }) xs (eq-eqb c c refl) none
-
-both : (a b : Bool) → a ≡ true → b ≡ false → (a && not b) ≡ true
-both a b e f = rw (e, f) refl
+newly_one true link c now xs ys e is = λ none. ap (newcomer c) is ∙ found_last c (record { connection = c; since = now; held = None }) xs (eq-eqb c c refl) none
 
 module _ (now : ℕ) where
   pub noted_none : (a : Clients) → AreNoted now a a
@@ -115,25 +112,24 @@ module _ (now : ℕ) where
     seconds = refl;
     seated = λ h. h;
     each = λ c. inl refl;
-    newly = λ h on. All-nil (IsNewlyNoted now a.newcomers.newcomers.items a.newcomers.newcomers.items);
+    newly = λ h. All-nil (IsNewlyNoted now a.newcomers.newcomers.items a.newcomers.newcomers.items);
   }
 
   pub noted_one : (a b : Clients) (link : Link) (c : ℕ) (room : Bool) → b.seats.items ≡ a.seats.items ++ record { link = link; connection = c } ∷ [] → b.newcomers.seconds ≡ a.newcomers.seconds
-      → b.newcomers.newcomers.items ≡ noted (room && not (a.newcomers.seconds == 0)) c now a.newcomers.newcomers.items → (length a.newcomers.newcomers.items < 128 → room ≡ true) → length a.seats.items < 128 → AreNoted now a b
+      → b.newcomers.newcomers.items ≡ noted room c now a.newcomers.newcomers.items → (length a.newcomers.newcomers.items < 128 → room ≡ true) → length a.seats.items < 128 → AreNoted now a b
   noted_one a b link c room at seconds is enough free =
       let s : Seat = record { link = link; connection = c } in
       let P = IsNewlyNoted now a.newcomers.newcomers.items b.newcomers.newcomers.items in
-      let n = room && not (a.newcomers.seconds == 0) in
       record {
         more = s ∷ [];
         is = at;
         seconds = seconds;
-        seated = seated_noted n link c now a.newcomers.newcomers.items b.newcomers.newcomers.items a.seats.items b.seats.items is at;
-        each = each_noted n c now a.newcomers.newcomers.items b.newcomers.newcomers.items is;
-        newly = λ h on.
+        seated = seated_noted room link c now a.newcomers.newcomers.items b.newcomers.newcomers.items a.seats.items b.seats.items is at;
+        each = each_noted room c now a.newcomers.newcomers.items b.newcomers.newcomers.items is;
+        newly = λ h.
             (let k = seats_enough a.newcomers.newcomers.items a.seats.items h in
-            let yes : n ≡ true = both room (a.newcomers.seconds == 0) (enough (omega (arith, k, free))) on in
-            All-cons P s [] (newly_one n link c now a.newcomers.newcomers.items b.newcomers.newcomers.items yes is) (All-nil P));
+            let yes : room ≡ true = enough (omega (arith, k, free)) in
+            All-cons P s [] (newly_one room link c now a.newcomers.newcomers.items b.newcomers.newcomers.items yes is) (All-nil P));
       }
 
   pub noted_then : (a b c : Clients) → AreNoted now a b → AreNoted now b c → AreNoted now a c
@@ -152,26 +148,25 @@ module _ (now : ℕ) where
             (λ (e : newcomer n news ≡ newcomer n mids).
             ⊎_elim
             (λ (f : newcomer n mids ≡ newcomer n olds). inl (e ∙ f))
-            (λ (f : newcomer n mids ≡ Some (record { connection = n; since = now })). inr (e ∙ f))
+            (λ (f : newcomer n mids ≡ Some (record { connection = n; since = now; held = None })). inr (e ∙ f))
             (p.each n))
-            (λ (e : newcomer n news ≡ Some (record { connection = n; since = now })). inr e)
+            (λ (e : newcomer n news ≡ Some (record { connection = n; since = now; held = None })). inr e)
             (q.each n);
-        newly = λ h on.
-            (let still : (s : Seat) → newcomer s.connection mids ≡ Some (record { connection = s.connection; since = now }) → newcomer s.connection news ≡ Some (record { connection = s.connection; since = now }) = λ s k.
+        newly = λ h.
+            (let still : (s : Seat) → newcomer s.connection mids ≡ Some (record { connection = s.connection; since = now; held = None }) → newcomer s.connection news ≡ Some (record { connection = s.connection; since = now; held = None }) = λ s k.
             ⊎_elim
             (λ (e : newcomer s.connection news ≡ newcomer s.connection mids). e ∙ k)
-            (λ (e : newcomer s.connection news ≡ Some (record { connection = s.connection; since = now })). e)
+            (λ (e : newcomer s.connection news ≡ Some (record { connection = s.connection; since = now; held = None })). e)
             (q.each s.connection) in
-            let on2 : (b.newcomers.seconds == 0) ≡ false = ap (λ n. n == 0) p.seconds ∙ on in
             All-append P p.more q.more
-            (All-weaker (IsNewlyNoted now olds mids) P (λ s k none. still s (k none)) p.more (p.newly h on))
+            (All-weaker (IsNewlyNoted now olds mids) P (λ s k none. still s (k none)) p.more (p.newly h))
             (All-weaker (IsNewlyNoted now mids news) P
             (λ s k none.
             ⊎_elim
             (λ (e : newcomer s.connection mids ≡ newcomer s.connection olds). k (e ∙ none))
-            (λ (e : newcomer s.connection mids ≡ Some (record { connection = s.connection; since = now })). still s e)
+            (λ (e : newcomer s.connection mids ≡ Some (record { connection = s.connection; since = now; held = None })). still s e)
             (p.each s.connection))
-            q.more (q.newly (p.seated h) on2)));
+            q.more (q.newly (p.seated h))));
       }
 
 -- those that came are those behind the first seats

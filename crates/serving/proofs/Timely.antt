@@ -14,9 +14,9 @@ use Rattle.office.specs.Stands.{StandsFor, vault_of}
 use Rattle.office.specs.declared.office.Office.{Office}
 use Rattle.serving.specs.declared.links.Seat.{Seat}
 use Rattle.serving.specs.declared.newcomers.Newcomer.{Newcomer}
-use Rattle.serving.specs.Newcomers.{newcomer, others, is_late_by, noted}
+use Rattle.serving.specs.Newcomers.{newcomer, others, is_late_by, noted, lies_unread}
 use Rattle.serving.specs.Works.{is_late, AreNoMoreLate, IsLateGone, AreLateGone, WasGiven, Giving}
-use Rattle.serving.specs.Late.{HasLived, IsInTime, IsShutBy, HasEndedLate}
+use Rattle.serving.specs.Late.{HasLived, IsEndedInTime, IsShutBy, HasEndedLate}
 use Rattle.serving.proofs.Staying.{Fewer}
 use Rattle.serving.proofs.Working.{given_then, fewer_gone}
 use Rattle.serving.proofs.Seating.{whole_front}
@@ -37,6 +37,15 @@ lived_right B L g1 g2 c u = record {
 
 lived_now : (B : Records) (L : Log) (c : ℕ) → live (history (trace_of B L)) c ≡ true → HasLived B L [] c
 lived_now B L c h = record { later = []; front = []; is = refl; lived = h }
+
+-- or a login of it lies unread
+ended_left : (B : Records) (L g1 g2 : Log) (xs : List Newcomer) (c : ℕ) → HasLived B L g1 c ⊎ (lies_unread (newcomer c xs) ≡ true) → HasLived B L (g2 ++ g1) c ⊎ (lies_unread (newcomer c xs) ≡ true)
+ended_left B L g1 g2 xs c (inl u) = inl (lived_left B L g1 g2 c u)
+ended_left B L g1 g2 xs c (inr h) = inr h
+
+ended_right : (B : Records) (L g1 g2 : Log) (xs ys : List Newcomer) (c : ℕ) → newcomer c ys ≡ newcomer c xs → HasLived B (g1 ++ L) g2 c ⊎ (lies_unread (newcomer c ys) ≡ true) → HasLived B L (g2 ++ g1) c ⊎ (lies_unread (newcomer c xs) ≡ true)
+ended_right B L g1 g2 xs ys c e (inl u) = inl (lived_right B L g1 g2 c u)
+ended_right B L g1 g2 xs ys c e (inr h) = inr (ap lies_unread (sym e) ∙ h)
 
 -- ---- who is late
 
@@ -74,7 +83,7 @@ found_first c n (x ∷ xs) ys h =
 
 pub found_noted : (b : Bool) (connection now : ℕ) (xs ys : List Newcomer) → ys ≡ noted b connection now xs → (c : ℕ) (n : Newcomer) → newcomer c xs ≡ Some n → newcomer c ys ≡ Some n
 found_noted false connection now xs ys is c n h = ap (newcomer c) is ∙ h
-found_noted true connection now xs ys is c n h = ap (newcomer c) is ∙ found_first c n xs (record { connection = connection; since = now } ∷ []) h
+found_noted true connection now xs ys is c n h = ap (newcomer c) is ∙ found_first c n xs (record { connection = connection; since = now; held = None } ∷ []) h
 
 -- ---- one client
 
@@ -82,7 +91,7 @@ module _ {V : Type 0} (Holds : V → Contents → Type 0) (IsClean : V → Type 
   pub late_none : (o : Office V) (xs : List Newcomer) → HasEndedLate Holds IsClean o o now seconds xs xs [] []
   late_none o xs = record {
     gone = All-nil (IsLateGone now seconds xs);
-    each = λ B L s k. All-nil (IsInTime now seconds xs B L [] (trace_of B L));
+    each = λ B L s k. All-nil (IsEndedInTime now seconds xs B L [] (trace_of B L));
     noted = λ B L s k c. inl refl;
   }
 
@@ -98,7 +107,7 @@ module _ {V : Type 0} (Holds : V → Contents → Type 0) (IsClean : V → Type 
   late_lived o xs ys q is lives = record {
     gone = All-nil (IsLateGone now seconds xs);
     each = λ B L s k.
-        All-cons (IsInTime now seconds xs B L [] (trace_of B L)) q [] (λ late here. lived_now B L q.connection (lives (trace_of B L) s)) (All-nil (IsInTime now seconds xs B L [] (trace_of B L)));
+        All-cons (IsEndedInTime now seconds xs B L [] (trace_of B L)) q [] (λ late here. inl (lived_now B L q.connection (lives (trace_of B L) s))) (All-nil (IsEndedInTime now seconds xs B L [] (trace_of B L)));
     noted = λ B L s k c.
         ⊎_elim
         (λ (e : (c == q.connection) ≡ true). inr (lived_now B L c (subst (λ n. live (history (trace_of B L)) n ≡ true) (sym (eqb-true c q.connection e)) (lives (trace_of B L) s))))
@@ -110,7 +119,16 @@ module _ {V : Type 0} (Holds : V → Contents → Type 0) (IsClean : V → Type 
   late_prompt o xs q h = record {
     gone = All-nil (IsLateGone now seconds xs);
     each = λ B L s k.
-        All-cons (IsInTime now seconds xs B L [] (trace_of B L)) q [] (λ late here. absurd (true≢false (sym late ∙ h))) (All-nil (IsInTime now seconds xs B L [] (trace_of B L)));
+        All-cons (IsEndedInTime now seconds xs B L [] (trace_of B L)) q [] (λ late here. absurd (true≢false (sym late ∙ h))) (All-nil (IsEndedInTime now seconds xs B L [] (trace_of B L)));
+    noted = λ B L s k c. inl refl;
+  }
+
+  -- a login of it lies unread
+  pub late_unread : (o : Office V) (xs : List Newcomer) (q : Seat) → lies_unread (newcomer q.connection xs) ≡ true → HasEndedLate Holds IsClean o o now seconds xs xs (q ∷ []) []
+  late_unread o xs q h = record {
+    gone = All-nil (IsLateGone now seconds xs);
+    each = λ B L s k.
+        All-cons (IsEndedInTime now seconds xs B L [] (trace_of B L)) q [] (λ late here. inr h) (All-nil (IsEndedInTime now seconds xs B L [] (trace_of B L)));
     noted = λ B L s k c. inl refl;
   }
 
@@ -118,7 +136,7 @@ module _ {V : Type 0} (Holds : V → Contents → Type 0) (IsClean : V → Type 
   late_shut o o1 xs q g gone shut = record {
     gone = gone;
     each = λ B L s k.
-        All-cons (IsInTime now seconds xs B L g (trace_of B (g ++ L))) q [] (λ late here. absurd (true≢false (sym here ∙ shut B L s k))) (All-nil (IsInTime now seconds xs B L g (trace_of B (g ++ L))));
+        All-cons (IsEndedInTime now seconds xs B L g (trace_of B (g ++ L))) q [] (λ late here. absurd (true≢false (sym here ∙ shut B L s k))) (All-nil (IsEndedInTime now seconds xs B L g (trace_of B (g ++ L))));
     noted = λ B L s k c. inl refl;
   }
 
@@ -136,19 +154,19 @@ module _ {V : Type 0} (Holds : V → Contents → Type 0) (IsClean : V → Type 
         each = λ B L s k.
             (let s1 = wa.stands B L s (wb.clean k) in
             let after = trace_of B ((g2 ++ g1) ++ L) in
-            let P = IsInTime now seconds xs B L (g2 ++ g1) after in
+            let P = IsEndedInTime now seconds xs B L (g2 ++ g1) after in
             let q = get_or seats i d in
             let fewer : Fewer B (g1 ++ L) (g2 ++ (g1 ++ L)) = fewer_gone B (g1 ++ L) g2 now seconds ys (wb.admitted B (g1 ++ L) s1 k) b.gone in
             let same : (c : ℕ) → is_open after c ≡ true → is_open (trace_of B (g2 ++ (g1 ++ L))) c ≡ true = λ c o. subst (λ l. is_open (trace_of B l) c ≡ true) (append_assoc g2 g1 L) o in
             All-more P seats i d h
-            (All-weaker (IsInTime now seconds xs B L g1 (trace_of B (g1 ++ L))) P
-            (λ r t late here. lived_left B L g1 g2 r.connection (t late (fewer r.connection (same r.connection here)))) (take i seats) (a.each B L s (wb.clean k)))
+            (All-weaker (IsEndedInTime now seconds xs B L g1 (trace_of B (g1 ++ L))) P
+            (λ r t late here. ended_left B L g1 g2 xs r.connection (t late (fewer r.connection (same r.connection here)))) (take i seats) (a.each B L s (wb.clean k)))
             (λ late here.
             ⊎_elim
             (λ (e : newcomer q.connection ys ≡ newcomer q.connection xs).
-            lived_right B L g1 g2 q.connection
-            (All-head (IsInTime now seconds ys B (g1 ++ L) g2 (trace_of B (g2 ++ (g1 ++ L)))) q [] (b.each B (g1 ++ L) s1 k) (late_same now seconds xs ys q.connection e late) (same q.connection here)))
-            (λ (u : HasLived B L g1 q.connection). lived_left B L g1 g2 q.connection u)
+            ended_right B L g1 g2 xs ys q.connection e
+            (All-head (IsEndedInTime now seconds ys B (g1 ++ L) g2 (trace_of B (g2 ++ (g1 ++ L)))) q [] (b.each B (g1 ++ L) s1 k) (late_same now seconds xs ys q.connection e late) (same q.connection here)))
+            (λ (u : HasLived B L g1 q.connection). inl (lived_left B L g1 g2 q.connection u))
             (a.noted B L s (wb.clean k) q.connection)));
         noted = λ B L s k c.
             ⊎_elim

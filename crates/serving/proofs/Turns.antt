@@ -25,14 +25,18 @@ use Rattle.serving.specs.declared.links.Seat.{Seat}
 use Rattle.serving.specs.Wires.{is_fault, opened_by}
 use Rattle.serving.specs.Hearing.{Hearing, WithHeard}
 use Rattle.serving.proofs.Hearing.{unheard}
-use Rattle.serving.specs.Works.{Also, waits, arrivals, arrival_of, closings, closing_of, none_waited, tells_none, is_read_of, is_later_of, is_taking_of, is_cut_of, is_cut, most_writes, octets_taken, had_its_turn, moments, openings, is_opening, refusals, is_refusal, AreNewlyAdmitted, HasCause, AreCaused, WasGiven, WasAsked, Part, Asking, Giving, IsQuiet, IsQuietFor, Came, seat_of, unseated_of, link_of, HaveCome, HasAccepted, AreAccepted, OwesNothing, IsWritten, IsWrittenOut, IsNotReady, IsUnread, IsHeard, IsReadOnce, NotReady, WasRead, HasLooked, Unlooked, NothingCame, PieceCame, IsReadByLine, IsHeldBack, most_at_once, IsKeptBack, Way, HadTurn, HadTurns}
-use Rattle.serving.specs.Paces.{is_free, first_line, part_by}
+use Rattle.serving.specs.Works.{Also, waits, arrivals, arrival_of, closings, closing_of, none_waited, tells_none, is_read_of, is_later_of, is_taking_of, is_cut_of, is_cut, most_writes, octets_taken, had_its_turn, moments, openings, is_opening, refusals, is_refusal, AreNewlyAdmitted, HasCause, AreCaused, WasGiven, WasAsked, Part, Asking, Giving, IsQuiet, IsQuietFor, Came, seat_of, unseated_of, link_of, HaveCome, HasAccepted, AreAccepted, OwesNothing, IsWritten, IsWrittenOut, IsNotReady, IsUnread, IsHeard, IsReadOnce, NotReady, WasRead, HasLooked, Unlooked, NothingCame, PieceCame, IsReadByLine, IsHeldBack, reads_by_line, most_at_once, IsKeptBack, Way, HadTurn, HadTurns, StaysUnread, LiesUnread, IsNotedSo}
+use Rattle.serving.specs.Paces.{first_line}
+use Rattle.serving.specs.declared.guesses.Refusal.{Refusal}
+use Rattle.creds.specs.declared.login_name.LoginName.{LoginName}
 use Rattle.serving.specs.declared.pace.Pace.{Pace}
 use Rattle.office.specs.Waiting as waiting
 use Rattle.office.specs.Logins.{brings_login}
 use Rattle.serving.proofs.Staying.{Fewer}
 use Rattle.serving.proofs.Seating.{any_default, contained, whole_front}
-use Rattle.serving.proofs.Working.{given_none, asked_then, given_then, count_joined, any_left, any_right, quiet_then, quiet_none, caused_more, caused_then, of_then, of_more, of_none, turn_read, turn_later, turn_full, turn_shared, turn_left, turn_right, turn_hurried, line_right, taken_joined, turned_right, fewer_quiet, turns_later, shut_by}
+use Rattle.serving.specs.Newcomers.{newcomer, lies_unread}
+use Rattle.serving.specs.declared.newcomers.Newcomer.{Newcomer}
+use Rattle.serving.proofs.Working.{lies_left, lies_right, given_none, asked_then, given_then, count_joined, any_left, any_right, quiet_then, quiet_none, caused_more, caused_then, of_then, of_more, of_none, turn_read, turn_later, turn_full, turn_shared, turn_left, turn_right, turn_hurried, line_right, taken_joined, turned_right, fewer_quiet, turns_later, shut_by}
 
 -- ---- one call
 
@@ -68,6 +72,12 @@ kept_more T c piece wait may may2 more h =
     (λ (w : waiting.waits T c piece wait ≡ true). inl w)
     (λ (b : (may ≡ true) × (brings_login T c piece ≡ true)). inr (more b.0, b.1))
     h
+
+-- and lines are read one at a time there too
+line_more : (wait wait2 : ℕ) (may may2 : Bool) → wait2 ≡ wait → (may ≡ true → may2 ≡ true) → reads_by_line wait may ≡ true → reads_by_line wait2 may2 ≡ true
+line_more wait wait2 may true same more h = refl
+line_more wait wait2 true false same more h = let k : false ≡ true = more refl in cc
+line_more wait wait2 false false same more h = ap (λ n. not (n == 0)) same ∙ h
 
 module _ {V : Type 0} (Holds : V → Contents → Type 0) (IsClean : V → Type 0) (Faults : V → ℕ) where
   pub wrote_some : (o o1 : Office V) (seat : Seat) (n : ℕ) (octets : List ℕ) (m : EventTag) → 0 < n
@@ -141,13 +151,13 @@ module _ {V : Type 0} (Holds : V → Contents → Type 0) (IsClean : V → Type 
           (All-nil (HasCause (seat ∷ []) (Read Pop seat.link room io octets ∷ [])));
     })
 
-  module _ (wait : ℕ) (may : Bool) where
-    pub heard_none : (o : Office V) (seat : Seat) → IsNotReady Holds o seat.connection → IsHeard Holds o seat wait may [] []
-    heard_none o seat idle = record { of_seat = of_none (seat ∷ []); heard = inr (inr (refl, inl idle)) }
+  module _ (wait : ℕ) (may is_noted : Bool) where
+    pub heard_none : (o : Office V) (seat : Seat) → (is_noted ≡ true → ⊥) → IsNotReady Holds o seat.connection → IsHeard Holds o seat wait may is_noted [] []
+    heard_none o seat calm idle = record { of_seat = of_none (seat ∷ []); heard = inr (inr (refl, inl idle)); noted = λ e. absurd (calm e) }
 
     -- what was looked at stays unread
-    pub heard_unread : (o : Office V) (seat : Seat) (calls : List Call) → IsQuietFor (seat ∷ []) [] calls → IsUnread Holds o seat wait may calls → IsHeard Holds o seat wait may [] calls
-    heard_unread o seat calls quiet u = record { of_seat = quiet; heard = inr (inr (refl, inr u)) }
+    pub heard_unread : (o : Office V) (seat : Seat) (calls : List Call) → IsQuietFor (seat ∷ []) [] calls → IsUnread Holds o seat wait may calls → IsHeard Holds o seat wait may is_noted [] calls
+    heard_unread o seat calls quiet u = record { of_seat = quiet; heard = inr (inr (refl, inr u)); noted = λ e. u }
 
     -- a read that asked for all
     whole_read : (seat : Seat) (room : ℕ) (io : Io) (octets : List ℕ) → room ≡ most_at_once → list_any (is_read_of seat.link) (Read Pop seat.link room io octets ∷ []) ≡ true
@@ -156,50 +166,43 @@ module _ {V : Type 0} (Holds : V → Contents → Type 0) (IsClean : V → Type 
         let k : (room == most_at_once) ≡ true = eq-eqb room most_at_once e in
         rw (n, k) refl
 
-    piece_by : (room : ℕ) (free : Bool) (piece : List ℕ) → room ≡ part_by false free 4096 piece → (free ≡ true → room ≡ most_at_once) × (free ≡ false → room ≡ first_line piece)
-    piece_by room true piece e = (λ f. e, λ f. absurd (true≢false f))
-    piece_by room false piece e = (λ f. absurd (true≢false (sym f)), λ f. e)
-
     -- what was looked at was read, all or by its line
-    heard_so : (o : Office V) (seat : Seat) (pace : Pace) (room : ℕ) (io : Io) (octets : List ℕ) (looks : List Call) → (room == 0) ≡ false → (is_free pace ≡ false → may ≡ true) → HasLooked Holds o seat wait pace room looks
-        → (list_any (is_read_of seat.link) (looks ++ Read Pop seat.link room io octets ∷ []) ≡ true) ⊎ IsReadByLine (looks ++ Read Pop seat.link room io octets ∷ []) may seat
-    heard_so o seat pace room io octets looks some line (Unlooked e f) = inl (any_right (is_read_of seat.link) [] (Read Pop seat.link 4096 io octets ∷ []) (whole_read seat 4096 io octets refl))
-    heard_so o seat pace room io octets looks some line (NothingCame i e) =
+    heard_so : (o : Office V) (seat : Seat) (pace : Pace) (refusals : List Refusal) (room : ℕ) (login : Option LoginName) (io : Io) (octets : List ℕ) (looks : List Call) → (room == 0) ≡ false → (pace.by_line ≡ true → reads_by_line wait may ≡ true) → HasLooked Holds o seat pace refusals room login looks
+        → (list_any (is_read_of seat.link) (looks ++ Read Pop seat.link room io octets ∷ []) ≡ true) ⊎ IsReadByLine (looks ++ Read Pop seat.link room io octets ∷ []) (reads_by_line wait may) seat
+    heard_so o seat pace refusals room _ io octets looks some line (Unlooked e) = inl (any_right (is_read_of seat.link) [] (Read Pop seat.link 4096 io octets ∷ []) (whole_read seat 4096 io octets refl))
+    heard_so o seat pace refusals room _ io octets looks some line (NothingCame i e) =
         inl (any_right (is_read_of seat.link) (Looked Pop seat.link i [] ∷ []) (Read Pop seat.link 4096 io octets ∷ []) (whole_read seat 4096 io octets refl))
-    heard_so o seat pace room io octets looks some line (PieceCame n piece count lies is part) =
-        let k = piece_by count (is_free pace) piece (part some) in
+    heard_so o seat pace refusals room _ io octets looks some line (PieceCame n piece count login by_line lies is brought part) =
         let call = Read Pop seat.link count io octets in
         let look = Looked Pop seat.link (Count n) piece in
-        ⊎_elim
-        (λ (f : is_free pace ≡ true). inl (any_right (is_read_of seat.link) (look ∷ []) (call ∷ []) (whole_read seat count io octets (k.0 f))))
-        (λ (f : is_free pace ≡ false).
         inr (record {
           piece = piece;
           io = Count n;
           io_then = io;
           octets = octets;
-          held = line f;
+          held = line by_line;
           shown = (0, omega arith, refl);
-          read = subst (λ r. Contains (look ∷ call ∷ []) (Read Pop seat.link r io octets)) (k.1 f) (1, omega arith, refl);
-        }))
-        (cases_Bool (is_free pace))
+          read = subst (λ r. Contains (look ∷ call ∷ []) (Read Pop seat.link r io octets)) (part some) (1, omega arith, refl);
+        })
 
     -- it was looked at first
-    pub heard_behind : (o : Office V) (seat : Seat) (pace : Pace) (room : ℕ) (given : Log) (looks calls : List Call) → IsQuietFor (seat ∷ []) [] looks → HasLooked Holds o seat wait pace room looks
-        → (room == 0) ≡ false → (is_free pace ≡ false → may ≡ true) → IsReadOnce Holds o seat room given calls → IsHeard Holds o seat wait may given (looks ++ calls)
-    heard_behind o seat pace room _ looks _ quiet looked some line (NotReady idle) = record {
+    pub heard_behind : (o : Office V) (seat : Seat) (pace : Pace) (refusals : List Refusal) (room : ℕ) (login : Option LoginName) (given : Log) (looks calls : List Call) → IsQuietFor (seat ∷ []) [] looks → HasLooked Holds o seat pace refusals room login looks
+        → (room == 0) ≡ false → (pace.by_line ≡ true → reads_by_line wait may ≡ true) → (is_noted ≡ true → ⊥) → IsReadOnce Holds o seat room given calls → IsHeard Holds o seat wait may is_noted given (looks ++ calls)
+    heard_behind o seat pace refusals room login _ looks _ quiet looked some line calm (NotReady idle) = record {
       of_seat = of_then (seat ∷ []) [] [] looks [] quiet (of_none (seat ∷ []));
       heard = inr (inr (refl, inl idle));
+      noted = λ e. absurd (calm e);
     }
-    heard_behind o seat pace room _ looks _ quiet looked some line (WasRead io octets given q) =
+    heard_behind o seat pace refusals room login _ looks _ quiet looked some line calm (WasRead io octets given q) =
         let call = Read Pop seat.link room io octets in
         record {
           of_seat = subst (λ g. IsQuietFor (seat ∷ []) g (looks ++ call ∷ [])) (append-nil given)
               (of_then (seat ∷ []) [] given looks (call ∷ []) quiet q);
           heard = ⊎_elim
               (λ (all : list_any (is_read_of seat.link) (looks ++ call ∷ []) ≡ true). inl all)
-              (λ (u : IsReadByLine (looks ++ call ∷ []) may seat). inr (inl u))
-              (heard_so o seat pace room io octets looks some line looked);
+              (λ (u : IsReadByLine (looks ++ call ∷ []) (reads_by_line wait may) seat). inr (inl u))
+              (heard_so o seat pace refusals room login io octets looks some line looked);
+          noted = λ e. absurd (calm e);
         }
 
   -- ---- a link
@@ -251,11 +254,14 @@ module _ {V : Type 0} (Holds : V → Contents → Type 0) (IsClean : V → Type 
       (λ (taken : way.share ≤ octets_taken seat.link c). turn_shared way.share way.hurries seat.link c e taken)
       (a.goes_on refl)
 
-  pub served_written : (o o1 : Office V) (way : Way) (seat : Seat) (g : Log) (c : List Call) → way.hurries ≡ true → IsWrittenOut Holds IsClean o o1 seat way.share true g c → HadTurns Holds IsClean o o1 way (seat ∷ []) (seat ∷ []) g c
-  served_written o o1 way seat g c e a = record {
+  pub served_written : (o o1 : Office V) (way : Way) (noted : List Newcomer) (seat : Seat) (g : Log) (c : List Call) → way.hurries ≡ true → (lies_unread (newcomer seat.connection noted) ≡ true → ⊥) → IsWrittenOut Holds IsClean o o1 seat way.share true g c
+      → HadTurns Holds IsClean o o1 way noted (seat ∷ []) (seat ∷ []) g c
+  served_written o o1 way noted seat g c e calm a = record {
     of_seats = a.of_seat;
     turns = λ B L s k.
         All-cons (HadTurn way B L g (trace_of B (g ++ L)) c) seat [] (λ here. inl (turn_written o o1 way seat g c e a)) (All-nil (HadTurn way B L g (trace_of B (g ++ L)) c));
+    noted_so = λ B L s k.
+        All-cons (IsNotedSo noted B L g c way.wait way.may (seat ∷ [])) seat [] (λ h. absurd (calm h)) (All-nil (IsNotedSo noted B L g c way.wait way.may (seat ∷ [])));
   }
 
   served_unless : (o o1 o2 : Office V) (way : Way) (seat : Seat) (g1 : Log) (c1 c2 : List Call) → WasGiven Holds IsClean Faults o o1 g1 → (IsClean (vault_of o2) → IsClean (vault_of o1))
@@ -269,121 +275,160 @@ module _ {V : Type 0} (Holds : V → Contents → Type 0) (IsClean : V → Type 
       absurd (shut_by (is_open T seat.connection) (untaken T.log (history T) seat.connection) (owes B L s (clean k)) (idle B (g1 ++ L) (wa.stands B L s (clean k))) here)))
       (a.ends refl)
 
-  pub served_one : (o o1 o2 : Office V) (way : Way) (seat : Seat) (g1 g2 : Log) (c1 c2 : List Call) → WasGiven Holds IsClean Faults o o1 g1 → WasGiven Holds IsClean Faults o1 o2 g2
-      → IsWrittenOut Holds IsClean o o1 seat way.share false g1 c1 → IsHeard Holds o1 seat way.wait way.may g2 c2 → HadTurns Holds IsClean o o2 way (seat ∷ []) (seat ∷ []) (g2 ++ g1) (c1 ++ c2)
-  served_one o o1 o2 way seat g1 g2 c1 c2 wa wb a b = record {
+  pub served_one : (o o1 o2 : Office V) (way : Way) (noted : List Newcomer) (seat : Seat) (g1 g2 : Log) (c1 c2 : List Call) → WasGiven Holds IsClean Faults o o1 g1 → WasGiven Holds IsClean Faults o1 o2 g2
+      → IsWrittenOut Holds IsClean o o1 seat way.share false g1 c1 → IsHeard Holds o1 seat way.wait way.may (lies_unread (newcomer seat.connection noted)) g2 c2 → HadTurns Holds IsClean o o2 way noted (seat ∷ []) (seat ∷ []) (g2 ++ g1) (c1 ++ c2)
+  served_one o o1 o2 way noted seat g1 g2 c1 c2 wa wb a b = record {
     of_seats = of_then (seat ∷ []) g1 g2 c1 c2 a.of_seat b.of_seat;
+    noted_so = λ B L s k.
+        All-cons (IsNotedSo noted B L (g2 ++ g1) (c1 ++ c2) way.wait way.may (seat ∷ [])) seat []
+        (λ h. record { seat = seat; among = first_seat seat; is = refl; unread = unread_at B L s k (b.noted h) })
+        (All-nil (IsNotedSo noted B L (g2 ++ g1) (c1 ++ c2) way.wait way.may (seat ∷ [])));
     turns = λ B L s k. All-cons (HadTurn way B L (g2 ++ g1) (trace_of B ((g2 ++ g1) ++ L)) (c1 ++ c2)) seat [] (by B L s k b.heard) (All-nil (HadTurn way B L (g2 ++ g1) (trace_of B ((g2 ++ g1) ++ L)) (c1 ++ c2)));
   } where
+    unread_at : (B : Records) (L : Log) → StandsFor Holds o (trace_of B L) → IsClean (vault_of o2) → IsUnread Holds o1 seat way.wait way.may c2 → StaysUnread B L (g2 ++ g1) (c1 ++ c2) way.wait way.may seat
+    unread_at B L s k u = record {
+      piece = u.piece;
+      io = u.io;
+      shown = Contains-append_right c1 c2 (Looked Pop seat.link u.io u.piece) u.shown;
+      later = g2;
+      front = g1;
+      is = refl;
+      kept = u.kept B (g1 ++ L) (wa.stands B L s (wb.clean k));
+    }
+
     by : (B : Records) (L : Log) → StandsFor Holds o (trace_of B L) → IsClean (vault_of o2)
-        → (list_any (is_read_of seat.link) c2 ≡ true) ⊎ (IsReadByLine c2 way.may seat ⊎ ((g2 ≡ []) × (IsNotReady Holds o1 seat.connection ⊎ IsUnread Holds o1 seat way.wait way.may c2)))
+        → (list_any (is_read_of seat.link) c2 ≡ true) ⊎ (IsReadByLine c2 (reads_by_line way.wait way.may) seat ⊎ ((g2 ≡ []) × (IsNotReady Holds o1 seat.connection ⊎ IsUnread Holds o1 seat way.wait way.may c2)))
         → HadTurn way B L (g2 ++ g1) (trace_of B ((g2 ++ g1) ++ L)) (c1 ++ c2) seat
     by B L s k (inl r) here = inl (turn_right way.share way.hurries seat.link c1 c2 (turn_read way.share way.hurries seat.link c2 r))
-    by B L s k (inr (inl u)) here = inr (inl (line_right way.may seat c1 c2 u))
+    by B L s k (inr (inl u)) here = inr (inl (line_right (reads_by_line way.wait way.may) seat c1 c2 u))
     by B L s k (inr (inr (none, inl idle))) here =
         inl (served_unless o o1 o2 way seat g1 c1 c2 wa wb.clean a idle B L s k (subst (λ g. is_open (trace_of B ((g ++ g1) ++ L)) seat.connection ≡ true) none here))
-    by B L s k (inr (inr (none, inr u))) here =
-        inr (inr (record {
-          piece = u.piece;
-          io = u.io;
-          shown = Contains-append_right c1 c2 (Looked Pop seat.link u.io u.piece) u.shown;
-          later = g2;
-          front = g1;
-          is = refl;
-          kept = u.kept B (g1 ++ L) (wa.stands B L s (wb.clean k));
-        }))
+    by B L s k (inr (inr (none, inr u))) here = inr (inr (unread_at B L s k u))
 
   -- more is done for the same link
-  pub served_then : (o o1 o2 : Office V) (way : Way) (seat : Seat) (g1 g2 : Log) (c1 c2 : List Call) → WasGiven Holds IsClean Faults o o1 g1 → WasGiven Holds IsClean Faults o1 o2 g2
-      → HadTurns Holds IsClean o o1 way (seat ∷ []) (seat ∷ []) g1 c1 → IsQuietFor (seat ∷ []) g2 c2 → HadTurns Holds IsClean o o2 way (seat ∷ []) (seat ∷ []) (g2 ++ g1) (c1 ++ c2)
-  served_then o o1 o2 way seat g1 g2 c1 c2 wa wb a b = record {
+  pub served_then : (o o1 o2 : Office V) (way : Way) (noted : List Newcomer) (seat : Seat) (g1 g2 : Log) (c1 c2 : List Call) → WasGiven Holds IsClean Faults o o1 g1 → WasGiven Holds IsClean Faults o1 o2 g2
+      → HadTurns Holds IsClean o o1 way noted (seat ∷ []) (seat ∷ []) g1 c1 → IsQuietFor (seat ∷ []) g2 c2 → HadTurns Holds IsClean o o2 way noted (seat ∷ []) (seat ∷ []) (g2 ++ g1) (c1 ++ c2)
+  served_then o o1 o2 way noted seat g1 g2 c1 c2 wa wb a b = record {
     of_seats = of_then (seat ∷ []) g1 g2 c1 c2 a.of_seats b;
     turns = λ B L s k.
         (let s1 = wa.stands B L s (wb.clean k) in
         let fewer = fewer_quiet B (g1 ++ L) g2 (seat ∷ []) c2 (wb.admitted B (g1 ++ L) s1 k) b.caused b.quiet.no_openings in
         turns_later way B L g1 g2 c1 c2 (seat ∷ []) fewer (a.turns B L s (wb.clean k)));
+    noted_so = λ B L s k.
+        All-weaker (IsNotedSo noted B L g1 c1 way.wait way.may (seat ∷ [])) (IsNotedSo noted B L (g2 ++ g1) (c1 ++ c2) way.wait way.may (seat ∷ []))
+        (λ q h e. lies_left B L way.wait way.may (seat ∷ []) q.connection g1 g2 c1 c2 (h e)) (seat ∷ []) (a.noted_so B L s (wb.clean k));
   }
 
   -- ---- all links
 
   -- served in another way: the same share, the same wait, more logins may be kept back, and the next turn doesn't wait for another cause
-  pub served_so : (o o1 : Office V) (way way2 : Way) (seats these : List Seat) (g : Log) (c : List Call) → way2.share ≡ way.share → way2.wait ≡ way.wait → (way.may ≡ true → way2.may ≡ true) → (way.hurries ≡ true → way2.hurries ≡ true)
-      → HadTurns Holds IsClean o o1 way seats these g c → HadTurns Holds IsClean o o1 way2 seats these g c
-  served_so o o1 way way2 seats these g c share wait may still a = record {
+  pub served_so : (o o1 : Office V) (way way2 : Way) (noted : List Newcomer) (seats these : List Seat) (g : Log) (c : List Call) → way2.share ≡ way.share → way2.wait ≡ way.wait → (way.may ≡ true → way2.may ≡ true) → (way.hurries ≡ true → way2.hurries ≡ true)
+      → HadTurns Holds IsClean o o1 way noted seats these g c → HadTurns Holds IsClean o o1 way2 noted seats these g c
+  served_so o o1 way way2 noted seats these g c share wait may still a = record {
     of_seats = a.of_seats;
+    noted_so = λ B L s k.
+        All-weaker (IsNotedSo noted B L g c way.wait way.may seats) (IsNotedSo noted B L g c way2.wait way2.may seats)
+        (λ q h e. (let u = h e in record { seat = u.seat; among = u.among; is = u.is; unread = unread_in B L u.seat u.unread })) these (a.noted_so B L s k);
     turns = λ B L s k.
         All-weaker (HadTurn way B L g (trace_of B (g ++ L)) c) (HadTurn way2 B L g (trace_of B (g ++ L)) c) (λ q h here. by B L q (h here)) these (a.turns B L s k);
   } where
+    unread_in : (B : Records) (L : Log) (q : Seat) → StaysUnread B L g c way.wait way.may q → StaysUnread B L g c way2.wait way2.may q
+    unread_in B L q u = record {
+      piece = u.piece;
+      io = u.io;
+      shown = u.shown;
+      later = u.later;
+      front = u.front;
+      is = u.is;
+      kept = subst (λ n. IsKeptBack (trace_of B (u.front ++ L)) q.connection u.piece n way2.may) (sym wait) (kept_more (trace_of B (u.front ++ L)) q.connection u.piece way.wait way.may way2.may may u.kept);
+    }
+
     by : (B : Records) (L : Log) (q : Seat) → (had_its_turn way.share way.hurries q.link c ≡ true) ⊎ IsHeldBack B L g c way.wait way.may q → (had_its_turn way2.share way2.hurries q.link c ≡ true) ⊎ IsHeldBack B L g c way2.wait way2.may q
     by B L q (inl t) = inl (subst (λ n. had_its_turn n way2.hurries q.link c ≡ true) (sym share) (turn_hurried way.share way.hurries way2.hurries q.link c still t))
-    by B L q (inr (inl u)) = inr (inl (record { piece = u.piece; io = u.io; io_then = u.io_then; octets = u.octets; held = may u.held; shown = u.shown; read = u.read }))
-    by B L q (inr (inr u)) =
-        inr (inr (record {
-          piece = u.piece;
-          io = u.io;
-          shown = u.shown;
-          later = u.later;
-          front = u.front;
-          is = u.is;
-          kept = subst (λ n. IsKeptBack (trace_of B (u.front ++ L)) q.connection u.piece n way2.may) (sym wait) (kept_more (trace_of B (u.front ++ L)) q.connection u.piece way.wait way.may way2.may may u.kept);
-        }))
+    by B L q (inr (inl u)) = inr (inl (record { piece = u.piece; io = u.io; io_then = u.io_then; octets = u.octets; held = line_more way.wait way2.wait way.may way2.may wait may u.held; shown = u.shown; read = u.read }))
+    by B L q (inr (inr u)) = inr (inr (unread_in B L q u))
 
-  pub served_among : (o o1 : Office V) (way : Way) (seats : List Seat) (seat : Seat) (g : Log) (c : List Call) → Contains seats seat → HadTurns Holds IsClean o o1 way (seat ∷ []) (seat ∷ []) g c → HadTurns Holds IsClean o o1 way seats (seat ∷ []) g c
-  served_among o o1 way seats seat g c has a = record {
+  pub served_among : (o o1 : Office V) (way : Way) (noted : List Newcomer) (seats : List Seat) (seat : Seat) (g : Log) (c : List Call) → Contains seats seat → HadTurns Holds IsClean o o1 way noted (seat ∷ []) (seat ∷ []) g c → HadTurns Holds IsClean o o1 way noted seats (seat ∷ []) g c
+  served_among o o1 way noted seats seat g c has a = record {
     of_seats = of_more (seat ∷ []) seats g c (λ s h. subst (Contains seats) (only_one seat s h) has) a.of_seats;
     turns = a.turns;
+    noted_so = λ B L s k.
+        All-weaker (IsNotedSo noted B L g c way.wait way.may (seat ∷ [])) (IsNotedSo noted B L g c way.wait way.may seats)
+        (λ q h e. (let u = h e in record { seat = u.seat; among = subst (Contains seats) (only_one seat u.seat u.among) has; is = u.is; unread = u.unread })) (seat ∷ []) (a.noted_so B L s k);
   }
 
   -- by its place
-  pub served_at : (o o1 : Office V) (way : Way) (xs ys : List Seat) (i : ℕ) (e : Seat) (g : Log) (c : List Call) → ys ≡ xs → i < length xs → HadTurns Holds IsClean o o1 way (get_or ys i e ∷ []) (get_or ys i e ∷ []) g c
-      → (d : Seat) → HadTurns Holds IsClean o o1 way xs (get_or xs i d ∷ []) g c
-  served_at o o1 way xs ys i e g c is h a d =
+  pub served_at : (o o1 : Office V) (way : Way) (noted : List Newcomer) (xs ys : List Seat) (i : ℕ) (e : Seat) (g : Log) (c : List Call) → ys ≡ xs → i < length xs → HadTurns Holds IsClean o o1 way noted (get_or ys i e ∷ []) (get_or ys i e ∷ []) g c
+      → (d : Seat) → HadTurns Holds IsClean o o1 way noted xs (get_or xs i d ∷ []) g c
+  served_at o o1 way noted xs ys i e g c is h a d =
       let same : get_or ys i e ≡ get_or xs i d = ap (λ zs. get_or zs i e) is ∙ any_default xs i e d h in
-      subst (λ s. HadTurns Holds IsClean o o1 way xs (s ∷ []) g c) same (served_among o o1 way xs (get_or ys i e) g c (contained xs ys i e is h) a)
+      subst (λ s. HadTurns Holds IsClean o o1 way noted xs (s ∷ []) g c) same (served_among o o1 way noted xs (get_or ys i e) g c (contained xs ys i e is h) a)
 
-  pub served_none : (o : Office V) (way : Way) (seats : List Seat) → HadTurns Holds IsClean o o way seats [] [] []
-  served_none o way seats = record { of_seats = of_none seats; turns = λ B L s k. All-nil (HadTurn way B L [] (trace_of B L) []) }
+  pub served_none : (o : Office V) (way : Way) (noted : List Newcomer) (seats : List Seat) → HadTurns Holds IsClean o o way noted seats [] [] []
+  served_none o way noted seats = record {
+    of_seats = of_none seats;
+    turns = λ B L s k. All-nil (HadTurn way B L [] (trace_of B L) []);
+    noted_so = λ B L s k. All-nil (IsNotedSo noted B L [] [] way.wait way.may seats);
+  }
 
-  pub served_more : (o o1 o2 : Office V) (way : Way) (seats now : List Seat) (i : ℕ) (d : Seat) (g1 g2 : Log) (c1 c2 : List Call) → now ≡ seats → i < length now → WasGiven Holds IsClean Faults o o1 g1 → WasGiven Holds IsClean Faults o1 o2 g2
-      → HadTurns Holds IsClean o o1 way seats (take i seats) g1 c1 → HadTurns Holds IsClean o1 o2 way now (get_or now i d ∷ []) g2 c2 → HadTurns Holds IsClean o o2 way seats (take (i + 1) seats) (g2 ++ g1) (c1 ++ c2)
-  served_more o o1 o2 way seats now i d g1 g2 c1 c2 is within wa wb a at_now =
+  pub served_more : (o o1 o2 : Office V) (way : Way) (noted noted2 : List Newcomer) (seats now : List Seat) (i : ℕ) (d : Seat) (g1 g2 : Log) (c1 c2 : List Call) → now ≡ seats → i < length now
+      → ((c : ℕ) → lies_unread (newcomer c noted2) ≡ true → (lies_unread (newcomer c noted) ≡ true) ⊎ (c ≡ (get_or now i d).connection))
+      → WasGiven Holds IsClean Faults o o1 g1 → WasGiven Holds IsClean Faults o1 o2 g2
+      → HadTurns Holds IsClean o o1 way noted seats (take i seats) g1 c1 → HadTurns Holds IsClean o1 o2 way noted2 now (get_or now i d ∷ []) g2 c2 → HadTurns Holds IsClean o o2 way noted2 seats (take (i + 1) seats) (g2 ++ g1) (c1 ++ c2)
+  served_more o o1 o2 way noted noted2 seats now i d g1 g2 c1 c2 is within law wa wb a at_now =
       let h : i < length seats = subst (λ xs. i < length xs) is within in
-      let b = subst (λ xs. HadTurns Holds IsClean o1 o2 way xs (get_or xs i d ∷ []) g2 c2) is at_now in
+      let b = subst (λ xs. HadTurns Holds IsClean o1 o2 way noted2 xs (get_or xs i d ∷ []) g2 c2) is at_now in
+      let q = get_or seats i d in
+      let apart : (c : ℕ) → lies_unread (newcomer c noted2) ≡ true → (lies_unread (newcomer c noted) ≡ true) ⊎ (c ≡ q.connection) =
+      subst (λ xs. (c : ℕ) → lies_unread (newcomer c noted2) ≡ true → (lies_unread (newcomer c noted) ≡ true) ⊎ (c ≡ (get_or xs i d).connection)) is law in
       record {
         of_seats = of_then seats g1 g2 c1 c2 a.of_seats b.of_seats;
         turns = λ B L s k.
             (let s1 = wa.stands B L s (wb.clean k) in
             let fewer = fewer_quiet B (g1 ++ L) g2 seats c2 (wb.admitted B (g1 ++ L) s1 k) b.of_seats.caused b.of_seats.quiet.no_openings in
             let trace2 = trace_of B ((g2 ++ g1) ++ L) in
-            let q = get_or seats i d in
             let last : HadTurn way B (g1 ++ L) g2 (trace_of B (g2 ++ (g1 ++ L))) c2 q = All-head (HadTurn way B (g1 ++ L) g2 (trace_of B (g2 ++ (g1 ++ L))) c2) q [] (b.turns B (g1 ++ L) s1 k) in
             All-more (HadTurn way B L (g2 ++ g1) trace2 (c1 ++ c2)) seats i d h
             (turns_later way B L g1 g2 c1 c2 (take i seats) fewer (a.turns B L s (wb.clean k)))
             (λ here. turned_right way B L g1 g2 c1 c2 q (last (subst (λ l. is_open (trace_of B l) q.connection ≡ true) (append_assoc g2 g1 L) here))));
+        noted_so = λ B L s k.
+            (let s1 = wa.stands B L s (wb.clean k) in
+            let P = IsNotedSo noted2 B L (g2 ++ g1) (c1 ++ c2) way.wait way.may seats in
+            let last : IsNotedSo noted2 B (g1 ++ L) g2 c2 way.wait way.may seats q = All-head (IsNotedSo noted2 B (g1 ++ L) g2 c2 way.wait way.may seats) q [] (b.noted_so B (g1 ++ L) s1 k) in
+            let by_last : P q = λ e. lies_right B L way.wait way.may seats q.connection g1 g2 c1 c2 (last e) in
+            All-more P seats i d h
+            (All-weaker (IsNotedSo noted B L g1 c1 way.wait way.may seats) P
+            (λ r t e.
+            ⊎_elim
+            (λ (f : lies_unread (newcomer r.connection noted) ≡ true). lies_left B L way.wait way.may seats r.connection g1 g2 c1 c2 (t f))
+            (λ (f : r.connection ≡ q.connection).
+            subst (LiesUnread B L (g2 ++ g1) (c1 ++ c2) way.wait way.may seats) (sym f) (by_last (subst (λ n. lies_unread (newcomer n noted2) ≡ true) f e)))
+            (apart r.connection e)) (take i seats) (a.noted_so B L s (wb.clean k)))
+            by_last);
       }
 
-  pub served_whole : (o o1 : Office V) (way : Way) (seats now : List Seat) (n : ℕ) (g : Log) (c : List Call) → now ≡ seats → length now ≤ n → HadTurns Holds IsClean o o1 way seats (take n seats) g c → HadTurns Holds IsClean o o1 way seats seats g c
-  served_whole o o1 way seats now n g c is h a =
+  pub served_whole : (o o1 : Office V) (way : Way) (noted : List Newcomer) (seats now : List Seat) (n : ℕ) (g : Log) (c : List Call) → now ≡ seats → length now ≤ n → HadTurns Holds IsClean o o1 way noted seats (take n seats) g c → HadTurns Holds IsClean o o1 way noted seats seats g c
+  served_whole o o1 way noted seats now n g c is h a =
       let k : length seats ≤ n = subst (λ xs. length xs ≤ n) is h in
-      subst (λ xs. HadTurns Holds IsClean o o1 way seats xs g c) (whole_front seats n k) a
+      subst (λ xs. HadTurns Holds IsClean o o1 way noted seats xs g c) (whole_front seats n k) a
 
 -- ---- what was looked at first
 
 module _ {V W H : Type 0} (Holds : V → Contents → Type 0) (IsClean : V → Type 0) (Faults : V → ℕ) (Asked : W → List Call → Type 0) (Heard : H → List Hearing → Type 0) where
-  pub heard_asked : (o : Office V) (w w1 : W) (l : H) (seat : Seat) (wait : ℕ) (may : Bool) (N : List Call → Type 0) (calls : List Call) → WasAsked Asked w w1 calls → IsHeard Holds o seat wait may [] calls → N calls
-      → Part Holds IsClean Faults Asked o w o w1 (WithHeard Holds IsClean Heard o l o l (Also (IsHeard Holds o seat wait may) N))
-  heard_asked o w w1 l seat wait may N calls asked a n = record { given = []; calls = calls; was_given = given_none Holds IsClean Faults o; was_asked = asked; facts = (unheard Holds IsClean Heard o l, (a, n)) }
+  pub heard_asked : (o : Office V) (w w1 : W) (l : H) (seat : Seat) (wait : ℕ) (may is_noted : Bool) (N : List Call → Type 0) (calls : List Call) → WasAsked Asked w w1 calls → IsHeard Holds o seat wait may is_noted [] calls → N calls
+      → Part Holds IsClean Faults Asked o w o w1 (WithHeard Holds IsClean Heard o l o l (Also (IsHeard Holds o seat wait may is_noted) N))
+  heard_asked o w w1 l seat wait may is_noted N calls asked a n = record { given = []; calls = calls; was_given = given_none Holds IsClean Faults o; was_asked = asked; facts = (unheard Holds IsClean Heard o l, (a, n)) }
 
-  pub heard_after : (o o1 : Office V) (w w1 w2 : W) (l l1 : H) (seat : Seat) (wait : ℕ) (may : Bool) (pace : Pace) (room : ℕ) (M N : List Call → Type 0) (looks : List Call) → ((c : List Call) → M c → N (looks ++ c))
-      → IsQuietFor (seat ∷ []) [] looks → HasLooked Holds o seat wait pace room looks → (room == 0) ≡ false → (is_free pace ≡ false → may ≡ true) → WasAsked Asked w w1 looks
+  pub heard_after : (o o1 : Office V) (w w1 w2 : W) (l l1 : H) (seat : Seat) (wait : ℕ) (may is_noted : Bool) (pace : Pace) (refusals : List Refusal) (room : ℕ) (login : Option LoginName) (M N : List Call → Type 0) (looks : List Call) → ((c : List Call) → M c → N (looks ++ c))
+      → IsQuietFor (seat ∷ []) [] looks → HasLooked Holds o seat pace refusals room login looks → (room == 0) ≡ false → (pace.by_line ≡ true → reads_by_line wait may ≡ true) → (is_noted ≡ true → ⊥) → WasAsked Asked w w1 looks
       → Part Holds IsClean Faults Asked o w1 o1 w2 (WithHeard Holds IsClean Heard o l o1 l1 (Also (IsReadOnce Holds o seat room) M))
-      → Part Holds IsClean Faults Asked o w o1 w2 (WithHeard Holds IsClean Heard o l o1 l1 (Also (IsHeard Holds o seat wait may) N))
-  heard_after o o1 w w1 w2 l l1 seat wait may pace room M N looks more quiet looked some line asked a = record {
+      → Part Holds IsClean Faults Asked o w o1 w2 (WithHeard Holds IsClean Heard o l o1 l1 (Also (IsHeard Holds o seat wait may is_noted) N))
+  heard_after o o1 w w1 w2 l l1 seat wait may is_noted pace refusals room login M N looks more quiet looked some line calm asked a = record {
     given = a.given;
     calls = looks ++ a.calls;
     was_given = a.was_given;
     was_asked = asked_then Asked w w1 w2 looks a.calls asked a.was_asked;
-    facts = (a.facts.0, (heard_behind Holds IsClean Faults wait may o seat pace room a.given looks a.calls quiet looked some line a.facts.1.0, more a.calls a.facts.1.1));
+    facts = (a.facts.0, (heard_behind Holds IsClean Faults wait may is_noted o seat pace refusals room login a.given looks a.calls quiet looked some line calm a.facts.1.0, more a.calls a.facts.1.1));
   }
 
   -- a read that had room for so many octets of a buffer

@@ -1,9 +1,13 @@
 -- Logins that were refused, and those that are kept back behind them: an address counts by a number,
--- its origin, and a list has the last refusal of each origin, the oldest refusal first.
-use Rattle.std.specs.Prelude.{◌≡◌, ℕ, Bool, true, false, not, ◌+◌, ◌-◌, ◌*◌, ◌==◌, nat_lt, nat_le}
+-- its origin, and a list has the last refusal of each origin and login name, the oldest refusal
+-- first.
+use Rattle.std.specs.Prelude.{◌≡◌, ℕ, Bool, true, false, not, ◌&&◌, ◌+◌, ◌-◌, ◌*◌, ◌==◌, nat_lt}
+use Rattle.std.specs.Prelude.{nat_le}
 use Rattle.std.specs.Prelude.{min, List, [], ◌∷◌, ◌++◌, length, drop, filter, find, slice_index}
 use Rattle.std.specs.Prelude.{Option, Some, None, if◌then◌else◌}
 use Rattle.std.specs.Net.Addr.{ipv4_bits, ipv6_segments}
+use Rattle.std.specs.Str.{bytes_eq}
+use Rattle.creds.specs.declared.login_name.LoginName.{LoginName}
 use Rattle.std.specs.declared.net.ip_addr.IpAddr.{IpAddr}
 use Rattle.std.specs.declared.net.ip_addr.IpAddr.TheVariants.{V4, V6}
 use Rattle.serving.specs.declared.guesses.Refusal.{Refusal}
@@ -23,15 +27,24 @@ origin (V6 six) = network (ipv6_segments six)
 
 -- ---- refusals
 
--- the last refusal of an origin
-abbrev pub refusal_of : (origin : ℕ) → List Refusal → Option Refusal
-refusal_of origin refusals = find (λ r. r.origin == origin) refusals
+-- a place has this login name
+abbrev pub has_name : (name : LoginName) → Option LoginName → Bool
+has_name name None = false
+has_name name (Some n) = bytes_eq n.clerk name.clerk && bytes_eq n.maildrop name.maildrop
 
--- all but those of an origin
-abbrev pub without : (origin : ℕ) → List Refusal → List Refusal
-without origin refusals = filter (λ r. not (r.origin == origin)) refusals
+-- a refusal is of this origin and this login name
+abbrev pub is_of : (origin : ℕ) (name : LoginName) → Refusal → Bool
+is_of origin name r = r.origin == origin && has_name name r.name
 
--- at this moment a refusal holds the next login of its origin back
+-- the last refusal of an origin and a login name
+abbrev pub refusal_of : (origin : ℕ) (name : LoginName) → List Refusal → Option Refusal
+refusal_of origin name refusals = find (λ r. is_of origin name r) refusals
+
+-- all but those of them
+abbrev pub without : (origin : ℕ) (name : LoginName) → List Refusal → List Refusal
+without origin name refusals = filter (λ r. not (is_of origin name r)) refusals
+
+-- at this moment a refusal holds the next login of its origin and name back
 abbrev pub holds_back : (now : ℕ) → Option Refusal → Bool
 holds_back now None = false
 holds_back now (Some r) = nat_lt (now - r.at) r.seconds
@@ -46,16 +59,23 @@ next_seconds now (Some r) = if nat_le 600 (now - r.at) then 1 else min (r.second
 abbrev pub with_room : List Refusal → List Refusal
 with_room refusals = if nat_le 1024 (length refusals) then drop 1 refusals else refusals
 
--- a refusal of an origin at this moment, behind these
-abbrev pub one_more : (now origin : ℕ) → List Refusal → Refusal
-one_more now origin refusals =
-    record { origin = origin; at = now; seconds = next_seconds now (refusal_of origin refusals) }
+-- a refusal at this moment, behind these
+abbrev pub one_more : (now origin : ℕ) (name : LoginName) → List Refusal → Refusal
+one_more now origin name refusals = record {
+  origin = origin;
+  name = Some name;
+  at = now;
+  seconds = next_seconds now (refusal_of origin name refusals);
+}
 
--- What becomes of the refusals behind a line of a client that counts by an origin: where it was
--- refused, one more; where it is logged in, none of its origin. Else they stay.
-abbrev pub AreNotedSo : (now : ℕ) (origin : Option ℕ) (was_refused is_logged_in : Bool) (refusals refusals_then : List Refusal) → Type 0
-AreNotedSo now None was_refused is_logged_in refusals refusals_then = refusals_then ≡ refusals
-AreNotedSo now (Some origin) true is_logged_in refusals refusals_then =
-    refusals_then ≡ with_room (without origin refusals) ++ one_more now origin refusals ∷ []
-AreNotedSo now (Some origin) false true refusals refusals_then = refusals_then ≡ without origin refusals
-AreNotedSo now (Some origin) false false refusals refusals_then = refusals_then ≡ refusals
+-- What becomes of the refusals behind a line of a client that counts by an origin: where it was a
+-- login that was refused, one more under its name; where the client is logged in by it, none of its
+-- origin and name. Else they stay.
+abbrev pub AreNotedSo : (now : ℕ) (origin : Option ℕ) (login : Option LoginName)
+    (was_refused is_logged_in : Bool) (old new : List Refusal) → Type 0
+AreNotedSo now None login was_refused is_logged_in old new = new ≡ old
+AreNotedSo now (Some origin) None was_refused is_logged_in old new = new ≡ old
+AreNotedSo now (Some origin) (Some name) true is_logged_in old new =
+    new ≡ with_room (without origin name old) ++ one_more now origin name old ∷ []
+AreNotedSo now (Some origin) (Some name) false true old new = new ≡ without origin name old
+AreNotedSo now (Some origin) (Some name) false false old new = new ≡ old

@@ -1,6 +1,6 @@
 -- Clients that haven't logged in since they were accepted.
-use Rattle.std.specs.Prelude.{◌≡◌, ◌⊎◌, ℕ, Bool, true, false, not, ◌-◌, ◌==◌, nat_le, List, [], ◌∷◌}
-use Rattle.std.specs.Prelude.{◌++◌, filter, find, Option, Some, None}
+use Rattle.std.specs.Prelude.{◌≡◌, ◌⊎◌, ℕ, Bool, true, false, not, ◌-◌, ◌==◌, min, nat_le, List}
+use Rattle.std.specs.Prelude.{[], ◌∷◌, ◌++◌, filter, find, map, Option, Some, None, is_some, if◌then◌else◌}
 use Rattle.std.specs.List.{All}
 use Rattle.serving.specs.declared.newcomers.Newcomer.{Newcomer}
 use Rattle.serving.specs.declared.links.Seat.{Seat}
@@ -15,15 +15,72 @@ newcomer connection newcomers = find (λ n. n.connection == connection) newcomer
 abbrev pub others : (connection : ℕ) → List Newcomer → List Newcomer
 others connection newcomers = filter (λ n. not (n.connection == connection)) newcomers
 
--- one was accepted so many seconds ago or more
+-- how many of its seconds are over at a moment: none goes by while its login lies unread
+abbrev pub until : (now : ℕ) → (held : Option ℕ) → ℕ
+until now None = now
+until now (Some moment) = min moment now
+
+abbrev pub spent : (now : ℕ) → Newcomer → ℕ
+spent now n = until now n.held - n.since
+
+-- its seconds are over
 abbrev pub is_late_by : (now seconds : ℕ) → Option Newcomer → Bool
 is_late_by now seconds None = false
-is_late_by now seconds (Some n) = nat_le seconds (now - n.since)
+is_late_by now seconds (Some n) = nat_le seconds (spent now n)
+
+-- a login of it lies unread
+abbrev pub lies_unread : Option Newcomer → Bool
+lies_unread None = false
+lies_unread (Some n) = is_some n.held
+
+-- for how many seconds it has
+abbrev pub since_then : (now : ℕ) → (held : Option ℕ) → ℕ
+since_then now None = 0
+since_then now (Some moment) = now - moment
+
+abbrev pub waited : (now : ℕ) → Newcomer → ℕ
+waited now n = since_then now n.held
+
+abbrev pub waited_of : (now : ℕ) → Option Newcomer → ℕ
+waited_of now None = 0
+waited_of now (Some n) = waited now n
+
+-- its login lies unread at this moment, and since the first such moment; or none does, and the
+-- seconds count again from where they stood
+abbrev pub held_at : (now : ℕ) → (held : Option ℕ) → Option ℕ
+held_at now None = Some now
+held_at now (Some moment) = Some moment
+
+abbrev pub since_at : (now : ℕ) → (held : Option ℕ) → (since : ℕ) → ℕ
+since_at now None since = since
+since_at now (Some moment) since = now - (min moment now - since)
+
+abbrev pub settled : (lies_unread : Bool) → (now : ℕ) → Newcomer → Newcomer
+settled true now n = record {
+  connection = n.connection;
+  since = n.since;
+  held = held_at now n.held;
+}
+settled false now n = record {
+  connection = n.connection;
+  since = since_at now n.held n.since;
+  held = None;
+}
+
+abbrev pub settled_if : (connection : ℕ) → (lies_unread : Bool) → (now : ℕ) → Newcomer → Newcomer
+settled_if connection lies_unread now n =
+    if n.connection == connection then settled lies_unread now n else n
+
+-- so it is noted of a connection
+abbrev pub settled_in : (connection : ℕ) → (lies_unread : Bool) → (now : ℕ) → List Newcomer
+    → List Newcomer
+settled_in connection lies now newcomers = map (settled_if connection lies now) newcomers
 
 -- one more, where it is noted
 abbrev pub noted : (is_noted : Bool) → (connection now : ℕ) → List Newcomer → List Newcomer
 noted false connection now newcomers = newcomers
-noted true connection now newcomers = newcomers ++ record { connection = connection; since = now } ∷ []
+noted true connection now newcomers =
+    newcomers ++ record { connection = connection; since = now; held = None } ∷ []
 
 -- each newcomer has a seat of its own, in the order of the seats; some seats have none
 pub data HaveSeats : List Newcomer → List Seat → Type 0 where
@@ -45,21 +102,53 @@ AllHaveSeats links = AreSeatedAt links.clients
 abbrev pub IsNewlyNoted : (now : ℕ) → (newcomers newcomers_then : List Newcomer) → Seat → Type 0
 IsNewlyNoted now newcomers newcomers_then s = newcomer s.connection newcomers ≡ None
     → newcomer s.connection newcomers_then
-    ≡ Some (record { connection = s.connection; since = now })
+    ≡ Some (record { connection = s.connection; since = now; held = None })
 
 -- whoever is noted otherwise than before is noted with this moment
 abbrev pub AreNotedNow : (now : ℕ) → (newcomers newcomers_then : List Newcomer) → Type 0
 AreNotedNow now newcomers newcomers_then = (c : ℕ)
     → (newcomer c newcomers_then ≡ newcomer c newcomers)
-    ⊎ (newcomer c newcomers_then ≡ Some (record { connection = c; since = now }))
+    ⊎ (newcomer c newcomers_then ≡ Some (record { connection = c; since = now; held = None }))
 
--- More seats were taken, and their connections were noted, where clients have login seconds.
+-- More seats were taken, and their connections were noted.
 pub record AreNoted (now : ℕ) (links links_then : Clients) : Type 0 where
   pub more : List Seat
   pub is : links_then.seats.items ≡ links.seats.items ++ more
   pub seconds : links_then.newcomers.seconds ≡ links.newcomers.seconds
   pub seated : AreSeatedAt links → AreSeatedAt links_then
   pub each : AreNotedNow now links.newcomers.newcomers.items links_then.newcomers.newcomers.items
-  pub newly : AreSeatedAt links → (links.newcomers.seconds == 0) ≡ false
+  pub newly : AreSeatedAt links
       → All (IsNewlyNoted now links.newcomers.newcomers.items
       links_then.newcomers.newcomers.items) more
+
+-- ---- while links are served
+
+-- A newcomer is noted still, by the same number: so many of its seconds are over at this moment as
+-- before, and if they count from this moment they still do.
+abbrev pub IsSettled : (now : ℕ) → (before after : Option Newcomer) → Type 0
+IsSettled now None after = after ≡ None
+IsSettled now (Some n) after = (m : Newcomer) × (after ≡ Some m) × (m.connection ≡ n.connection)
+    × (spent now m ≡ spent now n) × (n.since ≡ now → m.since ≡ now)
+
+abbrev pub connection_of : Newcomer → ℕ
+connection_of n = n.connection
+
+-- so it is of each, and no one else is noted
+pub record AreSettled (now : ℕ) (newcomers newcomers_then : List Newcomer) : Type 0 where
+  pub same : map connection_of newcomers_then ≡ map connection_of newcomers
+  pub each : (c : ℕ) → IsSettled now (newcomer c newcomers) (newcomer c newcomers_then)
+
+-- the login of a connection was noted as lying unread at this moment, or that none does
+pub record Settles (now connection : ℕ) (links links_then : Clients) : Type 0 where
+  pub lies : Bool
+  pub is : links_then.newcomers.newcomers.items
+      ≡ settled_in connection lies now links.newcomers.newcomers.items
+
+-- One is noted, and its seconds count from this moment.
+abbrev pub CountsFrom : (now : ℕ) → Option Newcomer → Type 0
+CountsFrom now noted = (n : Newcomer) × (noted ≡ Some n) × (n.since ≡ now)
+
+-- that of a seat's connection does, where it wasn't noted before
+abbrev pub IsComer : (now : ℕ) → (newcomers newcomers_then : List Newcomer) → Seat → Type 0
+IsComer now newcomers newcomers_then s = newcomer s.connection newcomers ≡ None
+    → CountsFrom now (newcomer s.connection newcomers_then)

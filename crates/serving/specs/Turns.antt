@@ -24,9 +24,9 @@ use Rattle.serving.specs.Works.{has_moved}
 use Rattle.serving.specs.Hearing.{Hearing, WasTold, idle_ends, heard_of_all, late_ends}
 use Rattle.serving.specs.SpoolTurns.{IsSpoolTurn, has_dealt}
 use Rattle.serving.specs.HttpWorks.{HttpWorks}
-use Rattle.serving.specs.Newcomers.{newcomer, AllHaveSeats}
+use Rattle.serving.specs.Newcomers.{newcomer, AllHaveSeats, IsSettled}
 use Rattle.serving.specs.declared.newcomers.Newcomer.{Newcomer}
-use Rattle.serving.specs.Late.{HasLived, IsInTime, IsNotedSince}
+use Rattle.serving.specs.Late.{HasLived, IsInTime, IsNotedSince, IsCountedOn}
 use Rattle.office.specs.Trace.{is_open}
 
 -- how long a turn waits: not at all where more can be done at once
@@ -73,19 +73,24 @@ pub record IsTurn (T after : Trace) (now : ℕ) (links links_then : Links) (came
   pub caused : All (HasCauseInTurn now links seats calls) given
   -- exactly those links were closed that got no seat, and those whose connections aren't open
   pub closed : closings calls ≡ filter_map unseated_of came ++ map link_of_seat (filter (is_shut_seat after) seats)
-  -- whoever was late isn't open, or logged in meanwhile
+  -- whoever was late isn't open, or logged in meanwhile, or has a login that lies unread
   pub timely : All (IsInTime now links.clients.newcomers.seconds
-      links.clients.newcomers.newcomers.items T.base T.log given after) seats
-  -- nobody is forgotten whose connection is open and who didn't log in meanwhile
+      links.clients.newcomers.newcomers.items T.base T.log given after calls
+      links.clients.wait ((settings links).slow_guesses || freed) seats) seats
+  -- nobody is forgotten whose connection is open and who didn't log in meanwhile, and so many of
+  -- its seconds are over as before
   pub noted : (c : ℕ) (n : Newcomer) → newcomer c links.clients.newcomers.newcomers.items ≡ Some n
       → is_open after c ≡ true
-      → (newcomer c links_then.clients.newcomers.newcomers.items ≡ Some n)
+      → IsSettled now (Some n) (newcomer c links_then.clients.newcomers.newcomers.items)
       ⊎ HasLived T.base T.log given c
-  -- each that came and got a seat is noted with this moment, where clients have login seconds
-  pub newly : AllHaveSeats links → (links.clients.newcomers.seconds == 0) ≡ false
+  -- each that came and got a seat is noted, and its seconds count from this moment
+  pub newly : AllHaveSeats links
       → All (IsNotedSince now links.clients.newcomers.newcomers.items
       links_then.clients.newcomers.newcomers.items T.base T.log given after)
       (filter_map seat_of came)
+  -- nobody's seconds stand still but while its login lies unread
+  pub counts : All (IsCountedOn links_then.clients.newcomers.newcomers.items T.base T.log given
+      after calls links.clients.wait ((settings links).slow_guesses || freed) seats) seats
   -- the others stay
   pub left : links_then.clients.seats.items ≡ filter (is_open_seat after) seats
 

@@ -23,11 +23,13 @@ use Rattle.serving.specs.declared.links.Seat.{Seat}
 use Rattle.serving.specs.declared.links.Clients.{Clients}
 use Rattle.serving.specs.declared.newcomers.Newcomer.{Newcomer}
 use Rattle.serving.specs.Settings.{Settings}
-use Rattle.serving.specs.Newcomers.{newcomer, is_late_by}
-use Rattle.serving.specs.Paces.{is_held, is_free, first_line, part_by}
+use Rattle.serving.specs.Newcomers.{newcomer, is_late_by, lies_unread}
+use Rattle.serving.specs.Paces.{is_held, first_line, part_by}
+use Rattle.serving.specs.declared.guesses.Refusal.{Refusal}
+use Rattle.creds.specs.declared.login_name.LoginName.{LoginName}
 use Rattle.serving.specs.declared.pace.Pace.{Pace}
 use Rattle.office.specs.Waiting as waiting
-use Rattle.office.specs.Logins.{brings_login}
+use Rattle.office.specs.Logins.{brings_login, login_brought}
 
 -- ---- what is seen of the calls of a wire, the newest last
 
@@ -242,13 +244,17 @@ pub record StaysUnread (B : Records) (older given : Log) (calls : List Call) (wa
   pub is : given ≡ later ++ front
   pub kept : IsKeptBack (trace_of B (front ++ older)) s.connection piece wait may
 
--- what a link showed was read by its first line, where logins may be kept back
-pub record IsReadByLine (calls : List Call) (may : Bool) (s : Seat) : Type 0 where
+-- lines are read one at a time before a login: where logins wait for a lock, or may be kept back
+abbrev pub reads_by_line : (wait : ℕ) (may : Bool) → Bool
+reads_by_line wait may = may || not (wait == 0)
+
+-- what a link showed was read by its first line, where lines are read one at a time
+pub record IsReadByLine (calls : List Call) (by_line : Bool) (s : Seat) : Type 0 where
   pub piece : List ℕ
   pub io : Io
   pub io_then : Io
   pub octets : List ℕ
-  pub held : may ≡ true
+  pub held : by_line ≡ true
   pub shown : Contains calls (Looked Pop s.link io piece)
   pub read : Contains calls (Read Pop s.link (first_line piece) io_then octets)
 
@@ -256,7 +262,22 @@ pub record IsReadByLine (calls : List Call) (may : Bool) (s : Seat) : Type 0 whe
 abbrev pub IsHeldBack : (B : Records) (older given : Log) (calls : List Call) (wait : ℕ)
     (may : Bool) → Seat → Type 0
 IsHeldBack B older given calls wait may s =
-    IsReadByLine calls may s ⊎ StaysUnread B older given calls wait may s
+    IsReadByLine calls (reads_by_line wait may) s ⊎ StaysUnread B older given calls wait may s
+
+-- the link of one of these seats, whose connection this is, stays unread
+pub record LiesUnread (B : Records) (older given : Log) (calls : List Call) (wait : ℕ) (may : Bool)
+    (seats : List Seat) (c : ℕ) : Type 0 where
+  pub seat : Seat
+  pub among : Contains seats seat
+  pub is : seat.connection ≡ c
+  pub unread : StaysUnread B older given calls wait may seat
+
+-- where a seat's login is noted as lying unread, it does
+abbrev pub IsNotedSo : (noted : List Newcomer) (B : Records) (older given : Log)
+    (calls : List Call) (wait : ℕ) (may : Bool) (seats : List Seat) → Seat → Type 0
+IsNotedSo noted B older given calls wait may seats s =
+    lies_unread (newcomer s.connection noted) ≡ true
+    → LiesUnread B older given calls wait may seats s.connection
 
 -- ---- what an office was given and a wire was asked, and nothing else
 
@@ -408,15 +429,24 @@ abbrev pub is_count : Io → Bool
 is_count (Count n) = true
 is_count _ = false
 
--- What comes next on a link was looked at, where something may be kept back, and so many octets are to be read: as many as there is room for, or a part
--- of the piece that was shown.
-pub data HasLooked {V : Type 0} (Holds : V → Contents → Type 0) (office : Office V) (seat : Seat) (wait : ℕ) (pace : Pace) : (count : ℕ) → List Call → Type 0 where
-  Unlooked : wait ≡ 0 → is_free pace ≡ true → HasLooked Holds office seat wait pace 4096 []
-  NothingCame : (io : Io) → is_count io ≡ false → HasLooked Holds office seat wait pace 4096 (Looked Pop seat.link io [] ∷ [])
-  PieceCame : (n : ℕ) (piece : List ℕ) (count : ℕ) → 0 < length piece
-      → ((T : Trace) → StandsFor Holds office T → count ≡ part_by (is_held T seat.connection piece wait pace) (is_free pace) 4096 piece)
-      → ((count == 0) ≡ false → count ≡ part_by false (is_free pace) 4096 piece)
-      → HasLooked Holds office seat wait pace count (Looked Pop seat.link (Count n) piece ∷ [])
+-- What comes next on a link was looked at, where lines are read one at a time, and so many octets
+-- are to be read: as many as there is room for, or a part of the piece that was shown, whose next
+-- line would log in somebody.
+pub data HasLooked {V : Type 0} (Holds : V → Contents → Type 0) (office : Office V) (seat : Seat)
+    (pace : Pace) (refusals : List Refusal)
+    : (count : ℕ) → (login : Option LoginName) → List Call → Type 0 where
+  Unlooked : pace.by_line ≡ false → HasLooked Holds office seat pace refusals 4096 None []
+  NothingCame : (io : Io) → is_count io ≡ false
+      → HasLooked Holds office seat pace refusals 4096 None (Looked Pop seat.link io [] ∷ [])
+  PieceCame : (n : ℕ) (piece : List ℕ) (count : ℕ) (login : Option LoginName)
+      → pace.by_line ≡ true → 0 < length piece
+      → ((T : Trace) → StandsFor Holds office T
+      → count ≡ part_by (is_held T seat.connection piece pace refusals) piece)
+      → ((T : Trace) → StandsFor Holds office T
+      → login ≡ login_brought T seat.connection piece)
+      → ((count == 0) ≡ false → count ≡ first_line piece)
+      → HasLooked Holds office seat pace refusals count login
+      (Looked Pop seat.link (Count n) piece ∷ [])
 
 -- A link was read from once, so many octets at most, where its connection waits for them.
 pub data IsReadOnce {V : Type 0} (Holds : V → Contents → Type 0) (office : Office V) (seat : Seat)
@@ -426,12 +456,15 @@ pub data IsReadOnce {V : Type 0} (Holds : V → Contents → Type 0) (office : O
       → IsQuietFor (seat ∷ []) given (Read Pop seat.link room io octets ∷ [])
       → IsReadOnce Holds office seat room given (Read Pop seat.link room io octets ∷ [])
 
--- A link was read from, where its connection waits for octets and nothing is kept back.
-pub record IsHeard {V : Type 0} (Holds : V → Contents → Type 0) (office : Office V) (seat : Seat) (wait : ℕ) (may : Bool) (given : Log) (calls : List Call) : Type 0 where
+-- A link was read from, where its connection waits for octets and nothing is kept back. Where its
+-- login is noted as lying unread, it does.
+pub record IsHeard {V : Type 0} (Holds : V → Contents → Type 0) (office : Office V) (seat : Seat)
+    (wait : ℕ) (may is_noted : Bool) (given : Log) (calls : List Call) : Type 0 where
   pub of_seat : IsQuietFor (seat ∷ []) given calls
-  pub heard : (list_any (is_read_of seat.link) calls ≡ true) ⊎ (IsReadByLine calls may seat
-      ⊎ ((given ≡ [])
+  pub heard : (list_any (is_read_of seat.link) calls ≡ true)
+      ⊎ (IsReadByLine calls (reads_by_line wait may) seat ⊎ ((given ≡ [])
       × (IsNotReady Holds office seat.connection ⊎ IsUnread Holds office seat wait may calls)))
+  pub noted : is_noted ≡ true → IsUnread Holds office seat wait may calls
 
 -- how links are served in a turn: the share of each, for how many seconds a login waits for a lock,
 -- whether logins may be kept back, and whether the next turn doesn't wait
@@ -468,12 +501,17 @@ HadTurn way B older given after calls s = is_open after s.connection ≡ true
     → (had_its_turn way.share way.hurries s.link calls ≡ true)
     ⊎ IsHeldBack B older given calls way.wait way.may s
 
--- the links of these seats had their turns
-pub record HadTurns {V : Type 0} (Holds : V → Contents → Type 0) (IsClean : V → Type 0) (office office_then : Office V) (way : Way) (seats these : List Seat)
+-- the links of these seats had their turns, and whose login is noted as lying unread has it so
+pub record HadTurns {V : Type 0} (Holds : V → Contents → Type 0) (IsClean : V → Type 0)
+    (office office_then : Office V) (way : Way) (noted : List Newcomer) (seats these : List Seat)
     (given : Log) (calls : List Call) : Type 0 where
   pub of_seats : IsQuietFor seats given calls
-  pub turns : (B : Records) (L : Log) → StandsFor Holds office (trace_of B L) → IsClean (vault_of office_then)
+  pub turns : (B : Records) (L : Log) → StandsFor Holds office (trace_of B L)
+      → IsClean (vault_of office_then)
       → All (HadTurn way B L given (trace_of B (given ++ L)) calls) these
+  pub noted_so : (B : Records) (L : Log) → StandsFor Holds office (trace_of B L)
+      → IsClean (vault_of office_then)
+      → All (IsNotedSo noted B L given calls way.wait way.may seats) these
 
 -- ---- sessions that end
 
@@ -507,9 +545,10 @@ IsFreedBy Holds IsClean office office_then wait freed seats given =
 -- session that ended was so for that
 pub record WereServed {V : Type 0} (Holds : V → Contents → Type 0) (IsClean : V → Type 0)
     (office office_then : Office V) (set : Settings) (freed hurries : Bool)
-    (seats these : List Seat) (given : Log) (calls : List Call) : Type 0 where
+    (noted : List Newcomer) (seats these : List Seat) (given : Log) (calls : List Call)
+    : Type 0 where
   pub turns : HadTurns Holds IsClean office office_then
-      (way_by set (length seats) freed hurries) seats these given calls
+      (way_by set (length seats) freed hurries) noted seats these given calls
   pub freed_by : IsFreedBy Holds IsClean office office_then set.wait freed seats given
 
 -- deposits, and no other event

@@ -1,36 +1,57 @@
-//! Logins that were refused: which addresses they came from, and until when the next login from
-//! there is kept back.
+//! Logins that were refused: which addresses they came from, under which names, and until when the
+//! next login of that address and name is kept back.
 ghost use Rattle.std.specs.Prelude.{◌≡◌, ◌<◌, option_copied, ◌++◌, ◌∷◌, [], false, ⊤};
 ghost use Rattle.arrayvec.specs.ArrayVec.{array_vec_len};
 ghost use Rattle.std.specs.Net.Addr.{MatchIp, ipv4_bits, ipv6_segments, IsCanonicalOf};
 ghost use Rattle.std.specs.declared.net.ip_addr.IpAddr as declared;
 ghost use Rattle.serving.specs.Guesses.{network, origin as origin_by, refusal_of, without};
 ghost use Rattle.serving.specs.Guesses.{holds_back, next_seconds as seconds_behind, with_room};
-ghost use Rattle.serving.specs.Guesses.{one_more};
+ghost use Rattle.serving.specs.Guesses.{one_more, has_name, is_of as is_of_by};
 
 use arrayvec::ArrayVec;
+use creds::LoginName;
 use std::net::{IpAddr, Ipv6Addr};
 
-/// Of how many origins the last refusal is known at most.
-const MOST_ORIGINS: usize = 1024;
+/// Of how many origins and names the last refusal is known at most.
+const MOST_REFUSALS: usize = 1024;
 
 /// For how many seconds a first refusal keeps the next login back.
 const FIRST_SECONDS: u64 = 1;
 
-/// For how many seconds any refusal does at most.
-const MOST_SECONDS: u64 = 15;
+/// For how many seconds any refusal does at most, and for how many a login is kept back at most,
+/// however many others are refused meanwhile.
+pub(crate) const MOST_SECONDS: u64 = 15;
 
 /// A refusal that is so many seconds old counts no more.
 const OLD_SECONDS: u64 = 600;
 
-/// The last refusal of an origin.
+/// The last refusal of an origin and a login name.
 #[derive(Clone, Copy, PartialEq, Eq, Default, Debug)]
 pub(crate) struct Refusal {
     pub(crate) origin: u64,
+    /// The name that the login was for; `None` in a place that no refusal has taken.
+    pub(crate) name: Option<LoginName>,
     /// When it was, in seconds.
     pub(crate) at: u64,
     /// For how many seconds it keeps the next login back.
     pub(crate) seconds: u64,
+}
+
+/// Whether a place has this login name.
+fn is_name(place: &Option<LoginName>, name: &LoginName) -> bool
+    ensures { result ≡ has_name name.now place.now }
+{
+    match place {
+        None => false,
+        Some(it) => it.clerk == name.clerk && it.maildrop == name.maildrop,
+    }
+}
+
+/// Whether a refusal is of this origin and this login name.
+fn is_of(refusal: &Refusal, origin: u64, name: &LoginName) -> bool
+    ensures { result ≡ is_of_by origin name.now refusal.now }
+{
+    refusal.origin == origin && is_name(&refusal.name, name)
 }
 
 /// The first 64 bits of an IPv6 address.
@@ -79,19 +100,19 @@ fn next_seconds(before: Option<Refusal>, now: u64) -> u64
     }
 }
 
-/// The first refusal of an origin.
-fn first_of(refusals: &[Refusal], origin: u64) -> Option<&Refusal>
-    ensures { option_copied result ≡ refusal_of origin refusals.now }
+/// The first refusal of an origin and a login name.
+fn first_of<'a>(refusals: &'a [Refusal], origin: u64, name: &LoginName) -> Option<&'a Refusal>
+    ensures { option_copied result ≡ refusal_of origin name.now refusals.now }
 {
-    refusals.iter().find(|refusal| refusal.origin == origin)
+    refusals.iter().find(|refusal| is_of(refusal, origin, name))
 }
 
-/// The last refusal of each origin, the oldest first, of 1,024 at most.
+/// The last refusal of each origin and login name, the oldest first, of 1,024 at most.
 #[derive(Drop)]
 pub struct Guesses {
     /// Logins are kept back behind a refusal.
     pub(crate) are_slow: bool,
-    pub(crate) refusals: ArrayVec<Refusal, MOST_ORIGINS>,
+    pub(crate) refusals: ArrayVec<Refusal, MOST_REFUSALS>,
 }
 
 impl Guesses {
@@ -106,54 +127,57 @@ impl Guesses {
         }
     }
 
-    /// The last refusal of an origin.
-    fn last(&self, origin: u64) -> Option<Refusal>
-        ensures { result ≡ refusal_of origin self.now.refusals.items }
+    /// The last refusal of an origin and a login name.
+    fn last(&self, origin: u64, name: &LoginName) -> Option<Refusal>
+        ensures { result ≡ refusal_of origin name.now self.now.refusals.items }
     {
-        first_of(self.refusals.as_slice(), origin).copied()
+        first_of(self.refusals.as_slice(), origin, name).copied()
     }
 
-    /// Whether the next login of an origin is kept back at this moment.
-    pub fn hold_back(&self, origin: u64, now: u64) -> bool
-        ensures { result ≡ holds_back now (refusal_of origin self.now.refusals.items) }
+    /// Whether the next login of an origin under this name is kept back at this moment.
+    pub fn hold_back(&self, origin: u64, name: &LoginName, now: u64) -> bool
+        ensures { result ≡ holds_back now (refusal_of origin name.now self.now.refusals.items) }
     {
-        match self.last(origin) {
+        match self.last(origin, name) {
             None => false,
             Some(refusal) => now.saturating_sub(refusal.at) < refusal.seconds,
         }
     }
 
-    /// Forgets an origin's refusals: a login of it was accepted.
-    pub(crate) fn forget(&mut self, origin: u64)
+    /// Forgets the refusals of an origin under this name: a login of it was accepted.
+    pub(crate) fn forget(&mut self, origin: u64, name: &LoginName)
         ensures slow { self.new.are_slow ≡ self.old.are_slow }
-        ensures refusals { self.new.refusals.items ≡ without origin self.old.refusals.items }
+        ensures refusals { self.new.refusals.items
+            ≡ without origin name.now self.old.refusals.items }
     {
-        self.refusals.retain(|refusal| refusal.origin != origin);
+        self.refusals
+            .retain(|refusal| !is_of(refusal, origin, name));
     }
 
     /// Drops the oldest refusal, where 1,024 are there.
     fn make_room(&mut self)
         ensures slow { self.new.are_slow ≡ self.old.are_slow }
         ensures refusals { self.new.refusals.items ≡ with_room self.old.refusals.items }
-        ensures room { array_vec_len self.new.refusals < MOST_ORIGINS }
+        ensures room { array_vec_len self.new.refusals < MOST_REFUSALS }
     {
-        if self.refusals.len() >= MOST_ORIGINS {
+        if self.refusals.len() >= MOST_REFUSALS {
             self.refusals.remove(0);
         }
     }
 
-    /// A login of an origin was refused at this moment.
-    pub fn refuse(&mut self, origin: u64, now: u64)
+    /// A login of an origin under this name was refused at this moment.
+    pub fn refuse(&mut self, origin: u64, name: &LoginName, now: u64)
         ensures slow { self.new.are_slow ≡ self.old.are_slow }
         ensures refusals { self.new.refusals.items
-            ≡ with_room (without origin self.old.refusals.items)
-            ++ one_more now origin self.old.refusals.items ∷ [] }
+            ≡ with_room (without origin name.now self.old.refusals.items)
+            ++ one_more now origin name.now self.old.refusals.items ∷ [] }
     {
-        let seconds = next_seconds(self.last(origin), now);
-        self.forget(origin);
+        let seconds = next_seconds(self.last(origin, name), now);
+        self.forget(origin, name);
         self.make_room();
         self.refusals.push(Refusal {
             origin,
+            name: Some(*name),
             at: now,
             seconds,
         });

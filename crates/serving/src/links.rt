@@ -54,7 +54,8 @@ impl Links {
     }
 
     /// Lets a login wait while another session holds its maildrop, until so many seconds, at most
-    /// 60, after its connection's last line or taking. Links begin with 0: no login waits.
+    /// 60, after its connection's last line or taking. Until a client has logged in its lines are
+    /// then read one at a time. Links begin with 0: no login waits.
     pub fn set_wait(&mut self, seconds: u64)
         ensures settings { settings self.new ≡ with_wait (min seconds 60) (settings self.old) }
         ensures wait { self.new.clients.wait ≡ min seconds 60 }
@@ -66,7 +67,8 @@ impl Links {
 
     /// Gives each client that comes from now on so many seconds for its login, at most 600. Where
     /// its link was accepted so long ago and it hasn't logged in, its connection is ended and the
-    /// link closed, at the end of a turn. Links begin with 0: the office's idle time alone counts.
+    /// link closed, at the end of a turn. The seconds in which its login lies unread, for a lock or
+    /// after a refusal, don't count. Links begin with 0: the office's idle time alone counts.
     pub fn set_login_seconds(&mut self, seconds: u64)
         ensures settings { settings self.new ≡ with_login_seconds (min seconds 600)
             (settings self.old) }
@@ -79,11 +81,13 @@ impl Links {
         self.clients.newcomers.seconds = seconds.min(MOST_LOGIN_SECONDS);
     }
 
-    /// Makes guesses slow, or as fast as they come. Behind a refused PASS or APOP the next one from
-    /// the same address isn't read for a second, and behind each further refusal for twice as long,
-    /// at most 15 seconds, until one is accepted or none was refused for ten minutes. An IPv6
-    /// address counts by its first 64 bits. Of 1,024 addresses refusals are known, the newest ones.
-    /// Until a client has logged in its lines are read one at a time. Links begin with fast ones.
+    /// Makes guesses slow, or as fast as they come. After a refused PASS or APOP the next one under
+    /// the same name from the same address isn't read for a second, and after each further refusal
+    /// for twice as long, at most 15 seconds, until one is accepted or none was refused for ten
+    /// minutes. No login is kept back so for more than 15 seconds, however many others are refused
+    /// meanwhile. An IPv6 address counts by its first 64 bits. Refusals of 1,024 addresses and names
+    /// are known, the newest ones. Until a client has logged in its lines are read one at a time.
+    /// Links begin with fast ones.
     pub fn set_slow_guesses(&mut self, slow: bool)
         ensures settings { settings self.new ≡ with_slow_guesses slow (settings self.old) }
         ensures slow { self.new.clients.guesses.are_slow ≡ slow }
@@ -149,7 +153,7 @@ pub(crate) struct Clients {
     pub(crate) is_freed: bool,
     /// Who hasn't logged in, and how long each may take.
     pub(crate) newcomers: Newcomers,
-    /// Whose logins were refused.
+    /// Which logins were refused.
     pub(crate) guesses: Guesses,
 }
 

@@ -1,38 +1,59 @@
 //! How what comes on a client's link is read: as it comes, or a line at a time, and but for logins
 //! that are kept back.
-ghost use Rattle.std.specs.Prelude.{◌≡◌, ◌≤◌, ◌<◌, ◌==◌, ℕ, List, true, false, None, length};
-ghost use Rattle.std.specs.Prelude.{position};
+ghost use Rattle.std.specs.Prelude.{◌≡◌, ◌≤◌, ◌<◌, ◌==◌, ◌&&◌, not, ℕ, List, true, false, None};
+ghost use Rattle.std.specs.Prelude.{length, position, nat_lt};
 ghost use Rattle.office.specs.Events.{Trace};
+ghost use Rattle.office.specs.Trace.{history};
+ghost use Rattle.office.specs.Sessions.{live};
+ghost use Rattle.office.specs.Logins.{login_brought as login_brought_at, refusals};
+ghost use Rattle.serving.specs.Guesses.{AreNotedSo};
 ghost use Rattle.office.specs.Stands.{StandsFor};
 ghost use Rattle.serving.specs.Wires.{ToldOfPorts};
 ghost use Rattle.serving.specs.Works.{Asking, HasLooked};
-ghost use Rattle.serving.specs.Paces.{pace_by, pace_behind as pace_behind_by};
-ghost use Rattle.serving.specs.Paces.{is_free as is_free_by, is_shut as is_shut_by, is_held};
+ghost use Rattle.serving.specs.Paces.{reads_lines as reads_lines_by, is_paced as is_paced_by};
+ghost use Rattle.serving.specs.Paces.{keeps as keeps_by, is_held, KeepsAside};
 ghost use Rattle.serving.specs.Paces.{first_line as first_line_of, part_by};
+ghost use Rattle.serving.specs.Newcomers.{newcomer, waited_of};
 
-use crate::guesses::{Guesses, origin_of};
-use crate::links::Seat;
+use crate::guesses::{Guesses, MOST_SECONDS, origin_of};
+use crate::links::{Clients, Seat};
 use crate::wire::{Io, Port, Wire};
+use creds::LoginName;
 use office::Office;
 use vault::Vault;
 
 /// How many octets are read at once: as many as an office takes in one piece.
 pub(crate) const MOST_AT_ONCE: usize = 4096;
 
-/// How what comes on a link is read.
+/// How what comes on a client's link is read at a moment.
 #[derive(Clone, Copy, PartialEq, Eq, Debug)]
-pub(crate) enum Pace {
-    /// As it comes.
-    Free,
-    /// A line at a time, so that a refusal is seen before the next line is read.
-    ByLine,
-    /// The same, and a login stays unread: one of the same origin was refused a short while ago.
-    Shut,
+pub(crate) struct Pace {
+    /// A line at a time, each of which is looked at first: a login may be kept back.
+    pub(crate) by_line: bool,
+    /// No login is read: a session ended in this turn.
+    pub(crate) is_shut: bool,
+    /// For how many seconds a login waits for its maildrop's lock.
+    pub(crate) wait: u64,
+    /// By which number the client's guesses count, if they do.
+    pub(crate) origin: Option<u64>,
+    /// For how many seconds the login that comes next has lain unread; 0 for a new one.
+    pub(crate) waited: u64,
+    /// The moment, in seconds.
+    pub(crate) now: u64,
+}
+
+/// How much of what comes on a link is read, and whom its next line would log in.
+#[derive(Drop)]
+pub(crate) struct Part {
+    /// How many octets are read; 0 where what came stays unread.
+    pub(crate) count: usize,
+    /// `None` where nothing was looked at.
+    pub(crate) login: Option<LoginName>,
 }
 
 /// By which number a client's guesses count: by none where guesses aren't slow, where the client is
 /// logged in, or where its address isn't known.
-pub(crate) fn origin_at<V: Vault, W: Wire>(
+fn origin_at<V: Vault, W: Wire>(
     office: &Office<V>,
     wire: &W,
     seat: Seat,
@@ -52,66 +73,91 @@ pub(crate) fn origin_at<V: Vault, W: Wire>(
     }
 }
 
-/// How what comes from an origin is read at this moment.
-pub(crate) fn pace_of(guesses: &Guesses, origin: Option<u64>, now: u64) -> Pace
-    ensures { result ≡ pace_by now guesses.now origin }
+/// Whether lines are read one at a time before a login: where one may be kept back.
+fn reads_lines(wait: u64, is_freed: bool, origin: Option<u64>) -> bool
+    ensures { result ≡ reads_lines_by wait is_freed origin }
+{
+    if wait > 0 || is_freed {
+        return true;
+    }
+    origin.is_some()
+}
+
+/// How what comes on a link is read at this moment.
+pub(crate) fn pace_at<V: Vault, W: Wire>(
+    office: &Office<V>,
+    wire: &W,
+    links: &Clients,
+    seat: Seat,
+    now: u64,
+) -> Pace
+    ensures fast { links.now.guesses.are_slow ≡ false → result.origin ≡ None }
+    ensures wait { result.wait ≡ links.now.wait }
+    ensures shut { result.is_shut ≡ links.now.is_freed }
+    ensures now { result.now ≡ now }
+    ensures waited { result.waited
+        ≡ waited_of now (newcomer seat.connection links.now.newcomers.newcomers.items) }
+    ensures lines { result.by_line ≡ true
+        → reads_lines_by result.wait result.is_shut result.origin ≡ true }
+    ensures line { (T : Trace) → StandsFor V.holds office.now T
+        → result.by_line ≡ (reads_lines_by result.wait result.is_shut result.origin
+        && not (live (history T) seat.connection)) }
+{
+    let origin = origin_at(office, wire, seat, &links.guesses);
+    let is_logged_in = office.is_logged_in(seat.connection);
+    Pace {
+        by_line: reads_lines(links.wait, links.is_freed, origin) && !is_logged_in,
+        is_shut: links.is_freed,
+        wait: links.wait,
+        origin,
+        waited: links.newcomers.waited(seat.connection, now),
+        now,
+    }
+}
+
+/// Whether a login of an origin is kept back behind a refusal of the same name.
+fn is_paced(guesses: &Guesses, origin: Option<u64>, name: &LoginName, now: u64) -> bool
+    ensures { result ≡ is_paced_by now origin name.now guesses.now.refusals.items }
 {
     match origin {
-        None => Pace::Free,
-        Some(origin) => {
-            if guesses.hold_back(origin, now) {
-                return Pace::Shut;
+        None => false,
+        Some(origin) => guesses.hold_back(origin, name, now),
+    }
+}
+
+/// Whether a login is kept back, whatever its maildrop; `None`, no login, never is.
+fn keeps(guesses: &Guesses, pace: Pace, login: &Option<LoginName>) -> bool
+    ensures { result ≡ keeps_by pace guesses.now.refusals.items login.now }
+{
+    match login {
+        None => false,
+        Some(name) => {
+            if pace.is_shut {
+                return true;
             }
-            Pace::ByLine
+            pace.waited < MOST_SECONDS && is_paced(guesses, pace.origin, name, pace.now)
         }
     }
 }
 
-/// The pace behind a session that ended in this turn: logins stay unread.
-pub(crate) fn pace_behind(pace: Pace, is_freed: bool, is_logged_in: bool) -> Pace
-    ensures { result ≡ pace_behind_by is_freed is_logged_in pace }
-{
-    if is_freed && !is_logged_in {
-        return Pace::Shut;
-    }
-    pace
-}
-
-impl Pace {
-    /// Whether it is that at which logins stay unread.
-    fn is_shut(self) -> bool
-        ensures { result ≡ is_shut_by self }
-    {
-        matches!(self, Pace::Shut)
-    }
-
-    /// Whether it is that of no origin.
-    fn is_free(self) -> bool
-        ensures { result ≡ is_free_by self }
-    {
-        matches!(self, Pace::Free)
-    }
-}
-
-/// Whether a piece that came stays unread, because its next line is a login that waits for its
-/// maildrop's lock, or one that is kept back behind a refusal.
+/// Whether a piece that came, with this login in its next line, stays unread, because the login
+/// waits for its maildrop's lock or is kept back.
 fn is_held_back<V: Vault>(
     office: &Office<V>,
+    guesses: &Guesses,
     connection: u64,
     piece: &[u8],
-    wait: u64,
     pace: Pace,
+    login: &Option<LoginName>,
 ) -> bool
     ensures { (T : Trace) → StandsFor V.holds office.now T
-        → result ≡ is_held T connection piece.now wait pace }
+        → login.now ≡ login_brought_at T connection piece.now
+        → result ≡ is_held T connection piece.now pace guesses.now.refusals.items }
 {
-    if office.waits(connection, piece, wait) {
+    if office.waits(connection, piece, pace.wait) {
         return true;
     }
-    if !pace.is_shut() {
-        return false;
-    }
-    office.brings_login(connection, piece)
+    keeps(guesses, pace, login)
 }
 
 /// Where the first LF of a piece is.
@@ -133,57 +179,95 @@ fn first_line(piece: &[u8]) -> usize
     }
 }
 
-/// How many octets of a piece that came are read: none where it stays unread.
+/// How much of a piece that came is read: its first line, or nothing where it stays unread.
 fn part_of_piece<V: Vault>(
     office: &Office<V>,
+    guesses: &Guesses,
     connection: u64,
     piece: &[u8],
-    wait: u64,
     pace: Pace,
-) -> usize
+) -> Part
     requires { length piece.now ≤ 4096 }
     ensures part { (T : Trace) → StandsFor V.holds office.now T
-        → result ≡ part_by (is_held T connection piece.now wait pace) (is_free_by pace) 4096
+        → result.count ≡ part_by (is_held T connection piece.now pace guesses.now.refusals.items)
         piece.now }
-    ensures some { (result == 0) ≡ false → result ≡ part_by false (is_free_by pace) 4096 piece.now }
-    ensures held { result ≡ 0 → 0 < length piece.now → (T : Trace) → StandsFor V.holds office.now T
-        → is_held T connection piece.now wait pace ≡ true }
-    ensures most { result ≤ 4096 }
+    ensures login { (T : Trace) → StandsFor V.holds office.now T
+        → result.login ≡ login_brought_at T connection piece.now }
+    ensures some { (result.count == 0) ≡ false → result.count ≡ first_line_of piece.now }
+    ensures most { result.count ≤ 4096 }
 {
-    if is_held_back(office, connection, piece, wait, pace) {
-        return 0;
+    let login = office.login_brought(connection, piece);
+    if is_held_back(office, guesses, connection, piece, pace, &login) {
+        return Part { count: 0, login };
     }
-    if pace.is_free() {
-        return MOST_AT_ONCE;
+    Part {
+        count: first_line(piece),
+        login,
     }
-    first_line(piece)
 }
 
-/// How many octets are read of what comes next on a link, 4,096 at most. Where nothing is kept
+/// How much is read of what comes next on a link, 4,096 octets at most. Where nothing may be kept
 /// back, nothing is looked at.
 pub(crate) fn next_part<V: Vault, W: Wire>(
     office: &Office<V>,
     wire: &mut W,
+    guesses: &Guesses,
     seat: Seat,
-    wait: u64,
     pace: Pace,
-) -> usize
+) -> Part
     ensures told { (t : ToldOfPorts) → W.tells wire.old t → W.tells wire.new t }
     ensures works { Asking W.asked wire.old wire.new
-        (HasLooked V.holds office.now seat wait pace result) }
-    ensures most { result ≤ 4096 }
-    ensures held { result ≡ 0 → (piece : List ℕ)
-        × ((T : Trace) → StandsFor V.holds office.now T
-        → is_held T seat.connection piece wait pace ≡ true) }
-    ensures all { wait ≡ 0 → is_free_by pace ≡ true → result ≡ 4096 }
-    ensures alone { wait ≡ 0 → is_free_by pace ≡ true → wire.new ≡ wire.old }
+        (HasLooked V.holds office.now seat pace guesses.now.refusals.items result.count
+        result.login) }
+    ensures most { result.count ≤ 4096 }
+    ensures all { pace.by_line ≡ false → result.count ≡ 4096 }
+    ensures alone { pace.by_line ≡ false → wire.new ≡ wire.old }
 {
-    if wait == 0 && pace.is_free() {
-        return MOST_AT_ONCE;
+    let all = Part {
+        count: MOST_AT_ONCE,
+        login: None,
+    };
+    if !pace.by_line {
+        return all;
     }
     let mut room = [0; MOST_AT_ONCE];
     match wire.look(Port::Pop, seat.link, &mut room) {
-        Io::Count(count) => part_of_piece(office, seat.connection, &room[..count], wait, pace),
-        _ => MOST_AT_ONCE,
+        Io::Count(count) => part_of_piece(office, guesses, seat.connection, &room[..count], pace),
+        _ => all,
+    }
+}
+
+/// Notes how the login went that a line brought which was read of a client that hadn't logged in
+/// before: whether it was refused, where so many refusals were before, or the client has logged in.
+/// A line that brought none changes nothing.
+pub(crate) fn note_guess<V: Vault>(
+    office: &Office<V>,
+    links: &mut Clients,
+    connection: u64,
+    pace: Pace,
+    login: &Option<LoginName>,
+    before: u8,
+)
+    ensures seats { links.new.seats ≡ links.old.seats }
+    ensures aside { KeepsAside links.old links.new }
+    ensures newcomers { links.new.newcomers ≡ links.old.newcomers }
+    ensures hurries { links.new.hurries ≡ links.old.hurries }
+    ensures noted { (T : Trace) → StandsFor V.holds office.now T
+        → AreNotedSo pace.now pace.origin login.now (nat_lt before (refusals T connection))
+        (live (history T) connection) links.old.guesses.refusals.items
+        links.new.guesses.refusals.items }
+{
+    let Some(origin) = pace.origin else {
+        return;
+    };
+    let Some(name) = login else {
+        return;
+    };
+    if office.refusals(connection) > before {
+        links.guesses.refuse(origin, name, pace.now);
+        return;
+    }
+    if office.is_logged_in(connection) {
+        links.guesses.forget(origin, name);
     }
 }

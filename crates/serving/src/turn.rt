@@ -1,6 +1,6 @@
 //! One turn of serving.
 ghost use Rattle.std.specs.Prelude.{◌≡◌, ◌⊎◌, ◌<◌, ◌+◌, ◌≤◌, ◌==◌, ◌||◌, not, ℕ, Bool, true, false};
-ghost use Rattle.std.specs.Prelude.{nat_lt, slice_index_or, List, ◌∷◌, [], Option, Some, length};
+ghost use Rattle.std.specs.Prelude.{slice_index_or, List, ◌∷◌, [], Option, Some, length};
 ghost use Rattle.std.specs.Prelude.{take, if◌then◌else◌};
 ghost use Rattle.office.specs.Events.{Trace};
 ghost use Rattle.office.specs.Trace.{is_open, history};
@@ -10,10 +10,9 @@ ghost use Rattle.office.specs.Stands.{StandsFor, vault_of};
 ghost use Rattle.office.specs.Seen.{outcome_seen};
 ghost use Rattle.serving.specs.Wires.{ToldOfPorts, AreFresh, opened_by};
 ghost use Rattle.serving.specs.Served.{StillServes, StillServesOne, Serves};
-ghost use Rattle.office.specs.Logins.{refusals};
-ghost use Rattle.serving.specs.Guesses.{AreNotedSo};
 ghost use Rattle.serving.specs.Newcomers.{others, newcomer, AreNoted, AreSeatedAt, AllHaveSeats};
 ghost use Rattle.serving.specs.Paces.{has_freed, KeepsAside, LeavesSettings};
+ghost use Rattle.serving.specs.Newcomers.{lies_unread, AreSettled, Settles};
 ghost use Rattle.serving.specs.Settings.{settings, settings_of, none_set};
 ghost use Rattle.serving.specs.Works.{Part, Asking, Giving, IsPassed, AreAccepted, IsWritten};
 ghost use Rattle.serving.specs.Works.{IsWrittenOut, IsReadOnce, IsHeard, HadTurns, WereServed};
@@ -33,7 +32,7 @@ ghost use Rattle.arrayvec.specs.ArrayVec.{array_vec_len};
 use crate::files::serve_spool;
 use crate::links::{Clients, Links, MOST_LINKS, Seat};
 use crate::listener::Listener;
-use crate::pace::{MOST_AT_ONCE, next_part, origin_at, pace_behind, pace_of};
+use crate::pace::{MOST_AT_ONCE, next_part, note_guess, pace_at};
 use crate::requests::{accept_requests, serve_requests};
 use crate::spool::Spool;
 use crate::wire::{Io, Port, Wire};
@@ -159,40 +158,9 @@ fn read_once<V: Vault, W: Wire, L: Listener>(
     }
 }
 
-/// Notes how the line went that was read last of a client that hadn't logged in before: whether it
-/// was refused, where so many refusals were before, or has logged in. Its next line is read in the
-/// next turn, which doesn't wait.
-fn note_guess<V: Vault>(
-    office: &Office<V>,
-    links: &mut Clients,
-    connection: u64,
-    origin: Option<u64>,
-    before: u8,
-    now: u64,
-)
-    ensures seats { links.new.seats ≡ links.old.seats }
-    ensures aside { KeepsAside links.old links.new }
-    ensures hurried { links.old.hurries ≡ true → links.new.hurries ≡ true }
-    ensures noted { (T : Trace) → StandsFor V.holds office.now T
-        → AreNotedSo now origin (nat_lt before (refusals T connection))
-        (live (history T) connection) links.old.guesses.refusals.items
-        links.new.guesses.refusals.items }
-{
-    let Some(origin) = origin else {
-        return;
-    };
-    links.hurries = true;
-    if office.refusals(connection) > before {
-        links.guesses.refuse(origin, now);
-        return;
-    }
-    if office.is_logged_in(connection) {
-        links.guesses.forget(origin);
-    }
-}
-
-/// Reads a piece from a link whose connection waits for octets, but no login that is kept back.
-/// Whether octets came.
+/// Reads a piece from a link whose connection waits for octets, but no login that is kept back, and
+/// notes whether one is. Whether octets came. Behind a line that was read by itself the next turn
+/// doesn't wait.
 fn read_piece<V: Vault, W: Wire, L: Listener>(
     office: &mut Office<V>,
     wire: &mut W,
@@ -206,29 +174,34 @@ fn read_piece<V: Vault, W: Wire, L: Listener>(
     ensures clean { V.is_clean (vault_of office.new) → V.is_clean (vault_of office.old) }
     ensures seats { links.new.seats ≡ links.old.seats }
     ensures aside { KeepsAside links.old links.new }
+    ensures settles { Settles now seat.connection links.old links.new }
     ensures hurried { links.old.hurries ≡ true → links.new.hurries ≡ true }
     ensures works { Part V.holds V.is_clean V.faults W.asked
         office.old wire.old office.new wire.new
         (WithHeard V.holds V.is_clean L.heard office.old listener.old office.new listener.new
-        (Also (IsHeard V.holds office.old seat links.old.wait (may_keep links.old))
+        (Also (IsHeard V.holds office.old seat links.old.wait (may_keep links.old)
+        (lies_unread (newcomer seat.connection links.new.newcomers.newcomers.items)))
         (HurriesBy links.old.hurries (links.new.hurries || result)))) }
 {
     if !office.ready(seat.connection) {
+        links.newcomers.settle(seat.connection, false, now);
         return false;
     }
-    let origin = origin_at(office, wire, seat, &links.guesses);
-    let pace = pace_of(&links.guesses, origin, now);
-    let pace = pace_behind(pace, links.is_freed, office.is_logged_in(seat.connection));
-    let part = next_part(office, wire, seat, links.wait, pace);
-    if part == 0 {
+    let pace = pace_at(office, wire, links, seat, now);
+    let part = next_part(office, wire, &links.guesses, seat, pace);
+    links
+        .newcomers
+        .settle(seat.connection, part.count == 0, now);
+    if part.count == 0 {
         return false;
     }
     let before = office.refusals(seat.connection);
     let mut room = [0; MOST_AT_ONCE];
-    if !read_once(office, wire, listener, seat, &mut room[..part]) {
+    if !read_once(office, wire, listener, seat, &mut room[..part.count]) {
         return false;
     }
-    note_guess(office, links, seat.connection, origin, before, now);
+    links.hurries |= pace.by_line;
+    note_guess(office, links, seat.connection, pace, &part.login, before);
     true
 }
 
@@ -247,16 +220,19 @@ fn serve_link<V: Vault, W: Wire, L: Listener>(
     ensures clean { V.is_clean (vault_of office.new) → V.is_clean (vault_of office.old) }
     ensures seats { links.new.seats ≡ links.old.seats }
     ensures aside { KeepsAside links.old links.new }
+    ensures settles { Settles now seat.connection links.old links.new }
     ensures hurried { links.old.hurries ≡ true → links.new.hurries ≡ true }
     ensures works { Part V.holds V.is_clean V.faults W.asked
         office.old wire.old office.new wire.new
         (WithHeard V.holds V.is_clean L.heard office.old listener.old office.new listener.new
         (Also (HadTurns V.holds V.is_clean office.old office.new
-        (way_at links.old (links.new.hurries || result)) (seat ∷ []) (seat ∷ []))
+        (way_at links.old (links.new.hurries || result)) links.new.newcomers.newcomers.items
+        (seat ∷ []) (seat ∷ []))
         (HurriesBy links.old.hurries (links.new.hurries || result)))) }
 {
     let share = share_of(links);
     if write_owed(office, wire, listener, seat, share) {
+        links.newcomers.settle(seat.connection, false, now);
         return true;
     }
     if !read_piece(office, wire, listener, links, seat, now) {
@@ -299,6 +275,7 @@ fn note_freed<V: Vault>(
         ⊎ (links.new.hurries ≡ true) }
     ensures hurried { links.old.hurries ≡ true → links.new.hurries ≡ true }
     ensures aside { LeavesSettings links.old links.new }
+    ensures newcomers { links.new.newcomers ≡ links.old.newcomers }
 {
     if links.wait == 0 {
         return;
@@ -337,11 +314,13 @@ fn serve_client<V: Vault, W: Wire, L: Listener>(
         ⊎ (links.new.hurries ≡ true) }
     ensures hurried { links.old.hurries ≡ true → links.new.hurries ≡ true }
     ensures aside { LeavesSettings links.old links.new }
+    ensures settles { Settles now seat.connection links.old links.new }
     ensures works { Part V.holds V.is_clean V.faults W.asked
         office.old wire.old office.new wire.new
         (WithHeard V.holds V.is_clean L.heard office.old listener.old office.new listener.new
         (Also (HadTurns V.holds V.is_clean office.old office.new
-        (way_at links.old links.new.hurries) (seat ∷ []) (seat ∷ []))
+        (way_at links.old links.new.hurries) links.new.newcomers.newcomers.items (seat ∷ [])
+        (seat ∷ []))
         (HurriesBy (links.old.hurries || links.new.is_freed) links.new.hurries))) }
 {
     let was_logged_in = office.is_logged_in(seat.connection);
@@ -375,11 +354,14 @@ fn serve_seat<V: Vault, W: Wire, L: Listener>(
         ⊎ (links.new.hurries ≡ true) }
     ensures hurried { links.old.hurries ≡ true → links.new.hurries ≡ true }
     ensures aside { LeavesSettings links.old links.new }
+    ensures settles { (d : declared.Seat) → Settles now
+        (slice_index_or links.old.seats.items place d).connection links.old links.new }
     ensures works { Part V.holds V.is_clean V.faults W.asked
         office.old wire.old office.new wire.new
         (WithHeard V.holds V.is_clean L.heard office.old listener.old office.new listener.new
         (Also (λ given calls. (d : declared.Seat) → HadTurns V.holds V.is_clean
-        office.old office.new (way_at links.old links.new.hurries) links.old.seats.items
+        office.old office.new (way_at links.old links.new.hurries)
+        links.new.newcomers.newcomers.items links.old.seats.items
         (slice_index_or links.old.seats.items place d ∷ []) given calls)
         (HurriesBy (links.old.hurries || links.new.is_freed) links.new.hurries))) }
 {
@@ -400,12 +382,15 @@ fn serve_links<V: Vault, W: Wire, L: Listener>(
     ensures clean { V.is_clean (vault_of office.new) → V.is_clean (vault_of office.old) }
     ensures seats { links.new.seats ≡ links.old.seats }
     ensures aside { LeavesSettings links.old links.new }
+    ensures settled { AreSettled now links.old.newcomers.newcomers.items
+        links.new.newcomers.newcomers.items }
     ensures frees { links.new.is_freed ≡ true → links.new.hurries ≡ true }
     ensures works { Part V.holds V.is_clean V.faults W.asked
         office.old wire.old office.new wire.new
         (WithHeard V.holds V.is_clean L.heard office.old listener.old office.new listener.new
         (Also (WereServed V.holds V.is_clean office.old office.new (settings_of links.old)
-        links.new.is_freed links.new.hurries links.old.seats.items links.old.seats.items)
+        links.new.is_freed links.new.hurries links.new.newcomers.newcomers.items
+        links.old.seats.items links.old.seats.items)
         (HurriesBy (links.old.hurries || links.new.is_freed) links.new.hurries))) }
 {
     links.is_freed = false;
@@ -440,7 +425,8 @@ fn end_seat<V: Vault, W: Wire, L: Listener>(
     listener.hear(seat.connection, &Account::Ended(End::TooLate));
 }
 
-/// Ends the connection of one seat, where its client took too long to log in.
+/// Ends the connection of one seat, where its client took too long to log in. Whoever has a login
+/// that lies unread isn't late.
 fn end_late<V: Vault, W: Wire, L: Listener>(
     office: &mut Office<V>,
     wire: &W,
@@ -470,6 +456,9 @@ fn end_late<V: Vault, W: Wire, L: Listener>(
     let seat = links.seats[place];
     if office.is_logged_in(seat.connection) {
         links.newcomers.forget(seat.connection);
+        return;
+    }
+    if links.newcomers.lies_unread(seat.connection) {
         return;
     }
     if !links.newcomers.is_late(seat.connection, now) {

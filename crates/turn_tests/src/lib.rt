@@ -11,6 +11,8 @@ mod guest;
 #[cfg(test)]
 mod heard;
 #[cfg(test)]
+mod kept_back;
+#[cfg(test)]
 mod late;
 #[cfg(test)]
 mod opened;

@@ -1,6 +1,8 @@
-//! Guesses that wait: a login is kept back behind one that was refused.
+//! Guesses that wait: a login is kept back behind one of the same address and name that was
+//! refused.
 
 use crate::scenes::{Act, Settings, play_set};
+use creds::LoginName;
 use serving::{Guesses, ScriptSpool, origin_of};
 use std::alloc::Global;
 use std::net::{IpAddr, Ipv4Addr, Ipv6Addr};
@@ -23,6 +25,8 @@ const ONE_FAILED: &str = "+OK send PASS\r\n-ERR login failed\r\n+OK send PASS\r\
 const CLOSING: &str = "-ERR login failed, closing\r\n";
 
 const LET_IN: &str = "+OK maildrop has 1 messages (21 octets)\r\n";
+
+const LET_IN_AT_ONCE: &str = "+OK send PASS\r\n+OK maildrop has 1 messages (21 octets)\r\n";
 
 /// Three guesses in one piece, at moment 3: the second is kept back until moment 4, the third for
 /// two seconds behind that, and then the link is closed.
@@ -72,6 +76,28 @@ static ANOTHER: [Act; 7] = [
     Act::Turns(1, 7),
     Act::Open(1),
     Act::Told(1, "", 0),
+];
+
+/// Nor does a login under another name, from the same address.
+static ANOTHER_NAME: [Act; 5] = [
+    Act::Told(1, "+OK POP3 server ready <2.7@h.test>\r\n", 1),
+    Act::Sends(1, "USER bob/orders\r\nPASS hunter\r\n", 1),
+    Act::Turns(2, 6),
+    Act::Told(1, LET_IN_AT_ONCE, 1),
+    Act::Open(1),
+];
+
+/// Guesses under a name that nobody has wait as those under ann's.
+static NOBODY: [Act; 9] = [
+    Act::Comes(0),
+    Act::Turns(1, 3),
+    Act::Told(0, "+OK POP3 server ready <1.7@h.test>\r\n", 1),
+    Act::Sends(0, "USER eve/stock\r\nPASS wrong\r\n", 2),
+    Act::Turns(5, 3),
+    Act::Told(0, ONE_FAILED, 1),
+    Act::Turns(1, 4),
+    Act::Told(0, FAILED, 1),
+    Act::Open(0),
 ];
 
 /// With fast guesses none waits.
@@ -131,6 +157,16 @@ fn others_do_not_wait(rt: HostRuntime) -> Result<(), Fail> {
 }
 
 #[test]
+fn other_names_do_not_wait(rt: HostRuntime) -> Result<(), Fail> {
+    plays(rt.alloc(), &THREE, &ANOTHER_NAME, true, &[four(1), four(1)])
+}
+
+#[test]
+fn nobodys_name_waits_alike(rt: HostRuntime) -> Result<(), Fail> {
+    plays(rt.alloc(), &NOBODY, &[], true, &[four(1)])
+}
+
+#[test]
 fn other_networks_do_not_wait(rt: HostRuntime) -> Result<(), Fail> {
     plays(
         rt.alloc(),
@@ -153,23 +189,26 @@ fn fast_ones_do_not_wait(rt: HostRuntime) -> Result<(), Fail> {
     plays(rt.alloc(), &FAST, &[], false, &[four(1)])
 }
 
-/// Guesses of so many origins: whether the first and the last are kept back.
-fn many(count: u64) -> (bool, bool) {
+/// Guesses under a name, of so many origins: whether the first and the last are kept back.
+fn many(name: &LoginName, count: u64) -> (bool, bool) {
     let mut guesses = Guesses::new();
     for origin in 0..count {
-        guesses.refuse(origin, 100);
+        guesses.refuse(origin, name, 100);
     }
-    let first = guesses.hold_back(0, 100);
-    let last = guesses.hold_back(count.saturating_sub(1), 100);
+    let first = guesses.hold_back(0, name, 100);
+    let last = guesses.hold_back(count.saturating_sub(1), name, 100);
     (first, last)
 }
 
 #[test]
 fn the_oldest_goes(_rt: HostRuntime) -> Result<(), Fail> {
-    if many(1024) != (true, true) {
+    let Some(name) = LoginName::read(b"ann/orders") else {
+        return Err(Fail::new("no name"));
+    };
+    if many(&name, 1024) != (true, true) {
         return Err(Fail::new("1,024 have room"));
     }
-    if many(1025) != (false, true) {
+    if many(&name, 1025) != (false, true) {
         return Err(Fail::new("of 1,025 the oldest goes"));
     }
     Ok(())

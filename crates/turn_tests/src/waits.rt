@@ -136,6 +136,31 @@ static GOES_ON: [Act; 5] = [
     Act::Told(2, "+OK\r\n", 2),
 ];
 
+/// Bob sends three lines in one piece while ann is in her maildrop: the second waits, and those
+/// behind it with it.
+static ONE_PIECE: [Act; 16] = [
+    Act::Comes(0),
+    Act::Turns(1, 0),
+    Act::Sends(0, ANN, 1),
+    Act::Turns(4, 0),
+    Act::Comes(1),
+    Act::Turns(1, 3),
+    Act::Sends(1, "USER bob/orders\r\nPASS hunter\r\nSTAT\r\n", 1),
+    Act::Turns(4, 3),
+    Act::Told(1, BOB_TOLD, 1),
+    Act::Turns(2, 12),
+    Act::Told(1, "", 0),
+    Act::Sends(0, "QUIT\r\n", 1),
+    Act::Turns(3, 12),
+    Act::Told(
+        1,
+        "+OK maildrop has 1 messages (21 octets)\r\n+OK 1 21\r\n",
+        1,
+    ),
+    Act::Open(1),
+    Act::Closed(0),
+];
+
 /// Plays acts, and then further ones.
 fn plays(alloc: Global, first: &[Act], then: &[Act], wait: u64) -> Result<(), Fail> {
     let mut acts = Vec::new(alloc);
@@ -168,6 +193,11 @@ fn told_in_use_in_the_end(rt: HostRuntime) -> Result<(), Fail> {
 #[test]
 fn without_a_wait_told_at_once(rt: HostRuntime) -> Result<(), Fail> {
     plays(rt.alloc(), &BOTH, &AT_ONCE, 0)
+}
+
+#[test]
+fn one_piece_waits_for_the_lock(rt: HostRuntime) -> Result<(), Fail> {
+    plays(rt.alloc(), &ONE_PIECE, &[], 10)
 }
 
 #[test]

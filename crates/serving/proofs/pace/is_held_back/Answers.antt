@@ -1,9 +1,10 @@
-use Rattle.std.proofs.Common.{rules, ◌≡◌, true, false, sym, ◌∙◌}
+use Rattle.std.proofs.Common.{rules, ◌≡◌, false, sym, ap, ◌∙◌}
+use Rattle.serving.specs.Paces.{keeps}
 use Rattle.serving.proofs.Looking.{held_by_login}
 use Rattle.serving.proofs.pace.is_held_back.Goals as goal
 
 pub returns : goal.returns
-returns g c = λ T stands.
+returns g c = λ T stands brought.
     (let free : c.waits.result ≡ false = search rules in
-    let shut : c.is_shut.result ≡ true = search rules in
-    held_by_login _ _ _ _ (sym (c.waits.ensures T stands) ∙ free) (sym c.is_shut.ensures ∙ shut) (c.brings_login.ensures T stands))
+    held_by_login _ _ _ (sym (c.waits.ensures T stands) ∙ free)
+    (c.keeps.ensures ∙ ap (keeps c.args.pace c.args.guesses.now.refusals.items) brought))

@@ -9,7 +9,7 @@ use Rattle.serving.proofs.Hearing.{told_none}
 use Rattle.serving.proofs.Late.{late_same, late_forgotten, late_so}
 use Rattle.serving.specs.Late.{HasEndedLate}
 use Rattle.serving.proofs.Freeing.{at_place}
-use Rattle.serving.proofs.Timely.{late_lived, late_prompt, late_shut, prompt_so}
+use Rattle.serving.proofs.Timely.{late_lived, late_prompt, late_unread, late_shut, prompt_so}
 use Rattle.serving.proofs.Newly.{seated_others}
 use Rattle.serving.specs.Newcomers.{HaveSeats}
 use Rattle.serving.proofs.turn.end_late.Goals as goal
@@ -85,3 +85,23 @@ pub returns-then-is_logged_in-clause-seated : goal.returns-then-is_logged_in-cla
 returns-then-is_logged_in-clause-seated g c = λ h.
     (let links = c.args.links.now in
     subst (λ l. HaveSeats l links.seats.items) (sym c.forget.ensures.newcomers) (seated_others _ links.newcomers.newcomers.items links.seats.items h))
+
+pub returns-then-lies_unread-clause-late : goal.returns-then-lies_unread-clause-late
+returns-then-lies_unread-clause-late g c = late_same c.args.now c.args.links.now.newcomers.seconds c.args.links.now.newcomers.newcomers.items
+
+pub returns-then-lies_unread-clause-works : goal.returns-then-lies_unread-clause-works
+returns-then-lies_unread-clause-works g c = λ on.
+    (let n = c.args.links.now.newcomers in
+    let o = c.args.office.now in
+    let yes : c.lies_unread.result ≡ true = search rules in
+    record {
+      given = [];
+      was_given = given_none g.V.Vault.holds g.V.Vault.is_clean g.V.Vault.faults o;
+      facts = (
+        (λ d.
+            at_place c.args.links.now.seats.items c.deref.result.now c.args.place _
+            (λ q. HasEndedLate g.V.Vault.holds g.V.Vault.is_clean o o c.args.now n.seconds n.newcomers.items n.newcomers.items (q ∷ []) []) c.deref.ensures.0 c.requires
+            (late_unread g.V.Vault.holds g.V.Vault.is_clean g.V.Vault.faults c.args.now n.seconds o n.newcomers.items _ (sym c.lies_unread.ensures ∙ yes)) d),
+        told_none g.L.Listener.heard c.args.listener.now,
+      );
+    })

@@ -1,14 +1,15 @@
 use Rattle.serving.proofs.Looking.{serving_seen}
 use Rattle.std.proofs.Common.{rules, ◌≡◌, ◌==◌, ◌∙◌, ◌||◌, ◌++◌, true, false, [], sym, ap, subst}
 use Rattle.office.specs.Taken.{trace_of}
-use Rattle.serving.specs.Paces.{is_shut, is_free}
-use Rattle.serving.specs.Works.{IsHeard, may_keep, HurriesBy, is_moving}
+use Rattle.serving.specs.Works.{IsHeard, IsUnread, may_keep, reads_by_line, HurriesBy, is_moving}
 use Rattle.serving.proofs.Working.{part_none, part_asking, part_then, part_so}
 use Rattle.serving.proofs.Hearing.{unheard}
 use Rattle.serving.proofs.Turns.{heard_none, heard_unread, heard_asked, heard_after, read_part}
-use Rattle.serving.proofs.Unread.{shut_so, line_so, looked_quiet, unread_so}
+use Rattle.serving.proofs.Unread.{may_so, line_so, looked_quiet, unread_so}
 use Rattle.serving.proofs.Working.{any_right}
 use Rattle.serving.proofs.Resting.{hurried_quiet, hurried_moved}
+use Rattle.serving.specs.Newcomers.{newcomer, lies_unread, settled_in}
+use Rattle.serving.proofs.Settling.{not_unread}
 use Rattle.serving.proofs.turn.read_piece.Goals as goal
 
 pub returns-then-part-eq0-clause-serves : goal.returns-then-part-eq0-clause-serves
@@ -23,12 +24,24 @@ pub returns-clause-serves : goal.returns-clause-serves
 returns-clause-serves g c = λ seats these has before T beside s clean.
     c.read_once.ensures.serves seats these has before T beside (serving_seen g.V.Vault.holds g.W.Wire.tells T beside _ _ _ seats these c.next_part-part.ensures.told s) clean
 
+pub returns-then-not-ready-clause-settles : goal.returns-then-not-ready-clause-settles
+returns-then-not-ready-clause-settles g c = record { lies = false; is = c.settle.ensures.newcomers }
+
+pub returns-then-part-eq0-clause-settles : goal.returns-then-part-eq0-clause-settles
+returns-then-part-eq0-clause-settles g c = record { lies = _; is = c.settle-2.ensures.newcomers }
+
+pub returns-then-not-read_once-clause-settles : goal.returns-then-not-read_once-clause-settles
+returns-then-not-read_once-clause-settles g c = record { lies = _; is = c.settle-2.ensures.newcomers }
+
+pub returns-clause-settles : goal.returns-clause-settles
+returns-clause-settles g c = record { lies = _; is = ap (λ n. n.newcomers.items) c.note_guess.ensures.newcomers ∙ c.settle-2.ensures.newcomers }
+
 pub returns-then-not-ready-clause-works : goal.returns-then-not-ready-clause-works
 returns-then-not-ready-clause-works g c =
     let links = c.args.links.now in
     let no : c.ready.result ≡ false = search rules in
     part_none g.V.Vault.holds g.V.Vault.is_clean g.V.Vault.faults g.W.Wire.asked c.args.office.now c.args.wire.now _
-    (unheard g.V.Vault.holds g.V.Vault.is_clean g.L.Listener.heard c.args.office.now c.args.listener.now, (heard_none g.V.Vault.holds g.V.Vault.is_clean g.V.Vault.faults links.wait (may_keep links) c.args.office.now c.args.seat (λ B L s. sym (c.ready.ensures (trace_of B L) s) ∙ no), hurried_quiet links.hurries []))
+    (unheard g.V.Vault.holds g.V.Vault.is_clean g.L.Listener.heard c.args.office.now c.args.listener.now, (heard_none g.V.Vault.holds g.V.Vault.is_clean g.V.Vault.faults links.wait (may_keep links) (lies_unread (newcomer c.args.seat.connection c.settle.new.self.newcomers.items)) c.args.office.now c.args.seat (not_unread c.args.seat.connection c.args.now links.newcomers.newcomers.items c.settle.new.self.newcomers.items c.settle.ensures.newcomers) (λ B L s. sym (c.ready.ensures (trace_of B L) s) ∙ no), hurried_quiet links.hurries []))
 
 pub returns-then-part-eq0-clause-works : goal.returns-then-part-eq0-clause-works
 returns-then-part-eq0-clause-works g c =
@@ -38,14 +51,18 @@ returns-then-part-eq0-clause-works g c =
     let links = c.args.links.now in
     let seat = c.args.seat in
     let may = may_keep links in
-    let pace = c.pace_behind-pace.result in
+    let p = c.pace_at-pace in
+    let pace = p.result in
+    let refusals = links.guesses.refusals.items in
     let part = c.next_part-part in
     let a = part.ensures.works in
-    let none : part.result ≡ 0 = search rules in
-    let shut : is_shut pace ≡ true → may ≡ true = shut_so links.is_freed c.is_logged_in.result links.guesses.are_slow c.args.now links.guesses c.origin_at-origin.result pace (search rules) c.origin_at-origin.ensures.fast in
-    heard_asked Holds IsClean g.V.Vault.faults g.W.Wire.asked g.L.Listener.heard o c.args.wire.now part.new.wire c.args.listener.now seat links.wait may (HurriesBy links.hurries (links.hurries || false)) a.calls a.was_asked
-    (heard_unread Holds IsClean g.V.Vault.faults links.wait may o seat a.calls (looked_quiet Holds o seat links.wait pace part.result a.calls a.facts)
-    (unread_so Holds o seat links.wait pace may part.result a.calls shut none a.facts)) (hurried_quiet links.hurries a.calls)
+    let none : part.result.count ≡ 0 = search rules in
+    let noted = lies_unread (newcomer seat.connection c.settle-2.new.self.newcomers.items) in
+    let unread = subst (λ w. IsUnread Holds o seat w may a.calls) p.ensures.wait
+    (unread_so Holds o seat pace refusals may part.result.count part.result.login a.calls (may_so links.guesses.are_slow links.is_freed pace.is_shut pace.origin p.ensures.shut p.ensures.fast) none a.facts) in
+    heard_asked Holds IsClean g.V.Vault.faults g.W.Wire.asked g.L.Listener.heard o c.args.wire.now part.new.wire c.args.listener.now seat links.wait may noted (HurriesBy links.hurries (links.hurries || false)) a.calls a.was_asked
+    (heard_unread Holds IsClean g.V.Vault.faults links.wait may noted o seat a.calls (looked_quiet Holds o seat pace refusals part.result.count part.result.login a.calls a.facts)
+    unread) (hurried_quiet links.hurries a.calls)
 
 pub returns-then-not-read_once-clause-works : goal.returns-then-not-read_once-clause-works
 returns-then-not-read_once-clause-works g c =
@@ -53,12 +70,15 @@ returns-then-not-read_once-clause-works g c =
     let seat = c.args.seat in
     let part = c.next_part-part in
     let a = part.ensures.works in
-    let quiet = looked_quiet g.V.Vault.holds c.args.office.now seat links.wait c.pace_behind-pace.result part.result a.calls a.facts in
-    let pace = c.pace_behind-pace.result in
-    let some : (part.result == 0) ≡ false = search rules in
-    let line : is_free pace ≡ false → may_keep links ≡ true = line_so links.is_freed c.is_logged_in.result links.guesses.are_slow c.args.now links.guesses c.origin_at-origin.result pace (search rules) c.origin_at-origin.ensures.fast in
-    heard_after g.V.Vault.holds g.V.Vault.is_clean g.V.Vault.faults g.W.Wire.asked g.L.Listener.heard c.args.office.now c.read_once.new.office c.args.wire.now part.new.wire c.read_once.new.wire c.args.listener.now c.read_once.new.listener seat links.wait (may_keep links) pace part.result (HurriesBy false c.read_once.result) (HurriesBy links.hurries (links.hurries || false)) a.calls (λ cs m. hurried_quiet links.hurries (a.calls ++ cs)) quiet a.facts some line a.was_asked
-    (read_part g.V.Vault.holds g.V.Vault.is_clean g.V.Vault.faults g.W.Wire.asked g.L.Listener.heard c.args.office.now c.read_once.new.office part.new.wire c.read_once.new.wire c.args.listener.now c.read_once.new.listener seat part.result _ (HurriesBy false c.read_once.result) c.read_once.ensures.works part.ensures.most)
+    let p = c.pace_at-pace in
+    let pace = p.result in
+    let refusals = links.guesses.refusals.items in
+    let quiet = looked_quiet g.V.Vault.holds c.args.office.now seat pace refusals part.result.count part.result.login a.calls a.facts in
+    let some : (part.result.count == 0) ≡ false = search rules in
+    let line : pace.by_line ≡ true → reads_by_line links.wait (may_keep links) ≡ true = λ b.
+    subst (λ w. reads_by_line w (may_keep links) ≡ true) p.ensures.wait (line_so links.guesses.are_slow links.is_freed pace.is_shut pace.wait pace.origin p.ensures.shut p.ensures.fast (p.ensures.lines b)) in
+    heard_after g.V.Vault.holds g.V.Vault.is_clean g.V.Vault.faults g.W.Wire.asked g.L.Listener.heard c.args.office.now c.read_once.new.office c.args.wire.now part.new.wire c.read_once.new.wire c.args.listener.now c.read_once.new.listener seat links.wait (may_keep links) (lies_unread (newcomer seat.connection c.settle-2.new.self.newcomers.items)) pace refusals part.result.count part.result.login (HurriesBy false c.read_once.result) (HurriesBy links.hurries (links.hurries || false)) a.calls (λ cs m. hurried_quiet links.hurries (a.calls ++ cs)) quiet a.facts some line (not_unread seat.connection c.args.now links.newcomers.newcomers.items c.settle-2.new.self.newcomers.items (subst (λ b. c.settle-2.new.self.newcomers.items ≡ settled_in seat.connection b c.args.now links.newcomers.newcomers.items) some c.settle-2.ensures.newcomers)) a.was_asked
+    (read_part g.V.Vault.holds g.V.Vault.is_clean g.V.Vault.faults g.W.Wire.asked g.L.Listener.heard c.args.office.now c.read_once.new.office part.new.wire c.read_once.new.wire c.args.listener.now c.read_once.new.listener seat part.result.count _ (HurriesBy false c.read_once.result) c.read_once.ensures.works part.ensures.most)
 
 pub returns-clause-works : goal.returns-clause-works
 returns-clause-works g c =
@@ -67,10 +87,14 @@ returns-clause-works g c =
     let seat = c.args.seat in
     let part = c.next_part-part in
     let a = part.ensures.works in
-    let quiet = looked_quiet g.V.Vault.holds c.args.office.now seat links.wait c.pace_behind-pace.result part.result a.calls a.facts in
-    let pace = c.pace_behind-pace.result in
-    let some : (part.result == 0) ≡ false = search rules in
-    let line : is_free pace ≡ false → may_keep links ≡ true = line_so links.is_freed c.is_logged_in.result links.guesses.are_slow c.args.now links.guesses c.origin_at-origin.result pace (search rules) c.origin_at-origin.ensures.fast in
-    heard_after g.V.Vault.holds g.V.Vault.is_clean g.V.Vault.faults g.W.Wire.asked g.L.Listener.heard c.args.office.now c.read_once.new.office c.args.wire.now part.new.wire c.read_once.new.wire c.args.listener.now c.read_once.new.listener seat links.wait (may_keep links) pace part.result (HurriesBy false c.read_once.result) (HurriesBy links.hurries (c.note_guess.new.links.hurries || true)) a.calls
-    (λ cs m. hurried_moved links.hurries (c.note_guess.new.links.hurries || true) (a.calls ++ cs) (any_right is_moving a.calls cs (m came))) quiet a.facts some line a.was_asked
-    (read_part g.V.Vault.holds g.V.Vault.is_clean g.V.Vault.faults g.W.Wire.asked g.L.Listener.heard c.args.office.now c.read_once.new.office part.new.wire c.read_once.new.wire c.args.listener.now c.read_once.new.listener seat part.result _ (HurriesBy false c.read_once.result) c.read_once.ensures.works part.ensures.most)
+    let p = c.pace_at-pace in
+    let pace = p.result in
+    let refusals = links.guesses.refusals.items in
+    let quiet = looked_quiet g.V.Vault.holds c.args.office.now seat pace refusals part.result.count part.result.login a.calls a.facts in
+    let some : (part.result.count == 0) ≡ false = search rules in
+    let line : pace.by_line ≡ true → reads_by_line links.wait (may_keep links) ≡ true = λ b.
+    subst (λ w. reads_by_line w (may_keep links) ≡ true) p.ensures.wait (line_so links.guesses.are_slow links.is_freed pace.is_shut pace.wait pace.origin p.ensures.shut p.ensures.fast (p.ensures.lines b)) in
+    let hurries = c.note_guess.new.links.hurries || true in
+    heard_after g.V.Vault.holds g.V.Vault.is_clean g.V.Vault.faults g.W.Wire.asked g.L.Listener.heard c.args.office.now c.read_once.new.office c.args.wire.now part.new.wire c.read_once.new.wire c.args.listener.now c.read_once.new.listener seat links.wait (may_keep links) (lies_unread (newcomer seat.connection c.note_guess.new.links.newcomers.newcomers.items)) pace refusals part.result.count part.result.login (HurriesBy false c.read_once.result) (HurriesBy links.hurries hurries) a.calls
+    (λ cs m. hurried_moved links.hurries hurries (a.calls ++ cs) (any_right is_moving a.calls cs (m came))) quiet a.facts some line (not_unread seat.connection c.args.now links.newcomers.newcomers.items c.note_guess.new.links.newcomers.newcomers.items (ap (λ n. n.newcomers.items) c.note_guess.ensures.newcomers ∙ subst (λ b. c.settle-2.new.self.newcomers.items ≡ settled_in seat.connection b c.args.now links.newcomers.newcomers.items) some c.settle-2.ensures.newcomers)) a.was_asked
+    (read_part g.V.Vault.holds g.V.Vault.is_clean g.V.Vault.faults g.W.Wire.asked g.L.Listener.heard c.args.office.now c.read_once.new.office part.new.wire c.read_once.new.wire c.args.listener.now c.read_once.new.listener seat part.result.count _ (HurriesBy false c.read_once.result) c.read_once.ensures.works part.ensures.most)

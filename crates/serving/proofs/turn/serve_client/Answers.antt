@@ -1,5 +1,5 @@
-use Rattle.std.proofs.Common.{◌||◌, ◌∷◌, [], refl}
-use Rattle.serving.specs.Works.{way_at}
+use Rattle.std.proofs.Common.{◌≡◌, ◌||◌, ◌∷◌, [], refl, sym, subst, ap, ◌∙◌}
+use Rattle.serving.specs.Works.{HadTurns, way_at}
 use Rattle.serving.proofs.Working.{part_so}
 use Rattle.serving.proofs.Turns.{served_so}
 use Rattle.serving.proofs.Resting.{client_hurried, is_left}
@@ -22,7 +22,13 @@ returns-clause-works g c =
     (λ gv cl wa a. (
       a.0,
       (
-        served_so Holds IsClean g.V.Vault.faults c.args.office.now x.new.office (way_at links (x.new.links.hurries || x.result)) (way_at links n.hurries) (seat ∷ []) (seat ∷ []) gv cl refl refl (λ e. e) c.note_freed.ensures.hurried a.1.0,
+        served_so Holds IsClean g.V.Vault.faults c.args.office.now x.new.office (way_at links (x.new.links.hurries || x.result)) (way_at links n.hurries) n.newcomers.newcomers.items (seat ∷ []) (seat ∷ []) gv cl refl refl (λ e. e) c.note_freed.ensures.hurried
+            (subst (λ m. HadTurns Holds IsClean c.args.office.now x.new.office (way_at links (x.new.links.hurries || x.result)) m.newcomers.items (seat ∷ []) (seat ∷ []) gv cl) (sym c.note_freed.ensures.newcomers) a.1.0),
         client_hurried links.hurries (x.new.links.hurries || x.result) n.is_freed n.hurries cl a.1.1 c.note_freed.ensures.hurries,
       ),
     )) x.ensures.works
+
+pub returns-clause-settles : goal.returns-clause-settles
+returns-clause-settles g c =
+    let x = c.serve_link-more.ensures.settles in
+    record { lies = x.lies; is = ap (λ m. m.newcomers.items) c.note_freed.ensures.newcomers ∙ x.is }

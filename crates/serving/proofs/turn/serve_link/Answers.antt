@@ -5,6 +5,7 @@ use Rattle.serving.proofs.Working.{part_so, part_then, or_true}
 use Rattle.serving.proofs.Hearing.{heard_then}
 use Rattle.serving.proofs.Turns.{served_written, served_one, served_then}
 use Rattle.serving.proofs.Resting.{hurried_moved, hurried_behind, hurried_then, shared_moved, is_right}
+use Rattle.serving.proofs.Settling.{not_unread}
 use Rattle.serving.proofs.turn.serve_link.Goals as goal
 
 pub returns-then-write_owed-clause-works : goal.returns-then-write_owed-clause-works
@@ -23,7 +24,8 @@ returns-then-write_owed-clause-works g c =
     part_so Holds IsClean g.V.Vault.faults g.W.Wire.asked o x.new.office c.args.wire.now x.new.wire _ _ (λ gv cl wa a. (
       a.0,
       (
-        served_written Holds IsClean g.V.Vault.faults o x.new.office way c.args.seat gv cl (or_true links.hurries) a.1,
+        served_written Holds IsClean g.V.Vault.faults o x.new.office way c.settle.new.self.newcomers.items c.args.seat gv cl (or_true links.hurries)
+            (not_unread c.args.seat.connection c.args.now links.newcomers.newcomers.items c.settle.new.self.newcomers.items c.settle.ensures.newcomers) a.1,
         hurried_moved links.hurries (links.hurries || true) cl (shared_moved c.args.seat.link (length links.seats.items) cl (a.1.goes_on refl)),
       ),
     )) out
@@ -47,7 +49,7 @@ returns-then-not-read_piece-clause-works g c =
     (λ g1 g2 c1 c2 wa wb a b. (
       heard_then Holds IsClean Heard g.V.Vault.faults o x.new.office y.new.office l x.new.listener y.new.listener g1 g2 wa wb a.0 b.0,
       (
-        served_one Holds IsClean g.V.Vault.faults o x.new.office y.new.office way c.args.seat g1 g2 c1 c2 wa wb a.1 b.1.0,
+        served_one Holds IsClean g.V.Vault.faults o x.new.office y.new.office way y.new.links.newcomers.newcomers.items c.args.seat g1 g2 c1 c2 wa wb a.1 b.1.0,
         hurried_behind links.hurries (y.new.links.hurries || y.result) (y.new.links.hurries || false) c1 c2 (λ e. ap (λ b. y.new.links.hurries || b) none ∙ e) b.1.1,
       ),
     )) out y.ensures.works
@@ -68,12 +70,12 @@ returns-clause-works g c =
     let way = way_at links (y.new.links.hurries || z.result) in
     let out = subst (λ b. Part Holds IsClean g.V.Vault.faults g.W.Wire.asked o c.args.wire.now x.new.office x.new.wire (WithHeard Holds IsClean Heard o l x.new.office x.new.listener (IsWrittenOut Holds IsClean o x.new.office c.args.seat way.share b))) ends
     (subst (λ n. Part Holds IsClean g.V.Vault.faults g.W.Wire.asked o c.args.wire.now x.new.office x.new.wire (WithHeard Holds IsClean Heard o l x.new.office x.new.listener (IsWrittenOut Holds IsClean o x.new.office c.args.seat n x.result))) c.share_of-share.ensures.value x.ensures.works) in
-    let first : Part Holds IsClean g.V.Vault.faults g.W.Wire.asked o c.args.wire.now y.new.office y.new.wire (WithHeard Holds IsClean Heard o l y.new.office y.new.listener (Also (HadTurns Holds IsClean o y.new.office way (c.args.seat ∷ []) (c.args.seat ∷ [])) (HurriesBy links.hurries true))) =
+    let first : Part Holds IsClean g.V.Vault.faults g.W.Wire.asked o c.args.wire.now y.new.office y.new.wire (WithHeard Holds IsClean Heard o l y.new.office y.new.listener (Also (HadTurns Holds IsClean o y.new.office way y.new.links.newcomers.newcomers.items (c.args.seat ∷ []) (c.args.seat ∷ [])) (HurriesBy links.hurries true))) =
     part_then Holds IsClean g.V.Vault.faults g.W.Wire.asked o x.new.office y.new.office c.args.wire.now x.new.wire y.new.wire _ _ _
     (λ g1 g2 c1 c2 wa wb a b. (
       heard_then Holds IsClean Heard g.V.Vault.faults o x.new.office y.new.office l x.new.listener y.new.listener g1 g2 wa wb a.0 b.0,
       (
-        served_one Holds IsClean g.V.Vault.faults o x.new.office y.new.office way c.args.seat g1 g2 c1 c2 wa wb a.1 b.1.0,
+        served_one Holds IsClean g.V.Vault.faults o x.new.office y.new.office way y.new.links.newcomers.newcomers.items c.args.seat g1 g2 c1 c2 wa wb a.1 b.1.0,
         hurried_behind links.hurries (y.new.links.hurries || y.result) true c1 c2 (λ e. is_right y.new.links.hurries y.result came) b.1.1,
       ),
     )) out y.ensures.works in
@@ -81,7 +83,10 @@ returns-clause-works g c =
     (λ g1 g2 c1 c2 wa wb a b. (
       heard_then Holds IsClean Heard g.V.Vault.faults o y.new.office z.new.office l y.new.listener z.new.listener g1 g2 wa wb a.0 b.0,
       (
-        served_then Holds IsClean g.V.Vault.faults o y.new.office z.new.office way c.args.seat g1 g2 c1 c2 wa wb a.1.0 b.1.of_seat,
+        served_then Holds IsClean g.V.Vault.faults o y.new.office z.new.office way y.new.links.newcomers.newcomers.items c.args.seat g1 g2 c1 c2 wa wb a.1.0 b.1.of_seat,
         hurried_then links.hurries true (y.new.links.hurries || z.result) c1 c2 a.1.1 (λ e. refl),
       ),
     )) first z.ensures.works
+
+pub returns-then-write_owed-clause-settles : goal.returns-then-write_owed-clause-settles
+returns-then-write_owed-clause-settles g c = record { lies = false; is = c.settle.ensures.newcomers }

@@ -4,6 +4,7 @@ use Rattle.office.specs.Sessions.{live}
 use Rattle.serving.specs.Paces.{has_freed}
 use Rattle.serving.specs.Served.{IsServing}
 use Rattle.serving.specs.Works.{way_at}
+use Rattle.serving.specs.Newcomers.{Settles}
 use Rattle.serving.proofs.Seating.{contained}
 use Rattle.serving.proofs.Working.{part_so}
 use Rattle.serving.proofs.Turns.{served_at}
@@ -29,4 +30,10 @@ returns-clause-works g c =
     let o = c.args.office.now in
     let o1 = c.serve_client.new.office in
     part_so Holds IsClean g.V.Vault.faults g.W.Wire.asked o o1 c.args.wire.now c.serve_client.new.wire _ _
-    (λ gv cl wa a. (a.0, ((λ d. served_at Holds IsClean g.V.Vault.faults o o1 (way_at c.args.links.now c.serve_client.new.links.hurries) c.args.links.now.seats.items c.deref.result.now c.args.place _ gv cl c.deref.ensures.0 c.requires a.1.0 d), a.1.1))) c.serve_client.ensures.works
+    (λ gv cl wa a. (a.0, ((λ d. served_at Holds IsClean g.V.Vault.faults o o1 (way_at c.args.links.now c.serve_client.new.links.hurries) c.serve_client.new.links.newcomers.newcomers.items c.args.links.now.seats.items c.deref.result.now c.args.place _ gv cl c.deref.ensures.0 c.requires a.1.0 d), a.1.1))) c.serve_client.ensures.works
+
+pub returns-clause-settles : goal.returns-clause-settles
+returns-clause-settles g c = λ d.
+    at_place c.args.links.now.seats.items c.deref.result.now c.args.place _
+    (λ q. Settles c.args.now q.connection c.args.links.now c.serve_client.new.links)
+    c.deref.ensures.0 c.requires c.serve_client.ensures.settles d

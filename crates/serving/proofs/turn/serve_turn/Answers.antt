@@ -13,7 +13,10 @@ use Rattle.office.specs.Events.{Trace}
 use Rattle.office.specs.Trace.{is_open}
 use Rattle.office.specs.Stands.{StandsFor}
 use Rattle.serving.specs.declared.newcomers.Newcomer.{Newcomer}
-use Rattle.serving.specs.Newcomers.{newcomer, HaveSeats, IsNewlyNoted, AllHaveSeats}
+use Rattle.serving.specs.Newcomers.{newcomer, HaveSeats, IsNewlyNoted, AllHaveSeats, IsSettled, IsComer}
+use Rattle.std.proofs.lemmas.List.Elements.{All-weaker}
+use Rattle.serving.proofs.Late.{late_then}
+use Rattle.serving.proofs.Settling.{late_settled, settled_seats, comer_so}
 use Rattle.std.specs.List.{All}
 use Rattle.serving.proofs.Newly.{more_is}
 use Rattle.serving.specs.Works.{seat_of}
@@ -93,19 +96,21 @@ returns-clause-works g c = λ T s clean.
     let l5 = c.end_late_ones.new.listener in
     let a = c.accept_links.ensures.works in
     let passed = subst (λ n. Part Holds IsClean g.V.Vault.faults Asked c.args.office.now c.args.wire.now o1 w1 (IsPassed n now)) c.millis_for-millis.ensures c.pass_time.ensures.works in
-    let turned = subst (λ set. Part Holds IsClean g.V.Vault.faults Asked o2 w3 o3 w4 (WithHeard Holds IsClean Heard o2 l2 o3 l3 (Also (WereServed Holds IsClean o2 o3 set served.is_freed served.hurries seats2 seats2) (HurriesBy served.is_freed served.hurries)))) c.accept_links.ensures.set
-    (subst (λ b. Part Holds IsClean g.V.Vault.faults Asked o2 w3 o3 w4 (WithHeard Holds IsClean Heard o2 l2 o3 l3 (Also (WereServed Holds IsClean o2 o3 (settings_of came) served.is_freed served.hurries seats2 seats2) (HurriesBy (b || served.is_freed) served.hurries)))) c.accept_links.ensures.hurries c.serve_links.ensures.works) in
-    let same = c.serve_links.ensures.aside.newcomers in
-    let seconds = ap (λ n. n.seconds) same ∙ ap (λ (s : Settings). s.login_seconds) c.accept_links.ensures.set in
-    let less = subst (λ n. AreNoMoreLate now old.newcomers.seconds old.newcomers.newcomers.items n.newcomers.items) (sym same) c.accept_links.ensures.late in
+    let turned = subst (λ set. Part Holds IsClean g.V.Vault.faults Asked o2 w3 o3 w4 (WithHeard Holds IsClean Heard o2 l2 o3 l3 (Also (WereServed Holds IsClean o2 o3 set served.is_freed served.hurries served.newcomers.newcomers.items seats2 seats2) (HurriesBy served.is_freed served.hurries)))) c.accept_links.ensures.set
+    (subst (λ b. Part Holds IsClean g.V.Vault.faults Asked o2 w3 o3 w4 (WithHeard Holds IsClean Heard o2 l2 o3 l3 (Also (WereServed Holds IsClean o2 o3 (settings_of came) served.is_freed served.hurries served.newcomers.newcomers.items seats2 seats2) (HurriesBy (b || served.is_freed) served.hurries)))) c.accept_links.ensures.hurries c.serve_links.ensures.works) in
+    let settled = c.serve_links.ensures.settled in
+    let seconds = ap (λ (s : Settings). s.login_seconds) c.serve_links.ensures.aside.set ∙ ap (λ (s : Settings). s.login_seconds) c.accept_links.ensures.set in
+    let less = late_then now old.newcomers.seconds old.newcomers.newcomers.items came.newcomers.newcomers.items served.newcomers.newcomers.items c.accept_links.ensures.late
+    (late_settled now old.newcomers.seconds came.newcomers.newcomers.items served.newcomers.newcomers.items settled) in
     let late = late_both Holds IsClean g.V.Vault.faults now served.newcomers.seconds old.newcomers.seconds old.newcomers.newcomers.items served.newcomers.newcomers.items ended.newcomers.newcomers.items seats2 o4 o5 (λ given. WasTold Heard l4 l5 (late_ends given)) seconds less
     (subst (λ v. Giving Holds IsClean g.V.Vault.faults o4 o5 (λ given. HasEndedLate Holds IsClean o4 o5 now served.newcomers.seconds served.newcomers.newcomers.items ended.newcomers.newcomers.items v.items given × WasTold Heard l4 l5 (late_ends given))) c.serve_links.ensures.seats c.end_late_ones.ensures.works) in
-    let keeps : (n : ℕ) (x : Newcomer) → newcomer n old.newcomers.newcomers.items ≡ Some x → newcomer n served.newcomers.newcomers.items ≡ Some x =
-    λ n x h. ap (λ v. newcomer n v.newcomers.items) same ∙ c.accept_links.ensures.noted n x h in
+    let keeps : (n : ℕ) (x : Newcomer) → newcomer n old.newcomers.newcomers.items ≡ Some x → IsSettled now (Some x) (newcomer n served.newcomers.newcomers.items) =
+    λ n x h. subst (λ m. IsSettled now m (newcomer n served.newcomers.newcomers.items)) (c.accept_links.ensures.noted n x h) (settled.each n) in
     let comers = c.accept_links.ensures.comers in
-    let newly : AllHaveSeats links → (old.newcomers.seconds == 0) ≡ false → All (IsNewlyNoted now old.newcomers.newcomers.items served.newcomers.newcomers.items) (filter_map seat_of a.1.facts.came) =
-    λ h on. subst (λ n. All (IsNewlyNoted now old.newcomers.newcomers.items n.newcomers.items) (filter_map seat_of a.1.facts.came)) (sym same)
-    (subst (All (IsNewlyNoted now old.newcomers.newcomers.items came.newcomers.newcomers.items)) (more_is old.seats.items comers.more (filter_map seat_of a.1.facts.came) seats2 comers.is a.1.facts.come.seated) (comers.newly h on)) in
+    let newly : AllHaveSeats links → All (IsComer now old.newcomers.newcomers.items served.newcomers.newcomers.items) (filter_map seat_of a.1.facts.came) =
+    λ h. All-weaker (IsNewlyNoted now old.newcomers.newcomers.items came.newcomers.newcomers.items) (IsComer now old.newcomers.newcomers.items served.newcomers.newcomers.items)
+    (λ q k. comer_so now old.newcomers.newcomers.items came.newcomers.newcomers.items served.newcomers.newcomers.items q settled k) (filter_map seat_of a.1.facts.came)
+    (subst (All (IsNewlyNoted now old.newcomers.newcomers.items came.newcomers.newcomers.items)) (more_is old.seats.items comers.more (filter_map seat_of a.1.facts.came) seats2 comers.is a.1.facts.come.seated) (comers.newly h)) in
     let forgets : (U : Trace) → StandsFor Holds o5 U → (n : ℕ) → is_open U n ≡ true → newcomer n c.serve_spool.new.links.newcomers.newcomers.items ≡ newcomer n ended.newcomers.newcomers.items =
     λ U su n here. ap (λ v. newcomer n v.newcomers.items) c.serve_spool.ensures.newcomers ∙ c.close_links.ensures.newcomers U su n here in
     let last = c.close_links.ensures.last ∙ (c.end_late_ones.ensures.last ∙ (c.serve_links.ensures.aside.last ∙ c.accept_links.ensures.last)) in
@@ -141,7 +146,7 @@ returns-clause-short g c = λ T s clean short.
 pub returns-clause-seated : goal.returns-clause-seated
 returns-clause-seated g c = λ h.
     (let came = c.accept_links.ensures.comers.seated h in
-    let served = subst (λ n. HaveSeats n.newcomers.items c.serve_links.new.links.seats.items) (sym c.serve_links.ensures.aside.newcomers)
+    let served = settled_seats c.accept_links.new.links.newcomers.newcomers.items c.serve_links.new.links.newcomers.newcomers.items c.serve_links.new.links.seats.items c.serve_links.ensures.settled.same
     (subst (λ v. HaveSeats c.accept_links.new.links.newcomers.newcomers.items v.items) (sym c.serve_links.ensures.seats) came) in
     let closed = c.close_links.ensures.seated (c.end_late_ones.ensures.seated served) in
     subst (λ n. HaveSeats n.newcomers.items c.serve_spool.new.links.seats.items) (sym c.serve_spool.ensures.newcomers)

@@ -1,13 +1,12 @@
-use Rattle.std.proofs.Common.{◌≡◌, true, false, Option, Some, None, is_some, sym, ap, ◌∙◌, subst, refl, nat_cmp}
+use Rattle.std.proofs.Common.{◌≡◌, true, false, Some, None, sym, ◌∙◌, subst, refl, nat_cmp}
 use Rattle.std.specs.BTreeMap.{get}
-use Rattle.creds.specs.declared.login_name.LoginName.{LoginName}
 use Rattle.office.specs.Replying.{is_empty}
 use Rattle.office.specs.Kept.{Kept}
 use Rattle.office.specs.Trace.{is_open}
 use Rattle.office.specs.Stands.{Matches, IsOver, IsKeptFor, seen, untaken_of}
 use Rattle.office.proofs.Owing.{some_owed}
-use Rattle.office.proofs.MeetingLocks.{brings_so}
-use Rattle.office.proofs.office.Office.brings_login.Goals as goal
+use Rattle.office.proofs.MeetingLocks.{brought_so}
+use Rattle.office.proofs.office.Office.login_brought.Goals as goal
 
 pub returns : goal.returns
 returns g c T st =
@@ -18,8 +17,7 @@ returns g c T st =
     let m : Matches ct (seen T n) k = subst (IsKeptFor ct (seen T n)) found (st.connections n) in
     let nothing = c.owes_nothing.ensures.nothing c.if-not-owes_nothing.false in
     let p = c.args.piece.now in
-    let asked = ap (λ (x : Option LoginName). is_some x) c.coming_login.ensures in
-    c.is_some.ensures ∙ (asked ∙ brings_so ct T n p k m nothing)
+    c.coming_login.ensures ∙ brought_so ct T n p k m nothing
 
 pub returns-in_default : goal.returns-in_default
 returns-in_default g c T st =
