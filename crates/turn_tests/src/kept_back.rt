@@ -95,14 +95,16 @@ static WAITS_FOR_BOB: [Act; 10] = [
     Act::Told(1, LET_IN, 1),
 ];
 
-/// 2,048 empty lines come before it, in the same piece.
-static EMPTY_LINES: [Act; 10] = [
+/// 2,048 empty lines come before it, in the same piece; they end what USER said.
+static EMPTY_LINES: [Act; 12] = [
     Act::Turns(2, 5),
     Act::Told(1, SECOND_TOLD, 1),
     Act::Sends(1, "\r\n", 2048),
-    Act::Sends(1, "PASS s3 cret\r\n", 1),
-    Act::Turns(2050, 5),
+    Act::Sends(1, RIGHT, 1),
+    Act::Turns(2048, 5),
     Act::Told(1, "-ERR unknown command\r\n", 2048),
+    Act::Turns(3, 5),
+    Act::Told(1, "+OK send PASS\r\n", 1),
     Act::Turns(2, 14),
     Act::Sends(0, "QUIT\r\n", 1),
     Act::Turns(3, 14),
@@ -110,15 +112,17 @@ static EMPTY_LINES: [Act; 10] = [
 ];
 
 /// A line that is too long comes before it.
-static LONG_LINE: [Act; 11] = [
+static LONG_LINE: [Act; 13] = [
     Act::Turns(2, 5),
     Act::Told(1, SECOND_TOLD, 1),
     Act::Sends(1, "x", 300),
-    Act::Sends(1, "\r\nPASS s3 cret\r\n", 1),
-    Act::Turns(3, 5),
+    Act::Sends(1, "\r\n", 1),
+    Act::Sends(1, RIGHT, 1),
+    Act::Turns(1, 5),
     Act::Told(1, "-ERR line too long\r\n", 1),
+    Act::Turns(2, 5),
+    Act::Told(1, "+OK send PASS\r\n", 1),
     Act::Turns(2, 14),
-    Act::Told(1, "", 0),
     Act::Sends(0, "QUIT\r\n", 1),
     Act::Turns(3, 14),
     Act::Told(1, LET_IN, 1),
