@@ -20,9 +20,6 @@ const SECOND_TOLD: &str = "+OK POP3 server ready <2.7@h.test>\r\n+OK send PASS\r
 
 const SIXTH_TOLD: &str = "+OK POP3 server ready <6.7@h.test>\r\n+OK send PASS\r\n";
 
-/// Each client comes from the same address.
-static ONE_ADDRESS: [IpAddr; 6] = [IpAddr::V4(Ipv4Addr::new(192, 0, 2, 1)); 6];
-
 /// Four strangers' guesses wait, and then ann's login: they are judged at moments 4, 6, 10 and 18.
 /// Hers is judged 15 seconds after it came, whatever was refused meanwhile.
 static WAITS_BY_ITSELF: [Act; 9] = [
@@ -98,14 +95,16 @@ static WAITS_FOR_BOB: [Act; 10] = [
     Act::Told(1, LET_IN, 1),
 ];
 
-/// 2,048 empty lines come before it, in the same piece.
-static EMPTY_LINES: [Act; 10] = [
+/// 2,048 empty lines come before it, in the same piece; they end what USER said.
+static EMPTY_LINES: [Act; 12] = [
     Act::Turns(2, 5),
     Act::Told(1, SECOND_TOLD, 1),
     Act::Sends(1, "\r\n", 2048),
-    Act::Sends(1, "PASS s3 cret\r\n", 1),
-    Act::Turns(2050, 5),
+    Act::Sends(1, RIGHT, 1),
+    Act::Turns(2048, 5),
     Act::Told(1, "-ERR unknown command\r\n", 2048),
+    Act::Turns(3, 5),
+    Act::Told(1, "+OK send PASS\r\n", 1),
     Act::Turns(2, 14),
     Act::Sends(0, "QUIT\r\n", 1),
     Act::Turns(3, 14),
@@ -113,15 +112,17 @@ static EMPTY_LINES: [Act; 10] = [
 ];
 
 /// A line that is too long comes before it.
-static LONG_LINE: [Act; 11] = [
+static LONG_LINE: [Act; 13] = [
     Act::Turns(2, 5),
     Act::Told(1, SECOND_TOLD, 1),
     Act::Sends(1, "x", 300),
-    Act::Sends(1, "\r\nPASS s3 cret\r\n", 1),
-    Act::Turns(3, 5),
+    Act::Sends(1, "\r\n", 1),
+    Act::Sends(1, RIGHT, 1),
+    Act::Turns(1, 5),
     Act::Told(1, "-ERR line too long\r\n", 1),
+    Act::Turns(2, 5),
+    Act::Told(1, "+OK send PASS\r\n", 1),
     Act::Turns(2, 14),
-    Act::Told(1, "", 0),
     Act::Sends(0, "QUIT\r\n", 1),
     Act::Turns(3, 14),
     Act::Told(1, LET_IN, 1),
@@ -143,11 +144,12 @@ static AN_OCTET_A_PACKET: [Act; 5] = [
 
 /// Plays acts of clients from one address; with slow guesses where there is no wait.
 fn plays(alloc: Global, acts: &[Act], wait: u64, login_seconds: u64) -> Result<(), Fail> {
+    let from = [IpAddr::V4(Ipv4Addr::new(192, 0, 2, 1)); 6];
     let settings = Settings {
         wait,
         login_seconds,
         slow_guesses: wait == 0,
-        from: &ONE_ADDRESS,
+        from: &from,
     };
     play_set(alloc, &mut ScriptSpool::new(alloc), acts, &settings)
 }
@@ -156,7 +158,8 @@ fn plays(alloc: Global, acts: &[Act], wait: u64, login_seconds: u64) -> Result<(
 fn comes(acts: &mut Vec<Act>, place: usize, text: &'static str) -> Result<(), AllocError> {
     acts.push(Act::Comes(place))?;
     acts.push(Act::Turns(1, 3))?;
-    acts.push(Act::Sends(place, text, 1))
+    acts.push(Act::Sends(place, text, 1))?;
+    Ok(())
 }
 
 /// A stranger has guessed once; four more guess, and ann comes behind them.
