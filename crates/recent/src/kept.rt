@@ -277,6 +277,25 @@ pub(crate) fn after_mail<T>(
     }
 }
 
+/// Hands on the answer of a call that drops this maildrop. Forgets its heads, and all totals; if the
+/// answer is a fault, forgets what is kept of all maildrops.
+pub(crate) fn after_drop<T>(
+    kept: &mut AllKept,
+    totals: &mut Option<Totals>,
+    maildrop: &Name,
+    answer: Result<T, VaultFault>,
+) -> Result<T, VaultFault>
+    ensures answer { result ≡ answer }
+    ensures kept { kept.new ≡ (if is_ok answer then without maildrop.now kept.old else []) }
+    ensures totals { totals.new ≡ None }
+{
+    *totals = None;
+    match answer {
+        Ok(value) => after_mail(kept, totals, maildrop, Ok(value)),
+        Err(fault) => after_change(kept, totals, Err(fault)),
+    }
+}
+
 /// Hands on the answer of a call that only looks, and forgets what is kept where it is a fault.
 pub(crate) fn after_look<T>(
     kept: &mut AllKept,

@@ -2,7 +2,7 @@
 ghost use Rattle.std.specs.Prelude.{◌≡◌};
 ghost use Rattle.recent.specs.Recalling.{nothing_kept, HoldsFitting};
 
-use crate::kept::{AllKept, after_change, after_look, after_mail};
+use crate::kept::{AllKept, after_change, after_drop, after_look, after_mail};
 use crate::totals::{Totals, count_kept, recalled_totals};
 use creds::{Credential, DepositId, Name};
 use mailtext::MailText;
@@ -13,12 +13,13 @@ use vault::{Deposited, Head, MessageKey, Total, Vault, VaultFault};
 
 /// A vault around another one, which keeps the heads of the maildrops that were asked for, and the
 /// totals of all maildrops, and answers the same question again from them. Every fault forgets
-/// them, and so does every call that may change records, but for deposits and removals: those
-/// forget the heads of their maildrop alone, and keep the totals, of which the maildrop's own is
-/// counted again, by its heads, when they are asked for.
+/// them, and so does every call that may change records, but for deposits, removals and drops of a
+/// maildrop: those forget the heads of their maildrop alone. A deposit or a removal keeps the
+/// totals, of which the maildrop's own is counted again, by its heads, when they are asked for.
 ///
-/// At most 10,000 heads are kept in all, and 1,000 totals. If there is no memory for them, they
-/// aren't kept, and the vault inside answers.
+/// At most 10,000 heads are kept in all, and 1,000 totals. If there is no room for the heads of one
+/// more maildrop, those of the maildrops that were asked for longest ago go. If there is no memory
+/// for what is to be kept, it isn't kept, and the vault inside answers.
 ///
 /// Contracts see the vault inside and what is kept. It holds what the vault inside holds and what
 /// is kept fits.
@@ -156,7 +157,7 @@ impl<V: Vault> Vault for Recent<V> {
 
     fn drop_maildrop(&mut self, maildrop: &Name) -> Result<(), VaultFault> {
         let gone = self.vault.drop_maildrop(maildrop);
-        after_change(&mut self.kept, &mut self.totals, gone)
+        after_drop(&mut self.kept, &mut self.totals, maildrop, gone)
     }
 
     fn policy(&mut self) -> Result<Policy, VaultFault> {

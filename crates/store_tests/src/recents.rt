@@ -38,9 +38,9 @@ static HEADS: [(Call, u64, &str); 15] = [
     (Call::Heads("billing"), 1, "0"),
 ];
 
-/// The same of two maildrops: a deposit or a removal forgets the heads of its own alone, and a
-/// fault forgets those of both.
-static TWO: [(Call, u64, &str); 17] = [
+/// The same of two maildrops: a deposit, a removal or a drop forgets the heads of its own alone,
+/// and a fault forgets those of both.
+static TWO: [(Call, u64, &str); 20] = [
     (Call::Add("orders"), 1, "done"),
     (Call::Add("billing"), 1, "done"),
     (Call::Heads("orders"), 1, "0"),
@@ -56,8 +56,11 @@ static TWO: [(Call, u64, &str); 17] = [
     (Call::Heads("billing"), 1, "1"),
     (Call::Heads("orders"), 1, "0"),
     (Call::Heads("billing"), 0, "1"),
-    (Call::Heads("returns"), 1, "no such maildrop"),
+    (Call::Drop("orders"), 1, "done"),
+    (Call::Heads("billing"), 0, "1"),
+    (Call::Heads("orders"), 1, "no such maildrop"),
     (Call::Heads("billing"), 1, "1"),
+    (Call::Heads("billing"), 0, "1"),
 ];
 
 /// The same of three maildrops of 4,000 messages each, whose heads aren't all kept: those of the
@@ -218,7 +221,7 @@ fn kept_heads_ask_nothing(rt: HostRuntime) -> Result<(), Fail> {
 
 #[test]
 fn each_maildrop_keeps_its_own(rt: HostRuntime) -> Result<(), Fail> {
-    for n in 0..12 {
+    for n in 0..14 {
         assert!(rt;
             refusals(rt.alloc(), PlainVault::new(rt.alloc()), &TWO, n)? == n.min(1),
             "{n}"
