@@ -277,8 +277,8 @@ pub(crate) fn after_mail<T>(
     }
 }
 
-/// Hands on the answer of a call that drops this maildrop. Forgets its heads, and all totals; if the
-/// answer is a fault, forgets what is kept of all maildrops.
+/// Hands on the answer of a call that drops this maildrop. Forgets its heads, and all totals; if
+/// the answer is a fault, forgets what is kept of all maildrops.
 pub(crate) fn after_drop<T>(
     kept: &mut AllKept,
     totals: &mut Option<Totals>,

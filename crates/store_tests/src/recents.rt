@@ -63,7 +63,7 @@ static TWO: [(Call, u64, &str); 20] = [
     (Call::Heads("billing"), 0, "1"),
 ];
 
-/// The same of three maildrops of 4,000 messages each, whose heads aren't all kept: those of the
+/// The same of three maildrops of 3,400 messages each, whose heads aren't all kept: those of the
 /// maildrop that was asked for longest ago go first.
 static ROOM: [(Call, u64, &str); 8] = [
     (Call::Heads("a"), 1, "more"),
@@ -230,12 +230,12 @@ fn each_maildrop_keeps_its_own(rt: HostRuntime) -> Result<(), Fail> {
     Ok(())
 }
 
-/// Deposits 4,000 messages into a new maildrop.
+/// Deposits 3,400 messages into a new maildrop.
 fn fill(alloc: Global, vault: &mut PlainVault, maildrop: &str) -> Result<(), Fail> {
     if word_of_done(vault.add_maildrop(&name(maildrop)?)) != "done" {
         return Err(Fail::from("a new maildrop"));
     }
-    for number in 0..4000 {
+    for number in 0..3400 {
         let id = format!(in alloc; "{number}")?;
         if deposit(alloc, vault, maildrop, id.as_str())? != "done" {
             return Err(Fail::from("a deposit"));
