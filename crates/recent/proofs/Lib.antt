@@ -1,3 +1,4 @@
 pub mod Sums
 pub mod Looks
+pub mod Keeping
 pub mod Fitting

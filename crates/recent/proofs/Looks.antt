@@ -66,9 +66,9 @@ passed_on (Ok x) e h = absurd h
 passed_on (Err y) e h = cc
 
 -- what is kept fits, or is forgotten
-pub fits_if : (b : Bool) (Was Holds : Contents → Type 0) (kept : Option KeptHeads)
+pub fits_if : (b : Bool) (Was Holds : Contents → Type 0) (kept : List KeptHeads)
     (totals : Option (List KeptTotal)) (c : Contents) → Holds c → HoldsFitting Was kept totals c
-    → HoldsFitting Holds (if b then kept else None) (if b then totals else None) c
+    → HoldsFitting Holds (if b then kept else []) (if b then totals else None) c
 fits_if true Was Holds kept totals c inside held = record {
   inside = inside;
   fits = held.fits;

@@ -1,5 +1,6 @@
 -- What is kept of a vault's answers, and when it fits the contents.
-use Rattle.std.specs.Prelude.{◌≡◌, ℕ, Bool, true, false, List, map, ⊤, Option, Some, None, Ok}
+use Rattle.std.specs.Prelude.{◌≡◌, ℕ, Bool, true, false, not, List, [], ◌∷◌, length, map}
+use Rattle.std.specs.Prelude.{filter, sum_by, ⊤, Option, Some, None, Ok}
 use Rattle.std.specs.Option.{option_map}
 use Rattle.std.specs.Str.{bytes_eq}
 use Rattle.creds.specs.Names.{by_name}
@@ -11,7 +12,7 @@ use Rattle.vault.specs.Calls.{heads_result}
 use Rattle.vault.specs.Plain.{capped_total}
 use Rattle.recent.specs.declared.totals.KeptTotal.{KeptTotal}
 
--- ---- the heads of one maildrop
+-- ---- the heads of maildrops
 
 -- the heads that were answered for a maildrop
 pub record KeptHeads : Type 0 where
@@ -22,10 +23,18 @@ pub record KeptHeads : Type 0 where
 abbrev pub kept_heads : List ℕ → List Head → KeptHeads
 kept_heads d hs = record { maildrop = d; heads = hs }
 
--- what is kept is what the contents answer for its maildrop
-abbrev pub Fits : Option KeptHeads → Contents → Type 0
-Fits None c = ⊤
-Fits (Some k) c = heads_result k.maildrop c ≡ Ok k.heads
+-- all but those of a maildrop
+abbrev pub without : List ℕ → List KeptHeads → List KeptHeads
+without d kept = filter (λ (k : KeptHeads). not (bytes_eq k.maildrop d)) kept
+
+-- how many heads are kept in all
+abbrev pub count : List KeptHeads → ℕ
+count kept = sum_by (λ (k : KeptHeads). length k.heads) kept
+
+-- what is kept of each maildrop is what the contents answer for it
+abbrev pub Fits : List KeptHeads → Contents → Type 0
+Fits [] c = ⊤
+Fits (k ∷ kept) c = (heads_result k.maildrop c ≡ Ok k.heads) × Fits kept c
 
 -- ---- the totals of all maildrops
 
@@ -69,15 +78,15 @@ TotalsFit (Some rows) c = RowsFit rows c
 
 pub record Recalling (V : Type 0) : Type 0 where
   pub vault : V
-  pub kept : Option KeptHeads
+  pub kept : List KeptHeads
   pub totals : Option (List KeptTotal)
 
 -- nothing is kept
 abbrev pub nothing_kept : {V : Type 0} → V → Recalling V
-nothing_kept vault = record { vault = vault; kept = None; totals = None }
+nothing_kept vault = record { vault = vault; kept = []; totals = None }
 
 -- the vault inside holds the contents, and what is kept fits them
-pub record HoldsFitting (Holds : Contents → Type 0) (kept : Option KeptHeads)
+pub record HoldsFitting (Holds : Contents → Type 0) (kept : List KeptHeads)
     (totals : Option (List KeptTotal)) (c : Contents) : Type 0 where
   pub inside : Holds c
   pub fits : Fits kept c

@@ -1,8 +1,8 @@
-//! A vault that keeps the heads of one maildrop, and the totals of all.
-ghost use Rattle.std.specs.Prelude.{◌≡◌, IfSome, Some};
-ghost use Rattle.recent.specs.Recalling.{kept_heads, nothing_kept, HoldsFitting};
+//! A vault that keeps the heads of maildrops that were asked for, and the totals of all.
+ghost use Rattle.std.specs.Prelude.{◌≡◌};
+ghost use Rattle.recent.specs.Recalling.{nothing_kept, HoldsFitting};
 
-use crate::kept::{Kept, after_change, after_look, after_mail};
+use crate::kept::{AllKept, after_change, after_drop, after_look, after_mail};
 use crate::totals::{Totals, count_kept, recalled_totals};
 use creds::{Credential, DepositId, Name};
 use mailtext::MailText;
@@ -11,20 +11,22 @@ use std::alloc::Global;
 use std::marker::Model;
 use vault::{Deposited, Head, MessageKey, Total, Vault, VaultFault};
 
-/// A vault around another one, which keeps the heads of the maildrop that was asked for last, and
-/// the totals of all maildrops, and answers the same question again from them. Every fault forgets
-/// them, and so does every call that may change records, but for deposits and removals: those keep
-/// the totals, of which the maildrop's own is counted again, by its heads, when they are asked for.
+/// A vault around another one, which keeps the heads of the maildrops that were asked for, and the
+/// totals of all maildrops, and answers the same question again from them. Every fault forgets
+/// them, and so does every call that may change records, but for deposits, removals and drops of a
+/// maildrop: those forget the heads of their maildrop alone. A deposit or a removal keeps the
+/// totals, of which the maildrop's own is counted again, by its heads, when they are asked for.
 ///
-/// At most 10,000 heads of one maildrop are kept, and 1,000 totals. Where there is no memory for
-/// them, they aren't kept, and the vault inside answers.
+/// At most 10,000 heads are kept in all, and 1,000 totals. If there is no room for the heads of one
+/// more maildrop, those of the maildrops that were asked for longest ago go. If there is no memory
+/// for what is to be kept, it isn't kept, and the vault inside answers.
 ///
 /// Contracts see the vault inside and what is kept. It holds what the vault inside holds and what
 /// is kept fits.
 #[derive(Drop)]
 pub struct Recent<V: Vault> {
     vault: V,
-    kept: Option<Kept>,
+    kept: AllKept,
     totals: Option<Totals>,
     alloc: Global,
 }
@@ -37,16 +39,6 @@ impl<V: Vault> Model for Recent<V> {
     ghost view = { λ r. record { vault = r.vault; kept = r.kept; totals = r.totals } };
 }
 
-/// The heads that are kept, where they are of this maildrop and there is memory for a copy.
-fn recalled(alloc: Global, kept: &Option<Kept>, maildrop: &Name) -> Option<Vec<Head>>
-    ensures { IfSome result (λ heads. kept.now ≡ Some (kept_heads maildrop.now heads.items)) }
-{
-    match kept {
-        Some(kept) => kept.recall(alloc, maildrop),
-        None => None,
-    }
-}
-
 impl<V: Vault> Recent<V> {
     /// A vault around this one, which keeps nothing yet. It takes no memory.
     pub fn new(alloc: Global, vault: V) -> Recent<V>
@@ -54,7 +46,7 @@ impl<V: Vault> Recent<V> {
     {
         Recent {
             vault,
-            kept: None,
+            kept: AllKept::new(alloc),
             totals: None,
             alloc,
         }
@@ -103,13 +95,12 @@ impl<V: Vault> Vault for Recent<V> {
     }
 
     fn heads(&mut self, maildrop: &Name) -> Result<Vec<Head>, VaultFault> {
-        if let Some(heads) = recalled(self.alloc, &self.kept, maildrop) {
+        if let Some(heads) = self.kept.recall(self.alloc, maildrop) {
             return Ok(heads);
         }
-        self.kept = None;
         match self.vault.heads(maildrop) {
             Ok(heads) => {
-                self.kept = Kept::of(self.alloc, maildrop, heads.as_slice());
+                self.kept.keep(self.alloc, maildrop, heads.as_slice());
                 Ok(heads)
             }
             Err(fault) => after_change(&mut self.kept, &mut self.totals, Err(fault)),
@@ -166,7 +157,7 @@ impl<V: Vault> Vault for Recent<V> {
 
     fn drop_maildrop(&mut self, maildrop: &Name) -> Result<(), VaultFault> {
         let gone = self.vault.drop_maildrop(maildrop);
-        after_change(&mut self.kept, &mut self.totals, gone)
+        after_drop(&mut self.kept, &mut self.totals, maildrop, gone)
     }
 
     fn policy(&mut self) -> Result<Policy, VaultFault> {

@@ -38,6 +38,44 @@ static HEADS: [(Call, u64, &str); 15] = [
     (Call::Heads("billing"), 1, "0"),
 ];
 
+/// The same of two maildrops: a deposit, a removal or a drop forgets the heads of its own alone,
+/// and a fault forgets those of both.
+static TWO: [(Call, u64, &str); 20] = [
+    (Call::Add("orders"), 1, "done"),
+    (Call::Add("billing"), 1, "done"),
+    (Call::Heads("orders"), 1, "0"),
+    (Call::Heads("billing"), 1, "0"),
+    (Call::Heads("orders"), 0, "0"),
+    (Call::Heads("billing"), 0, "0"),
+    (Call::Deposit("orders", "d1"), 1, "done"),
+    (Call::Heads("billing"), 0, "0"),
+    (Call::Heads("orders"), 1, "1"),
+    (Call::Heads("billing"), 0, "0"),
+    (Call::Deposit("billing", "d1"), 1, "done"),
+    (Call::Remove("orders"), 1, "done"),
+    (Call::Heads("billing"), 1, "1"),
+    (Call::Heads("orders"), 1, "0"),
+    (Call::Heads("billing"), 0, "1"),
+    (Call::Drop("orders"), 1, "done"),
+    (Call::Heads("billing"), 0, "1"),
+    (Call::Heads("orders"), 1, "no such maildrop"),
+    (Call::Heads("billing"), 1, "1"),
+    (Call::Heads("billing"), 0, "1"),
+];
+
+/// The same of three maildrops of 3,400 messages each, whose heads aren't all kept: those of the
+/// maildrop that was asked for longest ago go first.
+static ROOM: [(Call, u64, &str); 8] = [
+    (Call::Heads("a"), 1, "more"),
+    (Call::Heads("b"), 1, "more"),
+    (Call::Heads("a"), 0, "more"),
+    (Call::Heads("c"), 1, "more"),
+    (Call::Heads("a"), 0, "more"),
+    (Call::Heads("c"), 0, "more"),
+    (Call::Heads("b"), 1, "more"),
+    (Call::Heads("b"), 0, "more"),
+];
+
 /// The same. The answer of `Totals` is how many messages there are in all maildrops. Two maildrops
 /// that changed are two calls, and then the totals of the others aren't asked for.
 static TOTALS: [(Call, u64, &str); 19] = [
@@ -146,11 +184,16 @@ fn said<V: Vault>(alloc: Global, vault: &mut V, call: Call) -> Result<&'static s
     }
 }
 
-/// Makes the calls over a store that refuses the one of this number among those that reach it, and
-/// makes that one again. Fails unless each is answered as it should be. Answers how many were
+/// Makes the calls over this store, but refuses the one of this number among those that reach it,
+/// and makes that one again. Fails unless each is answered as it should be. Answers how many were
 /// refused.
-fn refusals(alloc: Global, story: &[(Call, u64, &'static str)], n: u64) -> Result<u64, Fail> {
-    let mut vault = Recent::new(alloc, Refusing::new(PlainVault::new(alloc), n));
+fn refusals(
+    alloc: Global,
+    plain: PlainVault,
+    story: &[(Call, u64, &'static str)],
+    n: u64,
+) -> Result<u64, Fail> {
+    let mut vault = Recent::new(alloc, Refusing::new(plain, n));
     let mut to_come = n;
     for (call, reaches, answer) in story {
         let is_refused = 0 < to_come && to_come <= *reaches;
@@ -168,15 +211,56 @@ fn refusals(alloc: Global, story: &[(Call, u64, &'static str)], n: u64) -> Resul
 #[test]
 fn kept_heads_ask_nothing(rt: HostRuntime) -> Result<(), Fail> {
     for n in 0..13 {
-        assert!(rt; refusals(rt.alloc(), &HEADS, n)? == n.min(1), "{n}");
+        assert!(rt;
+            refusals(rt.alloc(), PlainVault::new(rt.alloc()), &HEADS, n)? == n.min(1),
+            "{n}"
+        );
     }
+    Ok(())
+}
+
+#[test]
+fn each_maildrop_keeps_its_own(rt: HostRuntime) -> Result<(), Fail> {
+    for n in 0..14 {
+        assert!(rt;
+            refusals(rt.alloc(), PlainVault::new(rt.alloc()), &TWO, n)? == n.min(1),
+            "{n}"
+        );
+    }
+    Ok(())
+}
+
+/// Deposits 3,400 messages into a new maildrop.
+fn fill(alloc: Global, vault: &mut PlainVault, maildrop: &str) -> Result<(), Fail> {
+    if word_of_done(vault.add_maildrop(&name(maildrop)?)) != "done" {
+        return Err(Fail::from("a new maildrop"));
+    }
+    for number in 0..3400 {
+        let id = format!(in alloc; "{number}")?;
+        if deposit(alloc, vault, maildrop, id.as_str())? != "done" {
+            return Err(Fail::from("a deposit"));
+        }
+    }
+    Ok(())
+}
+
+#[test]
+fn the_one_asked_for_longest_ago_goes_first(rt: HostRuntime) -> Result<(), Fail> {
+    let mut plain = PlainVault::new(rt.alloc());
+    for maildrop in ["a", "b", "c"] {
+        fill(rt.alloc(), &mut plain, maildrop)?;
+    }
+    assert!(rt; refusals(rt.alloc(), plain, &ROOM, 4)? == 1);
     Ok(())
 }
 
 #[test]
 fn kept_totals_ask_for_what_changed(rt: HostRuntime) -> Result<(), Fail> {
     for n in 0..20 {
-        assert!(rt; refusals(rt.alloc(), &TOTALS, n)? == n.min(1), "{n}");
+        assert!(rt;
+            refusals(rt.alloc(), PlainVault::new(rt.alloc()), &TOTALS, n)? == n.min(1),
+            "{n}"
+        );
     }
     Ok(())
 }

@@ -1,0 +1,7 @@
+-- One more fits.
+use Rattle.std.proofs.Common.{arith}
+use Rattle.std.proofs.lemmas.Grind.{common_steps}
+use Rattle.recent.proofs.kept.fitting.Goals as goal
+
+pub loop-one-preserved : goal.loop-one-preserved
+loop-one-preserved c = grind (arith, common_steps)
