@@ -2,11 +2,11 @@
  * Tells what a server asks of its sockets: tools/check-limits has the loader put this before the C
  * library. To the file that CALLS names it adds a line for each call: `wait MILLIS EVENTS`; and of
  * a link, by the PORT of its other end, `nodelay PORT`, `recv PORT ROOM CAME` and `send PORT LENT
- * TAKEN`, where a call that failed has CAME or TAKEN -1. With TAKES a send takes that many octets at
- * most. With SWAP each file whose name ends with `.eml` is replaced, just before it is opened, by a
- * symbolic link to what SWAP names. As long as the file that GATE names is there, a wait that has a
- * higher number than the file says doesn't begin, and the file of that name with `.at` has the
- * number of the wait. It calls the system alone.
+ * TAKEN`, in which CAME or TAKEN is -1 if the call failed. With TAKES a send takes that many octets
+ * at most. With SWAP each file whose name ends with `.eml` is replaced, just before it is opened,
+ * by a symbolic link to what SWAP names. As long as the file that GATE names is there, a wait that
+ * has a higher number than the file says doesn't begin, and the file of that name with `.at` has
+ * the number of the wait. It calls the system alone.
  */
 #define _GNU_SOURCE
 #include <fcntl.h>
