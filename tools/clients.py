@@ -1,13 +1,22 @@
-"""What tools/check-hostile and tools/check-server share: a server, and its clients."""
+"""What the checks over the built server share: a server, its clients, and how cases are run."""
 
+import contextlib
 import http.client
 import os
 import re
+import select
+import shutil
+import signal
 import socket
 import struct
 import subprocess
+import sys
+import tempfile
 import threading
 import time
+
+TOP = os.path.dirname(os.path.dirname(os.path.realpath(__file__)))
+PROGRAM = f"{TOP}/crates/popbox/out/popbox"
 
 # Every clerk may open, read and remove all.
 POLICY = """[[rule]]
@@ -25,6 +34,11 @@ START, REPLY, SPOOL = 600, 300, 600
 
 class Wrong(Exception):
     """What came is another thing than what must come."""
+
+
+def wants(found, wanted):
+    if found != wanted:
+        raise Wrong(f"{found!r}, where {wanted!r} is wanted")
 
 
 def retrieved(text):
@@ -174,3 +188,117 @@ class Server:
         if not re.fullmatch(form, client.greeting):
             raise Wrong(f"the greeting {client.greeting!r}")
         return client
+
+
+@contextlib.contextmanager
+def office(program, folder, *words, **how):
+    """A server with the maildrop `orders` and its clerk ann."""
+    server = Server(program, folder, *words, **how)
+    try:
+        server.administer("PUT", "/maildrops/orders")
+        server.administer("PUT", "/clerks/ann", "pass s3 cret")
+        server.administer("PUT", "/policy", POLICY)
+        yield server
+    finally:
+        server.end()
+
+
+def log_in(client, *texts):
+    """Logs in to the maildrop `orders`, which has these texts."""
+    reply = b"+OK maildrop has %d messages (%d octets)\r\n" % (len(texts), sum(map(len, texts)))
+    client.asks(b"USER ann/orders\r\nPASS s3 cret\r\n", b"+OK send PASS\r\n" + reply)
+
+
+def is_silent(client, seconds):
+    """Whether nothing comes on a connection for so long."""
+    return not select.select([client.socket], [], [], seconds)[0]
+
+
+@contextlib.contextmanager
+def stopped(server):
+    """A server that does nothing meanwhile."""
+    os.kill(server.run.pid, signal.SIGSTOP)
+    try:
+        yield
+    finally:
+        os.kill(server.run.pid, signal.SIGCONT)
+
+
+def preload(folder, *names, **settings):
+    """The environment of a program that has the loader put these of tools/*.c, by name, before the
+    C library, with their files in a folder."""
+    libraries = [f"{folder}/{name}.so" for name in names]
+    for name, library in zip(names, libraries):
+        words = ["cc", "-O2", "-shared", "-fPIC", "-o", library, f"{TOP}/tools/{name}.c"]
+        subprocess.run(words, check=True)
+    files = {name.upper(): f"{folder}/{name}" for name in ("clock", "seen", "calls", "gate")}
+    return {**os.environ, **files, **settings, "LD_PRELOAD": ":".join(libraries)}
+
+
+def put(file, text):
+    """Gives a file this text, at once."""
+    with open(f"{file}.new", "w", encoding="ascii") as new:
+        new.write(text)
+    os.rename(f"{file}.new", file)
+
+
+def has_text(file, text):
+    """Whether a file is there and has this text."""
+    with contextlib.suppress(FileNotFoundError), open(file, encoding="ascii") as it:
+        return it.read() == text
+    return False
+
+
+def set_on(folder, seconds):
+    """Sets the clock of a server with tools/clock.c on, and waits until it has seen it."""
+    put(f"{folder}/clock", str(seconds))
+    wait_for(lambda: has_text(f"{folder}/seen", str(seconds)), "the clock isn't seen")
+
+
+class Cases:
+    """The cases of a tool: functions of the program and of a new folder, each of which fails by an
+    exception. What is called by `preload` needs a C compiler."""
+
+    def __init__(self, text):
+        self.text, self.tool, self.runs = text, os.path.basename(sys.argv[0]), []
+
+    def __call__(self, run):
+        """Adds a function to the cases, by its name."""
+        self.runs.append((run.__name__.replace("_", " "), run))
+        return run
+
+    def outcome(self, run, program):
+        """What differs in a case: nothing if all is as it must be."""
+        with tempfile.TemporaryDirectory() as folder:
+            try:
+                run(program, folder)
+            except (Wrong, OSError, subprocess.SubprocessError) as error:
+                return str(error) or type(error).__name__
+        return ""
+
+    def run(self, program, words):
+        """Runs the cases whose names have one of the words, or all; gives how many differ."""
+        ran, differs, start = 0, 0, time.monotonic()
+        for name, run in self.runs:
+            if words and not any(word in name for word in words):
+                continue
+            if "preload" in run.__code__.co_names and not shutil.which("cc"):
+                print(f"{self.tool}: no C compiler: {name} isn't run", flush=True)
+                continue
+            found = self.outcome(run, program)
+            ran, differs = ran + 1, differs + (found != "")
+            print(f"{name}: {found or 'as it must be'}", flush=True)
+        seconds = time.monotonic() - start
+        print(f"{self.tool}: {ran} cases, {differs} differences, {seconds:.0f} s")
+        return differs
+
+    def run_by_words(self):
+        """Does what the command line asks for, and exits."""
+        if "--help" in sys.argv[1:]:
+            print(self.text.strip())
+            sys.exit()
+        program, *words = [it for it in sys.argv[1:] if it != "--short"] or [PROGRAM]
+        program = os.path.abspath(program)
+        if not os.access(program, os.X_OK):
+            sys.exit(f"{program} isn't there: tools/build builds it")
+        sys.exit(1 if self.run(program, words) else 0)

@@ -1,9 +1,10 @@
 /*
- * A clock that can be set on: tools/check-server has the loader put this before the C library. To
- * each moment that a program asks for are added the seconds that the file named by CLOCK holds, and
- * once a moment was told with them, the file named by SEEN holds them too. With STILL, the moments
- * that don't depend on the date stay the first one otherwise, so that a slow machine loses no time.
- * It calls the system alone, since a program may ask before the C library's own parts are ready.
+ * A clock that can be set on: tools/check-server, check-limits and check-defaults have the loader
+ * put this before the C library. To each moment that a program asks for are added the seconds that
+ * the file named by CLOCK holds, and once a moment was told with them, the file named by SEEN holds
+ * them too. With STILL, the moments that don't depend on the date stay the first one otherwise, so
+ * that a slow machine loses no time. It calls the system alone, since a program may ask before the C
+ * library's own parts are ready.
  */
 #define _GNU_SOURCE
 #include <fcntl.h>
