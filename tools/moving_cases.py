@@ -114,6 +114,14 @@ def listed(place, maildrop):
     return [it.removeprefix("answer ") for it in told.splitlines() if it != "answer"]
 
 
+def counts(place):
+    """A program that writes an octet more into the file `runs` as it begins."""
+    with open(f"{place.folder}/counts", "w", encoding="utf-8") as file:
+        file.write(f'#!/bin/sh\nprintf x >>{place.folder}/runs\nexec {place.program} "$@"\n')
+    os.chmod(file.name, 0o755)
+    return file.name
+
+
 @case
 def maildirs_come_in_at_once(place):
     copy_scripts(place)
@@ -128,12 +136,17 @@ def maildirs_come_in_at_once(place):
     status, said, why = take_in(place, *words)
     wants((status, why.startswith("import-maildir: the store has no maildrop sales")), (1, True))
     wants(listed(place, "orders"), [])
-    # A batch of 100 octets has one message, and one of 400 some.
-    for batch in (100, 400):
+    # Of 100 octets no batch has two messages; of 400 one has two; by default all are one. Before
+    # them the maildrops are asked for.
+    for batch, runs in ((["--batch", "100"], {9}), (["--batch", "400"], {*range(3, 9)}), ([], {2})):
         os.remove(place.store)
         make_store(place, [])
         told = "orders: 7 new, 0 known, 0 left\nsales: 1 new, 0 known, 0 left\n"
-        wants(take_in(place, "--add", "--batch", str(batch), *words), (0, told, ""))
+        found = take_in(place, "--add", *batch, *words, program=counts(place))
+        wants((batch, found), (batch, (0, told, "")))
+        with open(f"{place.folder}/runs", "rb") as file:
+            wants((batch, len(file.read()) in runs), (batch, True))
+        os.remove(file.name)
         wants((listed(place, "orders"), listed(place, "sales")), (BY_AGE, ["note.1 70"]))
     told = "orders: 0 new, 7 known, 0 left\nsales: 0 new, 1 known, 0 left\n"
     wants(take_in(place, "--add", *words), (0, told, ""))
@@ -152,14 +165,15 @@ def an_import_keeps_each_octet(place):
         b"Subject: b\r\n\r\n" + bytes(range(1, 10)) + bytes(range(14, 256)) + b"\0 NUL \0\r\n",
         b"\r\n .\r\n..\r\n\t\r\n",
         b"x" * 100_000 + b"\r\n",
+        b"its end is a bare CR\r\r\n",
     ]
     for folder in ("new", "cur", "../out"):
         os.makedirs(f"{box}/{folder}")
     for number, text in enumerate(texts):
         with open(f"{box}/new/{AT + number}.M1P7.h", "wb") as file:
             # A line end of LF, or none at the end, is kept as CRLF.
-            file.write([text, text.replace(b"\r\n", b"\n"), text, text[:-2]][number])
-    wants(take_in(place, "orders", box), (0, "orders: 4 new, 0 known, 0 left\n", ""))
+            file.write([text, text.replace(b"\r\n", b"\n"), text, text[:-2], text[:-2]][number])
+    wants(take_in(place, "orders", box), (0, "orders: 5 new, 0 known, 0 left\n", ""))
     words = [place.program, "export", "--store", place.store, "--maildrop", "orders", out]
     subprocess.run(words, stdout=subprocess.DEVNULL, timeout=LIMIT, check=True)
     for number, text in enumerate(texts, 1):
