@@ -13,7 +13,17 @@ from clients import POLICY, Server, Wrong, wait_for
 TOP = os.path.dirname(os.path.dirname(os.path.realpath(__file__)))
 # After how many seconds a script that hangs is ended.
 LIMIT = 300
+# The form of a moment in a file's name.
+TIME = r"\d{4}-\d\d-\d\dT\d\d-\d\d-\d\dZ"
 TEXTS = [b"Subject: a chair\r\n\r\nA chair.\r\n", b"Subject: a desk\r\n\r\nA desk.\r\n"]
+# Each case with its name.
+CASES = []
+
+
+def case(run):
+    """Adds a function to the cases, by its name."""
+    CASES.append((run.__name__.replace("_", " "), run))
+    return run
 
 
 def wants(found, wanted):
