@@ -31,10 +31,10 @@ use Rattle.serving.proofs.Arriving.{shut_moved}
 use Rattle.serving.proofs.Hearing.{told_then, turn_heard}
 use Rattle.serving.proofs.Turns.{served_so}
 use Rattle.serving.proofs.Freeing.{freed_left, freed_right}
-use Rattle.serving.specs.Newcomers.{newcomer, lies_unread, AllHaveSeats, IsSettled, CountsFrom, IsComer}
+use Rattle.serving.specs.Newcomers.{newcomer, lies_unread, waited_of, AllHaveSeats, IsSettled, CountsFrom, IsComer}
 use Rattle.serving.specs.Late.{HasLived, IsNotedSince, HasEndedLate}
 use Rattle.serving.proofs.Timely.{lived_left, lived_right}
-use Rattle.serving.proofs.Settling.{late_still}
+use Rattle.serving.proofs.Settling.{late_still, may_same}
 use Rattle.serving.proofs.Working.{or_true, given_then, asked_then, none_of, count_joined, any_left, any_right, lies_left, lies_right, quiet_none, caused_more, fewer_quiet, fewer_gone, none_joined, turned_left, turned_right}
 
 -- ---- deposits
@@ -152,15 +152,16 @@ no_wait links e = rw e refl
 -- ---- the turn
 
 module _ {V W S H : Type 0} (Holds : V → Contents → Type 0) (IsClean : V → Type 0) (Faults : V → ℕ) (Asked : W → List Call → Type 0) (AskedFiles : S → List FileCall → Type 0) (Heard : H → List Hearing → Type 0) where
-  pub turn_done : (T : Trace) (now : ℕ) (links links_then : Links) (o o1 o2 o3 o4 o5 o6 : Office V) (w w1 w2 w3 w4 w5 w6 : W) (f f1 : S) (l l1 l2 l3 l4 l5 : H) (seats2 : List Seat) (goes : Bool) (held : List Exchange) (more freed hurrying hurried : Bool) (n1 n2 : List Newcomer)
+  pub turn_done : (T : Trace) (now : ℕ) (links links_then : Links) (o o1 o2 o3 o4 o5 o6 : Office V) (w w1 w2 w3 w4 w5 w6 : W) (f f1 : S) (l l1 l2 l3 l4 l5 : H) (seats2 : List Seat) (goes : Bool) (held : List Exchange) (more freed hurrying hurried : Bool) (n0 n1 n2 : List Newcomer)
       → Part Holds IsClean Faults Asked o w o1 w1 (IsPassed (millis_of links) now)
       → ((U : Trace) → StandsFor Holds o1 U → WasTold Heard l l1 (idle_ends U links.clients.seats.items))
       → (acc : Part Holds IsClean Faults Asked o1 w1 o2 w2 (AreAccepted Holds IsClean o1 o2 links.clients.seats.items seats2 64 goes))
       → Asking Asked w2 w3 (AskedApart (HasAcceptedBeside now 64 more links.requests.exchanges.items held))
       → WasTold Heard l1 l2 []
-      → Part Holds IsClean Faults Asked o2 w3 o3 w4 (WithHeard Holds IsClean Heard o2 l2 o3 l3 (Also (WereServed Holds IsClean o2 o3 (settings links) freed hurrying n1 seats2 seats2) (HurriesBy freed hurrying)))
+      → Part Holds IsClean Faults Asked o2 w3 o3 w4 (WithHeard Holds IsClean Heard o2 l2 o3 l3 (Also (WereServed Holds IsClean o2 o3 (settings links) now n0 freed hurrying n1 seats2 seats2) (HurriesBy freed hurrying)))
       → (freed ≡ true → hurrying ≡ true) → (hurrying ≡ true → hurried ≡ true)
       → Part Holds IsClean Faults Asked o3 w4 o4 w5 (Also (DidApart Holds IsClean o3 o4 (HeardApart Heard l3 l4 (λ B L. HadHttpTurns now B L held links_then.requests.exchanges.items))) (HurriesBy false links_then.requests.hurries))
+      → ((c : ℕ) → waited_of now (newcomer c n0) ≡ waited_of now (newcomer c links.clients.newcomers.newcomers.items))
       → ((c : ℕ) (n : Newcomer) → newcomer c links.clients.newcomers.newcomers.items ≡ Some n → IsSettled now (Some n) (newcomer c n1))
       → (AllHaveSeats links → All (IsComer now links.clients.newcomers.newcomers.items n1) (filter_map seat_of acc.facts.came))
       → Giving Holds IsClean Faults o4 o5 (λ g. AreLateGone now links.clients.newcomers.seconds links.clients.newcomers.newcomers.items g × HasEndedLate Holds IsClean o4 o5 now links.clients.newcomers.seconds n1 n2 seats2 g × WasTold Heard l4 l5 (late_ends g))
@@ -168,13 +169,13 @@ module _ {V W S H : Type 0} (Holds : V → Contents → Type 0) (IsClean : V →
       → ((U : Trace) → StandsFor Holds o5 U → Asking Asked w5 w6 (λ calls. AreClosed U seats2 links_then.clients.seats.items calls × HurriesBy hurrying hurried calls × Releases links.clients.wait hurried calls))
       → SpoolPart Holds IsClean Faults AskedFiles o5 f o6 f1 (λ U given calls. IsSpoolTurn (last_tried links) (last_tried links_then) U given calls × (links_then.clients.hurries ≡ (hurried || has_dealt calls)))
       → StandsFor Holds o T → IsClean (vault_of o6) → Works Holds Faults Asked AskedFiles Heard T now links o w f l o6 links_then w6 f1 l5
-  turn_done T now links links_then o o1 o2 o3 o4 o5 o6 w w1 w2 w3 w4 w5 w6 f f1 l l1 l2 l3 l4 l5 seats2 goes held more freed hurrying hurried n1 n2 pass idle acc asked unheard served freeing still reqs keeps comers late forgets close spool s k6 =
+  turn_done T now links links_then o o1 o2 o3 o4 o5 o6 w w1 w2 w3 w4 w5 w6 f f1 l l1 l2 l3 l4 l5 seats2 goes held more freed hurrying hurried n0 n1 n2 pass idle acc asked unheard served freeing still reqs waited keeps comers late forgets close spool s k6 =
       let B = T.base in
       let L = T.log in
       let seconds = links.clients.newcomers.seconds in
       let newcomers = links.clients.newcomers.newcomers.items in
       let millis = millis_of links in
-      let way = way_of links links_then (length seats2) freed in
+      let way = way_of now links links_then seats2 freed in
       let gp = pass.given in
       let ga = acc.given in
       let gl = served.given in
@@ -213,12 +214,13 @@ module _ {V W S H : Type 0} (Holds : V → Contents → Type 0) (IsClean : V →
       let C5 : List Call = ((((cp ++ ca) ++ cq) ++ cl) ++ cr) ++ cx in
       let filed = spool.facts (trace_of B ((gz ++ G3) ++ L)) (subst (λ l. StandsFor Holds o5 (trace_of B l)) (sym (append_assoc gz G3 L)) s5) k6 in
       let sleeps_not : hurried ≡ true → millis_of links_then ≡ 0 = λ e. no_wait links_then (filed.1 ∙ is_left hurried (has_dealt spool.calls) e) in
-      let had = served_so Holds IsClean Faults o2 o3 (way_by (settings links) (length seats2) freed hurrying) way n1 seats2 seats2 gl cl refl refl (λ e. e) (λ e. ap (λ n. n == 0) (sleeps_not (still e))) served.facts.1.0.turns in
+      let had = served_so Holds IsClean Faults o2 o3 (way_by (settings links) now n0 seats2 freed hurrying) way n1 seats2 seats2 gl cl refl refl (λ e. e)
+      (λ i d within. may_same (settings links).slow_guesses now n0 newcomers seats2 freed (get_or seats2 i d).connection (waited (get_or seats2 i d).connection)) (λ e. ap (λ n. n == 0) (sleeps_not (still e))) served.facts.1.0.turns in
       let unread : All (IsNotedSo n1 B L G4 C5 way.wait way.may seats2) seats2 =
       All-weaker (IsNotedSo n1 B (G1 ++ L) gl cl way.wait way.may seats2) (IsNotedSo n1 B L G4 C5 way.wait way.may seats2)
       (λ q h e.
-      lies_left B L way.wait way.may seats2 q.connection G3 gx ((((cp ++ ca) ++ cq) ++ cl) ++ cr) cx
-      (lies_left B L way.wait way.may seats2 q.connection G2 gr (((cp ++ ca) ++ cq) ++ cl) cr (lies_right B L way.wait way.may seats2 q.connection G1 gl ((cp ++ ca) ++ cq) cl (h e))))
+      lies_left B L way.wait (way.may q.connection) seats2 q.connection G3 gx ((((cp ++ ca) ++ cq) ++ cl) ++ cr) cx
+      (lies_left B L way.wait (way.may q.connection) seats2 q.connection G2 gr (((cp ++ ca) ++ cq) ++ cl) cr (lies_right B L way.wait (way.may q.connection) seats2 q.connection G1 gl ((cp ++ ca) ++ cq) cl (h e))))
       seats2 (had.noted_so B (G1 ++ L) s2 k3) in
       let come = acc.facts.come in
       let moment : Event × EventTag = (event.Tick now, pass.facts.event_tag) in

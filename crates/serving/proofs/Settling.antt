@@ -1,12 +1,16 @@
 -- Newcomers whose login is noted as lying unread, or not, while links are served.
-use Rattle.std.proofs.Common.{◌≡◌, ℕ, zero, suc, ◌+◌, ◌-◌, ◌<◌, ◌≤◌, ◌==◌, min, Bool, true, false, not, ◌&&◌, List, [], ◌∷◌, ◌++◌, length, take, drop, set, get_or, map, refl, sym, ◌∙◌, ap, arith, Some, None, Option, is_some, ⊎_elim, ◌⊎◌, inl, inr, subst, true≢false, eqb-true, nat_le, add-one}
+use Rattle.std.proofs.Common.{◌≡◌, ℕ, zero, suc, ◌+◌, ◌-◌, ◌<◌, ◌≤◌, ◌==◌, min, Bool, true, false, not, ◌&&◌, List, [], ◌∷◌, ◌++◌, length, take, drop, set, get_or, map, refl, sym, ◌∙◌, ap, arith, Some, None, Option, is_some, ⊎_elim, ◌⊎◌, inl, inr, subst, true≢false, eqb-true, eq-eqb, le-leb, nat_le, nat_lt, ◌||◌, add-one}
 use Rattle.std.specs.Bool.{if◌then◌else◌}
 use Rattle.std.proofs.lemmas.Bool.{cases_Bool}
 use Rattle.std.proofs.Math.Nat.{min-le_left, min-le_right, min-eq_left}
 use Rattle.serving.specs.declared.links.Seat.{Seat}
 use Rattle.serving.specs.declared.newcomers.Newcomer.{Newcomer}
-use Rattle.serving.specs.Newcomers.{newcomer, until, spent, is_late_by, lies_unread, since_at, held_at, settled, settled_if, settled_in, HaveSeats, NoSeat, IsNewcomers, IsAnothers, IsSettled, connection_of, AreSettled, CountsFrom, IsNewlyNoted, IsComer}
-use Rattle.serving.specs.Works.{is_late, AreNoMoreLate}
+use Rattle.serving.specs.Newcomers.{newcomer, until, spent, is_late_by, lies_unread, since_at, held_at, settled, settled_if, settled_in, HaveSeats, NoSeat, IsNewcomers, IsAnothers, IsSettled, connection_of, AreSettled, CountsFrom, IsNewlyNoted, IsComer, AreNotedNow, waited_of}
+use Rattle.serving.specs.Works.{is_late, AreNoMoreLate, is_shared, may_by}
+use Rattle.serving.specs.Paces.{most_paced}
+use Rattle.std.specs.List.{list_any, filter}
+use Rattle.std.proofs.lemmas.Bool.{or_cases}
+use Rattle.serving.proofs.Working.{or_true}
 use Rattle.serving.proofs.Late.{found_here, found_later}
 use Rattle.serving.proofs.Timely.{prompt_so}
 
@@ -230,3 +234,132 @@ late_still now seconds xs ys c keeps h = by (newcomer c xs) refl where
   by (Some n) is =
       let same : is_late_by now seconds (newcomer c ys) ≡ is_late_by now seconds (newcomer c xs) = late_as now seconds (Some n) (newcomer c ys) (keeps n is) ∙ ap (is_late_by now seconds) (sym is) in
       ap (λ b. not (seconds == 0) && b) same ∙ h
+
+-- ---- numbers of seats
+
+filter_true : (p : Seat → Bool) (x : Seat) (xs : List Seat) → p x ≡ true → filter p (x ∷ xs) ≡ x ∷ filter p xs
+filter_true p x xs e = rw e refl
+
+filter_false : (p : Seat → Bool) (x : Seat) (xs : List Seat) → p x ≡ false → filter p (x ∷ xs) ≡ filter p xs
+filter_false p x xs e = rw e refl
+
+one_at_least : (p : Seat → Bool) (xs : List Seat) (i : ℕ) (d : Seat) → i < length xs → p (get_or xs i d) ≡ true → 1 ≤ length (filter p xs)
+one_at_least p [] i d h e = absurd (omega (arith, h))
+one_at_least p (x ∷ xs) zero d h e = rw (filter_true p x xs e) (omega arith)
+one_at_least p (x ∷ xs) (suc i) d h e =
+    ⊎_elim
+    (λ (f : p x ≡ true). rw (filter_true p x xs f) (omega arith))
+    (λ (f : p x ≡ false). rw (filter_false p x xs f) (one_at_least p xs i d (omega (arith, h)) e))
+    (cases_Bool (p x))
+
+two_at_least : (p : Seat → Bool) (xs : List Seat) (i : ℕ) (d : Seat) → i < length xs → list_any p (take i xs) ≡ true → p (get_or xs i d) ≡ true → 2 ≤ length (filter p xs)
+two_at_least p [] i d h a e = absurd (omega (arith, h))
+two_at_least p (x ∷ xs) zero d h a e = cc
+two_at_least p (x ∷ xs) (suc i) d h a e =
+    let within : i < length xs = omega (arith, h) in
+    ⊎_elim
+    (λ (f : p x ≡ true).
+    (let k : 1 ≤ length (filter p xs) = one_at_least p xs i d within e in
+    rw (filter_true p x xs f) (omega (arith, k))))
+    (λ (f : p x ≡ false).
+    (let rest : list_any p (take i xs) ≡ true = sym (ap (λ b. b || list_any p (take i xs)) f) ∙ a in
+    rw (filter_false p x xs f) (two_at_least p xs i d within rest e)))
+    (cases_Bool (p x))
+
+-- that of a seat which one before it has
+pub shared_so : (xs : List Seat) (i : ℕ) (d : Seat) → i < length xs → list_any (λ s. s.connection == (get_or xs i d).connection) (take i xs) ≡ true → is_shared xs (get_or xs i d).connection ≡ true
+shared_so xs i d h a =
+    let c = (get_or xs i d).connection in
+    le-leb 2 (length (filter (λ s. s.connection == c) xs)) (two_at_least (λ s. s.connection == c) xs i d h a (eq-eqb c c refl))
+
+any_further : (p : Seat → Bool) (xs : List Seat) (i : ℕ) → list_any p (take i xs) ≡ true → list_any p (take (suc i) xs) ≡ true
+any_further p [] zero a = cc
+any_further p [] (suc i) a = cc
+any_further p (x ∷ xs) zero a = cc
+any_further p (x ∷ xs) (suc i) a =
+    ⊎_elim
+    (λ (f : p x ≡ true). ap (λ b. b || list_any p (take (suc i) xs)) f)
+    (λ (f : p x ≡ false).
+    (let rest : list_any p (take i xs) ≡ true = sym (ap (λ b. b || list_any p (take i xs)) f) ∙ a in
+    ap (λ b. b || list_any p (take (suc i) xs)) f ∙ any_further p xs i rest))
+    (cases_Bool (p x))
+
+any_here : (p : Seat → Bool) (xs : List Seat) (i : ℕ) (d : Seat) → i < length xs → p (get_or xs i d) ≡ true → list_any p (take (suc i) xs) ≡ true
+any_here p [] i d h e = absurd (omega (arith, h))
+any_here p (x ∷ xs) zero d h e = ap (λ b. b || list_any p (take zero xs)) e
+any_here p (x ∷ xs) (suc i) d h e =
+    ⊎_elim
+    (λ (f : p x ≡ true). ap (λ b. b || list_any p (take (suc i) xs)) f)
+    (λ (f : p x ≡ false). ap (λ b. b || list_any p (take (suc i) xs)) f ∙ any_here p xs i d (omega (arith, h)) e)
+    (cases_Bool (p x))
+
+-- whoever is noted otherwise than as the seats began to be served has the number of one that was
+abbrev pub AreTouched : (ns ms : List Newcomer) (these : List Seat) → Type 0
+AreTouched ns ms these = (c : ℕ) → (newcomer c ms ≡ newcomer c ns) ⊎ (list_any (λ s. s.connection == c) these ≡ true)
+
+pub touched_next : (now : ℕ) (b : Bool) (ns ms ms2 : List Newcomer) (seats cur : List Seat) (i : ℕ) (d : Seat) → cur ≡ seats → i < length cur → ms2 ≡ settled_in (get_or cur i d).connection b now ms
+    → AreTouched ns ms (take i seats) → AreTouched ns ms2 (take (i + 1) seats)
+touched_next now b ns ms ms2 seats cur i d same h is before c =
+    let within : i < length seats = subst (λ v. i < length v) same h in
+    let q : Seat = get_or seats i d in
+    let at : ms2 ≡ settled_in q.connection b now ms = subst (λ v. ms2 ≡ settled_in (get_or v i d).connection b now ms) same is in
+    let p : Seat → Bool = λ s. s.connection == c in
+    let more : list_any p (take (suc i) seats) ≡ true → list_any p (take (i + 1) seats) ≡ true = λ k. subst (λ n. list_any p (take n seats) ≡ true) (sym (add-one i)) k in
+    ⊎_elim
+    (λ (e : (c == q.connection) ≡ true). inr (more (any_here p seats i d within (eq-eqb q.connection c (sym (eqb-true c q.connection e))))))
+    (λ (e : (c == q.connection) ≡ false).
+    ⊎_elim
+    (λ (k : newcomer c ms ≡ newcomer c ns). inl (ap (newcomer c) at ∙ (unread_apart q.connection b now ms c e ∙ k)))
+    (λ (k : list_any p (take i seats) ≡ true). inr (more (any_further p seats i k)))
+    (before c))
+    (cases_Bool (c == q.connection))
+
+-- ---- which logins may be kept back
+
+pub may_more : (slow : Bool) (now : ℕ) (ns : List Newcomer) (seats : List Seat) (freed freed2 : Bool) (c : ℕ) → (freed ≡ true → freed2 ≡ true) → may_by slow now ns seats freed c ≡ true → may_by slow now ns seats freed2 c ≡ true
+may_more slow now ns seats true freed2 c more h = ap (λ b. b || (slow && (nat_lt (waited_of now (newcomer c ns)) most_paced || is_shared seats c))) (more refl)
+may_more slow now ns seats false true c more h = refl
+may_more slow now ns seats false false c more h = h
+
+paced_more : (slow less shared : Bool) → (slow && less) ≡ true → (slow && (less || shared)) ≡ true
+paced_more true true shared h = refl
+paced_more true false shared h = cc
+paced_more false less shared h = cc
+
+paced_shared : (slow less less2 shared : Bool) → shared ≡ true → (slow && less) ≡ true → (slow && (less2 || shared)) ≡ true
+paced_shared true less true shared e h = refl
+paced_shared true less false shared e h = e
+paced_shared false less less2 shared e h = cc
+
+-- of the connection of a seat, behind those before it
+pub may_then : (slow slow2 freed freed2 : Bool) (now : ℕ) (ns ms : List Newcomer) (seats : List Seat) (i : ℕ) (d : Seat) → slow2 ≡ slow → (freed ≡ true → freed2 ≡ true) → i < length seats → AreTouched ns ms (take i seats)
+    → (freed || (slow2 && nat_lt (waited_of now (newcomer (get_or seats i d).connection ms)) most_paced)) ≡ true → may_by slow now ns seats freed2 (get_or seats i d).connection ≡ true
+may_then slow slow2 freed freed2 now ns ms seats i d same more h touched k =
+    let c = (get_or seats i d).connection in
+    let less = nat_lt (waited_of now (newcomer c ns)) most_paced in
+    let less2 = nat_lt (waited_of now (newcomer c ms)) most_paced in
+    ⊎_elim
+    (λ (f : freed ≡ true). ap (λ b. b || (slow && (less || is_shared seats c))) (more f))
+    (λ (p2 : (slow2 && less2) ≡ true).
+    (let p : (slow && less2) ≡ true = subst (λ b. (b && less2) ≡ true) same p2 in
+    let by_pace : (slow && (less || is_shared seats c)) ≡ true =
+    ⊎_elim
+    (λ (e : newcomer c ms ≡ newcomer c ns). paced_more slow less (is_shared seats c) (subst (λ n. (slow && nat_lt (waited_of now n) most_paced) ≡ true) e p))
+    (λ (a : list_any (λ s. s.connection == c) (take i seats) ≡ true). paced_shared slow less2 less (is_shared seats c) (shared_so seats i d h a) p)
+    (touched c) in
+    ap (λ b. freed2 || b) by_pace ∙ or_true freed2))
+    (or_cases freed (slow2 && less2) k)
+
+pub may_same : (slow : Bool) (now : ℕ) (ns ms : List Newcomer) (seats : List Seat) (freed : Bool) (c : ℕ) → waited_of now (newcomer c ns) ≡ waited_of now (newcomer c ms) → may_by slow now ns seats freed c ≡ true → may_by slow now ms seats freed c ≡ true
+may_same slow now ns ms seats freed c e h = subst (λ n. (freed || (slow && (nat_lt n most_paced || is_shared seats c))) ≡ true) e h
+
+-- whoever comes has waited for nothing
+pub waited_same : (now : ℕ) (ns ms : List Newcomer) → AreNotedNow now ns ms → ((c : ℕ) (n : Newcomer) → newcomer c ns ≡ Some n → newcomer c ms ≡ Some n) → (c : ℕ) → waited_of now (newcomer c ms) ≡ waited_of now (newcomer c ns)
+waited_same now ns ms each keeps c = by (newcomer c ns) refl where
+  by : (m : Option Newcomer) → newcomer c ns ≡ m → waited_of now (newcomer c ms) ≡ waited_of now (newcomer c ns)
+  by None is =
+      ⊎_elim
+      (λ (e : newcomer c ms ≡ newcomer c ns). ap (waited_of now) e)
+      (λ (e : newcomer c ms ≡ Some (record { connection = c; since = now; held = None })). ap (waited_of now) e ∙ sym (ap (waited_of now) is))
+      (each c)
+  by (Some n) is = ap (waited_of now) (keeps c n is ∙ sym is)

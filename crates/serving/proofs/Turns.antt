@@ -74,7 +74,7 @@ kept_more T c piece wait may may2 more h =
     h
 
 -- and lines are read one at a time there too
-line_more : (wait wait2 : ℕ) (may may2 : Bool) → wait2 ≡ wait → (may ≡ true → may2 ≡ true) → reads_by_line wait may ≡ true → reads_by_line wait2 may2 ≡ true
+pub line_more : (wait wait2 : ℕ) (may may2 : Bool) → wait2 ≡ wait → (may ≡ true → may2 ≡ true) → reads_by_line wait may ≡ true → reads_by_line wait2 may2 ≡ true
 line_more wait wait2 may true same more h = refl
 line_more wait wait2 true false same more h = let k : false ≡ true = more refl in cc
 line_more wait wait2 false false same more h = ap (λ n. not (n == 0)) same ∙ h
@@ -151,12 +151,12 @@ module _ {V : Type 0} (Holds : V → Contents → Type 0) (IsClean : V → Type 
           (All-nil (HasCause (seat ∷ []) (Read Pop seat.link room io octets ∷ [])));
     })
 
-  module _ (wait : ℕ) (may is_noted : Bool) where
-    pub heard_none : (o : Office V) (seat : Seat) → (is_noted ≡ true → ⊥) → IsNotReady Holds o seat.connection → IsHeard Holds o seat wait may is_noted [] []
+  module _ (wait : ℕ) (by_line may is_noted : Bool) where
+    pub heard_none : (o : Office V) (seat : Seat) → (is_noted ≡ true → ⊥) → IsNotReady Holds o seat.connection → IsHeard Holds o seat wait by_line may is_noted [] []
     heard_none o seat calm idle = record { of_seat = of_none (seat ∷ []); heard = inr (inr (refl, inl idle)); noted = λ e. absurd (calm e) }
 
     -- what was looked at stays unread
-    pub heard_unread : (o : Office V) (seat : Seat) (calls : List Call) → IsQuietFor (seat ∷ []) [] calls → IsUnread Holds o seat wait may calls → IsHeard Holds o seat wait may is_noted [] calls
+    pub heard_unread : (o : Office V) (seat : Seat) (calls : List Call) → IsQuietFor (seat ∷ []) [] calls → IsUnread Holds o seat wait may calls → IsHeard Holds o seat wait by_line may is_noted [] calls
     heard_unread o seat calls quiet u = record { of_seat = quiet; heard = inr (inr (refl, inr u)); noted = λ e. u }
 
     -- a read that asked for all
@@ -167,12 +167,12 @@ module _ {V : Type 0} (Holds : V → Contents → Type 0) (IsClean : V → Type 
         rw (n, k) refl
 
     -- what was looked at was read, all or by its line
-    heard_so : (o : Office V) (seat : Seat) (pace : Pace) (refusals : List Refusal) (room : ℕ) (login : Option LoginName) (io : Io) (octets : List ℕ) (looks : List Call) → (room == 0) ≡ false → (pace.by_line ≡ true → reads_by_line wait may ≡ true) → HasLooked Holds o seat pace refusals room login looks
-        → (list_any (is_read_of seat.link) (looks ++ Read Pop seat.link room io octets ∷ []) ≡ true) ⊎ IsReadByLine (looks ++ Read Pop seat.link room io octets ∷ []) (reads_by_line wait may) seat
+    heard_so : (o : Office V) (seat : Seat) (pace : Pace) (refusals : List Refusal) (room : ℕ) (login : Option LoginName) (io : Io) (octets : List ℕ) (looks : List Call) → (room == 0) ≡ false → (pace.by_line ≡ true → by_line ≡ true) → HasLooked Holds o seat pace refusals room login looks
+        → (list_any (is_read_of seat.link) (looks ++ Read Pop seat.link room io octets ∷ []) ≡ true) ⊎ IsReadByLine (looks ++ Read Pop seat.link room io octets ∷ []) by_line seat
     heard_so o seat pace refusals room _ io octets looks some line (Unlooked e) = inl (any_right (is_read_of seat.link) [] (Read Pop seat.link 4096 io octets ∷ []) (whole_read seat 4096 io octets refl))
     heard_so o seat pace refusals room _ io octets looks some line (NothingCame i e) =
         inl (any_right (is_read_of seat.link) (Looked Pop seat.link i [] ∷ []) (Read Pop seat.link 4096 io octets ∷ []) (whole_read seat 4096 io octets refl))
-    heard_so o seat pace refusals room _ io octets looks some line (PieceCame n piece count login by_line lies is brought part) =
+    heard_so o seat pace refusals room _ io octets looks some line (PieceCame n piece count login lined lies is brought part) =
         let call = Read Pop seat.link count io octets in
         let look = Looked Pop seat.link (Count n) piece in
         inr (record {
@@ -180,14 +180,14 @@ module _ {V : Type 0} (Holds : V → Contents → Type 0) (IsClean : V → Type 
           io = Count n;
           io_then = io;
           octets = octets;
-          held = line by_line;
+          held = line lined;
           shown = (0, omega arith, refl);
           read = subst (λ r. Contains (look ∷ call ∷ []) (Read Pop seat.link r io octets)) (part some) (1, omega arith, refl);
         })
 
     -- it was looked at first
     pub heard_behind : (o : Office V) (seat : Seat) (pace : Pace) (refusals : List Refusal) (room : ℕ) (login : Option LoginName) (given : Log) (looks calls : List Call) → IsQuietFor (seat ∷ []) [] looks → HasLooked Holds o seat pace refusals room login looks
-        → (room == 0) ≡ false → (pace.by_line ≡ true → reads_by_line wait may ≡ true) → (is_noted ≡ true → ⊥) → IsReadOnce Holds o seat room given calls → IsHeard Holds o seat wait may is_noted given (looks ++ calls)
+        → (room == 0) ≡ false → (pace.by_line ≡ true → by_line ≡ true) → (is_noted ≡ true → ⊥) → IsReadOnce Holds o seat room given calls → IsHeard Holds o seat wait by_line may is_noted given (looks ++ calls)
     heard_behind o seat pace refusals room login _ looks _ quiet looked some line calm (NotReady idle) = record {
       of_seat = of_then (seat ∷ []) [] [] looks [] quiet (of_none (seat ∷ []));
       heard = inr (inr (refl, inl idle));
@@ -200,7 +200,7 @@ module _ {V : Type 0} (Holds : V → Contents → Type 0) (IsClean : V → Type 
               (of_then (seat ∷ []) [] given looks (call ∷ []) quiet q);
           heard = ⊎_elim
               (λ (all : list_any (is_read_of seat.link) (looks ++ call ∷ []) ≡ true). inl all)
-              (λ (u : IsReadByLine (looks ++ call ∷ []) (reads_by_line wait may) seat). inr (inl u))
+              (λ (u : IsReadByLine (looks ++ call ∷ []) by_line seat). inr (inl u))
               (heard_so o seat pace refusals room login io octets looks some line looked);
           noted = λ e. absurd (calm e);
         }
@@ -276,7 +276,7 @@ module _ {V : Type 0} (Holds : V → Contents → Type 0) (IsClean : V → Type 
       (a.ends refl)
 
   pub served_one : (o o1 o2 : Office V) (way : Way) (noted : List Newcomer) (seat : Seat) (g1 g2 : Log) (c1 c2 : List Call) → WasGiven Holds IsClean Faults o o1 g1 → WasGiven Holds IsClean Faults o1 o2 g2
-      → IsWrittenOut Holds IsClean o o1 seat way.share false g1 c1 → IsHeard Holds o1 seat way.wait way.may (lies_unread (newcomer seat.connection noted)) g2 c2 → HadTurns Holds IsClean o o2 way noted (seat ∷ []) (seat ∷ []) (g2 ++ g1) (c1 ++ c2)
+      → IsWrittenOut Holds IsClean o o1 seat way.share false g1 c1 → IsHeard Holds o1 seat way.wait way.by_line (way.may seat.connection) (lies_unread (newcomer seat.connection noted)) g2 c2 → HadTurns Holds IsClean o o2 way noted (seat ∷ []) (seat ∷ []) (g2 ++ g1) (c1 ++ c2)
   served_one o o1 o2 way noted seat g1 g2 c1 c2 wa wb a b = record {
     of_seats = of_then (seat ∷ []) g1 g2 c1 c2 a.of_seat b.of_seat;
     noted_so = λ B L s k.
@@ -285,7 +285,7 @@ module _ {V : Type 0} (Holds : V → Contents → Type 0) (IsClean : V → Type 
         (All-nil (IsNotedSo noted B L (g2 ++ g1) (c1 ++ c2) way.wait way.may (seat ∷ [])));
     turns = λ B L s k. All-cons (HadTurn way B L (g2 ++ g1) (trace_of B ((g2 ++ g1) ++ L)) (c1 ++ c2)) seat [] (by B L s k b.heard) (All-nil (HadTurn way B L (g2 ++ g1) (trace_of B ((g2 ++ g1) ++ L)) (c1 ++ c2)));
   } where
-    unread_at : (B : Records) (L : Log) → StandsFor Holds o (trace_of B L) → IsClean (vault_of o2) → IsUnread Holds o1 seat way.wait way.may c2 → StaysUnread B L (g2 ++ g1) (c1 ++ c2) way.wait way.may seat
+    unread_at : (B : Records) (L : Log) → StandsFor Holds o (trace_of B L) → IsClean (vault_of o2) → IsUnread Holds o1 seat way.wait (way.may seat.connection) c2 → StaysUnread B L (g2 ++ g1) (c1 ++ c2) way.wait (way.may seat.connection) seat
     unread_at B L s k u = record {
       piece = u.piece;
       io = u.io;
@@ -297,10 +297,10 @@ module _ {V : Type 0} (Holds : V → Contents → Type 0) (IsClean : V → Type 
     }
 
     by : (B : Records) (L : Log) → StandsFor Holds o (trace_of B L) → IsClean (vault_of o2)
-        → (list_any (is_read_of seat.link) c2 ≡ true) ⊎ (IsReadByLine c2 (reads_by_line way.wait way.may) seat ⊎ ((g2 ≡ []) × (IsNotReady Holds o1 seat.connection ⊎ IsUnread Holds o1 seat way.wait way.may c2)))
+        → (list_any (is_read_of seat.link) c2 ≡ true) ⊎ (IsReadByLine c2 way.by_line seat ⊎ ((g2 ≡ []) × (IsNotReady Holds o1 seat.connection ⊎ IsUnread Holds o1 seat way.wait (way.may seat.connection) c2)))
         → HadTurn way B L (g2 ++ g1) (trace_of B ((g2 ++ g1) ++ L)) (c1 ++ c2) seat
     by B L s k (inl r) here = inl (turn_right way.share way.hurries seat.link c1 c2 (turn_read way.share way.hurries seat.link c2 r))
-    by B L s k (inr (inl u)) here = inr (inl (line_right (reads_by_line way.wait way.may) seat c1 c2 u))
+    by B L s k (inr (inl u)) here = inr (inl (line_right way.by_line seat c1 c2 u))
     by B L s k (inr (inr (none, inl idle))) here =
         inl (served_unless o o1 o2 way seat g1 c1 c2 wa wb.clean a idle B L s k (subst (λ g. is_open (trace_of B ((g ++ g1) ++ L)) seat.connection ≡ true) none here))
     by B L s k (inr (inr (none, inr u))) here = inr (inr (unread_at B L s k u))
@@ -316,37 +316,38 @@ module _ {V : Type 0} (Holds : V → Contents → Type 0) (IsClean : V → Type 
         turns_later way B L g1 g2 c1 c2 (seat ∷ []) fewer (a.turns B L s (wb.clean k)));
     noted_so = λ B L s k.
         All-weaker (IsNotedSo noted B L g1 c1 way.wait way.may (seat ∷ [])) (IsNotedSo noted B L (g2 ++ g1) (c1 ++ c2) way.wait way.may (seat ∷ []))
-        (λ q h e. lies_left B L way.wait way.may (seat ∷ []) q.connection g1 g2 c1 c2 (h e)) (seat ∷ []) (a.noted_so B L s (wb.clean k));
+        (λ q h e. lies_left B L way.wait (way.may q.connection) (seat ∷ []) q.connection g1 g2 c1 c2 (h e)) (seat ∷ []) (a.noted_so B L s (wb.clean k));
   }
 
   -- ---- all links
 
   -- served in another way: the same share, the same wait, more logins may be kept back, and the next turn doesn't wait for another cause
-  pub served_so : (o o1 : Office V) (way way2 : Way) (noted : List Newcomer) (seats these : List Seat) (g : Log) (c : List Call) → way2.share ≡ way.share → way2.wait ≡ way.wait → (way.may ≡ true → way2.may ≡ true) → (way.hurries ≡ true → way2.hurries ≡ true)
+  pub served_so : (o o1 : Office V) (way way2 : Way) (noted : List Newcomer) (seats these : List Seat) (g : Log) (c : List Call) → way2.share ≡ way.share → way2.wait ≡ way.wait → (way.by_line ≡ true → way2.by_line ≡ true)
+      → All (λ q. way.may q.connection ≡ true → way2.may q.connection ≡ true) these → (way.hurries ≡ true → way2.hurries ≡ true)
       → HadTurns Holds IsClean o o1 way noted seats these g c → HadTurns Holds IsClean o o1 way2 noted seats these g c
-  served_so o o1 way way2 noted seats these g c share wait may still a = record {
+  served_so o o1 way way2 noted seats these g c share wait lines may still a = record {
     of_seats = a.of_seats;
-    noted_so = λ B L s k.
-        All-weaker (IsNotedSo noted B L g c way.wait way.may seats) (IsNotedSo noted B L g c way2.wait way2.may seats)
-        (λ q h e. (let u = h e in record { seat = u.seat; among = u.among; is = u.is; unread = unread_in B L u.seat u.unread })) these (a.noted_so B L s k);
-    turns = λ B L s k.
-        All-weaker (HadTurn way B L g (trace_of B (g ++ L)) c) (HadTurn way2 B L g (trace_of B (g ++ L)) c) (λ q h here. by B L q (h here)) these (a.turns B L s k);
+    noted_so = λ B L s k i d within e.
+        (let u = a.noted_so B L s k i d within e in
+        record { seat = u.seat; among = u.among; is = u.is; unread = unread_in B L u.seat (way.may (get_or these i d).connection) (way2.may (get_or these i d).connection) (may i d within) u.unread });
+    turns = λ B L s k i d within here. by B L (get_or these i d) (may i d within) (a.turns B L s k i d within here);
   } where
-    unread_in : (B : Records) (L : Log) (q : Seat) → StaysUnread B L g c way.wait way.may q → StaysUnread B L g c way2.wait way2.may q
-    unread_in B L q u = record {
+    unread_in : (B : Records) (L : Log) (q : Seat) (m m2 : Bool) → (m ≡ true → m2 ≡ true) → StaysUnread B L g c way.wait m q → StaysUnread B L g c way2.wait m2 q
+    unread_in B L q m m2 more u = record {
       piece = u.piece;
       io = u.io;
       shown = u.shown;
       later = u.later;
       front = u.front;
       is = u.is;
-      kept = subst (λ n. IsKeptBack (trace_of B (u.front ++ L)) q.connection u.piece n way2.may) (sym wait) (kept_more (trace_of B (u.front ++ L)) q.connection u.piece way.wait way.may way2.may may u.kept);
+      kept = subst (λ n. IsKeptBack (trace_of B (u.front ++ L)) q.connection u.piece n m2) (sym wait) (kept_more (trace_of B (u.front ++ L)) q.connection u.piece way.wait m m2 more u.kept);
     }
 
-    by : (B : Records) (L : Log) (q : Seat) → (had_its_turn way.share way.hurries q.link c ≡ true) ⊎ IsHeldBack B L g c way.wait way.may q → (had_its_turn way2.share way2.hurries q.link c ≡ true) ⊎ IsHeldBack B L g c way2.wait way2.may q
-    by B L q (inl t) = inl (subst (λ n. had_its_turn n way2.hurries q.link c ≡ true) (sym share) (turn_hurried way.share way.hurries way2.hurries q.link c still t))
-    by B L q (inr (inl u)) = inr (inl (record { piece = u.piece; io = u.io; io_then = u.io_then; octets = u.octets; held = line_more way.wait way2.wait way.may way2.may wait may u.held; shown = u.shown; read = u.read }))
-    by B L q (inr (inr u)) = inr (inr (unread_in B L q u))
+    by : (B : Records) (L : Log) (q : Seat) → (way.may q.connection ≡ true → way2.may q.connection ≡ true) → (had_its_turn way.share way.hurries q.link c ≡ true) ⊎ IsHeldBack B L g c way.wait way.by_line (way.may q.connection) q
+        → (had_its_turn way2.share way2.hurries q.link c ≡ true) ⊎ IsHeldBack B L g c way2.wait way2.by_line (way2.may q.connection) q
+    by B L q more (inl t) = inl (subst (λ n. had_its_turn n way2.hurries q.link c ≡ true) (sym share) (turn_hurried way.share way.hurries way2.hurries q.link c still t))
+    by B L q more (inr (inl u)) = inr (inl (record { piece = u.piece; io = u.io; io_then = u.io_then; octets = u.octets; held = lines u.held; shown = u.shown; read = u.read }))
+    by B L q more (inr (inr u)) = inr (inr (unread_in B L q (way.may q.connection) (way2.may q.connection) more u))
 
   pub served_among : (o o1 : Office V) (way : Way) (noted : List Newcomer) (seats : List Seat) (seat : Seat) (g : Log) (c : List Call) → Contains seats seat → HadTurns Holds IsClean o o1 way noted (seat ∷ []) (seat ∷ []) g c → HadTurns Holds IsClean o o1 way noted seats (seat ∷ []) g c
   served_among o o1 way noted seats seat g c has a = record {
@@ -395,14 +396,14 @@ module _ {V : Type 0} (Holds : V → Contents → Type 0) (IsClean : V → Type 
             (let s1 = wa.stands B L s (wb.clean k) in
             let P = IsNotedSo noted2 B L (g2 ++ g1) (c1 ++ c2) way.wait way.may seats in
             let last : IsNotedSo noted2 B (g1 ++ L) g2 c2 way.wait way.may seats q = All-head (IsNotedSo noted2 B (g1 ++ L) g2 c2 way.wait way.may seats) q [] (b.noted_so B (g1 ++ L) s1 k) in
-            let by_last : P q = λ e. lies_right B L way.wait way.may seats q.connection g1 g2 c1 c2 (last e) in
+            let by_last : P q = λ e. lies_right B L way.wait (way.may q.connection) seats q.connection g1 g2 c1 c2 (last e) in
             All-more P seats i d h
             (All-weaker (IsNotedSo noted B L g1 c1 way.wait way.may seats) P
             (λ r t e.
             ⊎_elim
-            (λ (f : lies_unread (newcomer r.connection noted) ≡ true). lies_left B L way.wait way.may seats r.connection g1 g2 c1 c2 (t f))
+            (λ (f : lies_unread (newcomer r.connection noted) ≡ true). lies_left B L way.wait (way.may r.connection) seats r.connection g1 g2 c1 c2 (t f))
             (λ (f : r.connection ≡ q.connection).
-            subst (LiesUnread B L (g2 ++ g1) (c1 ++ c2) way.wait way.may seats) (sym f) (by_last (subst (λ n. lies_unread (newcomer n noted2) ≡ true) f e)))
+            subst (λ n. LiesUnread B L (g2 ++ g1) (c1 ++ c2) way.wait (way.may n) seats n) (sym f) (by_last (subst (λ n. lies_unread (newcomer n noted2) ≡ true) f e)))
             (apart r.connection e)) (take i seats) (a.noted_so B L s (wb.clean k)))
             by_last);
       }
@@ -415,20 +416,20 @@ module _ {V : Type 0} (Holds : V → Contents → Type 0) (IsClean : V → Type 
 -- ---- what was looked at first
 
 module _ {V W H : Type 0} (Holds : V → Contents → Type 0) (IsClean : V → Type 0) (Faults : V → ℕ) (Asked : W → List Call → Type 0) (Heard : H → List Hearing → Type 0) where
-  pub heard_asked : (o : Office V) (w w1 : W) (l : H) (seat : Seat) (wait : ℕ) (may is_noted : Bool) (N : List Call → Type 0) (calls : List Call) → WasAsked Asked w w1 calls → IsHeard Holds o seat wait may is_noted [] calls → N calls
-      → Part Holds IsClean Faults Asked o w o w1 (WithHeard Holds IsClean Heard o l o l (Also (IsHeard Holds o seat wait may is_noted) N))
-  heard_asked o w w1 l seat wait may is_noted N calls asked a n = record { given = []; calls = calls; was_given = given_none Holds IsClean Faults o; was_asked = asked; facts = (unheard Holds IsClean Heard o l, (a, n)) }
+  pub heard_asked : (o : Office V) (w w1 : W) (l : H) (seat : Seat) (wait : ℕ) (by_line may is_noted : Bool) (N : List Call → Type 0) (calls : List Call) → WasAsked Asked w w1 calls → IsHeard Holds o seat wait by_line may is_noted [] calls → N calls
+      → Part Holds IsClean Faults Asked o w o w1 (WithHeard Holds IsClean Heard o l o l (Also (IsHeard Holds o seat wait by_line may is_noted) N))
+  heard_asked o w w1 l seat wait by_line may is_noted N calls asked a n = record { given = []; calls = calls; was_given = given_none Holds IsClean Faults o; was_asked = asked; facts = (unheard Holds IsClean Heard o l, (a, n)) }
 
-  pub heard_after : (o o1 : Office V) (w w1 w2 : W) (l l1 : H) (seat : Seat) (wait : ℕ) (may is_noted : Bool) (pace : Pace) (refusals : List Refusal) (room : ℕ) (login : Option LoginName) (M N : List Call → Type 0) (looks : List Call) → ((c : List Call) → M c → N (looks ++ c))
-      → IsQuietFor (seat ∷ []) [] looks → HasLooked Holds o seat pace refusals room login looks → (room == 0) ≡ false → (pace.by_line ≡ true → reads_by_line wait may ≡ true) → (is_noted ≡ true → ⊥) → WasAsked Asked w w1 looks
+  pub heard_after : (o o1 : Office V) (w w1 w2 : W) (l l1 : H) (seat : Seat) (wait : ℕ) (by_line may is_noted : Bool) (pace : Pace) (refusals : List Refusal) (room : ℕ) (login : Option LoginName) (M N : List Call → Type 0) (looks : List Call) → ((c : List Call) → M c → N (looks ++ c))
+      → IsQuietFor (seat ∷ []) [] looks → HasLooked Holds o seat pace refusals room login looks → (room == 0) ≡ false → (pace.by_line ≡ true → by_line ≡ true) → (is_noted ≡ true → ⊥) → WasAsked Asked w w1 looks
       → Part Holds IsClean Faults Asked o w1 o1 w2 (WithHeard Holds IsClean Heard o l o1 l1 (Also (IsReadOnce Holds o seat room) M))
-      → Part Holds IsClean Faults Asked o w o1 w2 (WithHeard Holds IsClean Heard o l o1 l1 (Also (IsHeard Holds o seat wait may is_noted) N))
-  heard_after o o1 w w1 w2 l l1 seat wait may is_noted pace refusals room login M N looks more quiet looked some line calm asked a = record {
+      → Part Holds IsClean Faults Asked o w o1 w2 (WithHeard Holds IsClean Heard o l o1 l1 (Also (IsHeard Holds o seat wait by_line may is_noted) N))
+  heard_after o o1 w w1 w2 l l1 seat wait by_line may is_noted pace refusals room login M N looks more quiet looked some line calm asked a = record {
     given = a.given;
     calls = looks ++ a.calls;
     was_given = a.was_given;
     was_asked = asked_then Asked w w1 w2 looks a.calls asked a.was_asked;
-    facts = (a.facts.0, (heard_behind Holds IsClean Faults wait may is_noted o seat pace refusals room login a.given looks a.calls quiet looked some line calm a.facts.1.0, more a.calls a.facts.1.1));
+    facts = (a.facts.0, (heard_behind Holds IsClean Faults wait by_line may is_noted o seat pace refusals room login a.given looks a.calls quiet looked some line calm a.facts.1.0, more a.calls a.facts.1.1));
   }
 
   -- a read that had room for so many octets of a buffer

@@ -35,16 +35,20 @@ paced_so : (now : ℕ) (origin : Option ℕ) (name : LoginName) (refusals : List
 paced_so now None name refusals h = cc
 paced_so now (Some origin) name refusals h = refl
 
+and_first : (a b : Bool) → (a && b) ≡ true → a ≡ true
+and_first true b e = refl
+and_first false b e = cc
+
 and_second : (a b : Bool) → (a && b) ≡ true → b ≡ true
 and_second true b e = e
 and_second false b e = cc
 
-kept_by : (pace : Pace) (refusals : List Refusal) (login : Option LoginName) → keeps pace refusals login ≡ true → ((pace.is_shut ≡ true) ⊎ (is_some pace.origin ≡ true)) × (is_some login ≡ true)
+kept_by : (pace : Pace) (refusals : List Refusal) (login : Option LoginName) → keeps pace refusals login ≡ true → ((pace.is_shut ≡ true) ⊎ ((is_some pace.origin ≡ true) × (nat_lt pace.waited most_paced ≡ true))) × (is_some login ≡ true)
 kept_by pace refusals None h = cc
 kept_by pace refusals (Some name) h = (
   ⊎_elim
       (λ (s : pace.is_shut ≡ true). inl s)
-      (λ (p : (nat_lt pace.waited most_paced && is_paced pace.now pace.origin name refusals) ≡ true). inr (paced_so pace.now pace.origin name refusals (and_second (nat_lt pace.waited most_paced) (is_paced pace.now pace.origin name refusals) p)))
+      (λ (p : (nat_lt pace.waited most_paced && is_paced pace.now pace.origin name refusals) ≡ true). inr (paced_so pace.now pace.origin name refusals (and_second (nat_lt pace.waited most_paced) (is_paced pace.now pace.origin name refusals) p), and_first (nat_lt pace.waited most_paced) (is_paced pace.now pace.origin name refusals) p))
       (or_cases pace.is_shut (nat_lt pace.waited most_paced && is_paced pace.now pace.origin name refusals) h),
   refl,
 )
@@ -54,10 +58,12 @@ no_origin None e h = cc
 no_origin (Some n) e h = cc
 
 -- where logins may be kept back
-pub may_so : (slow freed shut : Bool) (origin : Option ℕ) → shut ≡ freed → (slow ≡ false → origin ≡ None) → (shut ≡ true) ⊎ (is_some origin ≡ true) → (slow || freed) ≡ true
-may_so true freed shut origin same fast h = refl
-may_so false freed shut origin same fast (inl s) = sym same ∙ s
-may_so false freed shut origin same fast (inr o) = absurd (no_origin origin (fast refl) o)
+pub may_so : (slow freed shut less : Bool) (origin : Option ℕ) → shut ≡ freed → (slow ≡ false → origin ≡ None) → (shut ≡ true) ⊎ ((is_some origin ≡ true) × (less ≡ true)) → (freed || (slow && less)) ≡ true
+may_so slow true shut less origin same fast h = refl
+may_so true false shut less origin same fast (inl s) = let k : false ≡ true = sym same ∙ s in cc
+may_so true false shut less origin same fast (inr p) = p.1
+may_so false false shut less origin same fast (inl s) = let k : false ≡ true = sym same ∙ s in cc
+may_so false false shut less origin same fast (inr p) = absurd (no_origin origin (fast refl) p.0)
 
 -- and where lines are read one at a time
 pub line_so : (slow freed shut : Bool) (wait : ℕ) (origin : Option ℕ) → shut ≡ freed → (slow ≡ false → origin ≡ None) → reads_lines wait shut origin ≡ true → reads_by_line wait (slow || freed) ≡ true
@@ -71,7 +77,7 @@ line_so false false false wait origin same fast h =
     (λ (o : is_some origin ≡ true). absurd (no_origin origin (fast refl) o))
     (or_cases (not (wait == 0) || false) (is_some origin) h)
 
-kept_so : (T : Trace) (c : ℕ) (piece : List ℕ) (may : Bool) (pace : Pace) (refusals : List Refusal) → ((pace.is_shut ≡ true) ⊎ (is_some pace.origin ≡ true) → may ≡ true) → is_held T c piece pace refusals ≡ true → IsKeptBack T c piece pace.wait may
+kept_so : (T : Trace) (c : ℕ) (piece : List ℕ) (may : Bool) (pace : Pace) (refusals : List Refusal) → ((pace.is_shut ≡ true) ⊎ ((is_some pace.origin ≡ true) × (nat_lt pace.waited most_paced ≡ true)) → may ≡ true) → is_held T c piece pace refusals ≡ true → IsKeptBack T c piece pace.wait may
 kept_so T c piece may pace refusals so h =
     ⊎_elim
     (λ (w : waiting.waits T c piece pace.wait ≡ true). inl w)
@@ -86,7 +92,7 @@ module _ {V : Type 0} (Holds : V → Contents → Type 0) (o : Office V) (seat :
   looked_quiet n _ calls (NothingCame io e) = record { quiet = record { no_moments = refl; no_openings = refl; no_refusals = refl; no_waits = refl; no_arrivals = refl; no_closings = refl }; apart = refl; caused = All-nil (HasCause (seat ∷ []) (Looked Pop seat.link io [] ∷ [])) }
   looked_quiet n _ calls (PieceCame k piece count login by_line some is brought part) = record { quiet = record { no_moments = refl; no_openings = refl; no_refusals = refl; no_waits = refl; no_arrivals = refl; no_closings = refl }; apart = refl; caused = All-nil (HasCause (seat ∷ []) (Looked Pop seat.link (Count k) piece ∷ [])) }
 
-  pub unread_so : (may : Bool) (n : ℕ) (login : Option LoginName) (calls : List Call) → ((pace.is_shut ≡ true) ⊎ (is_some pace.origin ≡ true) → may ≡ true) → n ≡ 0 → HasLooked Holds o seat pace refusals n login calls → IsUnread Holds o seat pace.wait may calls
+  pub unread_so : (may : Bool) (n : ℕ) (login : Option LoginName) (calls : List Call) → ((pace.is_shut ≡ true) ⊎ ((is_some pace.origin ≡ true) × (nat_lt pace.waited most_paced ≡ true)) → may ≡ true) → n ≡ 0 → HasLooked Holds o seat pace refusals n login calls → IsUnread Holds o seat pace.wait may calls
   unread_so may n _ calls so z (Unlooked e) = absurd (omega (arith, z))
   unread_so may n _ calls so z (NothingCame io e) = absurd (omega (arith, z))
   unread_so may n _ calls so z (PieceCame k piece count login by_line some is brought part) = record {

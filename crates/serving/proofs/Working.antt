@@ -26,7 +26,7 @@ use Rattle.serving.specs.Calls.{Call, Looked, Read}
 use Rattle.serving.specs.declared.wire.Port.TheVariants.{Pop}
 use Rattle.serving.specs.declared.links.Seat.{Seat}
 use Rattle.serving.specs.declared.newcomers.Newcomer.{Newcomer}
-use Rattle.serving.specs.Works.{waits, arrivals, closings, is_beside, is_read_of, is_later_of, is_taking_of, is_cut_of, is_cut, most_writes, octets_taken, is_written_out, had_its_turn, moments, moment_of, openings, is_opening, refusals, is_refusal, AreNewlyAdmitted, is_failed, IsLateGone, AreLateGone, HasCause, AreCaused, WasGiven, WasAsked, Part, Asking, Giving, IsQuiet, IsQuietFor, IsKeptBack, StaysUnread, IsReadByLine, IsHeldBack, reads_by_line, LiesUnread, Way, HadTurn}
+use Rattle.serving.specs.Works.{waits, arrivals, closings, is_beside, is_read_of, is_later_of, is_taking_of, is_cut_of, is_cut, most_writes, octets_taken, is_written_out, had_its_turn, moments, moment_of, openings, is_opening, refusals, is_refusal, AreNewlyAdmitted, is_failed, IsLateGone, AreLateGone, HasCause, AreCaused, WasGiven, WasAsked, Part, Asking, Giving, IsQuiet, IsQuietFor, IsKeptBack, StaysUnread, IsReadByLine, IsHeldBack, LiesUnread, Way, HadTurn}
 use Rattle.serving.proofs.Staying.{Fewer, fewer_framed, frame_read, frame_took, frame_gone, fewer_tick, deposit_same, fewer_command}
 
 -- ---- one after the other
@@ -351,16 +351,16 @@ line_right may s c1 c2 u = record {
 
 -- in a turn that goes on
 pub turned_left : (way : Way) (B : Records) (L g1 g2 : Log) (c1 c2 : List Call) (s : Seat)
-    → (had_its_turn way.share way.hurries s.link c1 ≡ true) ⊎ IsHeldBack B L g1 c1 way.wait way.may s → (had_its_turn way.share way.hurries s.link (c1 ++ c2) ≡ true) ⊎ IsHeldBack B L (g2 ++ g1) (c1 ++ c2) way.wait way.may s
+    → (had_its_turn way.share way.hurries s.link c1 ≡ true) ⊎ IsHeldBack B L g1 c1 way.wait way.by_line (way.may s.connection) s → (had_its_turn way.share way.hurries s.link (c1 ++ c2) ≡ true) ⊎ IsHeldBack B L (g2 ++ g1) (c1 ++ c2) way.wait way.by_line (way.may s.connection) s
 turned_left way B L g1 g2 c1 c2 s (inl t) = inl (turn_left way.share way.hurries s.link c1 c2 t)
-turned_left way B L g1 g2 c1 c2 s (inr (inl u)) = inr (inl (line_left (reads_by_line way.wait way.may) s c1 c2 u))
-turned_left way B L g1 g2 c1 c2 s (inr (inr u)) = inr (inr (unread_left B L way.wait way.may s g1 g2 c1 c2 u))
+turned_left way B L g1 g2 c1 c2 s (inr (inl u)) = inr (inl (line_left way.by_line s c1 c2 u))
+turned_left way B L g1 g2 c1 c2 s (inr (inr u)) = inr (inr (unread_left B L way.wait (way.may s.connection) s g1 g2 c1 c2 u))
 
 pub turned_right : (way : Way) (B : Records) (L g1 g2 : Log) (c1 c2 : List Call) (s : Seat)
-    → (had_its_turn way.share way.hurries s.link c2 ≡ true) ⊎ IsHeldBack B (g1 ++ L) g2 c2 way.wait way.may s → (had_its_turn way.share way.hurries s.link (c1 ++ c2) ≡ true) ⊎ IsHeldBack B L (g2 ++ g1) (c1 ++ c2) way.wait way.may s
+    → (had_its_turn way.share way.hurries s.link c2 ≡ true) ⊎ IsHeldBack B (g1 ++ L) g2 c2 way.wait way.by_line (way.may s.connection) s → (had_its_turn way.share way.hurries s.link (c1 ++ c2) ≡ true) ⊎ IsHeldBack B L (g2 ++ g1) (c1 ++ c2) way.wait way.by_line (way.may s.connection) s
 turned_right way B L g1 g2 c1 c2 s (inl t) = inl (turn_right way.share way.hurries s.link c1 c2 t)
-turned_right way B L g1 g2 c1 c2 s (inr (inl u)) = inr (inl (line_right (reads_by_line way.wait way.may) s c1 c2 u))
-turned_right way B L g1 g2 c1 c2 s (inr (inr u)) = inr (inr (unread_right B L way.wait way.may s g1 g2 c1 c2 u))
+turned_right way B L g1 g2 c1 c2 s (inr (inl u)) = inr (inl (line_right way.by_line s c1 c2 u))
+turned_right way B L g1 g2 c1 c2 s (inr (inr u)) = inr (inr (unread_right B L way.wait (way.may s.connection) s g1 g2 c1 c2 u))
 
 -- ---- what is open
 

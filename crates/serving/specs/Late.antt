@@ -33,12 +33,12 @@ IsEndedInTime now seconds newcomers B older given after s =
 
 -- whoever is late isn't open by then, or logged in meanwhile, or its login lies unread
 abbrev pub IsInTime : (now seconds : ℕ) → List Newcomer → (B : Records) (older given : Log)
-    → (after : Trace) → (calls : List Call) → (wait : ℕ) (may : Bool) → (seats : List Seat)
+    → (after : Trace) → (calls : List Call) → (wait : ℕ) (may : ℕ → Bool) → (seats : List Seat)
     → Seat → Type 0
 IsInTime now seconds newcomers B older given after calls wait may seats s =
     is_late now seconds newcomers s.connection ≡ true → is_open after s.connection ≡ true
     → HasLived B older given s.connection
-    ⊎ LiesUnread B older given calls wait may seats s.connection
+    ⊎ LiesUnread B older given calls wait (may s.connection) seats s.connection
 
 -- a seat's connection is noted, and its seconds count from this moment, unless it was noted before,
 -- isn't open by then, or logged in meanwhile
@@ -50,12 +50,12 @@ IsNotedSince now newcomers newcomers_then B older given after s =
 
 -- where a seat's login is noted as lying unread by then, it does, or was read and was right
 abbrev pub IsCountedOn : (newcomers_then : List Newcomer) → (B : Records) (older given : Log)
-    → (after : Trace) → (calls : List Call) → (wait : ℕ) (may : Bool) → (seats : List Seat)
+    → (after : Trace) → (calls : List Call) → (wait : ℕ) (may : ℕ → Bool) → (seats : List Seat)
     → Seat → Type 0
 IsCountedOn newcomers_then B older given after calls wait may seats s =
     lies_unread (newcomer s.connection newcomers_then) ≡ true → is_open after s.connection ≡ true
     → HasLived B older given s.connection
-    ⊎ LiesUnread B older given calls wait may seats s.connection
+    ⊎ LiesUnread B older given calls wait (may s.connection) seats s.connection
 
 -- nothing is open on a connection behind these events
 abbrev pub IsShutBy : {V : Type 0} (Holds : V → Contents → Type 0) (IsClean : V → Type 0)

@@ -18,7 +18,7 @@ use Rattle.serving.specs.declared.links.Links.{Links}
 use Rattle.serving.specs.Works.{waits, arrivals, closings, moments, openings, refusals}
 use Rattle.serving.specs.Works.{AreNewlyAdmitted, HasCause, AreCaused, IsLateGone, AreLateGone}
 use Rattle.serving.specs.Works.{is_failed, WasAsked, Came, AreDeposits}
-use Rattle.serving.specs.Works.{seat_of, unseated_of, link_of, HasAccepted, most_links, Way, way_by}
+use Rattle.serving.specs.Works.{seat_of, unseated_of, link_of, HasAccepted, most_links, Way, may_by, way_by}
 use Rattle.serving.specs.Works.{HadTurn, HasFreed, is_open_seat, is_shut_seat, link_of_seat}
 use Rattle.serving.specs.Works.{has_moved}
 use Rattle.serving.specs.Hearing.{Hearing, WasTold, idle_ends, heard_of_all, late_ends}
@@ -33,10 +33,17 @@ use Rattle.office.specs.Trace.{is_open}
 abbrev pub millis_of : Links → ℕ
 millis_of links = if links.clients.hurries || links.requests.hurries then 0 else 1000
 
--- how it serves so many links, with these behind it
-abbrev pub way_of : Links → (links_then : Links) → (count : ℕ) → (freed : Bool) → Way
-way_of links links_then count freed =
-    way_by (settings links) count freed (millis_of links_then == 0)
+-- of which connections logins may be kept back, as it serves these seats
+abbrev pub may_of : (now : ℕ) → Links → (seats : List Seat) → (freed : Bool) → (c : ℕ) → Bool
+may_of now links seats freed = may_by (settings links).slow_guesses now
+    links.clients.newcomers.newcomers.items seats freed
+
+-- how it does, with these links behind it
+abbrev pub way_of : (now : ℕ) → Links → (links_then : Links) → (seats : List Seat) → (freed : Bool)
+    → Way
+way_of now links links_then seats freed =
+    way_by (settings links) now links.clients.newcomers.newcomers.items seats freed
+    (millis_of links_then == 0)
 
 -- an event has a cause: no connection goes but by its link's end, or because its client is late
 abbrev pub HasCauseInTurn : (now : ℕ) → Links → (seats : List Seat) → List Call
@@ -67,7 +74,7 @@ pub record IsTurn (T after : Trace) (now : ℕ) (links links_then : Links) (came
   pub freed : Bool
   pub ended : freed ≡ true → ((links.clients.wait == 0) ≡ false) × HasFreed T.base T.log given seats
   -- each link whose connection is open had its turn, or stays unread for a cause
-  pub turns : All (HadTurn (way_of links links_then (length seats) freed) T.base T.log given after
+  pub turns : All (HadTurn (way_of now links links_then seats freed) T.base T.log given after
       calls) seats
   -- no connection went but by its link's end, or because its client is late
   pub caused : All (HasCauseInTurn now links seats calls) given
@@ -76,7 +83,7 @@ pub record IsTurn (T after : Trace) (now : ℕ) (links links_then : Links) (came
   -- whoever was late isn't open, or logged in meanwhile, or has a login that lies unread
   pub timely : All (IsInTime now links.clients.newcomers.seconds
       links.clients.newcomers.newcomers.items T.base T.log given after calls
-      links.clients.wait ((settings links).slow_guesses || freed) seats) seats
+      links.clients.wait (may_of now links seats freed) seats) seats
   -- nobody is forgotten whose connection is open and who didn't log in meanwhile, and so many of
   -- its seconds are over as before
   pub noted : (c : ℕ) (n : Newcomer) → newcomer c links.clients.newcomers.newcomers.items ≡ Some n
@@ -90,7 +97,7 @@ pub record IsTurn (T after : Trace) (now : ℕ) (links links_then : Links) (came
       (filter_map seat_of came)
   -- nobody's seconds stand still but while its login lies unread
   pub counts : All (IsCountedOn links_then.clients.newcomers.newcomers.items T.base T.log given
-      after calls links.clients.wait ((settings links).slow_guesses || freed) seats) seats
+      after calls links.clients.wait (may_of now links seats freed) seats) seats
   -- the others stay
   pub left : links_then.clients.seats.items ≡ filter (is_open_seat after) seats
 

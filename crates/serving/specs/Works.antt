@@ -23,8 +23,9 @@ use Rattle.serving.specs.declared.links.Seat.{Seat}
 use Rattle.serving.specs.declared.links.Clients.{Clients}
 use Rattle.serving.specs.declared.newcomers.Newcomer.{Newcomer}
 use Rattle.serving.specs.Settings.{Settings}
-use Rattle.serving.specs.Newcomers.{newcomer, is_late_by, lies_unread}
-use Rattle.serving.specs.Paces.{is_held, first_line, part_by}
+use Rattle.serving.specs.Newcomers.{newcomer, is_late_by, lies_unread, waited_of}
+use Rattle.serving.specs.Paces.{is_held, first_line, part_by, most_paced}
+use Rattle.std.specs.Prelude.{nat_lt}
 use Rattle.serving.specs.declared.guesses.Refusal.{Refusal}
 use Rattle.creds.specs.declared.login_name.LoginName.{LoginName}
 use Rattle.serving.specs.declared.pace.Pace.{Pace}
@@ -260,9 +261,9 @@ pub record IsReadByLine (calls : List Call) (by_line : Bool) (s : Seat) : Type 0
 
 -- so much of a link is kept back: all of it, or what is behind its first line
 abbrev pub IsHeldBack : (B : Records) (older given : Log) (calls : List Call) (wait : ℕ)
-    (may : Bool) → Seat → Type 0
-IsHeldBack B older given calls wait may s =
-    IsReadByLine calls (reads_by_line wait may) s ⊎ StaysUnread B older given calls wait may s
+    (by_line may : Bool) → Seat → Type 0
+IsHeldBack B older given calls wait by_line may s =
+    IsReadByLine calls by_line s ⊎ StaysUnread B older given calls wait may s
 
 -- the link of one of these seats, whose connection this is, stays unread
 pub record LiesUnread (B : Records) (older given : Log) (calls : List Call) (wait : ℕ) (may : Bool)
@@ -274,10 +275,10 @@ pub record LiesUnread (B : Records) (older given : Log) (calls : List Call) (wai
 
 -- where a seat's login is noted as lying unread, it does
 abbrev pub IsNotedSo : (noted : List Newcomer) (B : Records) (older given : Log)
-    (calls : List Call) (wait : ℕ) (may : Bool) (seats : List Seat) → Seat → Type 0
+    (calls : List Call) (wait : ℕ) (may : ℕ → Bool) (seats : List Seat) → Seat → Type 0
 IsNotedSo noted B older given calls wait may seats s =
     lies_unread (newcomer s.connection noted) ≡ true
-    → LiesUnread B older given calls wait may seats s.connection
+    → LiesUnread B older given calls wait (may s.connection) seats s.connection
 
 -- ---- what an office was given and a wire was asked, and nothing else
 
@@ -459,39 +460,60 @@ pub data IsReadOnce {V : Type 0} (Holds : V → Contents → Type 0) (office : O
 -- A link was read from, where its connection waits for octets and nothing is kept back. Where its
 -- login is noted as lying unread, it does.
 pub record IsHeard {V : Type 0} (Holds : V → Contents → Type 0) (office : Office V) (seat : Seat)
-    (wait : ℕ) (may is_noted : Bool) (given : Log) (calls : List Call) : Type 0 where
+    (wait : ℕ) (by_line may is_noted : Bool) (given : Log) (calls : List Call) : Type 0 where
   pub of_seat : IsQuietFor (seat ∷ []) given calls
   pub heard : (list_any (is_read_of seat.link) calls ≡ true)
-      ⊎ (IsReadByLine calls (reads_by_line wait may) seat ⊎ ((given ≡ [])
+      ⊎ (IsReadByLine calls by_line seat ⊎ ((given ≡ [])
       × (IsNotReady Holds office seat.connection ⊎ IsUnread Holds office seat wait may calls)))
   pub noted : is_noted ≡ true → IsUnread Holds office seat wait may calls
 
 -- how links are served in a turn: the share of each, for how many seconds a login waits for a lock,
--- whether logins may be kept back, and whether the next turn doesn't wait
+-- whether lines are read one at a time before a login, of which connections logins may be kept back,
+-- and whether the next turn doesn't wait
 pub record Way : Type 0 where
   pub share : ℕ
   pub wait : ℕ
-  pub may : Bool
+  pub by_line : Bool
+  pub may : ℕ → Bool
   pub hurries : Bool
 
--- a link is served: logins are kept back behind refusals, where guesses are slow, and behind a session that ended in this turn
+-- logins may be kept back: behind refusals, where guesses are slow, or behind a session that ended
+-- in this turn
 abbrev pub may_keep : Clients → Bool
 may_keep links = links.guesses.are_slow || links.is_freed
 
-abbrev pub way_at : Clients → (hurries : Bool) → Way
-way_at links hurries = record {
+-- that of a connection may: behind refusals only while it has lain unread for less than 15 seconds
+abbrev pub may_at : (now : ℕ) → Clients → (c : ℕ) → Bool
+may_at now links c = links.is_freed || (links.guesses.are_slow
+    && nat_lt (waited_of now (newcomer c links.newcomers.newcomers.items)) most_paced)
+
+abbrev pub way_at : (now : ℕ) → Clients → (hurries : Bool) → Way
+way_at now links hurries = record {
   share = share_by (length links.seats.items);
   wait = links.wait;
-  may = may_keep links;
+  by_line = reads_by_line links.wait (may_keep links);
+  may = may_at now links;
   hurries = hurries;
 }
 
--- so many links are served, by these settings, and whether a session ended meanwhile
-abbrev pub way_by : Settings → (count : ℕ) → (freed hurries : Bool) → Way
-way_by set count freed hurries = record {
-  share = share_by count;
+-- two of these seats have one number, as none do between turns
+abbrev pub is_shared : List Seat → (c : ℕ) → Bool
+is_shared seats c = nat_le 2 (length (filter (λ s. s.connection == c) seats))
+
+-- so it is in a turn of these seats, by who was noted as it began, and by whether a session ended
+abbrev pub may_by : (slow : Bool) (now : ℕ) → List Newcomer → List Seat → (freed : Bool) → (c : ℕ)
+    → Bool
+may_by slow now newcomers seats freed c = freed || (slow
+    && (nat_lt (waited_of now (newcomer c newcomers)) most_paced || is_shared seats c))
+
+-- these links are served, by these settings, and whether a session ended meanwhile
+abbrev pub way_by : Settings → (now : ℕ) → List Newcomer → (seats : List Seat)
+    → (freed hurries : Bool) → Way
+way_by set now newcomers seats freed hurries = record {
+  share = share_by (length seats);
   wait = set.wait;
-  may = set.slow_guesses || freed;
+  by_line = reads_by_line set.wait (set.slow_guesses || freed);
+  may = may_by set.slow_guesses now newcomers seats freed;
   hurries = hurries;
 }
 
@@ -499,7 +521,7 @@ way_by set count freed hurries = record {
 abbrev pub HadTurn : Way → (B : Records) (older given : Log) → (after : Trace) → List Call → Seat → Type 0
 HadTurn way B older given after calls s = is_open after s.connection ≡ true
     → (had_its_turn way.share way.hurries s.link calls ≡ true)
-    ⊎ IsHeldBack B older given calls way.wait way.may s
+    ⊎ IsHeldBack B older given calls way.wait way.by_line (way.may s.connection) s
 
 -- the links of these seats had their turns, and whose login is noted as lying unread has it so
 pub record HadTurns {V : Type 0} (Holds : V → Contents → Type 0) (IsClean : V → Type 0)
@@ -544,11 +566,11 @@ IsFreedBy Holds IsClean office office_then wait freed seats given =
 -- the links of these seats had their turns, by these settings, and what was kept back behind a
 -- session that ended was so for that
 pub record WereServed {V : Type 0} (Holds : V → Contents → Type 0) (IsClean : V → Type 0)
-    (office office_then : Office V) (set : Settings) (freed hurries : Bool)
-    (noted : List Newcomer) (seats these : List Seat) (given : Log) (calls : List Call)
+    (office office_then : Office V) (set : Settings) (now : ℕ) (newcomers : List Newcomer)
+    (freed hurries : Bool) (noted : List Newcomer) (seats these : List Seat) (given : Log) (calls : List Call)
     : Type 0 where
   pub turns : HadTurns Holds IsClean office office_then
-      (way_by set (length seats) freed hurries) noted seats these given calls
+      (way_by set now newcomers seats freed hurries) noted seats these given calls
   pub freed_by : IsFreedBy Holds IsClean office office_then set.wait freed seats given
 
 -- deposits, and no other event

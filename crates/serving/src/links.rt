@@ -85,9 +85,9 @@ impl Links {
     /// the same name from the same address isn't read for a second, and after each further refusal
     /// for twice as long, at most 15 seconds, until one is accepted or none was refused for ten
     /// minutes. No login is kept back so for more than 15 seconds, however many others are refused
-    /// meanwhile. An IPv6 address counts by its first 64 bits. The refusals of 1,024 addresses and
-    /// names are known, the newest ones. Until a client has logged in, its lines are read one at a
-    /// time. Links begin with fast ones.
+    /// meanwhile. An IPv6 address counts by its first 64 bits. Of 1,024 addresses and names
+    /// refusals are known, the newest ones. Until a client has logged in its lines are read one at
+    /// a time. Links begin with fast ones.
     pub fn set_slow_guesses(&mut self, slow: bool)
         ensures settings { settings self.new ≡ with_slow_guesses slow (settings self.old) }
         ensures slow { self.new.clients.guesses.are_slow ≡ slow }

@@ -18,7 +18,8 @@ ghost use Rattle.serving.specs.Works.{Part, Asking, Giving, IsPassed, AreAccepte
 ghost use Rattle.serving.specs.Works.{IsWrittenOut, IsReadOnce, IsHeard, HadTurns, WereServed};
 ghost use Rattle.serving.specs.Works.{AreClosed};
 ghost use Rattle.serving.specs.Works.{IsClosed};
-ghost use Rattle.serving.specs.Works.{share_by, may_keep, way_at, is_late, AreNoMoreLate};
+ghost use Rattle.serving.specs.Works.{share_by, may_keep, may_at, reads_by_line, way_at, is_late};
+ghost use Rattle.serving.specs.Works.{AreNoMoreLate};
 ghost use Rattle.serving.specs.Works.{AreLateGone, Also, HurriesBy, Releases};
 ghost use Rattle.serving.specs.Late.{IsShutBy, HasEndedLate};
 ghost use Rattle.serving.specs.Hearing.{Hearing, WasTold, WithHeard, idle_ends, late_ends};
@@ -179,7 +180,8 @@ fn read_piece<V: Vault, W: Wire, L: Listener>(
     ensures works { Part V.holds V.is_clean V.faults W.asked
         office.old wire.old office.new wire.new
         (WithHeard V.holds V.is_clean L.heard office.old listener.old office.new listener.new
-        (Also (IsHeard V.holds office.old seat links.old.wait (may_keep links.old)
+        (Also (IsHeard V.holds office.old seat links.old.wait
+        (reads_by_line links.old.wait (may_keep links.old)) (may_at now links.old seat.connection)
         (lies_unread (newcomer seat.connection links.new.newcomers.newcomers.items)))
         (HurriesBy links.old.hurries (links.new.hurries || result)))) }
 {
@@ -226,8 +228,8 @@ fn serve_link<V: Vault, W: Wire, L: Listener>(
         office.old wire.old office.new wire.new
         (WithHeard V.holds V.is_clean L.heard office.old listener.old office.new listener.new
         (Also (HadTurns V.holds V.is_clean office.old office.new
-        (way_at links.old (links.new.hurries || result)) links.new.newcomers.newcomers.items
-        (seat ∷ []) (seat ∷ []))
+        (way_at now links.old (links.new.hurries || result))
+        links.new.newcomers.newcomers.items (seat ∷ []) (seat ∷ []))
         (HurriesBy links.old.hurries (links.new.hurries || result)))) }
 {
     let share = share_of(links);
@@ -319,8 +321,8 @@ fn serve_client<V: Vault, W: Wire, L: Listener>(
         office.old wire.old office.new wire.new
         (WithHeard V.holds V.is_clean L.heard office.old listener.old office.new listener.new
         (Also (HadTurns V.holds V.is_clean office.old office.new
-        (way_at links.old links.new.hurries) links.new.newcomers.newcomers.items (seat ∷ [])
-        (seat ∷ []))
+        (way_at now links.old links.new.hurries) links.new.newcomers.newcomers.items
+        (seat ∷ []) (seat ∷ []))
         (HurriesBy (links.old.hurries || links.new.is_freed) links.new.hurries))) }
 {
     let was_logged_in = office.is_logged_in(seat.connection);
@@ -360,7 +362,7 @@ fn serve_seat<V: Vault, W: Wire, L: Listener>(
         office.old wire.old office.new wire.new
         (WithHeard V.holds V.is_clean L.heard office.old listener.old office.new listener.new
         (Also (λ given calls. (d : declared.Seat) → HadTurns V.holds V.is_clean
-        office.old office.new (way_at links.old links.new.hurries)
+        office.old office.new (way_at now links.old links.new.hurries)
         links.new.newcomers.newcomers.items links.old.seats.items
         (slice_index_or links.old.seats.items place d ∷ []) given calls)
         (HurriesBy (links.old.hurries || links.new.is_freed) links.new.hurries))) }
@@ -388,9 +390,9 @@ fn serve_links<V: Vault, W: Wire, L: Listener>(
     ensures works { Part V.holds V.is_clean V.faults W.asked
         office.old wire.old office.new wire.new
         (WithHeard V.holds V.is_clean L.heard office.old listener.old office.new listener.new
-        (Also (WereServed V.holds V.is_clean office.old office.new (settings_of links.old)
-        links.new.is_freed links.new.hurries links.new.newcomers.newcomers.items
-        links.old.seats.items links.old.seats.items)
+        (Also (WereServed V.holds V.is_clean office.old office.new (settings_of links.old) now
+        links.old.newcomers.newcomers.items links.new.is_freed links.new.hurries
+        links.new.newcomers.newcomers.items links.old.seats.items links.old.seats.items)
         (HurriesBy (links.old.hurries || links.new.is_freed) links.new.hurries))) }
 {
     links.is_freed = false;
@@ -446,6 +448,9 @@ fn end_late<V: Vault, W: Wire, L: Listener>(
     ensures late { AreNoMoreLate now links.old.newcomers.seconds links.old.newcomers.newcomers.items
         links.new.newcomers.newcomers.items }
     ensures seated { AreSeatedAt links.old → AreSeatedAt links.new }
+    ensures kept { (d : declared.Seat) → lies_unread (newcomer
+        (slice_index_or links.old.seats.items place d).connection
+        links.old.newcomers.newcomers.items) ≡ true → office.new ≡ office.old }
     ensures works { (links.old.newcomers.seconds == 0) ≡ false
         → Giving V.holds V.is_clean V.faults office.old office.new (λ given. ((d : declared.Seat) →
         HasEndedLate V.holds V.is_clean office.old office.new now links.old.newcomers.seconds

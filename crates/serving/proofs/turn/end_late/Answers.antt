@@ -11,7 +11,8 @@ use Rattle.serving.specs.Late.{HasEndedLate}
 use Rattle.serving.proofs.Freeing.{at_place}
 use Rattle.serving.proofs.Timely.{late_lived, late_prompt, late_unread, late_shut, prompt_so}
 use Rattle.serving.proofs.Newly.{seated_others}
-use Rattle.serving.specs.Newcomers.{HaveSeats}
+use Rattle.serving.specs.Newcomers.{HaveSeats, newcomer, lies_unread}
+use Rattle.std.proofs.Common.{true≢false}
 use Rattle.serving.proofs.turn.end_late.Goals as goal
 
 pub returns-clause-serves : goal.returns-clause-serves
@@ -105,3 +106,11 @@ returns-then-lies_unread-clause-works g c = λ on.
         told_none g.L.Listener.heard c.args.listener.now,
       );
     })
+
+pub returns-clause-kept : goal.returns-clause-kept
+returns-clause-kept g c = λ d h.
+    (let no : c.lies_unread.result ≡ false = search rules in
+    let n = c.args.links.now.newcomers.newcomers.items in
+    let free : lies_unread (newcomer _ n) ≡ false = sym c.lies_unread.ensures ∙ no in
+    let same = at_place c.args.links.now.seats.items c.deref.result.now c.args.place _ (λ q. lies_unread (newcomer q.connection n) ≡ false) c.deref.ensures.0 c.requires free d in
+    absurd (true≢false (sym h ∙ same)))

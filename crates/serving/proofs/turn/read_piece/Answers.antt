@@ -1,7 +1,7 @@
 use Rattle.serving.proofs.Looking.{serving_seen}
 use Rattle.std.proofs.Common.{rules, ◌≡◌, ◌==◌, ◌∙◌, ◌||◌, ◌++◌, true, false, [], sym, ap, subst}
 use Rattle.office.specs.Taken.{trace_of}
-use Rattle.serving.specs.Works.{IsHeard, IsUnread, may_keep, reads_by_line, HurriesBy, is_moving}
+use Rattle.serving.specs.Works.{IsHeard, IsUnread, may_keep, may_at, reads_by_line, HurriesBy, is_moving}
 use Rattle.serving.proofs.Working.{part_none, part_asking, part_then, part_so}
 use Rattle.serving.proofs.Hearing.{unheard}
 use Rattle.serving.proofs.Turns.{heard_none, heard_unread, heard_asked, heard_after, read_part}
@@ -9,6 +9,8 @@ use Rattle.serving.proofs.Unread.{may_so, line_so, looked_quiet, unread_so}
 use Rattle.serving.proofs.Working.{any_right}
 use Rattle.serving.proofs.Resting.{hurried_quiet, hurried_moved}
 use Rattle.serving.specs.Newcomers.{newcomer, lies_unread, settled_in}
+use Rattle.serving.specs.Paces.{most_paced}
+use Rattle.std.proofs.Common.{nat_lt, ◌&&◌}
 use Rattle.serving.proofs.Settling.{not_unread}
 use Rattle.serving.proofs.turn.read_piece.Goals as goal
 
@@ -41,7 +43,7 @@ returns-then-not-ready-clause-works g c =
     let links = c.args.links.now in
     let no : c.ready.result ≡ false = search rules in
     part_none g.V.Vault.holds g.V.Vault.is_clean g.V.Vault.faults g.W.Wire.asked c.args.office.now c.args.wire.now _
-    (unheard g.V.Vault.holds g.V.Vault.is_clean g.L.Listener.heard c.args.office.now c.args.listener.now, (heard_none g.V.Vault.holds g.V.Vault.is_clean g.V.Vault.faults links.wait (may_keep links) (lies_unread (newcomer c.args.seat.connection c.settle.new.self.newcomers.items)) c.args.office.now c.args.seat (not_unread c.args.seat.connection c.args.now links.newcomers.newcomers.items c.settle.new.self.newcomers.items c.settle.ensures.newcomers) (λ B L s. sym (c.ready.ensures (trace_of B L) s) ∙ no), hurried_quiet links.hurries []))
+    (unheard g.V.Vault.holds g.V.Vault.is_clean g.L.Listener.heard c.args.office.now c.args.listener.now, (heard_none g.V.Vault.holds g.V.Vault.is_clean g.V.Vault.faults links.wait (reads_by_line links.wait (may_keep links)) (may_at c.args.now links c.args.seat.connection) (lies_unread (newcomer c.args.seat.connection c.settle.new.self.newcomers.items)) c.args.office.now c.args.seat (not_unread c.args.seat.connection c.args.now links.newcomers.newcomers.items c.settle.new.self.newcomers.items c.settle.ensures.newcomers) (λ B L s. sym (c.ready.ensures (trace_of B L) s) ∙ no), hurried_quiet links.hurries []))
 
 pub returns-then-part-eq0-clause-works : goal.returns-then-part-eq0-clause-works
 returns-then-part-eq0-clause-works g c =
@@ -50,7 +52,8 @@ returns-then-part-eq0-clause-works g c =
     let o = c.args.office.now in
     let links = c.args.links.now in
     let seat = c.args.seat in
-    let may = may_keep links in
+    let may = may_at c.args.now links seat.connection in
+    let lines = reads_by_line links.wait (may_keep links) in
     let p = c.pace_at-pace in
     let pace = p.result in
     let refusals = links.guesses.refusals.items in
@@ -59,9 +62,9 @@ returns-then-part-eq0-clause-works g c =
     let none : part.result.count ≡ 0 = search rules in
     let noted = lies_unread (newcomer seat.connection c.settle-2.new.self.newcomers.items) in
     let unread = subst (λ w. IsUnread Holds o seat w may a.calls) p.ensures.wait
-    (unread_so Holds o seat pace refusals may part.result.count part.result.login a.calls (may_so links.guesses.are_slow links.is_freed pace.is_shut pace.origin p.ensures.shut p.ensures.fast) none a.facts) in
-    heard_asked Holds IsClean g.V.Vault.faults g.W.Wire.asked g.L.Listener.heard o c.args.wire.now part.new.wire c.args.listener.now seat links.wait may noted (HurriesBy links.hurries (links.hurries || false)) a.calls a.was_asked
-    (heard_unread Holds IsClean g.V.Vault.faults links.wait may noted o seat a.calls (looked_quiet Holds o seat pace refusals part.result.count part.result.login a.calls a.facts)
+    (unread_so Holds o seat pace refusals may part.result.count part.result.login a.calls (λ h. subst (λ w. (links.is_freed || (links.guesses.are_slow && nat_lt w most_paced)) ≡ true) p.ensures.waited (may_so links.guesses.are_slow links.is_freed pace.is_shut (nat_lt pace.waited most_paced) pace.origin p.ensures.shut p.ensures.fast h)) none a.facts) in
+    heard_asked Holds IsClean g.V.Vault.faults g.W.Wire.asked g.L.Listener.heard o c.args.wire.now part.new.wire c.args.listener.now seat links.wait lines may noted (HurriesBy links.hurries (links.hurries || false)) a.calls a.was_asked
+    (heard_unread Holds IsClean g.V.Vault.faults links.wait lines may noted o seat a.calls (looked_quiet Holds o seat pace refusals part.result.count part.result.login a.calls a.facts)
     unread) (hurried_quiet links.hurries a.calls)
 
 pub returns-then-not-read_once-clause-works : goal.returns-then-not-read_once-clause-works
@@ -77,7 +80,7 @@ returns-then-not-read_once-clause-works g c =
     let some : (part.result.count == 0) ≡ false = search rules in
     let line : pace.by_line ≡ true → reads_by_line links.wait (may_keep links) ≡ true = λ b.
     subst (λ w. reads_by_line w (may_keep links) ≡ true) p.ensures.wait (line_so links.guesses.are_slow links.is_freed pace.is_shut pace.wait pace.origin p.ensures.shut p.ensures.fast (p.ensures.lines b)) in
-    heard_after g.V.Vault.holds g.V.Vault.is_clean g.V.Vault.faults g.W.Wire.asked g.L.Listener.heard c.args.office.now c.read_once.new.office c.args.wire.now part.new.wire c.read_once.new.wire c.args.listener.now c.read_once.new.listener seat links.wait (may_keep links) (lies_unread (newcomer seat.connection c.settle-2.new.self.newcomers.items)) pace refusals part.result.count part.result.login (HurriesBy false c.read_once.result) (HurriesBy links.hurries (links.hurries || false)) a.calls (λ cs m. hurried_quiet links.hurries (a.calls ++ cs)) quiet a.facts some line (not_unread seat.connection c.args.now links.newcomers.newcomers.items c.settle-2.new.self.newcomers.items (subst (λ b. c.settle-2.new.self.newcomers.items ≡ settled_in seat.connection b c.args.now links.newcomers.newcomers.items) some c.settle-2.ensures.newcomers)) a.was_asked
+    heard_after g.V.Vault.holds g.V.Vault.is_clean g.V.Vault.faults g.W.Wire.asked g.L.Listener.heard c.args.office.now c.read_once.new.office c.args.wire.now part.new.wire c.read_once.new.wire c.args.listener.now c.read_once.new.listener seat links.wait (reads_by_line links.wait (may_keep links)) (may_at c.args.now links seat.connection) (lies_unread (newcomer seat.connection c.settle-2.new.self.newcomers.items)) pace refusals part.result.count part.result.login (HurriesBy false c.read_once.result) (HurriesBy links.hurries (links.hurries || false)) a.calls (λ cs m. hurried_quiet links.hurries (a.calls ++ cs)) quiet a.facts some line (not_unread seat.connection c.args.now links.newcomers.newcomers.items c.settle-2.new.self.newcomers.items (subst (λ b. c.settle-2.new.self.newcomers.items ≡ settled_in seat.connection b c.args.now links.newcomers.newcomers.items) some c.settle-2.ensures.newcomers)) a.was_asked
     (read_part g.V.Vault.holds g.V.Vault.is_clean g.V.Vault.faults g.W.Wire.asked g.L.Listener.heard c.args.office.now c.read_once.new.office part.new.wire c.read_once.new.wire c.args.listener.now c.read_once.new.listener seat part.result.count _ (HurriesBy false c.read_once.result) c.read_once.ensures.works part.ensures.most)
 
 pub returns-clause-works : goal.returns-clause-works
@@ -95,6 +98,6 @@ returns-clause-works g c =
     let line : pace.by_line ≡ true → reads_by_line links.wait (may_keep links) ≡ true = λ b.
     subst (λ w. reads_by_line w (may_keep links) ≡ true) p.ensures.wait (line_so links.guesses.are_slow links.is_freed pace.is_shut pace.wait pace.origin p.ensures.shut p.ensures.fast (p.ensures.lines b)) in
     let hurries = c.note_guess.new.links.hurries || true in
-    heard_after g.V.Vault.holds g.V.Vault.is_clean g.V.Vault.faults g.W.Wire.asked g.L.Listener.heard c.args.office.now c.read_once.new.office c.args.wire.now part.new.wire c.read_once.new.wire c.args.listener.now c.read_once.new.listener seat links.wait (may_keep links) (lies_unread (newcomer seat.connection c.note_guess.new.links.newcomers.newcomers.items)) pace refusals part.result.count part.result.login (HurriesBy false c.read_once.result) (HurriesBy links.hurries hurries) a.calls
+    heard_after g.V.Vault.holds g.V.Vault.is_clean g.V.Vault.faults g.W.Wire.asked g.L.Listener.heard c.args.office.now c.read_once.new.office c.args.wire.now part.new.wire c.read_once.new.wire c.args.listener.now c.read_once.new.listener seat links.wait (reads_by_line links.wait (may_keep links)) (may_at c.args.now links seat.connection) (lies_unread (newcomer seat.connection c.note_guess.new.links.newcomers.newcomers.items)) pace refusals part.result.count part.result.login (HurriesBy false c.read_once.result) (HurriesBy links.hurries hurries) a.calls
     (λ cs m. hurried_moved links.hurries hurries (a.calls ++ cs) (any_right is_moving a.calls cs (m came))) quiet a.facts some line (not_unread seat.connection c.args.now links.newcomers.newcomers.items c.note_guess.new.links.newcomers.newcomers.items (ap (λ n. n.newcomers.items) c.note_guess.ensures.newcomers ∙ subst (λ b. c.settle-2.new.self.newcomers.items ≡ settled_in seat.connection b c.args.now links.newcomers.newcomers.items) some c.settle-2.ensures.newcomers)) a.was_asked
     (read_part g.V.Vault.holds g.V.Vault.is_clean g.V.Vault.faults g.W.Wire.asked g.L.Listener.heard c.args.office.now c.read_once.new.office part.new.wire c.read_once.new.wire c.args.listener.now c.read_once.new.listener seat part.result.count _ (HurriesBy false c.read_once.result) c.read_once.ensures.works part.ensures.most)

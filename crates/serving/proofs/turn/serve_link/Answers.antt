@@ -17,7 +17,7 @@ returns-then-write_owed-clause-works g c =
     let o = c.args.office.now in
     let x = c.write_owed in
     let links = c.args.links.now in
-    let way = way_at links (links.hurries || true) in
+    let way = way_at c.args.now links (links.hurries || true) in
     let goes : x.result ≡ true = search rules in
     let out = subst (λ b. Part Holds IsClean g.V.Vault.faults g.W.Wire.asked o c.args.wire.now x.new.office x.new.wire (WithHeard Holds IsClean Heard o l x.new.office x.new.listener (IsWrittenOut Holds IsClean o x.new.office c.args.seat way.share b))) goes
     (subst (λ n. Part Holds IsClean g.V.Vault.faults g.W.Wire.asked o c.args.wire.now x.new.office x.new.wire (WithHeard Holds IsClean Heard o l x.new.office x.new.listener (IsWrittenOut Holds IsClean o x.new.office c.args.seat n x.result))) c.share_of-share.ensures.value x.ensures.works) in
@@ -42,7 +42,7 @@ returns-then-not-read_piece-clause-works g c =
     let none : y.result ≡ false = search rules in
     let ends : x.result ≡ false = search rules in
     let links = c.args.links.now in
-    let way = way_at links (y.new.links.hurries || false) in
+    let way = way_at c.args.now links (y.new.links.hurries || false) in
     let out = subst (λ b. Part Holds IsClean g.V.Vault.faults g.W.Wire.asked o c.args.wire.now x.new.office x.new.wire (WithHeard Holds IsClean Heard o l x.new.office x.new.listener (IsWrittenOut Holds IsClean o x.new.office c.args.seat way.share b))) ends
     (subst (λ n. Part Holds IsClean g.V.Vault.faults g.W.Wire.asked o c.args.wire.now x.new.office x.new.wire (WithHeard Holds IsClean Heard o l x.new.office x.new.listener (IsWrittenOut Holds IsClean o x.new.office c.args.seat n x.result))) c.share_of-share.ensures.value x.ensures.works) in
     part_then Holds IsClean g.V.Vault.faults g.W.Wire.asked o x.new.office y.new.office c.args.wire.now x.new.wire y.new.wire _ _ _
@@ -67,7 +67,7 @@ returns-clause-works g c =
     let came : y.result ≡ true = search rules in
     let ends : x.result ≡ false = search rules in
     let links = c.args.links.now in
-    let way = way_at links (y.new.links.hurries || z.result) in
+    let way = way_at c.args.now links (y.new.links.hurries || z.result) in
     let out = subst (λ b. Part Holds IsClean g.V.Vault.faults g.W.Wire.asked o c.args.wire.now x.new.office x.new.wire (WithHeard Holds IsClean Heard o l x.new.office x.new.listener (IsWrittenOut Holds IsClean o x.new.office c.args.seat way.share b))) ends
     (subst (λ n. Part Holds IsClean g.V.Vault.faults g.W.Wire.asked o c.args.wire.now x.new.office x.new.wire (WithHeard Holds IsClean Heard o l x.new.office x.new.listener (IsWrittenOut Holds IsClean o x.new.office c.args.seat n x.result))) c.share_of-share.ensures.value x.ensures.works) in
     let first : Part Holds IsClean g.V.Vault.faults g.W.Wire.asked o c.args.wire.now y.new.office y.new.wire (WithHeard Holds IsClean Heard o l y.new.office y.new.listener (Also (HadTurns Holds IsClean o y.new.office way y.new.links.newcomers.newcomers.items (c.args.seat ∷ []) (c.args.seat ∷ [])) (HurriesBy links.hurries true))) =

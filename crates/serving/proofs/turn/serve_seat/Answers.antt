@@ -30,7 +30,7 @@ returns-clause-works g c =
     let o = c.args.office.now in
     let o1 = c.serve_client.new.office in
     part_so Holds IsClean g.V.Vault.faults g.W.Wire.asked o o1 c.args.wire.now c.serve_client.new.wire _ _
-    (λ gv cl wa a. (a.0, ((λ d. served_at Holds IsClean g.V.Vault.faults o o1 (way_at c.args.links.now c.serve_client.new.links.hurries) c.serve_client.new.links.newcomers.newcomers.items c.args.links.now.seats.items c.deref.result.now c.args.place _ gv cl c.deref.ensures.0 c.requires a.1.0 d), a.1.1))) c.serve_client.ensures.works
+    (λ gv cl wa a. (a.0, ((λ d. served_at Holds IsClean g.V.Vault.faults o o1 (way_at c.args.now c.args.links.now c.serve_client.new.links.hurries) c.serve_client.new.links.newcomers.newcomers.items c.args.links.now.seats.items c.deref.result.now c.args.place _ gv cl c.deref.ensures.0 c.requires a.1.0 d), a.1.1))) c.serve_client.ensures.works
 
 pub returns-clause-settles : goal.returns-clause-settles
 returns-clause-settles g c = λ d.

@@ -16,7 +16,7 @@ use Rattle.serving.specs.declared.newcomers.Newcomer.{Newcomer}
 use Rattle.serving.specs.Newcomers.{newcomer, HaveSeats, IsNewlyNoted, AllHaveSeats, IsSettled, IsComer}
 use Rattle.std.proofs.lemmas.List.Elements.{All-weaker}
 use Rattle.serving.proofs.Late.{late_then}
-use Rattle.serving.proofs.Settling.{late_settled, settled_seats, comer_so}
+use Rattle.serving.proofs.Settling.{late_settled, settled_seats, comer_so, waited_same}
 use Rattle.std.specs.List.{All}
 use Rattle.serving.proofs.Newly.{more_is}
 use Rattle.serving.specs.Works.{seat_of}
@@ -96,8 +96,8 @@ returns-clause-works g c = λ T s clean.
     let l5 = c.end_late_ones.new.listener in
     let a = c.accept_links.ensures.works in
     let passed = subst (λ n. Part Holds IsClean g.V.Vault.faults Asked c.args.office.now c.args.wire.now o1 w1 (IsPassed n now)) c.millis_for-millis.ensures c.pass_time.ensures.works in
-    let turned = subst (λ set. Part Holds IsClean g.V.Vault.faults Asked o2 w3 o3 w4 (WithHeard Holds IsClean Heard o2 l2 o3 l3 (Also (WereServed Holds IsClean o2 o3 set served.is_freed served.hurries served.newcomers.newcomers.items seats2 seats2) (HurriesBy served.is_freed served.hurries)))) c.accept_links.ensures.set
-    (subst (λ b. Part Holds IsClean g.V.Vault.faults Asked o2 w3 o3 w4 (WithHeard Holds IsClean Heard o2 l2 o3 l3 (Also (WereServed Holds IsClean o2 o3 (settings_of came) served.is_freed served.hurries served.newcomers.newcomers.items seats2 seats2) (HurriesBy (b || served.is_freed) served.hurries)))) c.accept_links.ensures.hurries c.serve_links.ensures.works) in
+    let turned = subst (λ set. Part Holds IsClean g.V.Vault.faults Asked o2 w3 o3 w4 (WithHeard Holds IsClean Heard o2 l2 o3 l3 (Also (WereServed Holds IsClean o2 o3 set now came.newcomers.newcomers.items served.is_freed served.hurries served.newcomers.newcomers.items seats2 seats2) (HurriesBy served.is_freed served.hurries)))) c.accept_links.ensures.set
+    (subst (λ b. Part Holds IsClean g.V.Vault.faults Asked o2 w3 o3 w4 (WithHeard Holds IsClean Heard o2 l2 o3 l3 (Also (WereServed Holds IsClean o2 o3 (settings_of came) now came.newcomers.newcomers.items served.is_freed served.hurries served.newcomers.newcomers.items seats2 seats2) (HurriesBy (b || served.is_freed) served.hurries)))) c.accept_links.ensures.hurries c.serve_links.ensures.works) in
     let settled = c.serve_links.ensures.settled in
     let seconds = ap (λ (s : Settings). s.login_seconds) c.serve_links.ensures.aside.set ∙ ap (λ (s : Settings). s.login_seconds) c.accept_links.ensures.set in
     let less = late_then now old.newcomers.seconds old.newcomers.newcomers.items came.newcomers.newcomers.items served.newcomers.newcomers.items c.accept_links.ensures.late
@@ -107,6 +107,7 @@ returns-clause-works g c = λ T s clean.
     let keeps : (n : ℕ) (x : Newcomer) → newcomer n old.newcomers.newcomers.items ≡ Some x → IsSettled now (Some x) (newcomer n served.newcomers.newcomers.items) =
     λ n x h. subst (λ m. IsSettled now m (newcomer n served.newcomers.newcomers.items)) (c.accept_links.ensures.noted n x h) (settled.each n) in
     let comers = c.accept_links.ensures.comers in
+    let waited = waited_same now old.newcomers.newcomers.items came.newcomers.newcomers.items comers.each c.accept_links.ensures.noted in
     let newly : AllHaveSeats links → All (IsComer now old.newcomers.newcomers.items served.newcomers.newcomers.items) (filter_map seat_of a.1.facts.came) =
     λ h. All-weaker (IsNewlyNoted now old.newcomers.newcomers.items came.newcomers.newcomers.items) (IsComer now old.newcomers.newcomers.items served.newcomers.newcomers.items)
     (λ q k. comer_so now old.newcomers.newcomers.items came.newcomers.newcomers.items served.newcomers.newcomers.items q settled k) (filter_map seat_of a.1.facts.came)
@@ -120,8 +121,8 @@ returns-clause-works g c = λ T s clean.
     turn_done Holds IsClean g.V.Vault.faults Asked g.S.Spool.asked Heard T now links (record { clients = c.serve_spool.new.links; requests = c.serve_requests.new.requests })
     c.args.office.now o1 o2 o3 o4 o5 c.serve_spool.new.office
     c.args.wire.now w1 c.accept_links.new.wire w3 w4 w5 w6 c.args.spool.now c.serve_spool.new.spool c.args.listener.now l1 l2 l3 l4 l5
-    seats2 a.0 c.accept_requests.new.requests.exchanges.items c.accept_requests.ensures.works.0 served.is_freed served.hurries c.close_links.new.links.hurries served.newcomers.newcomers.items ended.newcomers.newcomers.items passed c.tell_idle_ones.ensures a.1 c.accept_requests.ensures.works.1 (told_same Heard l1 l2 c.accept_links.ensures.heard) turned c.serve_links.ensures.frees
-    (λ e. c.close_links.ensures.hurried (c.end_late_ones.ensures.hurries ∙ e)) c.serve_requests.ensures.works keeps newly late forgets
+    seats2 a.0 c.accept_requests.new.requests.exchanges.items c.accept_requests.ensures.works.0 served.is_freed served.hurries c.close_links.new.links.hurries came.newcomers.newcomers.items served.newcomers.newcomers.items ended.newcomers.newcomers.items passed c.tell_idle_ones.ensures a.1 c.accept_requests.ensures.works.1 (told_same Heard l1 l2 c.accept_links.ensures.heard) turned c.serve_links.ensures.frees
+    (λ e. c.close_links.ensures.hurried (c.end_late_ones.ensures.hurries ∙ e)) c.serve_requests.ensures.works waited keeps newly late forgets
     (λ U su.
     subst (λ v. Asking Asked w5 w6 (λ calls. AreClosed U v.items c.serve_spool.new.links.seats.items calls × HurriesBy served.hurries c.close_links.new.links.hurries calls × Releases old.wait c.close_links.new.links.hurries calls)) seats_same
     (subst (λ v. Asking Asked w5 w6 (λ calls. AreClosed U ended.seats.items v.items calls × HurriesBy served.hurries c.close_links.new.links.hurries calls × Releases old.wait c.close_links.new.links.hurries calls)) (sym c.serve_spool.ensures.seats)
