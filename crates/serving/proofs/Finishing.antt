@@ -31,7 +31,7 @@ use Rattle.serving.proofs.Arriving.{shut_moved}
 use Rattle.serving.proofs.Hearing.{told_then, turn_heard}
 use Rattle.serving.proofs.Turns.{served_so}
 use Rattle.serving.proofs.Freeing.{freed_left, freed_right}
-use Rattle.serving.specs.Newcomers.{newcomer, lies_unread, waited_of, AllHaveSeats, IsSettled, CountsFrom, IsComer}
+use Rattle.serving.specs.Newcomers.{newcomer, limit, lies_unread, waited_of, AllHaveSeats, IsSettled, CountsFrom, IsComer}
 use Rattle.serving.specs.Late.{HasLived, IsNotedSince, HasEndedLate}
 use Rattle.serving.proofs.Timely.{lived_left, lived_right}
 use Rattle.serving.proofs.Settling.{late_still, may_same}
@@ -164,7 +164,7 @@ module _ {V W S H : Type 0} (Holds : V → Contents → Type 0) (IsClean : V →
       → ((c : ℕ) → waited_of now (newcomer c n0) ≡ waited_of now (newcomer c links.clients.newcomers.newcomers.items))
       → ((c : ℕ) (n : Newcomer) → newcomer c links.clients.newcomers.newcomers.items ≡ Some n → IsSettled now (Some n) (newcomer c n1))
       → (AllHaveSeats links → All (IsComer now links.clients.newcomers.newcomers.items n1) (filter_map seat_of acc.facts.came))
-      → Giving Holds IsClean Faults o4 o5 (λ g. AreLateGone now links.clients.newcomers.seconds links.clients.newcomers.newcomers.items g × HasEndedLate Holds IsClean o4 o5 now links.clients.newcomers.seconds n1 n2 seats2 g × WasTold Heard l4 l5 (late_ends g))
+      → Giving Holds IsClean Faults o4 o5 (λ g. AreLateGone now (limit links (length seats2)) links.clients.newcomers.newcomers.items g × HasEndedLate Holds IsClean o4 o5 now (limit links (length seats2)) n1 n2 seats2 g × WasTold Heard l4 l5 (late_ends g))
       → ((U : Trace) → StandsFor Holds o5 U → (c : ℕ) → is_open U c ≡ true → newcomer c links_then.clients.newcomers.newcomers.items ≡ newcomer c n2)
       → ((U : Trace) → StandsFor Holds o5 U → Asking Asked w5 w6 (λ calls. AreClosed U seats2 links_then.clients.seats.items calls × HurriesBy hurrying hurried calls × Releases links.clients.wait hurried calls))
       → SpoolPart Holds IsClean Faults AskedFiles o5 f o6 f1 (λ U given calls. IsSpoolTurn (last_tried links) (last_tried links_then) U given calls × (links_then.clients.hurries ≡ (hurried || has_dealt calls)))
@@ -172,7 +172,7 @@ module _ {V W S H : Type 0} (Holds : V → Contents → Type 0) (IsClean : V →
   turn_done T now links links_then o o1 o2 o3 o4 o5 o6 w w1 w2 w3 w4 w5 w6 f f1 l l1 l2 l3 l4 l5 seats2 goes held more freed hurrying hurried n0 n1 n2 pass idle acc asked unheard served freeing still reqs waited keeps comers late forgets close spool s k6 =
       let B = T.base in
       let L = T.log in
-      let seconds = links.clients.newcomers.seconds in
+      let seconds = limit links (length seats2) in
       let newcomers = links.clients.newcomers.newcomers.items in
       let millis = millis_of links in
       let way = way_of now links links_then seats2 freed in

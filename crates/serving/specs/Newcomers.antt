@@ -28,6 +28,20 @@ abbrev pub is_late_by : (now seconds : ℕ) → Option Newcomer → Bool
 is_late_by now seconds None = false
 is_late_by now seconds (Some n) = nat_le seconds (spent now n)
 
+-- the smaller of two limits, of which 0 is none
+abbrev pub smaller_limit : (one other : ℕ) → ℕ
+smaller_limit one other = if one == 0 then other else if other == 0 then one else min one other
+
+-- How many seconds a client has for its login while so many seats are taken; 0 for no limit. From 64
+-- seats on the house is full, and it is the smaller of both limits.
+abbrev pub limit_by : (taken seconds full_house_seconds : ℕ) → ℕ
+limit_by taken seconds full_house_seconds =
+    if nat_le 64 taken then smaller_limit seconds full_house_seconds else seconds
+
+abbrev pub limit : Links → (taken : ℕ) → ℕ
+limit links taken =
+    limit_by taken links.clients.newcomers.seconds links.clients.newcomers.full_house_seconds
+
 -- a login of it lies unread
 abbrev pub lies_unread : Option Newcomer → Bool
 lies_unread None = false

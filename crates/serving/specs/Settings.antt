@@ -9,11 +9,18 @@ pub record Settings : Type 0 where
   pub wait : ℕ
   -- how many seconds a client has for its login; 0, where that has no limit of its own
   pub login_seconds : ℕ
+  -- the same while the house is full; 0, where that changes nothing
+  pub full_house_seconds : ℕ
   -- logins are kept back behind refused ones
   pub slow_guesses : Bool
 
 abbrev pub settings_of : Clients → Settings
-settings_of clients = record { wait = clients.wait; login_seconds = clients.newcomers.seconds; slow_guesses = clients.guesses.are_slow }
+settings_of clients = record {
+  wait = clients.wait;
+  login_seconds = clients.newcomers.seconds;
+  full_house_seconds = clients.newcomers.full_house_seconds;
+  slow_guesses = clients.guesses.are_slow;
+}
 
 abbrev pub settings : Links → Settings
 settings links = settings_of links.clients
@@ -24,14 +31,37 @@ last_tried links = links.clients.last
 
 -- no login waits, none has a limit of its own, and guesses come as fast as they come
 abbrev pub none_set : Settings
-none_set = record { wait = 0; login_seconds = 0; slow_guesses = false }
+none_set = record { wait = 0; login_seconds = 0; full_house_seconds = 0; slow_guesses = false }
 
 -- one of them is set, and the others stay
 abbrev pub with_wait : ℕ → Settings → Settings
-with_wait seconds s = record { wait = seconds; login_seconds = s.login_seconds; slow_guesses = s.slow_guesses }
+with_wait seconds s = record {
+  wait = seconds;
+  login_seconds = s.login_seconds;
+  full_house_seconds = s.full_house_seconds;
+  slow_guesses = s.slow_guesses;
+}
 
 abbrev pub with_login_seconds : ℕ → Settings → Settings
-with_login_seconds seconds s = record { wait = s.wait; login_seconds = seconds; slow_guesses = s.slow_guesses }
+with_login_seconds seconds s = record {
+  wait = s.wait;
+  login_seconds = seconds;
+  full_house_seconds = s.full_house_seconds;
+  slow_guesses = s.slow_guesses;
+}
+
+abbrev pub with_full_house_seconds : ℕ → Settings → Settings
+with_full_house_seconds seconds s = record {
+  wait = s.wait;
+  login_seconds = s.login_seconds;
+  full_house_seconds = seconds;
+  slow_guesses = s.slow_guesses;
+}
 
 abbrev pub with_slow_guesses : Bool → Settings → Settings
-with_slow_guesses slow s = record { wait = s.wait; login_seconds = s.login_seconds; slow_guesses = slow }
+with_slow_guesses slow s = record {
+  wait = s.wait;
+  login_seconds = s.login_seconds;
+  full_house_seconds = s.full_house_seconds;
+  slow_guesses = slow;
+}

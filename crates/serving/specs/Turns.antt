@@ -24,7 +24,7 @@ use Rattle.serving.specs.Works.{has_moved}
 use Rattle.serving.specs.Hearing.{Hearing, WasTold, idle_ends, heard_of_all, late_ends}
 use Rattle.serving.specs.SpoolTurns.{IsSpoolTurn, has_dealt}
 use Rattle.serving.specs.HttpWorks.{HttpWorks}
-use Rattle.serving.specs.Newcomers.{newcomer, AllHaveSeats, IsSettled}
+use Rattle.serving.specs.Newcomers.{newcomer, limit, AllHaveSeats, IsSettled}
 use Rattle.serving.specs.declared.newcomers.Newcomer.{Newcomer}
 use Rattle.serving.specs.Late.{HasLived, IsInTime, IsNotedSince, IsCountedOn}
 use Rattle.office.specs.Trace.{is_open}
@@ -49,7 +49,8 @@ way_of now links links_then seats freed =
 abbrev pub HasCauseInTurn : (now : ℕ) → Links → (seats : List Seat) → List Call
     → Event × EventTag → Type 0
 HasCauseInTurn now links seats calls x =
-    HasCause seats calls x ⊎ IsLateGone now links.clients.newcomers.seconds links.clients.newcomers.newcomers.items x
+    HasCause seats calls x
+    ⊎ IsLateGone now (limit links (length seats)) links.clients.newcomers.newcomers.items x
 
 -- What a turn did since a trace, by the events that it gave to the office and the calls that it made of the wire; these seats had links then.
 pub record IsTurn (T after : Trace) (now : ℕ) (links links_then : Links) (came : List Came) (seats : List Seat) (given : Log) (calls : List Call) : Type 0 where
@@ -81,7 +82,7 @@ pub record IsTurn (T after : Trace) (now : ℕ) (links links_then : Links) (came
   -- exactly those links were closed that got no seat, and those whose connections aren't open
   pub closed : closings calls ≡ filter_map unseated_of came ++ map link_of_seat (filter (is_shut_seat after) seats)
   -- whoever was late isn't open, or logged in meanwhile, or has a login that lies unread
-  pub timely : All (IsInTime now links.clients.newcomers.seconds
+  pub timely : All (IsInTime now (limit links (length seats))
       links.clients.newcomers.newcomers.items T.base T.log given after calls
       links.clients.wait (may_of now links seats freed) seats) seats
   -- nobody is forgotten whose connection is open and who didn't log in meanwhile, and so many of
@@ -119,7 +120,7 @@ pub record IsTurnHeard (T : Trace) (now : ℕ) (links : Links) (seats : List Sea
   pub deposits : Log
   pub given_are : given ≡ deposits ++ (late ++ (told ++ (event.Tick now, event_tag) ∷ []))
   pub are_deposits : AreDeposits deposits
-  pub are_late : AreLateGone now links.clients.newcomers.seconds
+  pub are_late : AreLateGone now (limit links (length seats))
       links.clients.newcomers.newcomers.items late
   pub caused : AreCaused seats calls told
   pub heard_are : heard

@@ -1,7 +1,8 @@
 //! The open links, each with its connection.
 ghost use Rattle.std.specs.Prelude.{◌≡◌, ◌||◌, [], min};
 ghost use Rattle.serving.specs.Settings.{settings, settings_of, none_set, with_wait};
-ghost use Rattle.serving.specs.Settings.{with_login_seconds, with_slow_guesses};
+ghost use Rattle.serving.specs.Settings.{with_login_seconds, with_full_house_seconds};
+ghost use Rattle.serving.specs.Settings.{with_slow_guesses};
 
 use crate::file_name::FileName;
 use crate::guesses::Guesses;
@@ -81,6 +82,20 @@ impl Links {
         self.clients.newcomers.seconds = seconds.min(MOST_LOGIN_SECONDS);
     }
 
+    /// While 64 clients or more have seats, gives each so many seconds for its login, at most 600,
+    /// if that is less than what it has otherwise. Links begin with 0: that changes nothing then.
+    pub fn set_full_house_seconds(&mut self, seconds: u64)
+        ensures settings { settings self.new ≡ with_full_house_seconds (min seconds 600)
+            (settings self.old) }
+        ensures seconds { self.new.clients.newcomers.full_house_seconds ≡ min seconds 600 }
+        ensures newcomers { self.new.clients.newcomers.newcomers
+            ≡ self.old.clients.newcomers.newcomers }
+        ensures seats { self.new.clients.seats ≡ self.old.clients.seats }
+        ensures requests { self.new.requests ≡ self.old.requests }
+    {
+        self.clients.newcomers.full_house_seconds = seconds.min(MOST_LOGIN_SECONDS);
+    }
+
     /// Makes guesses slow, or as fast as they come. After a refused PASS or APOP the next one under
     /// the same name from the same address isn't read for a second, and after each further refusal
     /// for twice as long, at most 15 seconds, until one is accepted or none was refused for ten
@@ -110,6 +125,14 @@ impl Links {
         ensures { result ≡ (settings self.now).login_seconds }
     {
         self.clients.newcomers.seconds
+    }
+
+    /// How many seconds each client has for its login while the house is full; 0 if that changes
+    /// nothing.
+    pub fn full_house_seconds(&self) -> u64
+        ensures { result ≡ (settings self.now).full_house_seconds }
+    {
+        self.clients.newcomers.full_house_seconds
     }
 
     /// Whether guesses are slow.

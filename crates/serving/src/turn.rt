@@ -436,6 +436,7 @@ fn end_late<V: Vault, W: Wire, L: Listener>(
     links: &mut Clients,
     place: usize,
     now: u64,
+    seconds: u64,
 )
     requires { place < array_vec_len links.old.seats }
     ensures serves { StillServes V.holds V.is_clean W.tells office.old wire.now
@@ -445,15 +446,15 @@ fn end_late<V: Vault, W: Wire, L: Listener>(
     ensures set { settings_of links.new ≡ settings_of links.old }
     ensures hurries { links.new.hurries ≡ links.old.hurries }
     ensures last { links.new.last ≡ links.old.last }
-    ensures late { AreNoMoreLate now links.old.newcomers.seconds links.old.newcomers.newcomers.items
+    ensures late { AreNoMoreLate now seconds links.old.newcomers.newcomers.items
         links.new.newcomers.newcomers.items }
     ensures seated { AreSeatedAt links.old → AreSeatedAt links.new }
     ensures kept { (d : declared.Seat) → lies_unread (newcomer
         (slice_index_or links.old.seats.items place d).connection
         links.old.newcomers.newcomers.items) ≡ true → office.new ≡ office.old }
-    ensures works { (links.old.newcomers.seconds == 0) ≡ false
+    ensures works { (seconds == 0) ≡ false
         → Giving V.holds V.is_clean V.faults office.old office.new (λ given. ((d : declared.Seat) →
-        HasEndedLate V.holds V.is_clean office.old office.new now links.old.newcomers.seconds
+        HasEndedLate V.holds V.is_clean office.old office.new now seconds
         links.old.newcomers.newcomers.items links.new.newcomers.newcomers.items (slice_index_or
         links.old.seats.items place d ∷ []) given)
         × WasTold L.heard listener.old listener.new (late_ends given)) }
@@ -466,40 +467,42 @@ fn end_late<V: Vault, W: Wire, L: Listener>(
     if links.newcomers.lies_unread(seat.connection) {
         return;
     }
-    if !links.newcomers.is_late(seat.connection, now) {
+    if !links.newcomers.is_late(seat.connection, now, seconds) {
         return;
     }
     end_seat(office, wire, listener, seat);
 }
 
-/// Ends the connection of each client that took too long to log in.
+/// Ends the connection of each client that took so many seconds or more and hasn't logged in; of
+/// none if there is no limit, which is 0.
 fn end_late_ones<V: Vault, W: Wire, L: Listener>(
     office: &mut Office<V>,
     wire: &W,
     listener: &mut L,
     links: &mut Clients,
     now: u64,
+    seconds: u64,
 )
     ensures serves { StillServes V.holds V.is_clean W.tells office.old wire.now
         links.old.seats.items [] office.new wire.now links.new.seats.items [] }
     ensures clean { V.is_clean (vault_of office.new) → V.is_clean (vault_of office.old) }
-    ensures off { links.old.newcomers.seconds ≡ 0 → office.new ≡ office.old }
+    ensures off { seconds ≡ 0 → office.new ≡ office.old }
     ensures seated { AreSeatedAt links.old → AreSeatedAt links.new }
     ensures seats { links.new.seats ≡ links.old.seats }
     ensures set { settings_of links.new ≡ settings_of links.old }
     ensures hurries { links.new.hurries ≡ links.old.hurries }
     ensures last { links.new.last ≡ links.old.last }
     ensures works { Giving V.holds V.is_clean V.faults office.old office.new (λ given. HasEndedLate
-        V.holds V.is_clean office.old office.new now links.old.newcomers.seconds
+        V.holds V.is_clean office.old office.new now seconds
         links.old.newcomers.newcomers.items links.new.newcomers.newcomers.items
         links.old.seats.items given × WasTold L.heard listener.old listener.new (late_ends given)) }
 {
-    if links.newcomers.seconds == 0 {
+    if seconds == 0 {
         return;
     }
     let mut place = 0;
     while place < links.seats.len() {
-        end_late(office, wire, listener, links, place, now);
+        end_late(office, wire, listener, links, place, now, seconds);
         place += 1;
     }
 }
@@ -642,7 +645,7 @@ fn accept_link<V: Vault, W: Wire, L: Listener>(
     ensures set { settings_of links.new ≡ settings_of links.old }
     ensures hurries { links.new.hurries ≡ links.old.hurries }
     ensures last { links.new.last ≡ links.old.last }
-    ensures late { AreNoMoreLate now links.old.newcomers.seconds links.old.newcomers.newcomers.items
+    ensures late { (seconds : ℕ) → AreNoMoreLate now seconds links.old.newcomers.newcomers.items
         links.new.newcomers.newcomers.items }
     ensures noted { (c : ℕ) (n : Newcomer) → newcomer c links.old.newcomers.newcomers.items ≡ Some n
         → newcomer c links.new.newcomers.newcomers.items ≡ Some n }
@@ -684,7 +687,7 @@ fn accept_links<V: Vault, W: Wire, L: Listener>(
     ensures set { settings_of links.new ≡ settings_of links.old }
     ensures hurries { links.new.hurries ≡ links.old.hurries }
     ensures last { links.new.last ≡ links.old.last }
-    ensures late { AreNoMoreLate now links.old.newcomers.seconds links.old.newcomers.newcomers.items
+    ensures late { (seconds : ℕ) → AreNoMoreLate now seconds links.old.newcomers.newcomers.items
         links.new.newcomers.newcomers.items }
     ensures noted { (c : ℕ) (n : Newcomer) → newcomer c links.old.newcomers.newcomers.items ≡ Some n
         → newcomer c links.new.newcomers.newcomers.items ≡ Some n }
@@ -746,7 +749,8 @@ pub fn serve_turn<V: Vault, W: Wire, S: Spool, L: Listener>(
     accept_requests(wire, &mut links.requests, MOST_LINKS, now);
     serve_links(office, wire, listener, &mut links.clients, now);
     serve_requests(office, wire, listener, &mut links.requests, now);
-    end_late_ones(office, wire, listener, &mut links.clients, now);
+    let seconds = links.clients.newcomers.limit(links.clients.seats.len());
+    end_late_ones(office, wire, listener, &mut links.clients, now, seconds);
     close_links(office, wire, &mut links.clients);
     serve_spool(office, spool, &mut links.clients);
     // For the proof: what each connection took was sent to it.

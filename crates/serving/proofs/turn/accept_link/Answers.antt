@@ -125,8 +125,7 @@ returns-in-None-clause-works g c =
     }
 
 pub returns-in-Some-number-clause-late : goal.returns-in-Some-number-clause-late
-returns-in-Some-number-clause-late g c =
-    late_noted_so c.args.now c.args.links.now.newcomers.seconds c.in-Some-number.connection _ c.args.links.now.newcomers.newcomers.items _ c.note.ensures.newcomers
+returns-in-Some-number-clause-late g c = λ seconds. late_noted_so c.args.now seconds c.in-Some-number.connection _ c.args.links.now.newcomers.newcomers.items _ c.note.ensures.newcomers
 
 pub returns-then-is_full-clause-comers : goal.returns-then-is_full-clause-comers
 returns-then-is_full-clause-comers g c = noted_none c.args.now c.args.links.now

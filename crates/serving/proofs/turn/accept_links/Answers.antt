@@ -2,9 +2,7 @@ use Rattle.std.proofs.Common.{rules, refl, ◌∙◌, ◌≡◌, ◌≤◌, ◌+
 use Rattle.serving.specs.Works.{Part, AreAccepted}
 use Rattle.serving.proofs.Working.{part_none, part_so, part_then}
 use Rattle.serving.proofs.Arriving.{accepting_none, accepted_then, accepted_ended, accepted_all}
-use Rattle.std.proofs.Common.{ap}
-use Rattle.serving.specs.Settings.{Settings}
-use Rattle.serving.proofs.Late.{late_same, late_next}
+use Rattle.serving.proofs.Late.{late_same, late_then}
 use Rattle.serving.proofs.Newly.{noted_none, noted_then}
 use Rattle.serving.proofs.turn.accept_links.Goals as goal
 
@@ -15,7 +13,7 @@ loop-times-init g c = record {
   set = refl;
   hurries = refl;
   last = refl;
-  late = late_same c.args.now c.args.links.now.newcomers.seconds c.args.links.now.newcomers.newcomers.items;
+  late = λ seconds. late_same c.args.now seconds c.args.links.now.newcomers.newcomers.items;
   noted = λ q n h. h;
   comers = noted_none c.args.now c.args.links.now;
   heard = λ h a. a;
@@ -39,8 +37,7 @@ loop-times-preserved g c =
       set = x.ensures.set ∙ k.invariant.set;
       hurries = x.ensures.hurries ∙ k.invariant.hurries;
       last = x.ensures.last ∙ k.invariant.last;
-      late = late_next c.args.now k.links.newcomers.seconds c.args.links.now.newcomers.seconds c.args.links.now.newcomers.newcomers.items k.links.newcomers.newcomers.items x.new.links.newcomers.newcomers.items
-          (ap (λ (s : Settings). s.login_seconds) k.invariant.set) k.invariant.late x.ensures.late;
+      late = λ seconds. late_then c.args.now seconds c.args.links.now.newcomers.newcomers.items k.links.newcomers.newcomers.items x.new.links.newcomers.newcomers.items (k.invariant.late seconds) (x.ensures.late seconds);
       noted = λ q n h. x.ensures.noted q n (k.invariant.noted q n h);
       comers = noted_then c.args.now c.args.links.now k.links x.new.links k.invariant.comers x.ensures.comers;
       heard = λ h a. x.ensures.heard h (k.invariant.heard h a);
@@ -80,8 +77,7 @@ pub returns-then-not-accept_link-clause-late : goal.returns-then-not-accept_link
 returns-then-not-accept_link-clause-late g c =
     let k = c.loop-times in
     let x = c.accept_link in
-    late_next c.args.now k.links.newcomers.seconds c.args.links.now.newcomers.seconds c.args.links.now.newcomers.newcomers.items k.links.newcomers.newcomers.items x.new.links.newcomers.newcomers.items
-    (ap (λ (s : Settings). s.login_seconds) k.invariant.set) k.invariant.late x.ensures.late
+    (λ seconds. late_then c.args.now seconds c.args.links.now.newcomers.newcomers.items k.links.newcomers.newcomers.items x.new.links.newcomers.newcomers.items (k.invariant.late seconds) (x.ensures.late seconds))
 
 pub returns-then-not-accept_link-clause-noted : goal.returns-then-not-accept_link-clause-noted
 returns-then-not-accept_link-clause-noted g c = λ q n h. c.accept_link.ensures.noted q n (c.loop-times.invariant.noted q n h)

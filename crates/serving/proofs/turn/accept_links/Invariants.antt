@@ -15,7 +15,7 @@ invariant-loop-times g l = record {
   set : settings_of l.links ≡ settings_of l.fn.links;
   hurries : l.links.hurries ≡ l.fn.links.hurries;
   last : l.links.last ≡ l.fn.links.last;
-  late : AreNoMoreLate l.fn.now l.fn.links.newcomers.seconds l.fn.links.newcomers.newcomers.items l.links.newcomers.newcomers.items;
+  late : (seconds : ℕ) → AreNoMoreLate l.fn.now seconds l.fn.links.newcomers.newcomers.items l.links.newcomers.newcomers.items;
   noted : (c : ℕ) (n : Newcomer) → newcomer c l.fn.links.newcomers.newcomers.items ≡ Some n → newcomer c l.links.newcomers.newcomers.items ≡ Some n;
   comers : AreNoted l.fn.now l.fn.links l.links;
   heard : (h : List Hearing) → g.L.Listener.heard l.fn.listener h → g.L.Listener.heard l.listener h;

@@ -21,7 +21,7 @@ returns-clause-serves g c = λ T beside s clean.
     c.end_seat.ensures.serves seats [] (contained seats c.deref.result.now c.args.place _ c.deref.ensures.0 c.requires) (λ k d within. absurd (omega (arith, within))) T beside s clean)
 
 pub returns-then-is_logged_in-clause-late : goal.returns-then-is_logged_in-clause-late
-returns-then-is_logged_in-clause-late g c = late_forgotten c.args.now c.args.links.now.newcomers.seconds _ c.args.links.now.newcomers.newcomers.items _ c.forget.ensures.newcomers
+returns-then-is_logged_in-clause-late g c = late_forgotten c.args.now c.args.seconds _ c.args.links.now.newcomers.newcomers.items _ c.forget.ensures.newcomers
 
 pub returns-then-is_logged_in-clause-works : goal.returns-then-is_logged_in-clause-works
 returns-then-is_logged_in-clause-works g c = λ on.
@@ -34,14 +34,14 @@ returns-then-is_logged_in-clause-works g c = λ on.
       facts = (
         (λ d.
             at_place c.args.links.now.seats.items c.deref.result.now c.args.place _
-            (λ q. HasEndedLate g.V.Vault.holds g.V.Vault.is_clean o o c.args.now n.seconds n.newcomers.items c.forget.new.self.newcomers.items (q ∷ []) []) c.deref.ensures.0 c.requires
-            (late_lived g.V.Vault.holds g.V.Vault.is_clean g.V.Vault.faults c.args.now n.seconds o n.newcomers.items c.forget.new.self.newcomers.items _ c.forget.ensures.newcomers (λ T s. sym (c.is_logged_in.ensures T s) ∙ yes)) d),
+            (λ q. HasEndedLate g.V.Vault.holds g.V.Vault.is_clean o o c.args.now c.args.seconds n.newcomers.items c.forget.new.self.newcomers.items (q ∷ []) []) c.deref.ensures.0 c.requires
+            (late_lived g.V.Vault.holds g.V.Vault.is_clean g.V.Vault.faults c.args.now c.args.seconds o n.newcomers.items c.forget.new.self.newcomers.items _ c.forget.ensures.newcomers (λ T s. sym (c.is_logged_in.ensures T s) ∙ yes)) d),
         told_none g.L.Listener.heard c.args.listener.now,
       );
     })
 
 pub returns-then-not-is_late-clause-late : goal.returns-then-not-is_late-clause-late
-returns-then-not-is_late-clause-late g c = late_same c.args.now c.args.links.now.newcomers.seconds c.args.links.now.newcomers.newcomers.items
+returns-then-not-is_late-clause-late g c = late_same c.args.now c.args.seconds c.args.links.now.newcomers.newcomers.items
 
 pub returns-then-not-is_late-clause-works : goal.returns-then-not-is_late-clause-works
 returns-then-not-is_late-clause-works g c = λ on.
@@ -54,14 +54,14 @@ returns-then-not-is_late-clause-works g c = λ on.
       facts = (
         (λ d.
             at_place c.args.links.now.seats.items c.deref.result.now c.args.place _
-            (λ q. HasEndedLate g.V.Vault.holds g.V.Vault.is_clean o o c.args.now n.seconds n.newcomers.items n.newcomers.items (q ∷ []) []) c.deref.ensures.0 c.requires
-            (late_prompt g.V.Vault.holds g.V.Vault.is_clean g.V.Vault.faults c.args.now n.seconds o n.newcomers.items _ (prompt_so c.args.now n.seconds n.newcomers.items _ (sym c.is_late.ensures ∙ no))) d),
+            (λ q. HasEndedLate g.V.Vault.holds g.V.Vault.is_clean o o c.args.now c.args.seconds n.newcomers.items n.newcomers.items (q ∷ []) []) c.deref.ensures.0 c.requires
+            (late_prompt g.V.Vault.holds g.V.Vault.is_clean g.V.Vault.faults c.args.now c.args.seconds o n.newcomers.items _ (prompt_so c.args.now c.args.seconds n.newcomers.items _ (sym c.is_late.ensures ∙ no))) d),
         told_none g.L.Listener.heard c.args.listener.now,
       );
     })
 
 pub returns-clause-late : goal.returns-clause-late
-returns-clause-late g c = late_same c.args.now c.args.links.now.newcomers.seconds c.args.links.now.newcomers.newcomers.items
+returns-clause-late g c = late_same c.args.now c.args.seconds c.args.links.now.newcomers.newcomers.items
 
 pub returns-clause-works : goal.returns-clause-works
 returns-clause-works g c = λ on.
@@ -69,15 +69,15 @@ returns-clause-works g c = λ on.
     let o = c.args.office.now in
     let o1 = c.end_seat.new.office in
     let is : c.is_late.result ≡ true = search rules in
-    let w = c.end_seat.ensures.works c.args.now n.seconds n.newcomers.items (late_so c.args.now n.seconds n.newcomers.items _ on (sym c.is_late.ensures ∙ is)) in
+    let w = c.end_seat.ensures.works c.args.now c.args.seconds n.newcomers.items (late_so c.args.now c.args.seconds n.newcomers.items _ on (sym c.is_late.ensures ∙ is)) in
     record {
       given = w.given;
       was_given = w.was_given;
       facts = (
         (λ d.
             at_place c.args.links.now.seats.items c.deref.result.now c.args.place _
-            (λ q. HasEndedLate g.V.Vault.holds g.V.Vault.is_clean o o1 c.args.now n.seconds n.newcomers.items n.newcomers.items (q ∷ []) w.given) c.deref.ensures.0 c.requires
-            (late_shut g.V.Vault.holds g.V.Vault.is_clean g.V.Vault.faults c.args.now n.seconds o o1 n.newcomers.items _ w.given w.facts.0.0 w.facts.0.1) d),
+            (λ q. HasEndedLate g.V.Vault.holds g.V.Vault.is_clean o o1 c.args.now c.args.seconds n.newcomers.items n.newcomers.items (q ∷ []) w.given) c.deref.ensures.0 c.requires
+            (late_shut g.V.Vault.holds g.V.Vault.is_clean g.V.Vault.faults c.args.now c.args.seconds o o1 n.newcomers.items _ w.given w.facts.0.0 w.facts.0.1) d),
         w.facts.1,
       );
     })
@@ -88,7 +88,7 @@ returns-then-is_logged_in-clause-seated g c = λ h.
     subst (λ l. HaveSeats l links.seats.items) (sym c.forget.ensures.newcomers) (seated_others _ links.newcomers.newcomers.items links.seats.items h))
 
 pub returns-then-lies_unread-clause-late : goal.returns-then-lies_unread-clause-late
-returns-then-lies_unread-clause-late g c = late_same c.args.now c.args.links.now.newcomers.seconds c.args.links.now.newcomers.newcomers.items
+returns-then-lies_unread-clause-late g c = late_same c.args.now c.args.seconds c.args.links.now.newcomers.newcomers.items
 
 pub returns-then-lies_unread-clause-works : goal.returns-then-lies_unread-clause-works
 returns-then-lies_unread-clause-works g c = λ on.
@@ -101,8 +101,8 @@ returns-then-lies_unread-clause-works g c = λ on.
       facts = (
         (λ d.
             at_place c.args.links.now.seats.items c.deref.result.now c.args.place _
-            (λ q. HasEndedLate g.V.Vault.holds g.V.Vault.is_clean o o c.args.now n.seconds n.newcomers.items n.newcomers.items (q ∷ []) []) c.deref.ensures.0 c.requires
-            (late_unread g.V.Vault.holds g.V.Vault.is_clean g.V.Vault.faults c.args.now n.seconds o n.newcomers.items _ (sym c.lies_unread.ensures ∙ yes)) d),
+            (λ q. HasEndedLate g.V.Vault.holds g.V.Vault.is_clean o o c.args.now c.args.seconds n.newcomers.items n.newcomers.items (q ∷ []) []) c.deref.ensures.0 c.requires
+            (late_unread g.V.Vault.holds g.V.Vault.is_clean g.V.Vault.faults c.args.now c.args.seconds o n.newcomers.items _ (sym c.lies_unread.ensures ∙ yes)) d),
         told_none g.L.Listener.heard c.args.listener.now,
       );
     })

@@ -2,7 +2,6 @@ use Rattle.std.proofs.Common.{rules, ◌≡◌, ◌==◌, ◌<◌, ◌≤◌, �
 use Rattle.serving.specs.declared.links.Seat.{Seat}
 use Rattle.serving.specs.Late.{HasEndedLate}
 use Rattle.serving.proofs.Timely.{late_none, late_off, late_step, late_whole}
-use Rattle.serving.specs.Settings.{Settings}
 use Rattle.serving.specs.Works.{AreNoMoreLate, Giving}
 use Rattle.serving.specs.Hearing.{WasTold, late_ends}
 use Rattle.serving.proofs.Hearing.{told_none, late_told}
@@ -14,14 +13,14 @@ use Rattle.serving.proofs.turn.end_late_ones.Goals as goal
 no_seat : Seat
 no_seat = record { link = record { number = 0 }; connection = 0 }
 
-pub returns-then-links-eq0-clause-works : goal.returns-then-links-eq0-clause-works
-returns-then-links-eq0-clause-works g c =
+pub returns-then-seconds-eq0-clause-works : goal.returns-then-seconds-eq0-clause-works
+returns-then-seconds-eq0-clause-works g c =
     let n = c.args.links.now.newcomers in
-    let off : (n.seconds == 0) ≡ true = search rules in
+    let off : (c.args.seconds == 0) ≡ true = search rules in
     record {
       given = [];
       was_given = given_none g.V.Vault.holds g.V.Vault.is_clean g.V.Vault.faults c.args.office.now;
-      facts = (late_off g.V.Vault.holds g.V.Vault.is_clean g.V.Vault.faults c.args.now n.seconds c.args.office.now n.newcomers.items c.args.links.now.seats.items off, told_none g.L.Listener.heard c.args.listener.now);
+      facts = (late_off g.V.Vault.holds g.V.Vault.is_clean g.V.Vault.faults c.args.now c.args.seconds c.args.office.now n.newcomers.items c.args.links.now.seats.items off, told_none g.L.Listener.heard c.args.listener.now);
     }
 
 pub loop-place-init : goal.loop-place-init
@@ -33,8 +32,8 @@ loop-place-init g c = record {
   hurries = refl;
   last = refl;
   seated = λ h. h;
-  late = late_same c.args.now c.args.links.now.newcomers.seconds c.args.links.now.newcomers.newcomers.items;
-  works = record { given = []; was_given = given_none g.V.Vault.holds g.V.Vault.is_clean g.V.Vault.faults c.args.office.now; facts = (late_none g.V.Vault.holds g.V.Vault.is_clean g.V.Vault.faults c.args.now c.args.links.now.newcomers.seconds c.args.office.now c.args.links.now.newcomers.newcomers.items, told_none g.L.Listener.heard c.args.listener.now) };
+  late = late_same c.args.now c.args.seconds c.args.links.now.newcomers.newcomers.items;
+  works = record { given = []; was_given = given_none g.V.Vault.holds g.V.Vault.is_clean g.V.Vault.faults c.args.office.now; facts = (late_none g.V.Vault.holds g.V.Vault.is_clean g.V.Vault.faults c.args.now c.args.seconds c.args.office.now c.args.links.now.newcomers.newcomers.items, told_none g.L.Listener.heard c.args.listener.now) };
 }
 
 pub loop-place-preserved : goal.loop-place-preserved
@@ -45,14 +44,9 @@ loop-place-preserved g c =
     let now = c.args.now in
     let Heard = g.L.Listener.heard in
     let l = c.args.listener.now in
-    let some : (n.seconds == 0) ≡ false = search rules in
-    let seconds : k.links.newcomers.seconds ≡ n.seconds = ap (λ (s : Settings). s.login_seconds) k.invariant.set in
-    let on : (k.links.newcomers.seconds == 0) ≡ false = ap (λ m. m == 0) seconds ∙ some in
-    let late : AreNoMoreLate now n.seconds k.links.newcomers.newcomers.items x.new.links.newcomers.newcomers.items =
-    subst (λ m. AreNoMoreLate now m k.links.newcomers.newcomers.items x.new.links.newcomers.newcomers.items) seconds x.ensures.late in
+    let some : (c.args.seconds == 0) ≡ false = search rules in
     let within : k.place < length k.links.seats.items = search rules in
-    let one = subst (λ m. Giving g.V.Vault.holds g.V.Vault.is_clean g.V.Vault.faults k.office x.new.office
-    (λ given. ((d : Seat) → HasEndedLate g.V.Vault.holds g.V.Vault.is_clean k.office x.new.office now m k.links.newcomers.newcomers.items x.new.links.newcomers.newcomers.items (get_or k.links.seats.items k.place d ∷ []) given) × WasTold Heard k.listener x.new.listener (late_ends given))) seconds (x.ensures.works on) in
+    let one = x.ensures.works some in
     record {
       serves = λ T beside s clean. x.ensures.serves T beside (k.invariant.serves T beside s (x.ensures.clean clean)) clean;
       clean = λ clean. k.invariant.clean (x.ensures.clean clean);
@@ -61,8 +55,8 @@ loop-place-preserved g c =
       hurries = x.ensures.hurries ∙ k.invariant.hurries;
       last = x.ensures.last ∙ k.invariant.last;
       seated = λ h. x.ensures.seated (k.invariant.seated h);
-      late = late_then now n.seconds n.newcomers.items k.links.newcomers.newcomers.items x.new.links.newcomers.newcomers.items k.invariant.late late;
-      works = late_step g.V.Vault.holds g.V.Vault.is_clean g.V.Vault.faults now n.seconds c.args.office.now k.office x.new.office n.newcomers.items k.links.newcomers.newcomers.items x.new.links.newcomers.newcomers.items c.args.links.now.seats.items k.links.seats.items k.place no_seat
+      late = late_then now c.args.seconds n.newcomers.items k.links.newcomers.newcomers.items x.new.links.newcomers.newcomers.items k.invariant.late x.ensures.late;
+      works = late_step g.V.Vault.holds g.V.Vault.is_clean g.V.Vault.faults now c.args.seconds c.args.office.now k.office x.new.office n.newcomers.items k.links.newcomers.newcomers.items x.new.links.newcomers.newcomers.items c.args.links.now.seats.items k.links.seats.items k.place no_seat
           (λ given. WasTold Heard l k.listener (late_ends given)) (λ given. WasTold Heard k.listener x.new.listener (late_ends given)) (λ given. WasTold Heard l x.new.listener (late_ends given))
           (ap (λ v. v.items) k.invariant.seats) within k.invariant.late (λ g1 g2 a b. late_told Heard l k.listener x.new.listener g1 g2 a b) k.invariant.works one;
     }
@@ -72,5 +66,5 @@ returns-clause-works g c =
     let k = c.loop-place in
     let n = c.args.links.now.newcomers in
     let done : length k.links.seats.items ≤ k.place = search rules in
-    late_whole g.V.Vault.holds g.V.Vault.is_clean g.V.Vault.faults c.args.now n.seconds c.args.office.now k.office n.newcomers.items k.links.newcomers.newcomers.items c.args.links.now.seats.items k.links.seats.items k.place (λ given. WasTold g.L.Listener.heard c.args.listener.now k.listener (late_ends given))
+    late_whole g.V.Vault.holds g.V.Vault.is_clean g.V.Vault.faults c.args.now c.args.seconds c.args.office.now k.office n.newcomers.items k.links.newcomers.newcomers.items c.args.links.now.seats.items k.links.seats.items k.place (λ given. WasTold g.L.Listener.heard c.args.listener.now k.listener (late_ends given))
     (ap (λ v. v.items) k.invariant.seats) done k.invariant.works

@@ -18,9 +18,9 @@ invariant-loop-place g l = record {
   hurries : l.links.hurries ≡ l.fn.links.hurries;
   last : l.links.last ≡ l.fn.links.last;
   seated : AreSeatedAt l.fn.links → AreSeatedAt l.links;
-  late : AreNoMoreLate l.fn.now l.fn.links.newcomers.seconds l.fn.links.newcomers.newcomers.items l.links.newcomers.newcomers.items;
+  late : AreNoMoreLate l.fn.now l.fn.seconds l.fn.links.newcomers.newcomers.items l.links.newcomers.newcomers.items;
   works : Giving g.V.Vault.holds g.V.Vault.is_clean g.V.Vault.faults l.fn.office l.office
-      (λ given. HasEndedLate g.V.Vault.holds g.V.Vault.is_clean l.fn.office l.office l.fn.now l.fn.links.newcomers.seconds l.fn.links.newcomers.newcomers.items l.links.newcomers.newcomers.items (take l.place l.fn.links.seats.items) given
+      (λ given. HasEndedLate g.V.Vault.holds g.V.Vault.is_clean l.fn.office l.office l.fn.now l.fn.seconds l.fn.links.newcomers.newcomers.items l.links.newcomers.newcomers.items (take l.place l.fn.links.seats.items) given
       × WasTold g.L.Listener.heard l.fn.listener l.listener (late_ends given));
 }
 

@@ -13,7 +13,7 @@ use Rattle.office.specs.Events.{Trace}
 use Rattle.office.specs.Trace.{is_open}
 use Rattle.office.specs.Stands.{StandsFor}
 use Rattle.serving.specs.declared.newcomers.Newcomer.{Newcomer}
-use Rattle.serving.specs.Newcomers.{newcomer, HaveSeats, IsNewlyNoted, AllHaveSeats, IsSettled, IsComer}
+use Rattle.serving.specs.Newcomers.{newcomer, limit, limit_by, HaveSeats, IsNewlyNoted, AllHaveSeats, IsSettled, IsComer}
 use Rattle.std.proofs.lemmas.List.Elements.{All-weaker}
 use Rattle.serving.proofs.Late.{late_then}
 use Rattle.serving.proofs.Settling.{late_settled, settled_seats, comer_so, waited_same}
@@ -99,11 +99,16 @@ returns-clause-works g c = λ T s clean.
     let turned = subst (λ set. Part Holds IsClean g.V.Vault.faults Asked o2 w3 o3 w4 (WithHeard Holds IsClean Heard o2 l2 o3 l3 (Also (WereServed Holds IsClean o2 o3 set now came.newcomers.newcomers.items served.is_freed served.hurries served.newcomers.newcomers.items seats2 seats2) (HurriesBy served.is_freed served.hurries)))) c.accept_links.ensures.set
     (subst (λ b. Part Holds IsClean g.V.Vault.faults Asked o2 w3 o3 w4 (WithHeard Holds IsClean Heard o2 l2 o3 l3 (Also (WereServed Holds IsClean o2 o3 (settings_of came) now came.newcomers.newcomers.items served.is_freed served.hurries served.newcomers.newcomers.items seats2 seats2) (HurriesBy (b || served.is_freed) served.hurries)))) c.accept_links.ensures.hurries c.serve_links.ensures.works) in
     let settled = c.serve_links.ensures.settled in
-    let seconds = ap (λ (s : Settings). s.login_seconds) c.serve_links.ensures.aside.set ∙ ap (λ (s : Settings). s.login_seconds) c.accept_links.ensures.set in
-    let less = late_then now old.newcomers.seconds old.newcomers.newcomers.items came.newcomers.newcomers.items served.newcomers.newcomers.items c.accept_links.ensures.late
-    (late_settled now old.newcomers.seconds came.newcomers.newcomers.items served.newcomers.newcomers.items settled) in
-    let late = late_both Holds IsClean g.V.Vault.faults now served.newcomers.seconds old.newcomers.seconds old.newcomers.newcomers.items served.newcomers.newcomers.items ended.newcomers.newcomers.items seats2 o4 o5 (λ given. WasTold Heard l4 l5 (late_ends given)) seconds less
-    (subst (λ v. Giving Holds IsClean g.V.Vault.faults o4 o5 (λ given. HasEndedLate Holds IsClean o4 o5 now served.newcomers.seconds served.newcomers.newcomers.items ended.newcomers.newcomers.items v.items given × WasTold Heard l4 l5 (late_ends given))) c.serve_links.ensures.seats c.end_late_ones.ensures.works) in
+    let set = c.serve_links.ensures.aside.set ∙ c.accept_links.ensures.set in
+    let most = limit links (length seats2) in
+    let seconds : c.limit-seconds.result ≡ most =
+    c.limit-seconds.ensures
+    ∙ (ap (λ v. limit_by (length v.items) served.newcomers.seconds served.newcomers.full_house_seconds) c.serve_links.ensures.seats
+    ∙ (ap (λ (s : Settings). limit_by (length seats2) s.login_seconds s.full_house_seconds) set)) in
+    let less = late_then now most old.newcomers.newcomers.items came.newcomers.newcomers.items served.newcomers.newcomers.items (c.accept_links.ensures.late most)
+    (late_settled now most came.newcomers.newcomers.items served.newcomers.newcomers.items settled) in
+    let late = late_both Holds IsClean g.V.Vault.faults now c.limit-seconds.result most old.newcomers.newcomers.items served.newcomers.newcomers.items ended.newcomers.newcomers.items seats2 o4 o5 (λ given. WasTold Heard l4 l5 (late_ends given)) seconds less
+    (subst (λ v. Giving Holds IsClean g.V.Vault.faults o4 o5 (λ given. HasEndedLate Holds IsClean o4 o5 now c.limit-seconds.result served.newcomers.newcomers.items ended.newcomers.newcomers.items v.items given × WasTold Heard l4 l5 (late_ends given))) c.serve_links.ensures.seats c.end_late_ones.ensures.works) in
     let keeps : (n : ℕ) (x : Newcomer) → newcomer n old.newcomers.newcomers.items ≡ Some x → IsSettled now (Some x) (newcomer n served.newcomers.newcomers.items) =
     λ n x h. subst (λ m. IsSettled now m (newcomer n served.newcomers.newcomers.items)) (c.accept_links.ensures.noted n x h) (settled.each n) in
     let comers = c.accept_links.ensures.comers in
