@@ -142,12 +142,14 @@ fn flag<'a>(alloc: Global, name: &'a str, help: &'a str) -> Arg<'a> {
         .action(ArgAction::SetTrue)
 }
 
-/// `[--idle N] [--wait N] [--login-seconds N] [--slow-guesses] [--proxy-protocol]`: how long
-/// clients may be idle, wait and guess, and how their addresses are known.
+/// `[--idle N] [--wait N] [--login-seconds N] [--full-house-seconds N] [--slow-guesses]
+/// [--proxy-protocol]`: how long clients may be idle, wait and guess, and how their addresses are
+/// known.
 fn patience<'a>(alloc: Global) -> Result<Vec<Arg<'a>>, AllocError> {
     let idle = "After so many seconds an idle client is ended";
     let wait = "For so many seconds a login waits for a maildrop that is in use";
     let login = "After so many seconds a client that hasn't logged in is ended; 0: it isn't";
+    let full = "The same while 64 clients are connected; 0: as ever";
     let slow = "After a refused login the next one from the same address waits";
     let proxied = "The first line of each client's link is a proxy's, which tells its address";
     let arguments = vec![in alloc;
@@ -160,6 +162,9 @@ fn patience<'a>(alloc: Global) -> Result<Vec<Arg<'a>>, AllocError> {
         option(alloc, "login-seconds", "N", login)
             .default_value("0")
             .value_parser(value_parser!(u32).range(0..=600)),
+        option(alloc, "full-house-seconds", "N", full)
+            .default_value("0")
+            .value_parser(value_parser!(u32).range(0..=600)),
         flag(alloc, "slow-guesses", slow),
         flag(alloc, "proxy-protocol", proxied),
     ]?;
@@ -167,8 +172,8 @@ fn patience<'a>(alloc: Global) -> Result<Vec<Arg<'a>>, AllocError> {
 }
 
 /// `serve --store PATH --spool DIR [--listen IPV4] [--pop-port N] [--admin-port N] [--host NAME]
-/// [--idle N] [--wait N] [--login-seconds N] [--slow-guesses] [--proxy-protocol] [--removals WHEN]
-/// [--turns N] [--log] [--verbose]`.
+/// [--idle N] [--wait N] [--login-seconds N] [--full-house-seconds N] [--slow-guesses]
+/// [--proxy-protocol] [--removals WHEN] [--turns N] [--log] [--verbose]`.
 fn serve<'a>(alloc: Global) -> Result<Command<'a>, AllocError> {
     let listen = option(
         alloc,

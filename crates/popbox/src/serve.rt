@@ -219,6 +219,8 @@ fn serve_turns<'a, V: Vault, W: Wire + Peers + Drop>(
     links.set_wait(u64::from(wait));
     let login = options.get_one::<u32>("login-seconds").unwrap_or(0);
     links.set_login_seconds(u64::from(login));
+    let full = options.get_one::<u32>("full-house-seconds").unwrap_or(0);
+    links.set_full_house_seconds(u64::from(full));
     links.set_slow_guesses(options.get_flag("slow-guesses"));
     let mut clock = ServerClock::start(rt, watch)?;
     let mut listener = NotedListener::new(journal);
