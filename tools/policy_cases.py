@@ -129,10 +129,19 @@ def set_policy_notes_names_that_the_server_does_not_have(place):
             ("ann", "ordrs", ["note: no maildrop on the server: ordrs"]),
             ("anne", "sales", ["note: no clerk on the server: anne"]),
             ("*", "*", []),
+            ("x", "sales", ["note: no clerk on the server: x"]),
         ):
             new = write(place, rule(clerk, maildrop, ["open"]))
             _, _, why, _ = set_policy(place, server, new, said=b"n\n")
             wants([it for it in why.splitlines() if " on the server: " in it], told)
+        # Several of one table's row and of a group, and of several rules.
+        group = '[[group]]\nname = "desk"\nmembers = ["dan", "ann", "eve"]\n\n'
+        rules = [rule("@desk", "sales", ["open"]), rule("bob", "orders", ["open", "read"])]
+        rules = [it.replace('"one"', f'"rule-{at}"') for at, it in enumerate(rules)]
+        new = write(place, group + "\n".join(rules))
+        _, _, why, _ = set_policy(place, server, new, said=b"n\n")
+        told = [f"note: no clerk on the server: {it}" for it in ("bob", "dan", "eve")]
+        wants([it for it in why.splitlines() if " on the server: " in it], told)
 
 
 @case
@@ -146,11 +155,8 @@ def set_policy_refuses(place):
         wants(why.startswith("popbox-set-policy: popbox: rule 1: "), True)
         wants((f"why: {faulty}, rule 1: " in why, why.endswith(nothing)), (True, True))
         # One that lets nobody in, also by a program that says which build it is.
-        with open(f"{place.folder}/speaks", "w", encoding="utf-8") as file:
-            file.write(f'#!/bin/sh\necho a word >&2\nexec {place.program} "$@"\n')
-        os.chmod(file.name, 0o755)
-        speaks = ["--program", file.name]
-        for text in ("# No rule.\n", rule("*", "*", ["read", "remove"])):
+        speaks = ["--program", place.speaks()]
+        for text in ("# No rule.\n", rule("x", "*", ["read", "remove"])):
             for words in (["--yes"], ["--yes", *speaks], speaks):
                 new = write(place, text)
                 status, said, why, after = set_policy(place, server, *words, new, said=b"y\n")

@@ -74,6 +74,13 @@ class Place:
             file.write(f"#!/bin/sh\n{text}\n")
         os.chmod(file.name, 0o755)
 
+    def speaks(self):
+        """A program that says on standard error which build it is, as ./popbox does."""
+        with open(f"{self.folder}/speaks", "w", encoding="utf-8") as file:
+            file.write(f'#!/bin/sh\necho "popbox: a build" >&2\nexec {self.program} "$@"\n')
+        os.chmod(file.name, 0o755)
+        return file.name
+
     def note_calls(self):
         """What has tools/disk.c note a script's calls in the file `calls`."""
         library = f"{self.folder}/disk.so"
