@@ -103,7 +103,7 @@ returns-clause-works g c = λ T s clean.
     let most = limit links (length seats2) in
     let seconds : c.limit-seconds.result ≡ most =
     c.limit-seconds.ensures
-    ∙ (ap (λ v. limit_by (length v.items) served.newcomers.seconds served.newcomers.full_house_seconds) c.serve_links.ensures.seats
+    ∙ (ap (λ n. limit_by n served.newcomers.seconds served.newcomers.full_house_seconds) (c.len.ensures.value ∙ ap (λ v. length v.items) c.serve_links.ensures.seats)
     ∙ (ap (λ (s : Settings). limit_by (length seats2) s.login_seconds s.full_house_seconds) set)) in
     let less = late_then now most old.newcomers.newcomers.items came.newcomers.newcomers.items served.newcomers.newcomers.items (c.accept_links.ensures.late most)
     (late_settled now most came.newcomers.newcomers.items served.newcomers.newcomers.items settled) in
