@@ -150,7 +150,7 @@ fn patience<'a>(alloc: Global) -> Result<Vec<Arg<'a>>, AllocError> {
     let wait = "For so many seconds a login waits for a maildrop that is in use";
     let login = "After so many seconds a client that hasn't logged in is ended; 0: it isn't";
     let full = "The same while 64 clients are connected; 0: as ever";
-    let slow = "After a refused login the next one from the same address waits";
+    let slow = "After a refused login the next one under its name from its address waits";
     let proxied = "The first line of each client's link is a proxy's, which tells its address";
     let arguments = vec![in alloc;
         option(alloc, "idle", "N", idle)
