@@ -95,16 +95,17 @@ fn talk<'a>(alloc: Global) -> Result<Command<'a>, AllocError> {
     subcommand(alloc, "talk", about, arguments)
 }
 
-/// `check-policy [--verbose] FILE`.
+/// `check-policy [--write] [--verbose] FILE`.
 fn check_policy<'a>(alloc: Global) -> Result<Command<'a>, AllocError> {
     let file = Arg::new(alloc, "FILE").help("The policy's file; - is standard input");
-    let arguments = vec![in alloc; file.required(true)]?;
+    let write = "Prints the policy as popbox writes it, without comments";
+    let arguments = vec![in alloc; flag(alloc, "write", write), file.required(true)]?;
     let about = "Checks a policy, and prints how many rules it has or its first fault";
     subcommand(alloc, "check-policy", about, arguments)
 }
 
-/// `review-policy [--against OLD] [--store PATH] [--clerk NAME] [--maildrop NAME] [--format FORMAT]
-/// [--verbose] NEW`.
+/// `review-policy [--against OLD] [--store PATH] [--clerk NAME] [--maildrop NAME] [--only PART]
+/// [--format FORMAT] [--verbose] NEW`.
 fn review_policy<'a>(alloc: Global) -> Result<Command<'a>, AllocError> {
     let against = option(
         alloc,
@@ -118,6 +119,7 @@ fn review_policy<'a>(alloc: Global) -> Result<Command<'a>, AllocError> {
     );
     let clerk = option(alloc, "clerk", "NAME", "Tells of this clerk alone");
     let maildrop = option(alloc, "maildrop", "NAME", "Tells of this maildrop alone");
+    let only = option(alloc, "only", "PART", "Leaves out who may do what");
     let format = option(alloc, "format", "FORMAT", "How it is written");
     let file = Arg::new(alloc, "NEW").help("The policy's file; - is standard input");
     let arguments = vec![in alloc;
@@ -125,8 +127,9 @@ fn review_policy<'a>(alloc: Global) -> Result<Command<'a>, AllocError> {
         store,
         clerk,
         maildrop,
+        only.value_parser(["changes"].as_slice()),
         format
-            .value_parser(["text", "csv"].as_slice())
+            .value_parser(["text", "csv", "html", "json"].as_slice())
             .default_value("text"),
         file.required(true),
     ]?;
