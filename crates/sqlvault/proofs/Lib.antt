@@ -5,6 +5,7 @@ pub mod FaultLemmas
 pub mod NewLemmas
 pub mod PermutationLemmas
 pub mod ClerkLemmas
+pub mod ReceiptLemmas
 pub mod MaildropLemmas
 pub mod DepositLemmas
 pub mod HeadLemmas

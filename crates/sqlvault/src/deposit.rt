@@ -38,7 +38,7 @@ const MAX_MESSAGES: u64 = 10_000;
 const MAX_DEPOSITS: u64 = 1_000_000_000;
 
 /// The number of a row. An error where it is below 0, which a sound store's never is.
-fn read_number(number: i64) -> Result<u64, Error>
+pub(crate) fn read_number(number: i64) -> Result<u64, Error>
     ensures { (n : ℕ) → number ≡ pos n → result ≡ Ok n }
 {
     if number < 0 {
