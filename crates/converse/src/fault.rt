@@ -40,6 +40,8 @@ pub enum Fault {
     CannotPut,
     /// Standard output refuses octets.
     CannotWrite,
+    /// Texts of messages haven't the digests of their deposits. They are told on standard output.
+    Differs,
     /// Memory ran out.
     OutOfMemory,
 }
@@ -58,6 +60,7 @@ impl fmt::Display for Fault {
             Fault::NoClock => f.write_str("cannot read clock"),
             Fault::CannotPut => f.write_str("cannot write file"),
             Fault::CannotWrite => f.write_str("cannot write"),
+            Fault::Differs => f.write_str("texts differ from their digests"),
             Fault::OutOfMemory => f.write_str("out of memory"),
         }
     }

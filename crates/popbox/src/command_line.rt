@@ -209,7 +209,7 @@ fn serve<'a>(alloc: Global) -> Result<Command<'a>, AllocError> {
     subcommand(alloc, "serve", about, arguments)?.args(patience(alloc)?)
 }
 
-/// `export --store PATH --maildrop M [--verbose] DIR`.
+/// `export --store PATH --maildrop M [--damaged] [--verbose] DIR`.
 fn export<'a>(alloc: Global) -> Result<Command<'a>, AllocError> {
     let maildrop = option(
         alloc,
@@ -221,16 +221,22 @@ fn export<'a>(alloc: Global) -> Result<Command<'a>, AllocError> {
     let arguments = vec![in alloc;
         store(alloc, "The store's file, which no server has").required(true),
         maildrop.required(true),
+        flag(
+            alloc,
+            "damaged",
+            "Writes messages too whose texts differ from their digests"
+        ),
         folder.required(true),
     ]?;
     let about = "Writes each message of a maildrop as a file, the oldest first";
     subcommand(alloc, "export", about, arguments)
 }
 
-/// `check --store PATH [--verbose]`.
+/// `check --store PATH [--quick] [--verbose]`.
 fn check<'a>(alloc: Global) -> Result<Command<'a>, AllocError> {
     let file = store(alloc, "The store's file, which no server has");
-    let arguments = vec![in alloc; file.required(true)]?;
+    let quick = "Doesn't hold the messages' texts against their digests";
+    let arguments = vec![in alloc; file.required(true), flag(alloc, "quick", quick)]?;
     let about = "Opens a store, judges all that lies in it, and prints what that is";
     subcommand(alloc, "check", about, arguments)
 }

@@ -2,6 +2,7 @@
 #![tactic(auto)]
 
 mod command_line;
+mod copies;
 mod looking;
 mod resting;
 mod serve;
