@@ -1,3 +1,4 @@
 pub mod AdminLines
 pub mod Guards
 pub mod Lines
+pub mod Sessions

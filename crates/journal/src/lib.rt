@@ -12,6 +12,7 @@ mod administrators;
 mod asked_text;
 mod client;
 mod guarded;
+mod heard;
 mod journal;
 mod left;
 mod pipe;
