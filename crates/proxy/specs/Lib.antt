@@ -1,3 +1,4 @@
 pub mod Lines
 pub mod Proxied
 pub mod Behind
+pub mod Refusals

@@ -1,6 +1,6 @@
 -- What a wire tells whose clients come through a proxy: of each client's link the octets behind its
 -- first line.
-use Rattle.std.specs.Prelude.{◌≡◌, ◌≤◌, ◌<◌, ◌⊎◌, ◌||◌, not, ℕ, Bool, true, false, ◌==◌, List, [], ◌∷◌, ◌++◌, Option, IfSome, if◌then◌else◌}
+use Rattle.std.specs.Prelude.{◌≡◌, ◌≤◌, ◌<◌, ◌⊎◌, ◌||◌, not, ℕ, Bool, true, false, ◌==◌, List, [], ◌∷◌, ◌++◌, Option, Some, None, IfSome, if◌then◌else◌}
 use Rattle.std.specs.declared.net.ip_addr.IpAddr.{IpAddr}
 use Rattle.std.proofs.Common.{sym, ◌∙◌, ap, subst}
 use Rattle.serving.specs.Wires.{Told, ToldOfPorts, SayAlike, SayAlikeOfPorts, more_at, over_at, is_fault, is_live, at_port, has_read}
@@ -52,6 +52,14 @@ pub record IsKnown (t : Told) (k : ℕ) (source : Option IpAddr) : Type 0 where
   pub came : k < t.accepted
   pub whole : has_line (t.read k) ≡ true
   pub says : IsProxyLine (first_line (t.read k)) source
+
+-- the first line of a link says this address, or says that it is unknown
+abbrev pub IsSaid : Told → ℕ → IpAddr → Type 0
+IsSaid t k address = IsProxyLine (first_line (t.read k)) (Some address) ⊎ IsProxyLine (first_line (t.read k)) None
+
+-- so it is of a client's link, by what a wire tells
+abbrev pub IsAddressOf : {W : Type 0} → (W → ToldOfPorts → Type 0) → W → ℕ → IpAddr → Type 0
+IsAddressOf Tells wire k address = (t : ToldOfPorts) × Tells wire t × IsSaid t.pop k address
 
 -- inside t is told, and u outside, where these lines are begun and these sources known
 pub record TellsProxied (begun : ℕ → Option Begun) (known : ℕ → Option (Option IpAddr)) (t u : ToldOfPorts) : Type 0 where

@@ -6,7 +6,7 @@ ghost use Rattle.std.specs.declared.net.ip_addr.IpAddr.{IpAddr as Address};
 ghost use Rattle.std.specs.BTreeMap.{get};
 ghost use Rattle.arrayvec.specs.ArrayVec.{array_vec_len};
 ghost use Rattle.serving.specs.Wires.{ToldOfPorts, AreFresh, at_port, has_read, has_accepted};
-ghost use Rattle.serving.specs.Wires.{counted, is_fault, IsWithin};
+ghost use Rattle.serving.specs.Wires.{has_closed, counted, is_fault, IsWithin};
 ghost use Rattle.serving.specs.Calls.{Call};
 ghost use Rattle.serving.specs.Calls as call;
 ghost use Rattle.serving.specs.declared.wire.Io.{Io as AnIo};
@@ -14,8 +14,10 @@ ghost use Rattle.serving.specs.declared.wire.Port.TheVariants.{Pop as ThePop};
 ghost use Rattle.serving.specs.declared.wire.Io.TheVariants.{Later as TheLater};
 ghost use Rattle.serving.specs.declared.wire.Io.TheVariants.{Broken as TheBroken};
 ghost use Rattle.proxy.specs.Proxied.{TellsProxy, TellsProxied, proxy_once, IsLineRead, IsAmid};
-ghost use Rattle.proxy.specs.Proxied.{IsAsFarAs, has_line};
+ghost use Rattle.proxy.specs.Proxied.{IsAsFarAs, has_line, IsAddressOf};
 ghost use Rattle.proxy.specs.Behind.{TakesLine, AskedAmid, AskedBehind};
+ghost use Rattle.proxy.specs.Lines.{IsProxyLine};
+ghost use Rattle.proxy.specs.Refusals.{refusal_of, address_by};
 ghost use Rattle.proxy.specs.declared.wire.Progress.{Progress as HowFar};
 
 use crate::line::{MOST_OCTETS, ProxyLine};
@@ -49,13 +51,32 @@ pub(crate) enum Progress {
     Open(Io),
 }
 
+/// Why a link was closed before anything that its client sent was handed on.
+#[derive(Clone, Copy, PartialEq, Eq)]
+pub enum Refusal {
+    /// Its first line is no PROXY line of version 1, or has more than 107 octets.
+    NoLine,
+    /// Its first line wasn't whole at a read ten seconds or more after its acceptance.
+    TooLate,
+    /// Memory for its first line, or for what that tells, was wanting.
+    NoMemory,
+}
+
+/// A link that was refused.
+#[derive(Clone, Copy)]
+pub(crate) struct Refused {
+    link: u64,
+    why: Refusal,
+}
+
 /// A wire that does what the one inside does, but for the first line of each client's link, which
 /// is a proxy's.
 ///
 /// That line is read here, and never handed on: a read gives `Later` until it was read whole, and a
 /// look gives `Later` too. A link is closed, and its read gives `Broken`, where the first line is
 /// no PROXY line, is longer than 107 octets, isn't whole at a read ten seconds or more behind the
-/// acceptance, or where memory for it is wanting. Links of the administration have no such line.
+/// acceptance, or where memory for it is wanting; `refusal` tells which of these it was. Links of
+/// the administration have no such line.
 ///
 /// Contracts see what the wire inside tells, but of what was read from a client's link only the
 /// octets behind its first line; and that these are behind a PROXY line. They see too what it was
@@ -70,6 +91,8 @@ pub struct ProxiedWire<W: Wire, C: Clock> {
     known: BTreeMap<u64, Option<IpAddr>>,
     /// A line was read whole since the last wait, and more may lie behind it.
     hurries: bool,
+    /// The link that was refused last.
+    refused: Option<Refused>,
 }
 
 /// How long a wait is: no time where a line was read whole, and more may lie behind it.
@@ -77,6 +100,18 @@ fn wait_of(hurries: bool, millis: u32) -> u32
     ensures { result ≡ (if hurries then 0 else millis) }
 {
     if hurries { 0 } else { millis }
+}
+
+/// The address of a link: the source that its line told, if it told one; else that of the wire
+/// inside. `None` while no line is known.
+fn address_by(known: Option<Option<IpAddr>>, inside: Option<IpAddr>) -> Option<IpAddr>
+    ensures { result ≡ address_by known inside }
+{
+    match known {
+        Some(Some(source)) => Some(source),
+        Some(None) => inside,
+        None => None,
+    }
 }
 
 /// Reads the next octet of a line.
@@ -147,6 +182,7 @@ impl<W: Wire, C: Clock> ProxiedWire<W, C> {
             begun: BTreeMap::new(alloc),
             known: BTreeMap::new(alloc),
             hurries: false,
+            refused: None,
         }
     }
 
@@ -158,8 +194,19 @@ impl<W: Wire, C: Clock> ProxiedWire<W, C> {
         }
     }
 
+    /// Why a client's link was refused, if it is the one that was refused last; else `None`.
+    pub fn refusal(&self, link: Link) -> Option<Refusal>
+        ensures value { result ≡ refusal_of link.number self.now.refused }
+    {
+        let refused = self.refused?;
+        if refused.link == link.number {
+            return Some(refused.why);
+        }
+        None
+    }
+
     /// Closes a client's link that was read from in vain, and tells that it is broken.
-    fn break_off(&mut self, link: Link) -> Io
+    fn break_off(&mut self, link: Link, why: Refusal) -> Io
         ensures told { (u : ToldOfPorts) → TellsProxy W.tells self.old.wire
             (get nat_cmp self.old.begun) (get nat_cmp self.old.known)
             (at_port ThePop (λ of. has_read of link.number TheLater []) u)
@@ -167,6 +214,7 @@ impl<W: Wire, C: Clock> ProxiedWire<W, C> {
             (get nat_cmp self.new.known) (at_port ThePop (λ of. has_read of link.number result [])
             u) }
         ensures broken { result ≡ TheBroken }
+        ensures refused { refusal_of link.number self.new.refused ≡ Some why }
         ensures called { (least : ℕ) (far : HowFar) (room : ℕ) (a : List Call)
             → AskedAmid W.asked self.old.wire (get nat_cmp self.old.known)
             self.old.hurries link least far a
@@ -174,12 +222,16 @@ impl<W: Wire, C: Clock> ProxiedWire<W, C> {
             self.new.hurries (a ++ call.Read ThePop link room result [] ∷ []) }
     {
         self.wire.close(Port::Pop, link);
+        self.refused = Some(Refused {
+            link: link.number,
+            why,
+        });
         Io::Broken
     }
 
     /// Reads on a client's link whose first line isn't wanted any more, or never was: what lies
     /// there stays unread, and the link is closed.
-    fn refuse(&mut self, link: Link) -> Io
+    fn refuse(&mut self, link: Link, why: Refusal) -> Io
         ensures told { (u : ToldOfPorts) → TellsProxy W.tells self.old.wire
             (get nat_cmp self.old.begun) (get nat_cmp self.old.known) u
             → TellsProxy W.tells self.new.wire (get nat_cmp self.new.begun)
@@ -197,7 +249,7 @@ impl<W: Wire, C: Clock> ProxiedWire<W, C> {
         match self.wire.read(Port::Pop, link, &mut none) {
             Io::End => Io::End,
             Io::Broken => Io::Broken,
-            Io::Later | Io::Count(_) => self.break_off(link),
+            Io::Later | Io::Count(_) => self.break_off(link, why),
         }
     }
 
@@ -215,16 +267,21 @@ impl<W: Wire, C: Clock> ProxiedWire<W, C> {
             self.old.hurries link 1 (Progress.Open io) a
             → AskedBehind W.asked self.new.wire (get nat_cmp self.new.known)
             self.new.hurries (a ++ call.Read ThePop link room result [] ∷ []) }
+        ensures too_long { array_vec_len begun.line ≡ 107
+            → refusal_of link.number self.new.refused ≡ Some Refusal.NoLine }
+        ensures open_yet { array_vec_len begun.line < 107 → (result ≡ TheLater)
+            ⊎ (refusal_of link.number self.new.refused ≡ Some Refusal.TooLate)
+            ⊎ (refusal_of link.number self.new.refused ≡ Some Refusal.NoMemory) }
     {
         if begun.line.is_full() {
-            return self.break_off(link);
+            return self.break_off(link, Refusal::NoLine);
         }
         if self.second().saturating_sub(begun.since) >= MOST_SECONDS {
-            return self.break_off(link);
+            return self.break_off(link, Refusal::TooLate);
         }
         match self.begun.insert(link.number, begun) {
             Ok(_) => Io::Later,
-            Err(_) => self.break_off(link),
+            Err(_) => self.break_off(link, Refusal::NoMemory),
         }
     }
 
@@ -241,16 +298,21 @@ impl<W: Wire, C: Clock> ProxiedWire<W, C> {
             self.old.hurries link 1 Progress.Whole a
             → AskedBehind W.asked self.new.wire (get nat_cmp self.new.known)
             self.new.hurries (a ++ call.Read ThePop link room result [] ∷ []) }
+        ensures none { ((source : Option Address) → ¬ (IsProxyLine line.now source))
+            → refusal_of link.number self.new.refused ≡ Some Refusal.NoLine }
+        ensures taken { (source : Option Address) → IsProxyLine line.now source
+            → (result ≡ TheLater)
+            ⊎ (refusal_of link.number self.new.refused ≡ Some Refusal.NoMemory) }
     {
         let Some(read) = ProxyLine::read(line) else {
-            return self.break_off(link);
+            return self.break_off(link, Refusal::NoLine);
         };
         match self.known.insert(link.number, read.source) {
             Ok(_) => {
                 self.hurries = true;
                 Io::Later
             }
-            Err(_) => self.break_off(link),
+            Err(_) => self.break_off(link, Refusal::NoMemory),
         }
     }
 
@@ -270,10 +332,10 @@ impl<W: Wire, C: Clock> ProxiedWire<W, C> {
             self.new.hurries (a ++ call.Read ThePop link room result [] ∷ []) }
     {
         let Some(mut begun) = self.begun.remove(&link.number) else {
-            return self.refuse(link);
+            return self.refuse(link, Refusal::NoMemory);
         };
         if begun.line.is_full() {
-            return self.refuse(link);
+            return self.refuse(link, Refusal::NoLine);
         }
         // What is looked at comes from memory then, octet by octet.
         let mut shown = [0; MOST_OCTETS];
@@ -378,23 +440,37 @@ impl<W: Wire, C: Clock> Wire for ProxiedWire<W, C> {
 
     /// The address that the link's first line told; that of the wire inside where the proxy doesn't
     /// know it; `None` while the line isn't whole.
+    ///
+    /// What it tells of a client's link is what that line says, or that line says no address.
     fn address(&self, port: Port, link: Link) -> Option<IpAddr>
         ensures told { (source : Address) → port ≡ ThePop
             → get nat_cmp self.now.known link.number ≡ Some (Some source) → result ≡ Some source }
         ensures open_yet { port ≡ ThePop → get nat_cmp self.now.known link.number ≡ None
             → result ≡ None }
+        ensures said { (u : ToldOfPorts) → port ≡ ThePop → TellsProxy W.tells self.now.wire
+            (get nat_cmp self.now.begun) (get nat_cmp self.now.known) u
+            → IfSome result (IsAddressOf W.tells self.now.wire link.number) }
     {
+        let inside = self.wire.address(port, link);
         match port {
-            Port::Pop => match self.known.get(&link.number) {
-                Some(Some(source)) => Some(*source),
-                Some(None) => self.wire.address(port, link),
-                None => None,
-            },
-            Port::Admin => self.wire.address(port, link),
+            Port::Pop => address_by(self.known.get(&link.number).copied(), inside),
+            Port::Admin => inside,
         }
     }
 
-    fn close(&mut self, port: Port, link: Link) {
+    /// Closes a link, and forgets what is known of it.
+    fn close(&mut self, port: Port, link: Link)
+        ensures told { (u : ToldOfPorts) → TellsProxy W.tells self.old.wire
+            (get nat_cmp self.old.begun) (get nat_cmp self.old.known) u
+            → TellsProxy W.tells self.new.wire (get nat_cmp self.new.begun)
+            (get nat_cmp self.new.known) (at_port port (λ of. has_closed of link.number) u) }
+        ensures called { (a : List Call)
+            → AskedBehind W.asked self.old.wire (get nat_cmp self.old.known) self.old.hurries a
+            → AskedBehind W.asked self.new.wire (get nat_cmp self.new.known) self.new.hurries
+            (a ++ call.Closed port link ∷ []) }
+        ensures forgotten { port ≡ ThePop → (get nat_cmp self.new.begun link.number ≡ None)
+            × (get nat_cmp self.new.known link.number ≡ None) }
+    {
         self.wire.close(port, link);
         match port {
             Port::Pop => {

@@ -1,5 +1,5 @@
 //! Lines of proxies, and links behind them.
-use proxy::{ProxiedWire, ProxyLine};
+use proxy::{ProxiedWire, ProxyLine, Refusal};
 use serving::{Io, Link, Port, ScriptWire, Wire};
 use std::alloc::{AllocError, Global};
 use std::io;
@@ -28,7 +28,7 @@ type TestWire = ProxiedWire<ScriptWire, HandClock>;
 
 /// What comes on a link, what is read from it, and from where it came: an address, `peer` for that
 /// of the wire inside, `none` where it isn't known, `broken` where the link was closed.
-static LINKS: [(&str, &str, &str); 16] = [
+static LINKS: [(&str, &str, &str); 17] = [
     (
         "PROXY TCP4 203.0.113.7 127.0.0.1 51234 1110\r\nCAPA\r\n",
         "CAPA\r\n",
@@ -53,6 +53,7 @@ static LINKS: [(&str, &str, &str); 16] = [
     ("PROXY TCP4 203.0.113.7", "", "none"),
     ("", "", "none"),
     ("CAPA\r\n", "", "broken"),
+    ("\r\n\r\n\0\r\nQUIT\n!\x11\0\x0c", "", "broken"),
     (
         "PROXY TCP4 203.0.113.7 127.0.0.1 51234 1110\nCAPA\r\n",
         "",
@@ -146,6 +147,7 @@ fn is_as(alloc: Global, row: &(&str, &str, &str), piece: usize) -> Result<bool, 
         heard.as_slice() == hears.as_bytes()
             && told.as_str() == source
             && open == (source != "broken")
+            && (wire.refusal(link) == Some(Refusal::NoLine)) == (source == "broken")
             && !wire.wire.strayed(),
     )
 }
@@ -172,6 +174,7 @@ fn late_line(rt: HostRuntime) -> Result<(), Fail> {
     wire.clock.seconds = 15;
     assert_eq!(rt; wire.read(Port::Pop, link, &mut room), Io::Broken);
     assert!(rt; wire.wire.is_closed(0));
+    assert!(rt; wire.refusal(link) == Some(Refusal::TooLate));
     Ok(())
 }
 
