@@ -15,6 +15,8 @@ use Rattle.office.specs.declared.account.Way.{Way}
 use Rattle.office.specs.declared.account.Way.TheVariants as way
 use Rattle.office.specs.declared.account.Verdict.{Verdict}
 use Rattle.office.specs.declared.account.Verdict.TheVariants as judged
+use Rattle.proxy.specs.declared.wire.Refusal.{Refusal}
+use Rattle.proxy.specs.declared.wire.Refusal.TheVariants as refused
 
 -- the values of a login name
 abbrev pub name_text : LoginName → List ℕ
@@ -101,6 +103,12 @@ cause_text account.QuitBeforeLogin = []
 cause_text account.Nothing = []
 cause_text account.Marked = []
 cause_text account.Unmarked = []
+
+-- why a link was refused for its first line
+abbrev pub refusal_text : Refusal → List ℕ
+refusal_text refused.NoLine = codes " cause=\"no PROXY line\""
+refusal_text refused.TooLate = codes " cause=\"no PROXY line in time\""
+refusal_text refused.NoMemory = codes " cause=\"out of memory\""
 
 -- ---- what a QUIT removed
 

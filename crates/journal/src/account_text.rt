@@ -3,10 +3,11 @@ ghost use Rattle.std.specs.Prelude.{◌≡◌, IfOk, Some, true, string_bytes};
 ghost use Rattle.journal.specs.Lines.{name_text as name_words, way_text, verdict_text};
 ghost use Rattle.journal.specs.Lines.{farewell_text, login_text as login_line};
 ghost use Rattle.journal.specs.Lines.{quit_text as quit_line, account_text, is_told};
-ghost use Rattle.journal.specs.Lines.{cause_text as cause_words};
+ghost use Rattle.journal.specs.Lines.{cause_text as cause_words, refusal_text as refusal_words};
 
 use creds::{LoginName, Name};
 use office::{Account, End, Removal, Verdict, Way};
+use proxy::Refusal;
 use std::alloc::{AllocError, Global};
 
 /// By which command a login came.
@@ -176,5 +177,16 @@ pub fn cause_text(account: &Account) -> &'static str
         Account::Login(_, _, Verdict::InUse | Verdict::StoreFailed) => "",
         Account::NoName | Account::Quit(_) | Account::QuitBeforeLogin => "",
         Account::Nothing | Account::Marked | Account::Unmarked => "",
+    }
+}
+
+/// Why a link was refused for its first line, as the line of its end tells it.
+pub fn refusal_text(refusal: Refusal) -> &'static str
+    ensures { result.now ≡ refusal_words refusal }
+{
+    match refusal {
+        Refusal::NoLine => " cause=\"no PROXY line\"",
+        Refusal::TooLate => " cause=\"no PROXY line in time\"",
+        Refusal::NoMemory => " cause=\"out of memory\"",
     }
 }

@@ -37,13 +37,19 @@ impl Client {
         }
     }
 
-    /// Keeps what an account says of the session.
-    fn take(&mut self, alloc: Global, account: &Account) {
+    /// Keeps why it ends, as its line tells it, where that wasn't heard before. Without memory it
+    /// isn't kept.
+    fn end_by(&mut self, alloc: Global, cause: &str) {
         if self.cause.is_empty()
-            && let Ok(cause) = String::from_str(alloc, cause_text(account))
+            && let Ok(cause) = String::from_str(alloc, cause)
         {
             self.cause = cause;
         }
+    }
+
+    /// Keeps what an account says of the session.
+    fn take(&mut self, alloc: Global, account: &Account) {
+        self.end_by(alloc, cause_text(account));
         match account {
             Account::Login(name, _, Verdict::Accepted) => {
                 self.session = Some(*name);
@@ -161,6 +167,13 @@ impl Clients {
         if let Ok(address) = format!(in alloc; "{ip}") {
             client.ip = Some(ip);
             client.address = address;
+        }
+    }
+
+    /// Keeps why a link ends, as its line tells it, where that wasn't heard before.
+    pub fn end_by(&mut self, alloc: Global, link: Link, cause: &str) {
+        if let Some(client) = self.at(link) {
+            client.end_by(alloc, cause);
         }
     }
 

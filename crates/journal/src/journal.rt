@@ -1,4 +1,5 @@
 //! Where the lines of a log go.
+use super::account_text::refusal_text;
 use super::administrators::Administrators;
 use super::client::Clients;
 use super::pipe::takes_a_line;
@@ -6,6 +7,7 @@ use super::removed_text::{MOST_ON_A_LINE, removed_line};
 use creds::Name;
 use jiff::Timestamp;
 use office::{Account, Removal};
+use proxy::Refusal;
 use serving::{Asked, Link, Listener};
 use std::alloc::{AllocError, Global};
 use std::cell::{Cell, RefCell};
@@ -95,6 +97,13 @@ impl<'a> Journal<'a> {
     pub fn locate(&self, link: Link, ip: IpAddr) {
         if let Ok(mut clients) = self.shared.clients.try_borrow_mut() {
             clients.locate(self.alloc(), link, ip);
+        }
+    }
+
+    /// Keeps why a mail program's link is closed, whose first line was refused.
+    pub fn refuse(&self, link: Link, refusal: Refusal) {
+        if let Ok(mut clients) = self.shared.clients.try_borrow_mut() {
+            clients.end_by(self.alloc(), link, refusal_text(refusal));
         }
     }
 

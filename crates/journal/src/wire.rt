@@ -1,20 +1,27 @@
 //! A wire whose links are noted.
 
 use super::journal::Journal;
-use proxy::ProxiedWire;
+use proxy::{ProxiedWire, Refusal};
 use serving::{Io, Link, NotedWire, Port, SocketWire, Wire};
 use std::net::{IpAddr, SocketAddr};
 use std::time::Clock;
 
-/// A wire that knows from where its links came.
+/// A wire that knows from where its links came, and why it closed one by itself.
 pub trait Peers {
     /// The address of the other end of a link, where it is known.
     fn peer(&self, port: Port, link: Link) -> Option<SocketAddr>;
+
+    /// Why a client's link was closed at its last read, if that was for its first line.
+    fn refusal(&self, link: Link) -> Option<Refusal>;
 }
 
 impl Peers for SocketWire {
     fn peer(&self, port: Port, link: Link) -> Option<SocketAddr> {
         SocketWire::peer(self, port, link)
+    }
+
+    fn refusal(&self, _link: Link) -> Option<Refusal> {
+        None
     }
 }
 
@@ -22,12 +29,20 @@ impl<W: Wire + Peers> Peers for NotedWire<W> {
     fn peer(&self, port: Port, link: Link) -> Option<SocketAddr> {
         self.wire.peer(port, link)
     }
+
+    fn refusal(&self, link: Link) -> Option<Refusal> {
+        self.wire.refusal(link)
+    }
 }
 
 /// Behind a proxy the other end is the proxy; a link's `address` is the client's.
 impl<W: Wire + Peers, C: Clock> Peers for ProxiedWire<W, C> {
     fn peer(&self, port: Port, link: Link) -> Option<SocketAddr> {
         self.wire.peer(port, link)
+    }
+
+    fn refusal(&self, link: Link) -> Option<Refusal> {
+        ProxiedWire::refusal(self, link)
     }
 }
 
@@ -59,6 +74,20 @@ impl<W: Wire + Peers> LoggedWire<'_, W> {
     fn locate(&self, link: Link) {
         if let Some(ip) = self.wire.address(Port::Pop, link) {
             self.journal.locate(link, ip);
+        }
+    }
+
+    /// Keeps what a read of a client's link tells of it: its address where octets came, and where
+    /// it is broken that its first line was refused, if it was.
+    fn follow_read(&self, link: Link, came: Io) {
+        match came {
+            Io::Count(_) => self.locate(link),
+            Io::Broken => {
+                if let Some(refusal) = self.wire.refusal(link) {
+                    self.journal.refuse(link, refusal);
+                }
+            }
+            Io::Later | Io::End => {}
         }
     }
 
@@ -97,11 +126,8 @@ impl<W: Wire + Peers> Wire for LoggedWire<'_, W> {
 
     fn read(&mut self, port: Port, link: Link, buffer: &mut [u8]) -> Io {
         let came = self.wire.read(port, link, buffer);
-        if let Io::Count(_) = came
-            && self.journal.is_on()
-            && port == Port::Pop
-        {
-            self.locate(link);
+        if self.journal.is_on() && port == Port::Pop {
+            self.follow_read(link, came);
         }
         came
     }

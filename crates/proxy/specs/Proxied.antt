@@ -55,7 +55,9 @@ pub record IsKnown (t : Told) (k : ℕ) (source : Option IpAddr) : Type 0 where
 
 -- the first line of a link says this address, or says that it is unknown
 abbrev pub IsSaid : Told → ℕ → IpAddr → Type 0
-IsSaid t k address = IsProxyLine (first_line (t.read k)) (Some address) ⊎ IsProxyLine (first_line (t.read k)) None
+IsSaid t k address =
+    IsProxyLine (first_line (t.read k)) (Some address)
+    ⊎ IsProxyLine (first_line (t.read k)) None
 
 -- so it is of a client's link, by what a wire tells
 abbrev pub IsAddressOf : {W : Type 0} → (W → ToldOfPorts → Type 0) → W → ℕ → IpAddr → Type 0

@@ -2,8 +2,8 @@
 //! stunnel write it.
 //!
 //! A [`ProxyLine`] is what such a line says. A [`ProxiedWire`] stands around a wire whose clients
-//! come through a proxy: it reads that line, and hands on what comes behind it. A [`Refusal`] is why
-//! it closed a link for its first line.
+//! come through a proxy: it reads that line, and hands on what comes behind it. A [`Refusal`] is
+//! why it closed a link for its first line.
 #![tactic(auto)]
 
 mod line;
