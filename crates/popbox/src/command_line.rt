@@ -49,7 +49,7 @@ fn verbose<'a>(alloc: Global) -> Arg<'a> {
     Arg::new(alloc, "verbose")
         .long("verbose")
         .action(ArgAction::SetTrue)
-        .help("Says on standard error what a fault is about")
+        .help("Prints what a fault is about, on standard error")
 }
 
 /// Whether a command is to say what its faults are about.
@@ -73,20 +73,20 @@ fn subcommand<'a>(
 /// `replay [--store PATH] [--host NAME] [--boot N] [--removals WHEN] [--verbose] [SCRIPT]`.
 fn replay<'a>(alloc: Global) -> Result<Command<'a>, AllocError> {
     let arguments = vec![in alloc;
-        store(alloc, "The store's file, else one in memory"),
+        store(alloc, "The store's file; without it, one in memory"),
         host(alloc),
         boot(alloc).default_value("1"),
         removals(alloc),
         Arg::new(alloc, "SCRIPT").help("The script's file; - or none: standard input"),
     ]?;
-    let about = "Runs the events of a script, and prints what each gives";
+    let about = "Runs the events of a script, and prints the result of each";
     subcommand(alloc, "replay", about, arguments)
 }
 
 /// `talk --store PATH [--host NAME] [--boot N] [--removals WHEN] [--verbose]`.
 fn talk<'a>(alloc: Global) -> Result<Command<'a>, AllocError> {
     let arguments = vec![in alloc;
-        store(alloc, "The store's file, which is made where there is none").required(true),
+        store(alloc, "The store's file, created if it doesn't exist").required(true),
         host(alloc),
         boot(alloc),
         removals(alloc),
@@ -114,11 +114,11 @@ fn review_policy<'a>(alloc: Global) -> Result<Command<'a>, AllocError> {
     );
     let store = store(
         alloc,
-        "The store's file, which no server has open: its names, and its policy where no OLD is",
+        "The store's file, which no server has open: its names, and its policy without --against",
     );
-    let clerk = option(alloc, "clerk", "NAME", "Tells of this clerk alone");
-    let maildrop = option(alloc, "maildrop", "NAME", "Tells of this maildrop alone");
-    let format = option(alloc, "format", "FORMAT", "How it is written");
+    let clerk = option(alloc, "clerk", "NAME", "Reviews this clerk only");
+    let maildrop = option(alloc, "maildrop", "NAME", "Reviews this maildrop only");
+    let format = option(alloc, "format", "FORMAT", "The form of the review");
     let file = Arg::new(alloc, "NEW").help("The policy's file; - is standard input");
     let arguments = vec![in alloc;
         against,
@@ -145,11 +145,11 @@ fn flag<'a>(alloc: Global, name: &'a str, help: &'a str) -> Arg<'a> {
 /// `[--idle N] [--wait N] [--login-seconds N] [--slow-guesses] [--proxy-protocol]`: how long
 /// clients may be idle, wait and guess, and how their addresses are known.
 fn patience<'a>(alloc: Global) -> Result<Vec<Arg<'a>>, AllocError> {
-    let idle = "After so many seconds an idle client is ended";
-    let wait = "For so many seconds a login waits for a maildrop that is in use";
-    let login = "After so many seconds a client that hasn't logged in is ended; 0: it isn't";
+    let idle = "Ends an idle client after N seconds";
+    let wait = "A login waits up to N seconds for a maildrop that is in use";
+    let login = "Ends a client that hasn't logged in after N seconds; 0: never";
     let slow = "After a refused login the next one from the same address waits";
-    let proxied = "The first line of each client's link is a proxy's, which tells its address";
+    let proxied = "The first line of each client's link is a proxy's, with the client's address";
     let arguments = vec![in alloc;
         option(alloc, "idle", "N", idle)
             .default_value("600")
@@ -174,16 +174,16 @@ fn serve<'a>(alloc: Global) -> Result<Command<'a>, AllocError> {
         alloc,
         "listen",
         "IPV4",
-        "The address at which clients connect",
+        "The address on which clients connect",
     );
-    let port = option(alloc, "pop-port", "N", "The port at which clients connect");
+    let port = option(alloc, "pop-port", "N", "The port on which clients connect");
     let admin = option(
         alloc,
         "admin-port",
         "N",
-        "The port of 127.0.0.1 at which the administration is asked",
+        "The port of 127.0.0.1 for the administration",
     );
-    let turns = option(alloc, "turns", "N", "Ends after so many turns");
+    let turns = option(alloc, "turns", "N", "Ends after N turns");
     let spool = option(
         alloc,
         "spool",
@@ -191,7 +191,7 @@ fn serve<'a>(alloc: Global) -> Result<Command<'a>, AllocError> {
         "The folder into which messages are put",
     );
     let arguments = vec![in alloc;
-        store(alloc, "The store's file, which is made where there is none").required(true),
+        store(alloc, "The store's file, created if it doesn't exist").required(true),
         spool.required(true),
         listen.default_value("127.0.0.1"),
         port.default_value("1110").value_parser(value_parser!(u16)),
@@ -199,11 +199,7 @@ fn serve<'a>(alloc: Global) -> Result<Command<'a>, AllocError> {
         host(alloc),
         removals(alloc),
         turns.value_parser(value_parser!(u64)),
-        flag(
-            alloc,
-            "log",
-            "Writes a line for each event to standard error"
-        ),
+        flag(alloc, "log", "Logs a line for each event on standard error"),
     ]?;
     let about = "Serves clients over the network, and takes messages from a folder";
     subcommand(alloc, "serve", about, arguments)?.args(patience(alloc)?)
@@ -217,9 +213,9 @@ fn export<'a>(alloc: Global) -> Result<Command<'a>, AllocError> {
         "M",
         "The maildrop whose messages are written",
     );
-    let folder = Arg::new(alloc, "DIR").help("The folder, which is there; no file is replaced");
+    let folder = Arg::new(alloc, "DIR").help("The folder, which must exist; no file is replaced");
     let arguments = vec![in alloc;
-        store(alloc, "The store's file, which no server has").required(true),
+        store(alloc, "The store's file, which no server has open").required(true),
         maildrop.required(true),
         folder.required(true),
     ]?;
@@ -229,9 +225,9 @@ fn export<'a>(alloc: Global) -> Result<Command<'a>, AllocError> {
 
 /// `check --store PATH [--verbose]`.
 fn check<'a>(alloc: Global) -> Result<Command<'a>, AllocError> {
-    let file = store(alloc, "The store's file, which no server has");
+    let file = store(alloc, "The store's file, which no server has open");
     let arguments = vec![in alloc; file.required(true)]?;
-    let about = "Opens a store, judges all that lies in it, and prints what that is";
+    let about = "Opens a store, judges everything in it, and prints what it holds";
     subcommand(alloc, "check", about, arguments)
 }
 
@@ -248,7 +244,7 @@ pub fn make_command<'a>(alloc: Global) -> Result<Command<'a>, AllocError> {
     let command = Command::new(alloc, "popbox")
         .version("0.1.0")
         .about("A POP3 server for shared maildrops")
-        .after_help("--verbose behind a command: a fault is told with what it is about")
+        .after_help("--verbose after a command: also prints what a fault is about")
         .subcommand_required(true)
         .arg_required_else_help(true);
     let command = add(command, replay(alloc))?;

@@ -38,7 +38,7 @@ use vault::{PlainVault, Vault, VaultFault};
 const UNREADABLE: u8 = 2;
 
 /// The last line on standard error where the command line can't be read.
-const VERBOSE: &str = "With '--verbose' behind a command, a fault is told with what it is about.";
+const VERBOSE: &str = "With '--verbose' after a command, popbox also prints what a fault is about.";
 
 fn main(rt: HostRuntime) -> ExitCode {
     let mut err = rt.stderr();

@@ -141,7 +141,7 @@ is_moving _ = false
 abbrev pub has_moved : List Call → Bool
 has_moved calls = list_any is_moving calls
 
--- where the next turn doesn't wait by these calls, it didn't before, or something moved
+-- these calls set it only if something moved
 abbrev pub HurriesBy : (hurried hurried_then : Bool) → List Call → Type 0
 HurriesBy hurried hurried_then calls =
     hurried_then ≡ true → (hurried || has_moved calls) ≡ true

@@ -159,9 +159,9 @@ fn read_once<V: Vault, W: Wire, L: Listener>(
     }
 }
 
-/// Notes how the line went that was read last of a client that hadn't logged in before: whether it
-/// was refused, where so many refusals were before, or has logged in. Its next line is read in the
-/// next turn, which doesn't wait.
+/// Updates the guess limiter after a line of a client that wasn't logged in: backs off if refusals
+/// rose above `before`, resets on login. The next turn doesn't wait, and reads the client's next
+/// line.
 fn note_guess<V: Vault>(
     office: &Office<V>,
     links: &mut Clients,
