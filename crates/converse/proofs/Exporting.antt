@@ -45,12 +45,12 @@ pub record Puts {V : Type 0} (Holds : V → Contents → Type 0) (IsClean : V �
 pub counts_on : (a b d : ℕ) → a ≤ b → b ≤ d → a ≤ d
 counts_on a b d p q = omega (arith, p, q)
 
--- a folder that refused is told as want of memory, or its count grew
+-- a folder that refused is reported as want of memory, or its count grew
 pub put_cause : (failed written : Bool) (P : VaultFault → Type 0) (f : Fault) → (f ≡ fault.CannotPut) ⊎ (f ≡ fault.OutOfMemory) → failed ≡ true → IsExportFault failed written P f
 put_cause failed written P f (inl e) g = subst (IsExportFault failed written P) (sym e) g
 put_cause failed written P f (inr e) g = subst (IsExportFault failed written P) (sym e) tt
 
--- a cause is one still where more failed
+-- a cause is one still if more failed
 pub cause_still : (put more written further : Bool) (P Q : VaultFault → Type 0) → (put ≡ true → more ≡ true) → (written ≡ true → further ≡ true) → ((e : VaultFault) → P e → Q e)
     → (f : Fault) → IsExportFault put written P f → IsExportFault more further Q f
 cause_still put more written further P Q p w q fault.CannotRead h = absurd h
@@ -76,7 +76,7 @@ refused_since there first before now l vault.NotOurs h = absurd h
 refused_since there first before now l vault.OldVersion h = absurd h
 refused_since there first before now l vault.NoClerk h = absurd h
 
--- what is there isn't told as missing
+-- what is there isn't reported as missing
 pub refused_there : (there counted : Bool) (e : VaultFault) → IsRefused true counted e → IsRefused there counted e
 refused_there there counted vault.NoMaildrop h = absurd (true≢false h)
 refused_there there counted vault.Conflict h = absurd h
@@ -175,7 +175,7 @@ front_then (x ∷ xs) ys (t ∷ text) e f =
 pub whole_text : (xs text : List ℕ) (n : ℕ) → n ≡ length text → IsFront xs text → n ≤ length xs → xs ≡ text
 whole_text xs text n e f l = f ∙ take_all (length xs) text (omega (arith, e, l))
 
--- the next octets stand behind the front that was read
+-- the next octets stand after the front that was read
 pub front_more : (old new more ys text : List ℕ) (from : ℕ) → from ≡ length old → new ≡ old ++ more → more ≡ ys → ys ≡ take (length ys) (drop from text)
     → IsFront old text → IsFront new text
 front_more old new more ys text from at is same next front =
@@ -294,14 +294,14 @@ pub count_put : (d : List ℕ) (c : Contents) (hs : List Head) (n : ℕ) → n �
 count_put d c hs n is same =
     is ∙ ap (λ (xs : List Head). length xs) same ∙ length-map (kept_in d c.messages) head_of ∙ sym (length-map (kept_in d c.messages) file_of)
 
--- the folder took a maildrop's files where it took those of its heads
+-- the folder took a maildrop's files if it took those of its heads
 pub files_taken : (d : List ℕ) (c : Contents) (hs : List Head) (a b : Option (List File)) → AreSound c → hs ≡ heads d c → Takes a b (map (file_under c) hs) → Takes a b (files_of d c)
 files_taken d c hs a b sound same p = subst (λ (fs : List File). Takes a b fs) (files_put d c hs sound same) p
 
 pub first_taken : (d : List ℕ) (c : Contents) (hs : List Head) (a b : Option (List File)) → AreSound c → hs ≡ heads d c → TakesFirst a b (map (file_under c) hs) → TakesFirst a b (files_of d c)
 first_taken d c hs a b sound same p = subst (λ (fs : List File). TakesFirst a b fs) (files_put d c hs sound same) p
 
--- the line that tells how many there were
+-- the line that says how many there were
 pub line_is : (d : List ℕ) (c : Contents) (hs : List Head) (n : ℕ) (text line : List ℕ) → text ≡ line → line ≡ export_line n → n ≡ length hs → hs ≡ heads d c
     → text ≡ export_line (length (files_of d c))
 line_is d c hs n text line lent told is same = lent ∙ told ∙ ap export_line (count_put d c hs n is same)

@@ -5,7 +5,7 @@ use Rattle.std.specs.Prelude.{⊤, MatchOption, codes}
 use Rattle.std.specs.Str.{bytes_eq}
 use Rattle.converse.specs.Script.{two_fields, clerk_command, maildrop_command, text_line}
 
--- what holds of no form holds where there is none
+-- what holds of no form holds if there is none
 pub if_none : {A P Q : Type 0} (r : Option A) → (P → Q) → MatchOption r P (λ _. ⊤) → MatchOption r Q (λ _. ⊤)
 if_none None f h = f h
 if_none (Some x) f h = tt

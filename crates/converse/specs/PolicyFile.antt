@@ -21,7 +21,7 @@ IsFaultOf octets fault = (IsUtf8 octets → rules_of octets ≡ Err fault) × (�
 abbrev pub IsNoPolicyText : List ℕ → Type 0
 IsNoPolicyText octets = (policy : Policy) → ¬ IsPolicyText octets policy
 
--- the file, where its octets are known, is a policy's text, and the count of that policy's rules is printed
+-- the file, if its octets are known, is a policy's text, and the count of that policy's rules is printed
 abbrev pub TellsCount : (file before after : Option (List ℕ)) → Type 0
 TellsCount file before after =
     (policy : Policy) × IfSome file (λ octets. IsPolicyText octets policy) × Appends before after (count_line (length policy.rules))

@@ -8,7 +8,7 @@ use Rattle.review.specs.declared.choice.Choice.{Choice}
 use Rattle.review.specs.Names.{Kept, nobody}
 use Rattle.review.specs.Review.{against_text, changes_of, has_lines, review_text, stored_text}
 
--- what a file holds, where that is known, is a policy's text
+-- what a file holds, if that is known, is a policy's text
 abbrev pub Holds : (file : Option (List ℕ)) → Policy → Type 0
 Holds file policy = IfSome file (λ octets. IsPolicyText octets policy)
 
@@ -22,7 +22,7 @@ abbrev pub TellsReviewPart : Choice → (file before after : Option (List ℕ)) 
 TellsReviewPart choice file before after =
     (policy : Policy) × Holds file policy × PrintsPart before after (review_text choice policy)
 
--- 3 where a decision differs, else 0
+-- 3 if a decision differs, else 0
 abbrev pub status_of : (differ : Bool) → ℕ
 status_of true = 3
 status_of false = 0

@@ -19,7 +19,7 @@ use std::str;
 /// Reads a policy's file to its end, and prints `ok, N rules` to `out`, which is flushed.
 ///
 /// Gives the exit status, 0 or 1. A fault has status 1 and its text on `err`: of a text that is no
-/// policy its first fault, `NotToml` also where it isn't UTF-8. Faults are found in the order: the
+/// policy its first fault, `NotToml` even if it isn't UTF-8. Faults are found in the order: the
 /// file can't be read, its policy has a fault, memory runs out, `out` refuses octets. Before the
 /// last of them nothing is on `out`; then a beginning of the line may be.
 pub fn check_policy<R: Read, W: Write, E: Write>(
@@ -91,7 +91,7 @@ pub(crate) fn read_octets(alloc: Global, octets: &[u8]) -> Result<Policy, Fault>
     }
 }
 
-/// The line that tells how many rules there are.
+/// The line that says how many rules there are.
 fn count_line(alloc: Global, count: usize) -> Result<String, AllocError>
     ensures { IfOk result (λ line. string_bytes line ≡ line_of count) }
 {

@@ -1,4 +1,4 @@
-//! `popbox check`: tells what lies in a store.
+//! `popbox check`: prints what is in a store.
 
 ghost use Rattle.std.specs.Prelude.{◌≡◌, ◌≤◌, ◌++◌, ◌⊎◌, true, length, sum_by, is_some, IfOk, OnOk};
 ghost use Rattle.std.specs.List.{All, flat_map};
@@ -88,7 +88,7 @@ fn tell_store<V: Vault, W: Write>(
     Ok(())
 }
 
-/// Puts what lies in a store behind a text.
+/// Puts what lies in a store after a text.
 fn put_store<V: Vault>(
     vault: &mut V,
     clerks: &[Name],

@@ -62,7 +62,7 @@ fn tell_review<R: Read, W: Write>(
 /// Reads the files of the old policy and of the new one to their ends, the old one first, and
 /// prints the new one's review against the old one to `out`, which is flushed.
 ///
-/// Gives the exit status: 0 where no decision differs, 3 where one does, and 1 at a fault, as
+/// Gives the exit status: 0 if no decision differs, 3 if one does, and 1 at a fault, as
 /// `review_file` tells it.
 pub fn review_change<O: Read, R: Read, W: Write, E: Write>(
     alloc: Global,

@@ -1,4 +1,4 @@
-//! What lies in a store over tables, told with all its clerks.
+//! What lies in a store over tables, printed with all its clerks.
 ghost use Rattle.std.specs.Prelude.{◌≡◌, ◌≤◌, ◌⊎◌};
 ghost use Rattle.std.specs.Io.KnownBytes.{Appends};
 ghost use Rattle.sqlite.specs.Held.{state};

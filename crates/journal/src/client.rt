@@ -1,4 +1,4 @@
-//! The mail programs' connections, as the log tells of them.
+//! The mail programs' connections, as the log has them.
 use super::account_text::{cause_text, has_line, line_of};
 use creds::{LoginName, Name};
 use office::{Account, Verdict};
@@ -10,7 +10,7 @@ use std::net::IpAddr;
 #[derive(Drop)]
 struct Client {
     link: Link,
-    /// From where it came, where that is known.
+    /// From where it came, if that is known.
     ip: Option<IpAddr>,
     /// The same, as the log writes it.
     address: String,
@@ -23,12 +23,12 @@ struct Client {
     /// How many messages that session has marked.
     marked: u64,
     has_quit: bool,
-    /// Why it ends, as its line tells it: the first cause that was heard, or empty.
+    /// Why it ends, as its line says it: the first cause that was heard, or empty.
     cause: String,
 }
 
 impl Client {
-    /// The connection's number, where it was opened, and the client's address.
+    /// The connection's number, if it was opened, and the client's address.
     fn who(&self, alloc: Global) -> Result<String, AllocError> {
         let address = self.address.as_str();
         match self.number {
@@ -90,7 +90,7 @@ impl Client {
         format!(in alloc; "event=closed {who}{session}{cause}")
     }
 
-    /// The values of a line that tells of its session.
+    /// The values of a line about its session.
     fn holder(&self, alloc: Global) -> Result<String, AllocError> {
         match (self.number, &self.session) {
             (Some(number), Some(name)) => {
@@ -116,7 +116,7 @@ impl Clients {
     }
 
     /// A link came, from this address, also as the log writes it. Its error is want of memory: then
-    /// the log doesn't tell of this link.
+    /// the log doesn't mention this link.
     pub fn come(
         &mut self,
         link: Link,
@@ -164,7 +164,7 @@ impl Clients {
         }
     }
 
-    /// A link got a connection. Its line, where the link is known.
+    /// A link got a connection. Its line, if the link is known.
     pub fn open(
         &mut self,
         alloc: Global,
@@ -176,7 +176,7 @@ impl Clients {
         Some(connect_text(alloc, client))
     }
 
-    /// Takes an account of a connection. Its line, where it has one.
+    /// Takes an account of a connection. Its line, if it has one.
     pub fn hear(
         &mut self,
         alloc: Global,
@@ -203,7 +203,7 @@ impl Clients {
         }
     }
 
-    /// Who is in a maildrop, as values of a line; empty where that isn't known.
+    /// Who is in a maildrop, as values of a line; empty if that isn't known.
     pub fn holder(&self, alloc: Global, maildrop: &Name) -> Result<String, AllocError> {
         let found = self
             .clients
@@ -215,7 +215,7 @@ impl Clients {
         }
     }
 
-    /// A link is closed. Its line, where nobody quit on it.
+    /// A link is closed. Its line, if nobody quit on it.
     pub fn close(&mut self, alloc: Global, link: Link) -> Option<Result<String, AllocError>> {
         let at = self.clients.iter().position(|client| client.link == link)?;
         let client = self.clients.swap_remove(at);

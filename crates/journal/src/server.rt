@@ -7,7 +7,7 @@ use std::net::SocketAddr;
 use std::os::unix::fs::PermissionsExt;
 use vault::Total;
 
-/// Notes that a store is about to be opened, and how many octets its file and its log have: where
+/// Notes that a store is about to be opened, and how many octets its file and its log have: if
 /// the opening is ended for want of memory, this is the last line.
 pub fn note_opening(journal: &Journal<'_>, rt: &HostRuntime, store: &str) {
     if journal.is_on() {
@@ -15,7 +15,7 @@ pub fn note_opening(journal: &Journal<'_>, rt: &HostRuntime, store: &str) {
     }
 }
 
-/// How many octets the file at a path has; 0 where there is none.
+/// How many octets the file at a path has; 0 if there is none.
 fn octets_of(rt: &HostRuntime, path: &str) -> u64 {
     match fs::metadata(rt, path) {
         Ok(metadata) => metadata.len(),
@@ -31,7 +31,7 @@ fn opening_text(alloc: Global, rt: &HostRuntime, store: &str) -> Result<String, 
     format!(in alloc; "event=open store={store} file={file} log={log}")
 }
 
-/// Notes a start, what the store holds, and where others than its owner may read it. Without totals
+/// Notes a start, what the store holds, and if others than its owner may read it. Without totals
 /// what it holds isn't known.
 pub fn note_start(
     journal: &Journal<'_>,
@@ -67,7 +67,7 @@ fn start_text(
     format!(in alloc; "event=start pop={pop} admin=127.0.0.1:{admin_port} store={store}{held}")
 }
 
-/// What a store holds, as it stands in a line; nothing where it isn't known.
+/// What a store holds, as it stands in a line; nothing if it isn't known.
 fn held_text(alloc: Global, totals: &Option<Vec<Total>>) -> Result<String, AllocError> {
     let Some(totals) = totals else {
         return Ok(String::new(alloc));

@@ -36,7 +36,7 @@ acts_less less it = record {
   stop = it.stop;
 }
 
--- one call that changes records once, where what it makes of them is `after`
+-- one call that changes records once, if what it makes of them is `after`
 pub acts_once : {V A Own : Type 0} (vault : Ghosts V) {old new : V}
     {Done : Contents → (Contents → Type 0) → Result A VaultFault → Type 0}
     {answered : Result A VaultFault} (after : Contents → Contents)

@@ -13,7 +13,7 @@ take_fewer (suc n) zero xs le = absurd (omega arith)
 take_fewer (suc n) (suc m) [] le = refl
 take_fewer (suc n) (suc m) (x ∷ xs) le = ap (λ (ys : List ℕ). x ∷ ys) (take_fewer n m xs (omega arith))
 
--- the octets of a page behind those that were read
+-- the octets of a page after those that were read
 pub page_behind : (text octets page : List ℕ) (done n : ℕ) → done ≤ length octets → n ≤ length page → IsPage text done (length page) (take n page)
     → Begins done octets text → Begins (done + n) (put_mid done (length octets - done) octets page) text
 page_behind text octets page done n le few is begun =

@@ -46,7 +46,7 @@ fn is_allowed(keyword: Keyword, live: bool, has_user: bool) -> bool
     }
 }
 
-/// The reply to a command before a login, and the session where one begins.
+/// The reply to a command before a login, and the session if one begins.
 fn command_reply<V: Vault>(
     alloc: Global,
     vault: &mut V,
@@ -101,7 +101,7 @@ fn command_reply<V: Vault>(
     }
 }
 
-/// The reply to a line before a login, and the session where one begins.
+/// The reply to a line before a login, and the session if one begins.
 fn reply_to<V: Vault>(
     alloc: Global,
     vault: &mut V,
@@ -180,8 +180,8 @@ fn next_login_state(line: &CommandLine<'_>, reply: &Reply<'_>, state: LoginState
     }
 }
 
-/// Answers a line before a login: puts its reply, and remembers what it leaves. Where a session
-/// begins, returns it and locks its maildrop. Where the store fails, the reply says so. `account`
+/// Answers a line before a login: puts its reply, and remembers what it leaves. If a session
+/// begins, returns it and locks its maildrop. If the store fails, the reply says so. `account`
 /// becomes what was judged.
 fn authorization_answer<V: Vault>(
     alloc: Global,
@@ -220,7 +220,7 @@ fn authorization_answer<V: Vault>(
 }
 
 /// Answers a line of a session, and returns the session. A QUIT ends it, and lets its maildrop's
-/// lock go. `account`, which tells nothing yet, becomes what the line did to the marks, or what the
+/// lock go. `account`, which says nothing yet, becomes what the line did to the marks, or what the
 /// QUIT removed.
 fn transaction_answer<V: Vault>(
     alloc: Global,
@@ -270,7 +270,7 @@ fn transaction_answer<V: Vault>(
 }
 
 /// Answers a line: puts its reply, and keeps what the line leaves: what is remembered, the session
-/// and its maildrop's lock. Where the store fails, the reply says so. `account`, which tells
+/// and its maildrop's lock. If the store fails, the reply says so. `account`, which says
 /// nothing yet, becomes what was judged. An error is want of memory.
 pub fn answer<V: Vault>(
     alloc: Global,

@@ -27,7 +27,7 @@ use vault::{Vault, VaultFault};
 /// How many refused credentials a connection has before the next one closes it.
 const FAILURES_BEFORE_CLOSING: u8 = 2;
 
-/// The reply to a refused credential, where so many were refused before it.
+/// The reply to a refused credential, if so many were refused before it.
 fn refusal(failures: u8) -> Reply<'static>
     ensures { reply_seen result ≡ login_failed failures }
 {
@@ -100,7 +100,7 @@ fn enter<V: Vault>(
     Ok((Reply::MaildropHas { messages, octets }, Some(session)))
 }
 
-/// The reply to a login, and the session where one begins.
+/// The reply to a login, and the session if one begins.
 pub(crate) fn judge<V: Vault>(
     alloc: Global,
     vault: &mut V,

@@ -24,7 +24,7 @@ impl<V: Vault> Office<V> {
         }
     }
 
-    /// How many credentials connection `c` had refused since it opened; 0 where it isn't open. The
+    /// How many credentials connection `c` had refused since it opened; 0 if it isn't open. The
     /// third refusal closes the connection, which stays open, and has 3 here, until the reply to it
     /// is taken.
     ///
@@ -40,10 +40,10 @@ impl<V: Vault> Office<V> {
 
     /// Whether a piece that isn't given yet brings a login that the office would judge: octets may
     /// come on connection `c`, nobody is in session on it, and its next line, with this piece
-    /// behind what came before, is a PASS with a login name in force, or an APOP.
+    /// after what came before, is a PASS with a login name in force, or an APOP.
     ///
     /// It reads the line as the office would. It asks no store, takes no memory and changes
-    /// nothing. Lines behind the next one aren't looked at.
+    /// nothing. Lines after the next one aren't looked at.
     pub fn brings_login(&self, c: u64, piece: &[u8]) -> bool
         ensures { (T : Trace) → StandsFor V.holds self.now T
             → result ≡ brings_login_at T c piece.now }

@@ -83,7 +83,7 @@ fn outcome_of(line_outcome: LineOutcome) -> Outcome
     }
 }
 
-/// What the outcome of a command tells: that it ended a session, where it did.
+/// What the outcome of a command says: that it ended a session, if it did.
 fn ended_by(outcome: &Outcome) -> Account
     ensures { result ≡ outcome_told (outcome_seen outcome.now) }
 {
@@ -107,7 +107,7 @@ fn cut_off(
     release(locks, held);
 }
 
-/// Ends a connection for want of memory, as `account` then tells.
+/// Ends a connection for want of memory, as `account` then says.
 fn cut_off_without_memory(
     connections: &mut BTreeMap<u64, Connection>,
     locks: &mut Locks,
@@ -127,8 +127,8 @@ impl<V: Vault> Office<V> {
     /// Opens an office over a vault, under a host's name and the number of this start. No
     /// connection is open. It reads the store's policy.
     ///
-    /// `BadHost` exactly where the host isn't of 1 to 64 octets of `a-z`, `0-9`, `.` and `-`, no
-    /// part between dots empty or with `-` at an end. `Store` where the store refused. After a
+    /// `BadHost` exactly if the host isn't of 1 to 64 octets of `a-z`, `0-9`, `.` and `-`, no
+    /// part between dots empty or with `-` at an end. `Store` if the store refused. After a
     /// fault the vault comes back with what it held.
     pub fn open(
         alloc: Global,
@@ -338,7 +338,7 @@ impl<V: Vault> Office<V> {
         outcome
     }
 
-    /// Does one event. What it judged becomes the account, which tells nothing before.
+    /// Does one event. What it judged becomes the account, which says nothing before.
     fn handle(&mut self, event: Event<'_>, account: &mut Account) -> Outcome
         ensures after { AfterEvent V.Vault self.old self.new (event_seen event.entry)
             (outcome_seen result) }
@@ -384,7 +384,7 @@ impl<V: Vault> Office<V> {
             (event_seen event.entry) (outcome_seen result)) }
         ensures admitted { OfEachTrace V.Vault self.old self.new (λ T.
             IsAdmitted T (event_seen event.entry) (event_tag_of (outcome_seen result))) }
-        // Where each event so far was answered as it may be, each connection is sent exactly what
+        // If each event so far was answered as it may be, each connection is sent exactly what
         // the history sends it.
         ensures sent { OfEachTrace V.Vault self.old self.new (λ T.
             AreAdmitted T → (c : ℕ) → IsSentExactly (followed_by T
@@ -397,7 +397,7 @@ impl<V: Vault> Office<V> {
             → V.is_clean (vault_of self.old) → may_show T (event_seen event.entry) Failed ≡ false
             → vault_of self.new ≡ vault_of self.old }
         ensures succeeds { Succeeds (event_seen event.entry) (outcome_seen result) }
-        // Some events are never answered `NoMemory`: a piece without LF, a taking of a part where
+        // Some events are never answered `NoMemory`: a piece without LF, a taking of a part if
         // all that is owed is lent, and others (`may_lack_memory_at`).
         ensures memory { OfEachTrace V.Vault self.old self.new (λ T.
             may_show T (event_seen event.entry) NoMemory ≡ false → HasMemory
@@ -407,9 +407,9 @@ impl<V: Vault> Office<V> {
         self.step_with_account(event, &mut account)
     }
 
-    /// Does one event, as [`Office::step`] does, and tells what it judged: `account` becomes the
-    /// account of this event, whatever it told before. It is that of the line that acted, also
-    /// where the store failed; or why the connection ended, where it is gone, memory was wanting, a
+    /// Does one event, as [`Office::step`] does, and reports what it judged: `account` becomes the
+    /// account of this event, whatever it said before. It is that of the line that acted, also
+    /// if the store failed; or why the connection ended, if it is gone, memory was wanting, a
     /// page was refused or a command ended its session. Other events have none, nor has one that is
     /// ignored.
     pub fn step_with_account(&mut self, event: Event<'_>, account: &mut Account) -> Outcome
@@ -443,7 +443,7 @@ impl<V: Vault> Office<V> {
         ensures memory { OfEachTrace V.Vault self.old self.new (λ T.
             may_show T (event_seen event.entry) NoMemory ≡ false
             → HasMemory (outcome_seen result)) }
-        // What is told is what the history says of the line that acted, if one did.
+        // What is reported is what the history says of the line that acted, if one did.
         ensures account { OfEachTrace V.Vault self.old self.new (λ T.
             IsAccount T (event_seen event.entry)
             (outcome_seen result) account.new) }
@@ -455,7 +455,7 @@ impl<V: Vault> Office<V> {
     /// Does events in order. The transcript has a step for each: its outcome, and the octets that
     /// it took.
     ///
-    /// `NoMemory(done)` where the transcript couldn't grow: exactly the first `done` events are
+    /// `NoMemory(done)` if the transcript couldn't grow: exactly the first `done` events are
     /// done.
     pub fn run(&mut self, events: &[Event<'_>]) -> Result<Transcript, RunFault>
         ensures ok { IfOk result (λ steps. OfEachTrace V.Vault self.old self.new (λ T.
@@ -528,8 +528,8 @@ impl<V: Vault> Office<V> {
         Ok(octets)
     }
 
-    /// The octets that a connection may take now: the first 16,384 that it is owed, or all where
-    /// they are fewer. None where it isn't open.
+    /// The octets that a connection may take now: the first 16,384 that it is owed, or all if
+    /// they are fewer. None if it isn't open.
     pub fn owed(&self, c: u64) -> &[u8]
         ensures lent { (T : Trace) → StandsFor V.holds self.now T → IsLent (rest T c) result.now }
         ensures count { length result.now ≡ lent_by self.now c }
@@ -544,7 +544,7 @@ impl<V: Vault> Office<V> {
     }
 
     /// How many octets of its input are kept of a connection, whatever the store does: at most 255
-    /// of a line and 4,096 of a piece. None, where it isn't open.
+    /// of a line and 4,096 of a piece. None, if it isn't open.
     pub fn input_kept(&self, c: u64) -> usize
         ensures value { result ≡ input_kept self.now c }
         ensures most { input_kept self.now c ≤ most_input }
@@ -556,7 +556,7 @@ impl<V: Vault> Office<V> {
     }
 
     /// How many octets of what it is owed are kept of a connection, whatever the store does: at
-    /// most 49,408, for which the room is made at its opening. None, where it isn't open.
+    /// most 49,408, for which the room is made at its opening. None, if it isn't open.
     pub fn output_kept(&self, c: u64) -> usize
         ensures value { result ≡ output_kept self.now c }
         ensures most { output_kept self.now c ≤ most_output }

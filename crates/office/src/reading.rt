@@ -32,7 +32,7 @@ pub struct Reading {
     octets: u64,
     place: u64,
     stuffer: Stuffer,
-    /// Where TOP cuts the message off; `None` where all of it is sent.
+    /// Where TOP cuts the message off; `None` if all of it is sent.
     cut: Option<TopCut>,
 }
 
@@ -41,7 +41,7 @@ pub struct Reading {
 pub enum PutPage {
     /// It was put, and more is to come.
     More,
-    /// It was put, and the dot behind it.
+    /// It was put, and the dot after it.
     Last,
     /// The store refused it, or gave what no clean store gives.
     Refused,
@@ -94,7 +94,7 @@ impl Reading {
     }
 
     /// Reads the next page into the front of a buffer, and answers how many octets it has. `None`
-    /// where the store refused, or gave a page that no clean store gives.
+    /// if the store refused, or gave a page that no clean store gives.
     fn read<V: Vault>(&self, vault: &mut V, page: &mut [u8]) -> Result<Option<usize>, AllocError>
         requires { 0 < length page.old }
         ensures some { IfOk result (λ read. IfSome read (λ n. (0 < n) × (n ≤ length page.new))) }

@@ -97,7 +97,7 @@ fn put(
     Ok(outcome)
 }
 
-/// Does what a command says, and puts the reply. `account`, which tells nothing yet, becomes what
+/// Does what a command says, and puts the reply. `account`, which says nothing yet, becomes what
 /// it did to the marks. A QUIT leaves the session and `account` to the caller.
 fn answer_command<V: Vault>(
     alloc: Global,
@@ -146,7 +146,7 @@ fn answer_command<V: Vault>(
     }
 }
 
-/// Does what a line says, and puts the reply. `account`, which tells nothing yet, becomes what it
+/// Does what a line says, and puts the reply. `account`, which says nothing yet, becomes what it
 /// did to the marks. A QUIT leaves the session and `account` to the caller.
 fn answer_reading<V: Vault>(
     alloc: Global,
@@ -186,7 +186,7 @@ fn answer_reading<V: Vault>(
 }
 
 /// Answers a line of a session: puts its reply, and sets or takes away marks. `account`, which
-/// tells nothing yet, becomes what the line did to the marks. A QUIT removes the marked messages;
+/// says nothing yet, becomes what the line did to the marks. A QUIT removes the marked messages;
 /// the caller then ends the session, which stays as it is, and gives its account.
 pub(crate) fn answer<V: Vault>(
     alloc: Global,

@@ -67,7 +67,7 @@ pub fn run_check<E: Write>(
     }
 }
 
-/// How many octets a store's file has. Where there is none, or it is no database, that is told, and
+/// How many octets a store's file has. If there is none, or it is no database, that is printed, and
 /// an `Err` is the exit status: an opening would make a file, or write a first page or a log.
 pub fn look_at<E: Write>(
     rt: &HostRuntime,
@@ -128,8 +128,8 @@ pub fn run_export<E: Write>(
     run_errand(rt, &Errand::Export(maildrop, folder), path, options, err)
 }
 
-/// Opens the store at a path, and does an errand over it. A store that is refused is told as
-/// `popbox replay` tells it.
+/// Opens the store at a path, and does an errand over it. A store that is refused is printed as
+/// `popbox replay` prints it.
 fn run_errand<E: Write>(
     rt: &HostRuntime,
     errand: &Errand<'_>,
@@ -144,7 +144,7 @@ fn run_errand<E: Write>(
     Ok(tell_closed(rt, err, is_verbose(options), path, &closed))
 }
 
-/// Tells why a store isn't opened. Gives the exit status.
+/// Prints why a store isn't opened. Gives the exit status.
 pub fn tell_closed<E: Write>(
     rt: &HostRuntime,
     err: &mut E,
@@ -284,7 +284,7 @@ fn export_over<V: Vault, E: Write>(
     Ok(status)
 }
 
-/// The folder at a path: whether it was synced behind the last file, how many of its calls failed,
+/// The folder at a path: whether it was synced after the last file, how many of its calls failed,
 /// and what the system answered to the last of these.
 #[derive(Drop)]
 struct NamedFolder<'a> {

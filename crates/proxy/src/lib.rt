@@ -2,7 +2,7 @@
 //! stunnel write it.
 //!
 //! A [`ProxyLine`] is what such a line says. A [`ProxiedWire`] stands around a wire whose clients
-//! come through a proxy: it reads that line, and hands on what comes behind it.
+//! come through a proxy: it reads that line, and hands on what comes after it.
 #![tactic(auto)]
 
 mod line;

@@ -76,7 +76,7 @@ fits_if true Was Holds kept totals c inside held = record {
 }
 fits_if false Was Holds kept totals c inside held = record { inside = inside; fits = tt; sums = tt }
 
--- a call that only looks at the vault inside, where what is kept then fits
+-- a call that only looks at the vault inside, if what is kept then fits
 pub looks_inside : {V A : Type 0} (vault : Ghosts V) (old was new : Recalling V)
     (answered : Result A VaultFault) → was ≡ old
     → Looks vault.holds vault.faults vault.is_clean vault.is_up vault.may_leave was.vault new.vault

@@ -30,7 +30,7 @@ impl Model for Kept {
     ghost invariant = { λ k. length k.heads.items ≤ most_messages };
 }
 
-/// A copy of heads; `None` where memory is wanting.
+/// A copy of heads; `None` if memory is wanting.
 fn copied(alloc: Global, heads: &[Head]) -> Option<Vec<Head>>
     ensures { IfSome result (λ copy. copy.items ≡ heads.now) }
 {
@@ -42,7 +42,7 @@ fn copied(alloc: Global, heads: &[Head]) -> Option<Vec<Head>>
 }
 
 impl Kept {
-    /// Keeps a copy of a maildrop's heads; `None` where they are more than 10,000, or where memory
+    /// Keeps a copy of a maildrop's heads; `None` if they are more than 10,000, or if memory
     /// is wanting.
     pub(crate) fn of(alloc: Global, maildrop: &Name, heads: &[Head]) -> Option<Kept>
         ensures { IfSome result (λ kept. kept ≡ kept_heads maildrop.now heads.now) }
@@ -57,7 +57,7 @@ impl Kept {
         })
     }
 
-    /// A copy of what is kept, where it is of this maildrop and there is memory for it.
+    /// A copy of what is kept, if it is of this maildrop and there is memory for it.
     pub(crate) fn recall(&self, alloc: Global, maildrop: &Name) -> Option<Vec<Head>>
         ensures { IfSome result (λ heads. self.now ≡ kept_heads maildrop.now heads.items) }
     {
@@ -84,7 +84,7 @@ pub(crate) fn after_change<T>(
 }
 
 /// Hands on the answer of a call that changes messages of this maildrop alone. Forgets the heads,
-/// and marks the maildrop's total as stale; where the answer is a fault, forgets what is kept.
+/// and marks the maildrop's total as stale; if the answer is a fault, forgets what is kept.
 pub(crate) fn after_mail<T>(
     kept: &mut Option<Kept>,
     totals: &mut Option<Totals>,
@@ -105,7 +105,7 @@ pub(crate) fn after_mail<T>(
     }
 }
 
-/// Hands on the answer of a call that only looks, and forgets what is kept where it is a fault.
+/// Hands on the answer of a call that only looks, and forgets what is kept if it is a fault.
 pub(crate) fn after_look<T>(
     kept: &mut Option<Kept>,
     totals: &mut Option<Totals>,

@@ -16,7 +16,7 @@ use vault::{Deposited, Head, MessageKey, Total, Vault, VaultFault};
 /// them, and so does every call that may change records, but for deposits and removals: those keep
 /// the totals, of which the maildrop's own is counted again, by its heads, when they are asked for.
 ///
-/// At most 10,000 heads of one maildrop are kept, and 1,000 totals. Where there is no memory for
+/// At most 10,000 heads of one maildrop are kept, and 1,000 totals. If there is no memory for
 /// them, they aren't kept, and the vault inside answers.
 ///
 /// Contracts see the vault inside and what is kept. It holds what the vault inside holds and what
@@ -37,7 +37,7 @@ impl<V: Vault> Model for Recent<V> {
     ghost view = { λ r. record { vault = r.vault; kept = r.kept; totals = r.totals } };
 }
 
-/// The heads that are kept, where they are of this maildrop and there is memory for a copy.
+/// The heads that are kept, if they are of this maildrop and there is memory for a copy.
 fn recalled(alloc: Global, kept: &Option<Kept>, maildrop: &Name) -> Option<Vec<Head>>
     ensures { IfSome result (λ heads. kept.now ≡ Some (kept_heads maildrop.now heads.items)) }
 {

@@ -37,7 +37,7 @@ classes_of old new = labels (classes_in old ++ classes_in new)
 abbrev pub is_narrow : Choice → Bool
 is_narrow choice = is_some choice.clerk && is_some choice.maildrop
 
--- who may do what for a reader: a line for each question where one clerk and one maildrop are chosen, else tables
+-- who may do what for a reader: a line for each question if one clerk and one maildrop are chosen, else tables
 abbrev pub plain_text : (narrow : Bool) → Policy → (clerks maildrops classes : List Label) → List ℕ
 plain_text true p clerks maildrops classes = answers_text Text p (questions clerks maildrops (columns classes))
 plain_text false p clerks maildrops classes = tables_text p clerks maildrops classes
@@ -57,12 +57,12 @@ abbrev pub has_lines : List ℕ → Bool
 has_lines [] = false
 has_lines (b ∷ bs) = true
 
--- what a change changes, which CSV doesn't tell
+-- what a change changes, which CSV doesn't have
 abbrev pub change_text : Format → (lines : List ℕ) → List ℕ
 change_text Text lines = or_none lines
 change_text Csv lines = []
 
--- the rules that never decide, which CSV doesn't tell
+-- the rules that never decide, which CSV doesn't have
 abbrev pub rules_text : Format → Policy → List ℕ
 rules_text Text p = covered_text p
 rules_text Csv p = []
@@ -71,7 +71,7 @@ rules_text Csv p = []
 unfoldable pub unknown_note : (what name : List ℕ) → List ℕ
 unknown_note what name = codes "note: " ++ what ++ codes " " ++ name ++ codes " is named nowhere: decided as (others)\n"
 
--- of a name, where none of the labels is its
+-- of a name, if none of the labels is its
 abbrev pub name_note : (what name : List ℕ) → (all : List Label) → List ℕ
 name_note what name all = text_if (not (list_any (is_of name) all)) (unknown_note what name)
 
@@ -86,7 +86,7 @@ unknown_names choice old new kept =
     chosen_note (codes "clerk") choice.clerk (labels (clerks_in old ++ clerks_in new ++ kept.clerks))
     ++ chosen_note (codes "maildrop") choice.maildrop (labels (maildrops_in old ++ maildrops_in new ++ kept.maildrops))
 
--- those that were chosen and are named nowhere, which CSV doesn't tell
+-- those that were chosen and are named nowhere, which CSV doesn't have
 abbrev pub unknown_text : Format → Choice → (old new : Policy) → Kept → List ℕ
 unknown_text Text choice old new kept = unknown_names choice old new kept
 unknown_text Csv choice old new kept = []
@@ -113,7 +113,7 @@ against_text choice old new kept =
     ++ change_text choice.format (changes_of choice old new kept) ++ rules_text choice.format new
     ++ unknown_text choice.format choice old new kept
 
--- what the policy speaks of and the store doesn't have, which CSV doesn't tell
+-- what the policy speaks of and the store doesn't have, which CSV doesn't have
 abbrev pub missing_text : Format → Policy → Kept → List ℕ
 missing_text Text p kept = missing_lines p kept
 missing_text Csv p kept = []
@@ -124,7 +124,7 @@ stored_text choice old new kept = against_text choice old new kept ++ missing_te
 
 -- ---- a law
 
--- no question is asked twice, and no difference is told twice
+-- no question is asked twice, and no difference is printed twice
 pub record ToldOnce : Type 0 where
   pub asked : (choice : Choice) (old new : Policy) (kept : Kept) → AllPairs (λ q r. q ≢ r) (asked_of choice old new kept)
   pub told : (choice : Choice) (old new : Policy) (kept : Kept)

@@ -35,7 +35,7 @@ fn chosen(alloc: Global, one: &Option<Name>, all: Vec<Label>) -> Result<Vec<Labe
 }
 
 /// The names that a review of two policies beside a store speaks of: of clerks and of maildrops the
-/// one that is chosen, where one is, else all that `names_of` has. An `Err` is want of memory.
+/// one that is chosen, if one is, else all that `names_of` has. An `Err` is want of memory.
 pub fn names_for(
     alloc: Global,
     old: &Policy,
@@ -127,8 +127,8 @@ fn put_change(out: &mut Vec<u8>, format: Format, lines: &[u8]) -> Result<(), All
 }
 
 /// The review of a policy: who may do what, and then the rules that never decide, which CSV
-/// doesn't tell. Who may do what is told by tables; where one clerk and one maildrop are chosen, or
-/// as CSV, by a line for each question. Where one that is chosen is named nowhere, a note says so,
+/// doesn't tell. Who may do what is printed as tables; if one clerk and one maildrop are chosen, or
+/// as CSV, by a line for each question. If one that is chosen is named nowhere, a note says so,
 /// but in CSV. An `Err` is want of memory.
 pub fn review_policy(alloc: Global, policy: &Policy, choice: &Choice) -> Result<Vec<u8>, AllocError>
     ensures { IfOk result (λ text. text.items ≡ review_text choice.now policy.now) }
@@ -161,7 +161,7 @@ fn put_notes(
 
 /// The review of a policy against the old one: who may do what by the new one, then what the new
 /// one changes, or `no decision differs`, then the new one's rules that never decide, and a note
-/// where one that is chosen is named nowhere; as CSV the first of these alone. It speaks of the
+/// if one that is chosen is named nowhere; as CSV the first of these alone. It speaks of the
 /// names of both, and of those that are kept. With it comes whether a decision differs. An `Err` is
 /// want of memory.
 pub fn review_against(

@@ -144,7 +144,7 @@ accepted_so Holds IsClean Faults o o1 seats seats1 false g c all more a =
     (λ (full : length seats1 ≡ 128). inl (inr full))
     (a.all refl)
 
--- where the clients' links hurry, the next turn doesn't wait
+-- if the clients' links hurry, the next turn doesn't wait
 no_wait : (links : Links) → links.clients.hurries ≡ true → millis_of links ≡ 0
 no_wait links e = rw e refl
 

@@ -22,6 +22,6 @@ serving_seen Holds Tells T beside office wire seen seats these same s = record {
   adds = s.adds;
 }
 
--- a login that waits for no lock stays unread where logins are kept back
+-- a login that waits for no lock stays unread if logins are kept back
 pub held_by_login : (waits shut login held : Bool) → waits ≡ false → shut ≡ true → held ≡ login → held ≡ (waits || (shut && login))
 held_by_login waits shut login held e f h = rw (e, f) h

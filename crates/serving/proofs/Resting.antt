@@ -54,7 +54,7 @@ hurried_then p q r c1 c2 a b e =
 pub hurried_behind : (p q r : Bool) (c1 c2 : List Call) → (r ≡ true → q ≡ true) → HurriesBy p q c2 → HurriesBy p r (c1 ++ c2)
 hurried_behind p q r c1 c2 h b e = hurried_then p p q c1 c2 (hurried_same p c1) b (h e)
 
--- ---- where logins wait for locks
+-- ---- if logins wait for locks
 
 pub releases_then : (wait : ℕ) (p q : Bool) (c1 c2 : List Call) → (p ≡ true → q ≡ true) → Releases wait p c1 → Releases wait q c2 → Releases wait q (c1 ++ c2)
 releases_then wait p q c1 c2 still a b = λ on e.
@@ -189,7 +189,7 @@ closed_hurried p q c1 c2 a e = either p q (p || has_moved (c1 ++ c2)) (λ x. is_
 
 -- ---- the whole turn
 
--- where the links of neither port hurry, the next turn waits
+-- if the links of neither port hurry, the next turn waits
 pub waits_then : (links : Links) → links.clients.hurries ≡ false → links.requests.hurries ≡ false → millis_of links ≡ 1000
 waits_then links a b = rw a (rw b refl)
 

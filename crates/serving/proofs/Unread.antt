@@ -46,7 +46,7 @@ kept_so T c piece wait may pace shut h =
     (λ (b : (is_shut pace && brings_login T c piece) ≡ true). inr (shut (and_first (is_shut pace) (brings_login T c piece) b), and_second (is_shut pace) (brings_login T c piece) b))
     (or_cases (waiting.waits T c piece wait) (is_shut pace && brings_login T c piece) h)
 
--- logins stay unread only where they may be kept back
+-- logins stay unread only if they may be kept back
 pub shut_so : (freed logged slow : Bool) (now : ℕ) (guesses : Guesses) (origin : Option ℕ) (pace : Pace) → pace ≡ pace_behind freed logged (pace_by now guesses origin) → (slow ≡ false → origin ≡ None)
     → is_shut pace ≡ true → (slow || freed) ≡ true
 shut_so freed logged true now guesses origin pace is fast h = refl
@@ -55,7 +55,7 @@ shut_so false logged false now guesses origin pace is fast h =
     let e : pace ≡ Free = is ∙ ap (λ o. pace_behind false logged (pace_by now guesses o)) (fast refl) in
     absurd (true≢false (sym h ∙ ap is_shut e))
 
--- lines are read one by one only where logins may be kept back
+-- lines are read one by one only if logins may be kept back
 pub line_so : (freed logged slow : Bool) (now : ℕ) (guesses : Guesses) (origin : Option ℕ) (pace : Pace) → pace ≡ pace_behind freed logged (pace_by now guesses origin) → (slow ≡ false → origin ≡ None)
     → is_free pace ≡ false → (slow || freed) ≡ true
 line_so freed logged true now guesses origin pace is fast h = refl

@@ -1,4 +1,4 @@
--- Logins that were refused, and those that are kept back behind them: an address counts by a number,
+-- Logins that were refused, and those that are kept back after them: an address counts by a number,
 -- its origin, and a list has the last refusal of each origin, the oldest refusal first.
 use Rattle.std.specs.Prelude.{◌≡◌, ℕ, Bool, true, false, not, ◌+◌, ◌-◌, ◌*◌, ◌==◌, nat_lt, nat_le}
 use Rattle.std.specs.Prelude.{min, List, [], ◌∷◌, ◌++◌, length, drop, filter, find, slice_index}
@@ -36,23 +36,23 @@ abbrev pub holds_back : (now : ℕ) → Option Refusal → Bool
 holds_back now None = false
 holds_back now (Some r) = nat_lt (now - r.at) r.seconds
 
--- for how many seconds a refusal at this moment does, by the refusal before it: 1 where none was
+-- for how many seconds a refusal at this moment does, by the refusal before it: 1 if none was
 -- within ten minutes, and else twice as many as that one, at most 15
 abbrev pub next_seconds : (now : ℕ) → Option Refusal → ℕ
 next_seconds now None = 1
 next_seconds now (Some r) = if nat_le 600 (now - r.at) then 1 else min (r.seconds * 2) 15
 
--- one refusal fewer, where 1,024 are there: the oldest goes
+-- one refusal fewer, if 1,024 are there: the oldest goes
 abbrev pub with_room : List Refusal → List Refusal
 with_room refusals = if nat_le 1024 (length refusals) then drop 1 refusals else refusals
 
--- a refusal of an origin at this moment, behind these
+-- a refusal of an origin at this moment, after these
 abbrev pub one_more : (now origin : ℕ) → List Refusal → Refusal
 one_more now origin refusals =
     record { origin = origin; at = now; seconds = next_seconds now (refusal_of origin refusals) }
 
--- What becomes of the refusals behind a line of a client that counts by an origin: where it was
--- refused, one more; where it is logged in, none of its origin. Else they stay.
+-- What becomes of the refusals after a line of a client that counts by an origin: if it was
+-- refused, one more; if it is logged in, none of its origin. Else they stay.
 abbrev pub AreNotedSo : (now : ℕ) (origin : Option ℕ) (was_refused is_logged_in : Bool) (refusals refusals_then : List Refusal) → Type 0
 AreNotedSo now None was_refused is_logged_in refusals refusals_then = refusals_then ≡ refusals
 AreNotedSo now (Some origin) true is_logged_in refusals refusals_then =

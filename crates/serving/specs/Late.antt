@@ -15,7 +15,7 @@ use Rattle.serving.specs.declared.newcomers.Newcomer.{Newcomer}
 use Rattle.serving.specs.Newcomers.{newcomer}
 use Rattle.serving.specs.Works.{is_late, AreLateGone}
 
--- a session lived on a connection behind some of these events
+-- a session lived on a connection after some of these events
 pub record HasLived (B : Records) (older given : Log) (c : ℕ) : Type 0 where
   pub later : Log
   pub front : Log
@@ -39,7 +39,7 @@ IsNotedSince now newcomers newcomers_then B older given after s =
     ≡ Some (record { connection = s.connection; since = now }))
     ⊎ HasLived B older given s.connection
 
--- nothing is open on a connection behind these events
+-- nothing is open on a connection after these events
 abbrev pub IsShutBy : {V : Type 0} (Holds : V → Contents → Type 0) (IsClean : V → Type 0)
     (office office_then : Office V) (c : ℕ) (given : Log) → Type 0
 IsShutBy Holds IsClean office office_then c given =

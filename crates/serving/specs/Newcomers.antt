@@ -20,7 +20,7 @@ abbrev pub is_late_by : (now seconds : ℕ) → Option Newcomer → Bool
 is_late_by now seconds None = false
 is_late_by now seconds (Some n) = nat_le seconds (now - n.since)
 
--- one more, where it is noted
+-- one more, if it is noted
 abbrev pub noted : (is_noted : Bool) → (connection now : ℕ) → List Newcomer → List Newcomer
 noted false connection now newcomers = newcomers
 noted true connection now newcomers = newcomers ++ record { connection = connection; since = now } ∷ []
@@ -41,7 +41,7 @@ AreSeatedAt links = HaveSeats links.newcomers.newcomers.items links.seats.items
 abbrev pub AllHaveSeats : Links → Type 0
 AllHaveSeats links = AreSeatedAt links.clients
 
--- a seat's connection is noted with this moment, where it wasn't noted before
+-- a seat's connection is noted with this moment, if it wasn't noted before
 abbrev pub IsNewlyNoted : (now : ℕ) → (newcomers newcomers_then : List Newcomer) → Seat → Type 0
 IsNewlyNoted now newcomers newcomers_then s = newcomer s.connection newcomers ≡ None
     → newcomer s.connection newcomers_then
@@ -53,7 +53,7 @@ AreNotedNow now newcomers newcomers_then = (c : ℕ)
     → (newcomer c newcomers_then ≡ newcomer c newcomers)
     ⊎ (newcomer c newcomers_then ≡ Some (record { connection = c; since = now }))
 
--- More seats were taken, and their connections were noted, where clients have login seconds.
+-- More seats were taken, and their connections were noted, if clients have login seconds.
 pub record AreNoted (now : ℕ) (links links_then : Clients) : Type 0 where
   pub more : List Seat
   pub is : links_then.seats.items ≡ links.seats.items ++ more

@@ -10,18 +10,18 @@ use Rattle.serving.specs.Settings.{settings_of}
 use Rattle.serving.specs.declared.pace.Pace.{Pace}
 use Rattle.serving.specs.declared.pace.Pace.TheVariants.{Free, ByLine, Shut}
 
--- the pace of an origin; free where none counts
+-- the pace of an origin; free if none counts
 abbrev pub pace_by : (now : ℕ) → Guesses → (origin : Option ℕ) → Pace
 pace_by now guesses None = Free
 pace_by now guesses (Some origin) =
     if holds_back now (refusal_of origin guesses.refusals.items) then Shut else ByLine
 
--- behind a session that ended in this turn logins stay unread, so that in the next turn those who
+-- after a session that ended in this turn logins stay unread, so that in the next turn those who
 -- wait for its maildrop are tried by number
 abbrev pub pace_behind : (is_freed is_logged_in : Bool) → Pace → Pace
 pace_behind is_freed is_logged_in pace = if is_freed && not is_logged_in then Shut else pace
 
--- a session ended, where logins wait
+-- a session ended, if logins wait
 abbrev pub has_freed : (wait : ℕ) → (was_logged_in is_logged_in : Bool) → Bool
 has_freed wait was_logged_in is_logged_in = not (wait == 0) && (was_logged_in && not is_logged_in)
 
@@ -41,7 +41,7 @@ abbrev pub is_held : Trace → (connection : ℕ) → (piece : List ℕ) → (wa
 is_held T connection piece wait pace =
     waits T connection piece wait || (is_shut pace && brings_login T connection piece)
 
--- how many octets the first line of a piece has, with its LF; all, where it has none
+-- how many octets the first line of a piece has, with its LF; all, if it has none
 abbrev pub line_by : (newline : Option ℕ) → (all : ℕ) → ℕ
 line_by None all = all
 line_by (Some at) all = suc at

@@ -29,11 +29,11 @@ use Rattle.serving.specs.declared.newcomers.Newcomer.{Newcomer}
 use Rattle.serving.specs.Late.{HasLived, IsInTime, IsNotedSince}
 use Rattle.office.specs.Trace.{is_open}
 
--- how long a turn waits: not at all where more can be done at once
+-- how long a turn waits: not at all if more can be done at once
 abbrev pub millis_of : Links → ℕ
 millis_of links = if links.clients.hurries || links.requests.hurries then 0 else 1000
 
--- how it serves so many links, with these behind it
+-- how it serves so many links, with these after it
 abbrev pub way_of : Links → (links_then : Links) → (count : ℕ) → (freed : Bool) → Way
 way_of links links_then count freed =
     way_by (settings links) count freed (millis_of links_then == 0)
@@ -62,8 +62,8 @@ pub record IsTurn (T after : Trace) (now : ℕ) (links links_then : Links) (came
   -- for each an opening was asked for, and so many were refused as links got no seat
   pub opened : openings given ≡ length came
   pub refused : refusals given ≡ length (filter_map unseated_of came)
-  -- logins are kept back behind refusals, where guesses are slow, and behind a session that ended
-  -- in this turn, where they wait for a lock
+  -- logins are kept back after refusals, if guesses are slow, and after a session that ended
+  -- in this turn, if they wait for a lock
   pub freed : Bool
   pub ended : freed ≡ true → ((links.clients.wait == 0) ≡ false) × HasFreed T.base T.log given seats
   -- each link whose connection is open had its turn, or stays unread for a cause
@@ -81,7 +81,7 @@ pub record IsTurn (T after : Trace) (now : ℕ) (links links_then : Links) (came
       → is_open after c ≡ true
       → (newcomer c links_then.clients.newcomers.newcomers.items ≡ Some n)
       ⊎ HasLived T.base T.log given c
-  -- each that came and got a seat is noted with this moment, where clients have login seconds
+  -- each that came and got a seat is noted with this moment, if clients have login seconds
   pub newly : AllHaveSeats links → (links.clients.newcomers.seconds == 0) ≡ false
       → All (IsNotedSince now links.clients.newcomers.newcomers.items
       links_then.clients.newcomers.newcomers.items T.base T.log given after)
@@ -89,7 +89,7 @@ pub record IsTurn (T after : Trace) (now : ℕ) (links links_then : Links) (came
   -- the others stay
   pub left : links_then.clients.seats.items ≡ filter (is_open_seat after) seats
 
--- A turn tries one spool file behind its other events.
+-- A turn tries one spool file after its other events.
 pub record IsFileTurn (T : Trace) (links links_then : Links) (given : Log) (file_calls : List FileCall) : Type 0 where
   pub deposits : Log
   pub earlier : Log
@@ -127,21 +127,21 @@ pub record Works {V W S H : Type 0} (Holds : V → Contents → Type 0) (Faults 
   pub came : List Came
   pub seats : List Seat
   pub stands : StandsFor Holds office_then (trace_of T.base (given ++ T.log))
-  -- the store's count of faults never falls, and an event failed only where it grew
+  -- the store's count of faults never falls, and an event failed only if it grew
   pub counted : Faults (vault_of office) ≤ Faults (vault_of office_then)
   pub failed : list_any is_failed given ≡ true → has_grown (Faults (vault_of office)) (Faults (vault_of office_then)) ≡ true
   pub asked : WasAsked Asked wire wire_then calls
   pub asked_files : (before : List FileCall) → AskedFiles spool before → AskedFiles spool_then (before ++ file_calls)
   pub is : IsTurn T (trace_of T.base (given ++ T.log)) now links links_then came seats given calls
   pub files : IsFileTurn T links links_then given file_calls
-  -- behind a file that was removed or renamed the next turn doesn't wait
+  -- after a file that was removed or renamed the next turn doesn't wait
   pub dealt : has_dealt file_calls ≡ true → millis_of links_then ≡ 0
-  -- nor, where logins wait for locks, behind a session that ended, or a link whose connection did
+  -- nor, if logins wait for locks, after a session that ended, or a link whose connection did
   pub frees : is.freed ≡ true → millis_of links_then ≡ 0
   pub releases : (links.clients.wait == 0) ≡ false
       → list_any (is_shut_seat (trace_of T.base (given ++ T.log))) seats ≡ true
       → millis_of links_then ≡ 0
-  -- where nothing moved, no session ended and no file was dealt with, the next turn waits
+  -- if nothing moved, no session ended and no file was dealt with, the next turn waits
   pub rests : has_moved calls ≡ false → is.freed ≡ false → has_dealt file_calls ≡ false
       → millis_of links_then ≡ 1000
   pub http : HttpWorks T now links links_then given calls

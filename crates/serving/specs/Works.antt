@@ -114,7 +114,7 @@ octets_taken link (call ∷ calls) = count_taken link call + octets_taken link c
 abbrev pub most_writes : ℕ
 most_writes = 64
 
--- how many octets are written on a link in one turn, and then no more: many where it is alone, and one full write where others are open
+-- how many octets are written on a link in one turn, and then no more: many if it is alone, and one full write if others are open
 abbrev pub share_by : (links : ℕ) → ℕ
 share_by links = if nat_le links 1 then 1048576 else 16384
 
@@ -146,7 +146,7 @@ abbrev pub HurriesBy : (hurried hurried_then : Bool) → List Call → Type 0
 HurriesBy hurried hurried_then calls =
     hurried_then ≡ true → (hurried || has_moved calls) ≡ true
 
--- it doesn't wait where these calls moved something, if logins wait for locks
+-- it doesn't wait if these calls moved something, if logins wait for locks
 abbrev pub Releases : (wait : ℕ) (hurries : Bool) → List Call → Type 0
 Releases wait hurries calls = (wait == 0) ≡ false → has_moved calls ≡ true → hurries ≡ true
 
@@ -200,14 +200,14 @@ is_late now seconds newcomers c = not (seconds == 0) && is_late_by now seconds (
 abbrev pub AreNoMoreLate : (now seconds : ℕ) → (newcomers newcomers_then : List Newcomer) → Type 0
 AreNoMoreLate now seconds newcomers newcomers_then = (c : ℕ) → is_late now seconds newcomers_then c ≡ true → is_late now seconds newcomers c ≡ true
 
--- each event behind an older log has a tag that it may have there
+-- each event after an older log has a tag that it may have there
 abbrev pub AreNewlyAdmitted : Records → (older given : Log) → Type 0
 AreNewlyAdmitted B older [] = ⊤
 AreNewlyAdmitted B older ((e, m) ∷ given) = IsAdmitted (trace_of B (given ++ older)) e m × AreNewlyAdmitted B older given
 
 -- ---- why a connection ends
 
--- A connection goes only where its link told its end or that it is broken; and nothing starts anew.
+-- A connection goes only if its link told its end or that it is broken; and nothing starts anew.
 abbrev pub HasCause : List Seat → List Call → Event × EventTag → Type 0
 HasCause seats calls (event.Gone c, m) = (s : Seat) × Contains seats s × (s.connection ≡ c) × (is_cut s.link calls ≡ true)
 HasCause seats calls (event.Restart boot, m) = ⊥
@@ -227,12 +227,12 @@ AreLateGone now seconds newcomers given = All (IsLateGone now seconds newcomers)
 
 -- ---- why a link isn't read
 
--- with this piece a connection's next line is a login that waits for its maildrop's lock, or one, where logins may be kept back
+-- with this piece a connection's next line is a login that waits for its maildrop's lock, or one, if logins may be kept back
 abbrev pub IsKeptBack : Trace → (c : ℕ) → (piece : List ℕ) → (wait : ℕ) (may : Bool) → Type 0
 IsKeptBack T c piece wait may =
     (waiting.waits T c piece wait ≡ true) ⊎ ((may ≡ true) × (brings_login T c piece ≡ true))
 
--- a link was looked at, which showed a piece that is kept back: so it is behind a front of these events
+-- a link was looked at, which showed a piece that is kept back: so it is after a front of these events
 pub record StaysUnread (B : Records) (older given : Log) (calls : List Call) (wait : ℕ) (may : Bool) (s : Seat) : Type 0 where
   pub piece : List ℕ
   pub io : Io
@@ -242,7 +242,7 @@ pub record StaysUnread (B : Records) (older given : Log) (calls : List Call) (wa
   pub is : given ≡ later ++ front
   pub kept : IsKeptBack (trace_of B (front ++ older)) s.connection piece wait may
 
--- what a link showed was read by its first line, where logins may be kept back
+-- what a link showed was read by its first line, if logins may be kept back
 pub record IsReadByLine (calls : List Call) (may : Bool) (s : Seat) : Type 0 where
   pub piece : List ℕ
   pub io : Io
@@ -252,7 +252,7 @@ pub record IsReadByLine (calls : List Call) (may : Bool) (s : Seat) : Type 0 whe
   pub shown : Contains calls (Looked Pop s.link io piece)
   pub read : Contains calls (Read Pop s.link (first_line piece) io_then octets)
 
--- so much of a link is kept back: all of it, or what is behind its first line
+-- so much of a link is kept back: all of it, or what is after its first line
 abbrev pub IsHeldBack : (B : Records) (older given : Log) (calls : List Call) (wait : ℕ)
     (may : Bool) → Seat → Type 0
 IsHeldBack B older given calls wait may s =
@@ -264,7 +264,7 @@ pub record WasGiven {V : Type 0} (Holds : V → Contents → Type 0) (IsClean : 
   pub clean : IsClean (vault_of office_then) → IsClean (vault_of office)
   pub stands : (B : Records) (L : Log) → StandsFor Holds office (trace_of B L) → IsClean (vault_of office_then) → StandsFor Holds office_then (trace_of B (given ++ L))
   pub admitted : (B : Records) (L : Log) → StandsFor Holds office (trace_of B L) → IsClean (vault_of office_then) → AreNewlyAdmitted B L given
-  -- the count of faults never falls, and an event failed only where it grew
+  -- the count of faults never falls, and an event failed only if it grew
   pub counted : Faults (vault_of office) ≤ Faults (vault_of office_then)
   pub failed : (B : Records) (L : Log) → StandsFor Holds office (trace_of B L) → IsClean (vault_of office_then) → list_any is_failed given ≡ true
       → has_grown (Faults (vault_of office)) (Faults (vault_of office_then)) ≡ true
@@ -329,7 +329,7 @@ seat_for link (Some c) = Some (record { link = link; connection = c })
 abbrev pub seat_of : Came → Option Seat
 seat_of k = seat_for k.link k.connection
 
--- or the link, where it got none
+-- or the link, if it got none
 abbrev pub left_out : Link → Option ℕ → Option Link
 left_out link None = Some link
 left_out link (Some c) = None
@@ -377,7 +377,7 @@ abbrev pub OwesNothing : {V : Type 0} (Holds : V → Contents → Type 0) (IsCle
 OwesNothing Holds IsClean office office_then c given =
     (B : Records) (L : Log) → StandsFor Holds office (trace_of B L) → IsClean (vault_of office_then) → rest (trace_of B (given ++ L)) c ≡ []
 
--- A link was written on so many times, so many octets; and it takes no more for now, or nothing more is owed, where that is over.
+-- A link was written on so many times, so many octets; and it takes no more for now, or nothing more is owed, if that is over.
 pub record IsWritten {V : Type 0} (Holds : V → Contents → Type 0) (IsClean : V → Type 0) (office office_then : Office V) (seat : Seat) (times octets : ℕ) (goes : Bool)
     (given : Log) (calls : List Call) : Type 0 where
   pub of_seat : IsQuietFor (seat ∷ []) given calls
@@ -385,7 +385,7 @@ pub record IsWritten {V : Type 0} (Holds : V → Contents → Type 0) (IsClean :
   pub octets_are : octets ≤ octets_taken seat.link calls
   pub ends : goes ≡ false → (list_any (is_later_of seat.link) calls ≡ true) ⊎ OwesNothing Holds IsClean office office_then seat.connection given
 
--- A link was written its share, or as often as it may be, where it goes on; or it takes no more for now, or nothing more is owed.
+-- A link was written its share, or as often as it may be, if it goes on; or it takes no more for now, or nothing more is owed.
 pub record IsWrittenOut {V : Type 0} (Holds : V → Contents → Type 0) (IsClean : V → Type 0) (office office_then : Office V) (seat : Seat) (share : ℕ) (goes : Bool)
     (given : Log) (calls : List Call) : Type 0 where
   pub of_seat : IsQuietFor (seat ∷ []) given calls
@@ -408,7 +408,7 @@ abbrev pub is_count : Io → Bool
 is_count (Count n) = true
 is_count _ = false
 
--- What comes next on a link was looked at, where something may be kept back, and so many octets are to be read: as many as there is room for, or a part
+-- What comes next on a link was looked at, if something may be kept back, and so many octets are to be read: as many as there is room for, or a part
 -- of the piece that was shown.
 pub data HasLooked {V : Type 0} (Holds : V → Contents → Type 0) (office : Office V) (seat : Seat) (wait : ℕ) (pace : Pace) : (count : ℕ) → List Call → Type 0 where
   Unlooked : wait ≡ 0 → is_free pace ≡ true → HasLooked Holds office seat wait pace 4096 []
@@ -418,7 +418,7 @@ pub data HasLooked {V : Type 0} (Holds : V → Contents → Type 0) (office : Of
       → ((count == 0) ≡ false → count ≡ part_by false (is_free pace) 4096 piece)
       → HasLooked Holds office seat wait pace count (Looked Pop seat.link (Count n) piece ∷ [])
 
--- A link was read from once, so many octets at most, where its connection waits for them.
+-- A link was read from once, so many octets at most, if its connection waits for them.
 pub data IsReadOnce {V : Type 0} (Holds : V → Contents → Type 0) (office : Office V) (seat : Seat)
     (room : ℕ) : Log → List Call → Type 0 where
   NotReady : IsNotReady Holds office seat.connection → IsReadOnce Holds office seat room [] []
@@ -426,7 +426,7 @@ pub data IsReadOnce {V : Type 0} (Holds : V → Contents → Type 0) (office : O
       → IsQuietFor (seat ∷ []) given (Read Pop seat.link room io octets ∷ [])
       → IsReadOnce Holds office seat room given (Read Pop seat.link room io octets ∷ [])
 
--- A link was read from, where its connection waits for octets and nothing is kept back.
+-- A link was read from, if its connection waits for octets and nothing is kept back.
 pub record IsHeard {V : Type 0} (Holds : V → Contents → Type 0) (office : Office V) (seat : Seat) (wait : ℕ) (may : Bool) (given : Log) (calls : List Call) : Type 0 where
   pub of_seat : IsQuietFor (seat ∷ []) given calls
   pub heard : (list_any (is_read_of seat.link) calls ≡ true) ⊎ (IsReadByLine calls may seat
@@ -441,7 +441,7 @@ pub record Way : Type 0 where
   pub may : Bool
   pub hurries : Bool
 
--- a link is served: logins are kept back behind refusals, where guesses are slow, and behind a session that ended in this turn
+-- a link is served: logins are kept back after refusals, if guesses are slow, and after a session that ended in this turn
 abbrev pub may_keep : Clients → Bool
 may_keep links = links.guesses.are_slow || links.is_freed
 
@@ -462,7 +462,7 @@ way_by set count freed hurries = record {
   hurries = hurries;
 }
 
--- a seat's link had its turn, or stays unread for a cause, where its connection is open by then
+-- a seat's link had its turn, or stays unread for a cause, if its connection is open by then
 abbrev pub HadTurn : Way → (B : Records) (older given : Log) → (after : Trace) → List Call → Seat → Type 0
 HadTurn way B older given after calls s = is_open after s.connection ≡ true
     → (had_its_turn way.share way.hurries s.link calls ≡ true)
@@ -477,7 +477,7 @@ pub record HadTurns {V : Type 0} (Holds : V → Contents → Type 0) (IsClean : 
 
 -- ---- sessions that end
 
--- A connection's session ended by these events: it lived behind some of them, and no more behind
+-- A connection's session ended by these events: it lived after some of them, and no more after
 -- the next ones.
 pub record HasEnded (B : Records) (older given : Log) (c : ℕ) : Type 0 where
   pub later : Log
@@ -493,7 +493,7 @@ pub record HasFreed (B : Records) (older given : Log) (seats : List Seat) : Type
   pub among : Contains seats seat
   pub session : HasEnded B older given seat.connection
 
--- logins are kept back behind sessions that ended, where they wait for a lock, and behind nothing
+-- logins are kept back after sessions that ended, if they wait for a lock, and after nothing
 -- else
 abbrev pub IsFreedBy : {V : Type 0} (Holds : V → Contents → Type 0) (IsClean : V → Type 0)
     (office office_then : Office V) (wait : ℕ) (freed : Bool) (seats : List Seat) (given : Log)
@@ -503,7 +503,7 @@ IsFreedBy Holds IsClean office office_then wait freed seats given =
     → StandsFor Holds office (trace_of B L) → IsClean (vault_of office_then)
     → HasFreed B L given seats)
 
--- the links of these seats had their turns, by these settings, and what was kept back behind a
+-- the links of these seats had their turns, by these settings, and what was kept back after a
 -- session that ended was so for that
 pub record WereServed {V : Type 0} (Holds : V → Contents → Type 0) (IsClean : V → Type 0)
     (office office_then : Office V) (set : Settings) (freed hurries : Bool)
@@ -534,7 +534,7 @@ pub record AreClosed (T : Trace) (seats seats_then : List Seat) (calls : List Ca
   pub calls_are : calls ≡ map closing (filter (is_shut_seat T) seats)
   pub left : seats_then ≡ filter (is_open_seat T) seats
 
--- exactly this seat's link is closed, where its connection isn't open
+-- exactly this seat's link is closed, if its connection isn't open
 pub record IsClosed (T : Trace) (seats seats_then : List Seat) (place : ℕ) (seat : Seat) (stays : Bool) (calls : List Call) : Type 0 where
   pub stays_if : stays ≡ is_open_seat T seat
   pub left : seats_then ≡ (if stays then seats else remove seats place)

@@ -64,7 +64,7 @@ impl Links {
         self.clients.wait = seconds.min(MOST_WAIT);
     }
 
-    /// Gives each client that comes from now on so many seconds for its login, at most 600. Where
+    /// Gives each client that comes from now on so many seconds for its login, at most 600. If
     /// its link was accepted so long ago and it hasn't logged in, its connection is ended and the
     /// link closed, at the end of a turn. Links begin with 0: the office's idle time alone counts.
     pub fn set_login_seconds(&mut self, seconds: u64)
@@ -79,8 +79,8 @@ impl Links {
         self.clients.newcomers.seconds = seconds.min(MOST_LOGIN_SECONDS);
     }
 
-    /// Makes guesses slow, or as fast as they come. Behind a refused PASS or APOP the next one from
-    /// the same address isn't read for a second, and behind each further refusal for twice as long,
+    /// Makes guesses slow, or as fast as they come. After a refused PASS or APOP the next one from
+    /// the same address isn't read for a second, and after each further refusal for twice as long,
     /// at most 15 seconds, until one is accepted or none was refused for ten minutes. An IPv6
     /// address counts by its first 64 bits. Of 1,024 addresses refusals are known, the newest ones.
     /// Until a client has logged in its lines are read one at a time. Links begin with fast ones.
@@ -101,7 +101,7 @@ impl Links {
         self.clients.wait
     }
 
-    /// How many seconds each client has for its login; 0 where it has all that the office gives.
+    /// How many seconds each client has for its login; 0 if it has all that the office gives.
     pub fn login_seconds(&self) -> u64
         ensures { result ≡ (settings self.now).login_seconds }
     {
@@ -144,7 +144,7 @@ pub(crate) struct Clients {
     pub(crate) hurries: bool,
     /// For how many seconds a login waits for its maildrop's lock.
     pub(crate) wait: u64,
-    /// Where logins wait: a session ended while this turn served the links. No further login is
+    /// If logins wait: a session ended while this turn served the links. No further login is
     /// read in it, so that in the next turn those who wait are tried by number.
     pub(crate) is_freed: bool,
     /// Who hasn't logged in, and how long each may take.

@@ -26,7 +26,7 @@ fn first_of(newcomers: &[Newcomer], connection: u64) -> Option<&Newcomer>
 /// are seats at most, so that to note one takes no memory.
 #[derive(Drop)]
 pub(crate) struct Newcomers {
-    /// How many seconds each has for its login; none is noted where it is 0.
+    /// How many seconds each has for its login; none is noted if it is 0.
     pub(crate) seconds: u64,
     pub(crate) newcomers: ArrayVec<Newcomer, PLACES>,
 }
@@ -44,7 +44,7 @@ impl Newcomers {
     }
 
     /// Notes a connection whose link was accepted at this moment. Whether there was room: there is
-    /// where each that is noted has a seat, and a seat is free.
+    /// if each that is noted has a seat, and a seat is free.
     pub(crate) fn note(&mut self, connection: u64, now: u64) -> bool
         ensures seconds { self.new.seconds ≡ self.old.seconds }
         ensures newcomers { self.new.newcomers.items

@@ -30,8 +30,8 @@ pub(crate) enum Pace {
     Shut,
 }
 
-/// By which number a client's guesses count: by none where guesses aren't slow, where the client is
-/// logged in, or where its address isn't known.
+/// By which number a client's guesses count: by none if guesses aren't slow, if the client is
+/// logged in, or if its address isn't known.
 pub(crate) fn origin_at<V: Vault, W: Wire>(
     office: &Office<V>,
     wire: &W,
@@ -67,7 +67,7 @@ pub(crate) fn pace_of(guesses: &Guesses, origin: Option<u64>, now: u64) -> Pace
     }
 }
 
-/// The pace behind a session that ended in this turn: logins stay unread.
+/// The pace after a session that ended in this turn: logins stay unread.
 pub(crate) fn pace_behind(pace: Pace, is_freed: bool, is_logged_in: bool) -> Pace
     ensures { result ≡ pace_behind_by is_freed is_logged_in pace }
 {
@@ -94,7 +94,7 @@ impl Pace {
 }
 
 /// Whether a piece that came stays unread, because its next line is a login that waits for its
-/// maildrop's lock, or one that is kept back behind a refusal.
+/// maildrop's lock, or one that is kept back after a refusal.
 fn is_held_back<V: Vault>(
     office: &Office<V>,
     connection: u64,
@@ -121,7 +121,7 @@ fn first_newline(piece: &[u8]) -> Option<usize>
     piece.iter().position(|octet| *octet == b'\n')
 }
 
-/// How many octets the first line of a piece has, with its LF; all, where it has none.
+/// How many octets the first line of a piece has, with its LF; all, if it has none.
 fn first_line(piece: &[u8]) -> usize
     ensures value { result ≡ first_line_of piece.now }
     ensures some { 0 < length piece.now → 0 < result }
@@ -133,7 +133,7 @@ fn first_line(piece: &[u8]) -> usize
     }
 }
 
-/// How many octets of a piece that came are read: none where it stays unread.
+/// How many octets of a piece that came are read: none if it stays unread.
 fn part_of_piece<V: Vault>(
     office: &Office<V>,
     connection: u64,
@@ -159,7 +159,7 @@ fn part_of_piece<V: Vault>(
     first_line(piece)
 }
 
-/// How many octets are read of what comes next on a link, 4,096 at most. Where nothing is kept
+/// How many octets are read of what comes next on a link, 4,096 at most. If nothing is kept
 /// back, nothing is looked at.
 pub(crate) fn next_part<V: Vault, W: Wire>(
     office: &Office<V>,

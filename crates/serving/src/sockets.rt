@@ -79,7 +79,7 @@ struct Place {
     /// The port and the number of the link that has it, or had it last.
     port: Port,
     number: u64,
-    /// That of the link; `None` where the place is free, or its link is broken or closed.
+    /// That of the link; `None` if the place is free, or its link is broken or closed.
     stream: Option<TcpStream>,
     /// What came and was looked at, but not read yet.
     ahead: Ahead,
@@ -97,7 +97,7 @@ pub struct SocketWire {
     poll: Poll,
     events: Events,
     door: Door,
-    /// That for the administration, where there is one.
+    /// That for the administration, if there is one.
     admin_door: Option<Door>,
     places: Vec<Place>,
     /// How many links were accepted at each port: the number of its next one.
@@ -144,7 +144,7 @@ fn free_places(alloc: Global) -> io::Result<Vec<Place>> {
 }
 
 impl SocketWire {
-    /// Listens for clients at an address, and tells the port: that of the address, or where this is
+    /// Listens for clients at an address, and tells the port: that of the address, or if this is
     /// 0 one that the system chose.
     pub fn bind<R: Net>(rt: &R, alloc: Global, at: SocketAddr) -> io::Result<(SocketWire, u16)> {
         let poll = Poll::new(rt)?;
@@ -202,7 +202,7 @@ impl SocketWire {
         }
     }
 
-    /// Gives a stream a free place, and its port's next number; `None` where no place is free, or
+    /// Gives a stream a free place, and its port's next number; `None` if no place is free, or
     /// the system won't watch it.
     fn seat(&mut self, port: Port, mut stream: TcpStream) -> Option<Link>
         ensures next { IfSome result (λ link. link.number ≡ count_at port self.old.counts) }
@@ -233,7 +233,7 @@ impl SocketWire {
         Some(link)
     }
 
-    /// The address of a link's other end; `None` where the link is closed, or the system doesn't
+    /// The address of a link's other end; `None` if the link is closed, or the system doesn't
     /// tell.
     pub fn peer(&self, port: Port, link: Link) -> Option<SocketAddr> {
         let place = self.places.iter().find(|place| place.has(port, link))?;
@@ -271,7 +271,7 @@ impl Place {
         counted(self.ahead.read(buffer), room)
     }
 
-    /// Shows what the next read gives. `Later` where there is no memory to look; where there is
+    /// Shows what the next read gives. `Later` if there is no memory to look; if there is
     /// none to keep what came, the link is broken.
     fn look(&mut self, buffer: &mut [u8]) -> Io
         ensures within { IsWithin (length buffer.old) result }
@@ -311,7 +311,7 @@ impl Place {
         came
     }
 
-    /// Reads the socket, where octets may have come.
+    /// Reads the socket, if octets may have come.
     fn read_stream(&mut self, buffer: &mut [u8]) -> Io
         ensures within { IsWithin (length buffer.old) result }
         ensures ahead { self.new.ahead ≡ self.old.ahead }

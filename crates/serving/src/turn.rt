@@ -47,13 +47,13 @@ const MOST_WRITES: usize = 64;
 /// How many octets are written in one turn on a link that is alone: 64 full writes.
 const SHARE_ALONE: usize = 1_048_576;
 
-/// How many where others are open, so that none of them waits long: one full write.
+/// How many if others are open, so that none of them waits long: one full write.
 const SHARE_BESIDE: usize = 16_384;
 
 /// How many milliseconds a turn waits at most.
 const MOST_MILLIS: u32 = 1000;
 
-/// Writes once what the office lends of a connection's output. Ends the connection where its link
+/// Writes once what the office lends of a connection's output. Ends the connection if its link
 /// is broken or at its end. Returns how many octets the link took.
 fn write_once<V: Vault, W: Wire, L: Listener>(
     office: &mut Office<V>,
@@ -121,7 +121,7 @@ fn write_owed<V: Vault, W: Wire, L: Listener>(
 }
 
 /// Reads once from a link whose connection waits for octets, at most as many as a buffer has, and
-/// ends the connection where the link is broken or at its end. Whether octets came.
+/// ends the connection if the link is broken or at its end. Whether octets came.
 fn read_once<V: Vault, W: Wire, L: Listener>(
     office: &mut Office<V>,
     wire: &mut W,
@@ -232,7 +232,7 @@ fn read_piece<V: Vault, W: Wire, L: Listener>(
     true
 }
 
-/// Writes on a link up to its share, and where all is written reads from it and writes what that
+/// Writes on a link up to its share, and if all is written reads from it and writes what that
 /// gave. Whether more can be written at once.
 fn serve_link<V: Vault, W: Wire, L: Listener>(
     office: &mut Office<V>,
@@ -416,7 +416,7 @@ fn serve_links<V: Vault, W: Wire, L: Listener>(
     }
 }
 
-/// Ends the connection of a seat, where it is open, and tells the listener that its client is late.
+/// Ends the connection of a seat, if it is open, and tells the listener that its client is late.
 fn end_seat<V: Vault, W: Wire, L: Listener>(
     office: &mut Office<V>,
     _wire: &W,
@@ -440,7 +440,7 @@ fn end_seat<V: Vault, W: Wire, L: Listener>(
     listener.hear(seat.connection, &Account::Ended(End::TooLate));
 }
 
-/// Ends the connection of one seat, where its client took too long to log in.
+/// Ends the connection of one seat, if its client took too long to log in.
 fn end_late<V: Vault, W: Wire, L: Listener>(
     office: &mut Office<V>,
     wire: &W,
@@ -510,7 +510,7 @@ fn end_late_ones<V: Vault, W: Wire, L: Listener>(
     }
 }
 
-/// Closes the link of one seat where its connection ended, and removes the seat. Returns whether
+/// Closes the link of one seat if its connection ended, and removes the seat. Returns whether
 /// the seat stays: then the connections of it and of all seats before it are open.
 fn close_seat<V: Vault, W: Wire>(
     office: &Office<V>,
@@ -590,8 +590,8 @@ fn pass_time<V: Vault, W: Wire>(office: &mut Office<V>, wire: &mut W, millis: u3
     let _ = office.step(Event::Tick(now));
 }
 
-/// Tells the listener that the connection of one seat was idle for too long, where it isn't open
-/// behind a moment.
+/// Tells the listener that the connection of one seat was idle for too long, if it isn't open
+/// after a moment.
 fn tell_idle<V: Vault, L: Listener>(
     office: &Office<V>,
     listener: &mut L,
@@ -611,7 +611,7 @@ fn tell_idle<V: Vault, L: Listener>(
 }
 
 /// Tells the listener of each connection that a moment ended: between turns that of each seat is
-/// open, so one that isn't open right behind the moment was ended by it.
+/// open, so one that isn't open right after the moment was ended by it.
 fn tell_idle_ones<V: Vault, L: Listener>(office: &Office<V>, listener: &mut L, links: &Clients)
     ensures { (T : Trace) → StandsFor V.holds office.now T
         → WasTold L.heard listener.old listener.new (idle_ends T links.now.seats.items) }
@@ -623,7 +623,7 @@ fn tell_idle_ones<V: Vault, L: Listener>(office: &Office<V>, listener: &mut L, l
     }
 }
 
-/// The number of the connection that a Connect opened; `None` where it opened none.
+/// The number of the connection that a Connect opened; `None` if it opened none.
 fn opened(outcome: Outcome) -> Option<u64>
     ensures { result ≡ opened_by (outcome_seen outcome) }
 {
@@ -633,7 +633,7 @@ fn opened(outcome: Outcome) -> Option<u64>
     }
 }
 
-/// Accepts the next client's link. It gets a seat with its connection, or is closed where the
+/// Accepts the next client's link. It gets a seat with its connection, or is closed if the
 /// office opens none. Returns whether one came. While all 128 seats are taken none is accepted.
 fn accept_link<V: Vault, W: Wire, L: Listener>(
     office: &mut Office<V>,
@@ -707,14 +707,14 @@ fn accept_links<V: Vault, W: Wire, L: Listener>(
     }
 }
 
-/// How many milliseconds a turn waits at most: none where more can be done at once.
+/// How many milliseconds a turn waits at most: none if more can be done at once.
 fn millis_for(links: &Links) -> u32
     ensures { result ≡ millis_of links.now }
 {
     if links.hurries() { 0 } else { MOST_MILLIS }
 }
 
-/// One turn: waits for at most a second, and not at all where more can be done at once; tells the
+/// One turn: waits for at most a second, and not at all if more can be done at once; tells the
 /// office the moment, in seconds; accepts the links that came, at most 64 at each port; serves each
 /// client's link, and then each link of the administration; ends the clients that took too long to
 /// log in; closes the links whose connections ended; and tries one file of the spool. The listener

@@ -1,4 +1,4 @@
--- Queries one behind the other, and what a store that is made and a store that is judged come to.
+-- Queries one after the other, and what a store that is made and a store that is judged come to.
 use Rattle.std.proofs.Common.{◌≡◌, ◌⊎◌, inl, inr, Bool, true, false, IsTrue, List, [], ◌∷◌, length, Result, Ok, Err, refl, sym, ap, subst, ◌∙◌, true≢false}
 use Rattle.mailsql.specs.Tables.{no_schema}
 use Rattle.sqlite.specs.declared.error.Error.{Error}
@@ -170,7 +170,7 @@ settled_so s0 s1 r out settled kept adopts err stop = record {
   stop = λ up db may. inl (stop (up, kept) db may);
 }
 
--- an error behind a step of the transaction
+-- an error after a step of the transaction
 pub halted_after : (first mid new : State) → GoesOn first mid → IsUndone mid new → IsHalted first new
 halted_after first mid new on (inl same) = inl (record {
   was_open = on.was_open;

@@ -30,7 +30,7 @@ use Rattle.sqlvault.specs.Refusals.{told, answer_of}
 use Rattle.sqlvault.proofs.HoldsLemmas.{met}
 use Rattle.sqlvault.specs.Keeps.{Keeps, message_row}
 
--- a message that stands where there is none
+-- a message that stands if there is none
 nobody : Keyed
 nobody = record { key = 0; message = record { maildrop = []; class = []; k = 0; text = [] } }
 
@@ -104,7 +104,7 @@ no_maildrop Held d c none h = record { answer = ap (λ b. cond b (Ok (heads d c)
 pub shown_heads : (Held : Contents → Type 0) (d : List ℕ) (c : Contents) (shown : List Head) → is_one_of d c.maildrops ≡ true → shown ≡ heads d c → Held c → AreHeads Held c d (Ok shown)
 shown_heads Held d c shown there is h = record { answer = ap (λ b. cond b (Ok (heads d c)) (Err fault.NoMaildrop)) there ∙ ap Ok (sym is); held = h }
 
--- an error in the reading of rows, where nothing was changed
+-- an error in the reading of rows, if nothing was changed
 pub unread_heads : {V : Type 0} (items : V → List Head) (Held : Contents → Type 0) (d : List ℕ) (c : Contents) (e : Error) (result : Result V Refusal)
     → IsErrAnd result (λ r. r ≡ Met e) → Held c → AreHeads Held c d (seen_as (answer_of result) items)
 unread_heads items Held d c e (Ok v) is h = absurd is

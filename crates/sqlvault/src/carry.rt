@@ -41,7 +41,7 @@ fn bring<S: Alter>(alloc: Global, conn: &mut Connection<S>, is_first: bool) -> R
 }
 
 /// Carries a store of version 1 (`is_first`) or 2 (not `is_first`) over, in one transaction. Its
-/// contents stay, and all its rows are read once: `NotOurs` where they aren't sound records. After
+/// contents stay, and all its rows are read once: `NotOurs` if they aren't sound records. After
 /// any refusal the store is as it was.
 pub(crate) fn carry<S: Alter>(
     alloc: Global,
@@ -84,8 +84,8 @@ fn unsound<S: Alter>(conn: &mut Connection<S>) -> Refusal
     }
 }
 
-/// The older version of the store's one version row: true for 1, false for 2. `OldVersion` where
-/// our version row has an unknown version; `NotOurs` where it has our version, is missing or isn't
+/// The older version of the store's one version row: true for 1, false for 2. `OldVersion` if
+/// our version row has an unknown version; `NotOurs` if it has our version, is missing or isn't
 /// alone.
 fn find_older<S: Alter>(alloc: Global, conn: &mut Connection<S>) -> Result<bool, Refusal>
     ensures asks { AsksOlder S.Store conn.old conn.new result }
@@ -118,7 +118,7 @@ fn has_older_columns<S: Alter>(conn: &Connection<S>, is_first: bool) -> bool
     }
 }
 
-/// Carries a store without all our tables over, where its tables and its one version row are those
+/// Carries a store without all our tables over, if its tables and its one version row are those
 /// of an older version. Else `OldVersion` for a version row of ours of an unknown version, or
 /// `NotOurs`.
 pub(crate) fn carry_marked<S: Alter>(alloc: Global, conn: &mut Connection<S>) -> Result<(), Refusal>

@@ -173,7 +173,7 @@ fn count_sheets(rows: &[Message]) -> u64
     sheets
 }
 
-/// How many sheets the messages of the maildrop have, 2^64 - 1 at most; `None` where its rows
+/// How many sheets the messages of the maildrop have, 2^64 - 1 at most; `None` if its rows
 /// aren't sound.
 fn judge_maildrop<S: Alter>(
     alloc: Global,
@@ -201,7 +201,7 @@ fn judge_maildrop<S: Alter>(
     }
 }
 
-/// How many sheets the messages of these maildrops have, 2^64 - 1 at most; `None` where the rows of
+/// How many sheets the messages of these maildrops have, 2^64 - 1 at most; `None` if the rows of
 /// one aren't sound.
 fn judge_maildrops<S: Alter>(
     alloc: Global,

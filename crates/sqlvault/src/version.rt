@@ -81,7 +81,7 @@ pub fn find_version<S: Alter>(
     }
 }
 
-/// That a store is of our version. `OldVersion` where its version row has another, `NotOurs` where
+/// That a store is of our version. `OldVersion` if its version row has another, `NotOurs` if
 /// that is missing or not alone.
 pub(crate) fn ours(version: StoreVersion) -> Result<(), VaultFault>
     ensures judged { (rows : Rows) → Tells rows version → IsOfOurVersion rows result }
@@ -108,8 +108,8 @@ pub(crate) fn ours(version: StoreVersion) -> Result<(), VaultFault>
     }
 }
 
-/// The older version that a store is of: true for 1, false for 2. `OldVersion` where its version
-/// row has an unknown version; `NotOurs` where it has ours, is missing or isn't alone.
+/// The older version that a store is of: true for 1, false for 2. `OldVersion` if its version
+/// row has an unknown version; `NotOurs` if it has ours, is missing or isn't alone.
 pub(crate) fn older(version: StoreVersion) -> Result<bool, VaultFault>
     ensures judged { (rows : Rows) → Tells rows version → IsOfOlderVersion rows result }
     ensures kinds { IfErr result IsAdoptFault }

@@ -6,7 +6,7 @@ use serving::{Asked, Link, Listener, ScriptSpool, Stop, serve_turn};
 use std::alloc::{AllocError, Global};
 use std::test::Fail;
 
-/// Each connection that ended where no line ended it, and why, in their order.
+/// Each connection that ended if no line ended it, and why, in their order.
 #[derive(Drop)]
 struct Ends {
     alloc: Global,
@@ -51,7 +51,7 @@ impl Listener for Ends {
 }
 
 /// What is heard of two silent clients, who come at moments 5 and 7, of turns at these moments,
-/// where each client has so many seconds for its login.
+/// if each client has so many seconds for its login.
 fn ends_by(alloc: Global, login_seconds: u64, moments: &[u64]) -> Result<String, Fail> {
     let mut spool = ScriptSpool::new(alloc);
     let mut stage = staged(alloc, &spool, 4096, u64::MAX, Stop::End)?;

@@ -95,7 +95,7 @@ accepts c d class id text uid r is maildrop deposit_id class_name form sized h =
       answer = h ∙ ap (λ (x : Uid). let y : Result Deposited VaultFault = Ok (stored.New x) in y) (sym same);
     })
 
--- ---- sound with the deposit: where no message lies first
+-- ---- sound with the deposit: if no message lies first
 
 bare : (c : Contents) → AreSound c → IsKept (with_messages [] c)
 bare c s =

@@ -7,7 +7,7 @@ use Rattle.converse.specs.Told.{count_line}
 use Rattle.converse.specs.PolicyFile.{IsPolicyText, IsNoPolicyText}
 use Rattle.converse.proofs.check_policy.tell_count.Goals as goal
 
--- where a text is a policy's, what is said of a text that is none holds
+-- if a text is a policy's, what is said of a text that is none holds
 not_both : (known : Option (List ℕ)) (policy : Policy) (A : Type 0) → IfSome known (λ octets. IsPolicyText octets policy) → IfSome known (λ octets. IsNoPolicyText octets → A)
 not_both None policy A h = tt
 not_both (Some octets) policy A h = λ none. absurd (none policy h)

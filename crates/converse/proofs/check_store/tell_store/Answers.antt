@@ -4,7 +4,7 @@ use Rattle.converse.specs.Checked.{store_text}
 use Rattle.converse.specs.Printed.{PrintsPart}
 use Rattle.converse.proofs.check_store.tell_store.Goals as goal
 
--- what was put behind nothing
+-- what was put after nothing
 put_alone : (lent items before text : List ℕ) → lent ≡ items → items ≡ before ++ text → before ≡ [] → lent ≡ text
 put_alone lent items before text is put none = is ∙ put ∙ ap (λ (xs : List ℕ). xs ++ text) none
 
