@@ -36,6 +36,10 @@ class Wrong(Exception):
     """What came is another thing than what must come."""
 
 
+# What a case can fail by.
+FAULTS = (Wrong, OSError, subprocess.SubprocessError, http.client.HTTPException)
+
+
 def wants(found, wanted):
     if found != wanted:
         raise Wrong(f"{found!r}, where {wanted!r} is wanted")
@@ -126,11 +130,12 @@ class Server:
     """The program as `serve`, over a store and a spool in a folder."""
 
     def __init__(self, program, folder, *words, **how):
-        self.folder, self.spool = folder, f"{folder}/spool"
+        self.folder, self.store, self.spool = folder, f"{folder}/mail.db", f"{folder}/spool"
         os.makedirs(self.spool, exist_ok=True)
-        store = [] if "--store" in words else ["--store", f"{folder}/mail.db"]
-        ports = ["--spool", self.spool, "--pop-port", "0", "--admin-port", "0"]
-        command = [program, "serve", *store, *ports, *words]
+        store = [] if "--store" in words else ["--store", self.store]
+        spool = [] if "--spool" in words else ["--spool", self.spool]
+        ports = ["--pop-port", "0", "--admin-port", "0"]
+        command = [program, "serve", *store, *spool, *ports, *words]
         self.run = subprocess.Popen(command, stdout=subprocess.PIPE, **how)
         late = threading.Timer(START, self.run.kill)
         late.start()
@@ -152,13 +157,21 @@ class Server:
         return time.monotonic() - (ran + waited) / 1e9
 
     def end(self):
+        """Ends the server, if it hasn't ended yet."""
         self.run.kill()
-        self.run.communicate()
+        if not self.run.stdout.closed:
+            self.run.communicate()
 
     def administer(self, method, path, body=None):
+        """The body of the response to a request of the administration."""
+        return self.ask(method, path, body)[1]
+
+    def ask(self, method, path, body=None):
+        """The status of the response too."""
         line = http.client.HTTPConnection("127.0.0.1", self.admin, timeout=REPLY)
         line.request(method, path, body)
-        answer = line.getresponse().read().decode()
+        response = line.getresponse()
+        answer = response.status, response.read().decode()
         line.close()
         return answer
 
@@ -231,7 +244,7 @@ def preload(folder, *names, **settings):
     for name, library in zip(names, libraries):
         words = ["cc", "-O2", "-shared", "-fPIC", "-o", library, f"{TOP}/tools/{name}.c"]
         subprocess.run(words, check=True)
-    files = {name.upper(): f"{folder}/{name}" for name in ("clock", "seen", "calls", "gate")}
+    files = {name.upper(): f"{folder}/{name}" for name in ("clock", "seen", "date", "calls", "gate")}
     return {**os.environ, **files, **settings, "LD_PRELOAD": ":".join(libraries)}
 
 
@@ -272,7 +285,7 @@ class Cases:
         with tempfile.TemporaryDirectory() as folder:
             try:
                 run(program, folder)
-            except (Wrong, OSError, subprocess.SubprocessError) as error:
+            except FAULTS as error:
                 return str(error) or type(error).__name__
         return ""
 

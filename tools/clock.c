@@ -1,10 +1,11 @@
 /*
- * A clock that can be set on: tools/check-server, check-limits and check-defaults have the loader
- * put this before the C library. To each moment that a program asks for are added the seconds that
- * the file named by CLOCK holds, and once a moment was told with them, the file named by SEEN holds
- * them too. With STILL, the moments that don't depend on the date stay the first one otherwise, so
- * that a slow machine loses no time. It calls the system alone, since a program may ask before the C
- * library's own parts are ready.
+ * A clock that can be set: tools/check-server, check-limits and check-defaults have the loader put
+ * this before the C library. To each moment that a program asks for are added the seconds that the
+ * file named by CLOCK holds, and once a moment was told with them, the file named by SEEN holds them
+ * too. To the date alone are added the seconds that the file named by DATE holds, which may begin
+ * with a minus sign. With STILL, the moments that don't depend on the date stay the first one
+ * otherwise, so that a slow machine loses no time. It calls the system alone, since a program may ask
+ * before the C library's own parts are ready.
  */
 #define _GNU_SOURCE
 #include <fcntl.h>
@@ -24,22 +25,44 @@ static void tell_seen(const char *text, long count)
     }
 }
 
+/* Reads the text of a file that a variable names. Gives how many octets it has. */
+static long read_file(const char *variable, char *text, long room)
+{
+    const char *name = getenv(variable);
+    long file = name ? syscall(SYS_openat, AT_FDCWD, name, O_RDONLY) : -1, count = 0;
+    if (file >= 0) {
+        count = syscall(SYS_read, file, text, room);
+        syscall(SYS_close, file);
+    }
+    return count;
+}
+
+/* The number that a text begins with. */
+static long number(const char *text, long count)
+{
+    long at = count > 0 && text[0] == '-', found = 0, sign = at ? -1 : 1;
+    for (; at < count && text[at] >= '0' && text[at] <= '9'; at++)
+        found = 10 * found + text[at] - '0';
+    return sign * found;
+}
+
+/* The seconds that are added to each moment. */
 static long added(void)
 {
     static long told;
     char text[20];
-    const char *name = getenv("CLOCK");
-    long file = name ? syscall(SYS_openat, AT_FDCWD, name, O_RDONLY) : -1, seconds = 0, count = 0;
-    if (file >= 0) {
-        count = syscall(SYS_read, file, text, sizeof text);
-        syscall(SYS_close, file);
-    }
-    for (long at = 0; at < count && text[at] >= '0' && text[at] <= '9'; at++)
-        seconds = 10 * seconds + text[at] - '0';
+    long count = read_file("CLOCK", text, sizeof text), seconds = number(text, count);
     if (seconds != told)
         tell_seen(text, count);
     told = seconds;
     return seconds;
+}
+
+/* The seconds that are added to the date alone. */
+static long date_added(void)
+{
+    char text[20];
+    return number(text, read_file("DATE", text, sizeof text));
 }
 
 /* Keeps a clock at the first moment that it told. */
@@ -58,5 +81,7 @@ int clock_gettime(clockid_t clock, struct timespec *now)
         keep(now);
     if (!failed)
         now->tv_sec += added();
+    if (!failed && clock == CLOCK_REALTIME)
+        now->tv_sec += date_added();
     return failed;
 }

@@ -21,8 +21,9 @@ import threading
 import time
 
 # How many seconds a program's session may take from its start, and its end; and how long a program
-# is looked at behind its session: what it shows and writes then.
-SESSION, END, AFTER = 60, 15, 4
+# is looked at behind its session: what it shows and writes then. How many a program that is left
+# open may take to its next session, which it begins after a minute.
+SESSION, END, AFTER, NEXT = 60, 15, 4, 150
 # How many octets the relay reads at once, at most.
 PIECE = 65_536
 DAY = 86_400
@@ -78,13 +79,19 @@ class Session:
         return found
 
 
+def lacks_pass(piece):
+    """Whether a piece has a USER and no whole PASS."""
+    return re.search(rb"(?m)^USER ", piece) and not re.search(rb"(?m)^PASS .*\n", piece)
+
+
 class Relay:
     """Takes connections, hands what comes to the server and back in the pieces in which it came,
-    and keeps what was said. `first` is what the server is sent before."""
+    and keeps what was said. `first` is what the server is sent before; with `joins` USER and PASS
+    go on in one piece, if the program doesn't wait for the reply to USER."""
 
-    def __init__(self, port, first=b""):
+    def __init__(self, port, first=b"", joins=False):
         self.to, self.sessions, self.hold = port, [], lambda line: None
-        self.first = first
+        self.first, self.joins = first, joins
         self.listener = socket.create_server(("127.0.0.1", 0))
         self.port = self.listener.getsockname()[1]
         threading.Thread(target=self.accept, daemon=True).start()
@@ -107,6 +114,8 @@ class Relay:
         rest = b""
         with contextlib.suppress(OSError):
             while piece := source.recv(PIECE):
+                while self.joins and who == "C" and lacks_pass(piece):
+                    piece += source.recv(PIECE)
                 *lines, rest = (rest + piece).split(b"\n")
                 for line in lines:
                     text = session.note(who, line)
@@ -123,6 +132,10 @@ class Relay:
     def tried(self):
         """The sessions in which a login was tried."""
         return [it for it in list(self.sessions) if it.sent("PASS") or it.sent("APOP")]
+
+    def over(self):
+        """Those of them that are over."""
+        return [it for it in self.tried() if it.ended.is_set()]
 
     def close(self):
         with contextlib.suppress(OSError):
@@ -179,7 +192,7 @@ class Screen:
     def __init__(self, folder):
         reads, writes = os.pipe()
         words = ["Xvfb", "-displayfd", str(writes), "-noreset", "-nolisten", "tcp"]
-        self.log = open(f"{folder}/screen.log", "wb")
+        self.folder, self.log = folder, open(f"{folder}/screen.log", "wb")
         how = {"stdout": self.log, "stderr": self.log, "pass_fds": [writes], "preexec_fn": nicely}
         self.run = subprocess.Popen(words, start_new_session=True, **how)
         os.close(writes)
@@ -196,23 +209,42 @@ class Screen:
         windows = self.do("search", "--onlyvisible", "--name", ".").split()
         return {self.do("getwindowname", it).strip() for it in windows} - {""}
 
+    def picture(self):
+        """A picture of all windows, large enough to be read."""
+        words = ["import", "-window", "root", "-colorspace", "gray", "-resize", "300%", "png:-"]
+        how = {"env": {**os.environ, "DISPLAY": self.display}, "check": True}
+        return subprocess.run(words, stdout=subprocess.PIPE, **how).stdout
+
     def end(self):
         end(self.run)
         self.log.close()
 
 
+def text_of(picture):
+    """What stands in a picture, as tesseract reads it."""
+    words = ["tesseract", "stdin", "stdout", "--psm", "11"]
+    return subprocess.run(words, input=picture, capture_output=True, check=True).stdout.decode()
+
+
+def letters(text):
+    """A text's letters and digits alone, since spaces and the others are often read otherwise."""
+    return re.sub("[^a-z0-9]", "", text.lower())
+
+
 class Program:
     """A mail program with one account, at a port of 127.0.0.1. `days` is after how many days it
     removes a message from the server, and 0 means at once; `apop` and `tls` how it logs in. It
-    keeps the password, unless `asks`: then it shows a box, into which `answer` writes."""
+    keeps the password, unless `asks`: then it shows a box, into which `answer` writes. With `stays`
+    it is left open, and checks each minute; with `quiet` Claws Mail and Sylpheed show no box as
+    they receive."""
 
     def __init__(
-        self, screen, folder, port, user, password, days, apop=False, tls=None, asks=False
+        self, screen, folder, port, user, password, days, apop=False, tls=None, **how
     ):
         self.screen, self.home, self.port, self.tls = screen, folder, port, tls
         self.user, self.password, self.days, self.apop = user, password, days, apop
-        self.asks = asks
-        self.titles, self.run = set(), None
+        self.asks, self.stays, self.quiet = (how.get(it) for it in ("asks", "stays", "quiet"))
+        self.titles, self.picture, self.run = set(), b"", None
         for it in ("run", "tmp"):
             os.makedirs(f"{folder}/{it}", mode=0o700)
         self.prepare()
@@ -245,6 +277,18 @@ class Program:
             self.titles |= self.screen.titles()
             time.sleep(0.3)
         return True
+
+    def wait(self, seconds):
+        """Notes the windows' titles for so long."""
+        until = time.monotonic() + seconds
+        self.watch(lambda: time.monotonic() > until, seconds + SESSION)
+
+    def says(self, text):
+        """Whether a text stood in a window at the end of the last check. Not each letter is read
+        right off a picture, so three in four of its trigrams are enough."""
+        said, wanted = (letters(it) for it in (text_of(self.picture), text))
+        parts = [wanted[at : at + 3] for at in range(len(wanted) - 2)]
+        return 4 * sum(it in said for it in parts) >= 3 * len(parts)
 
     def stop(self):
         if self.run:
@@ -281,8 +325,8 @@ class Program:
     def finish(self, session):
         """Waits until the session is over, or a box is shown, and ends the program."""
         in_time = self.watch(lambda: self.boxes() or session() and session().ended.is_set())
-        until = time.monotonic() + AFTER
-        self.watch(lambda: time.monotonic() > until)
+        self.wait(AFTER)
+        self.picture = self.screen.picture()
         self.stop()
         if not in_time or not session():
             raise TimeoutError(f"no session within {SESSION} s; shown: {sorted(self.titles)}")
@@ -351,7 +395,6 @@ THUNDERBIRD = {
     "mail.provider.suppress_dialog_on_startup": True,
     "mail.rights.version": 1,
     "mail.server.server1.check_new_mail": True,
-    "mail.server.server1.check_time": 60,
     "mail.server.server1.directory-rel": "[ProfD]Mail/pop",
     "mail.server.server1.download_on_biff": True,
     "mail.server.server1.hostname": "127.0.0.1",
@@ -390,6 +433,7 @@ class Thunderbird(Program):
             f"{server}leave_on_server": self.days > 0,
             f"{server}delete_by_age_from_server": self.days > 0,
             f"{server}num_days_to_leave_on_server": self.days or 7,
+            f"{server}check_time": 1 if self.stays else 60,
         }
         lines = (f"user_pref({json.dumps(it)}, {json.dumps(values[it])});\n" for it in values)
         write(f"{self.profile}/prefs.js", "".join(lines))
@@ -498,6 +542,12 @@ class Folders(Program):
         }
         return "[Account: 1]\n" + "".join(f"{it}={values[it]}\n" for it in values)
 
+    def common(self, minute):
+        """What the settings of all accounts have; a minute is so long there."""
+        values = {"autochk_newmail": int(bool(self.stays)), "autochk_interval": minute}
+        values["no_receive_error_panel"] = int(bool(self.quiet))
+        return "".join(f"{it}={values[it]}\n" for it in values)
+
     def folders(self):
         """The file that lists the folders, which are made."""
         names = ("inbox", "outbox", "draft", "queue", "trash")
@@ -517,7 +567,7 @@ class Claws(Folders):
     def prepare(self):
         self.config = f"{self.home}/claws"
         write(f"{self.config}/folderlist.xml", self.folders())
-        write(f"{self.config}/clawsrc", "[Common]\nconfig_version=4\n")
+        write(f"{self.config}/clawsrc", f"[Common]\nconfig_version=4\n{self.common(60)}")
         if self.tls:
             os.makedirs(f"{self.config}/certs")
             trusted = f"{self.config}/certs/127.0.0.1.{self.port}.cert"
@@ -548,7 +598,7 @@ class Sylpheed(Folders):
         self.config = f"{self.home}/sylpheed"
         write(f"{self.config}/accountrc", self.account())
         write(f"{self.config}/folderlist.xml", self.folders())
-        write(f"{self.config}/sylpheedrc", "[Common]\n")
+        write(f"{self.config}/sylpheedrc", f"[Common]\n{self.common(1)}")
         if self.tls:
             shutil.copy(self.tls.certificate, f"{self.config}/trust.crt")
 
@@ -577,6 +627,7 @@ class Evolution(Program):
             method="+APOP" if self.apop else "",
             leaves="true" if self.days else "false",
             days=0,
+            stays="true" if self.stays else "false",
         )
 
     def age(self, days):
@@ -634,6 +685,10 @@ RememberPassword=true
 
 [Security]
 Method=none
+
+[Refresh]
+Enabled={stays}
+IntervalMinutes=1
 
 [Pop Backend]
 KeepOnServer={leaves}

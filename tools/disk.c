@@ -1,9 +1,9 @@
 /*
- * Tells what reaches the disk: tools/check-program and tools/check-scripts have the loader put this
- * before the C library. To the file that CALLS names it adds a line for each call: `write NAME` and
- * `sync NAME`, by the name of the open file; `rename NAME`, by the old one. A sync or rename whose
- * line fits the pattern FAILS, as `sync *.db`, fails with EIO and is left out. It calls the
- * system alone.
+ * Tells what reaches the disk: tools/check-program, check-scripts and check-server have the loader
+ * put this before the C library. To the file that CALLS names it adds a line for each call: `write
+ * NAME` and `sync NAME`, by the name of the open file; `rename NAME`, by the old one. A sync or
+ * rename whose line fits the pattern FAILS, as `sync *.db`, fails with EIO and is left out; with
+ * AFTER, the first so many that fit are done. It calls the system alone.
  */
 #define _GNU_SOURCE
 #include <errno.h>
@@ -51,9 +51,12 @@ static void tell_open(const char *word, int file)
 static int fails(const char *word, const char *name)
 {
     char line[PATH_MAX + 16];
-    const char *pattern = getenv("FAILS");
+    const char *pattern = getenv("FAILS"), *after = getenv("AFTER");
+    static long fitting;
     snprintf(line, sizeof line, "%s %s", word, name);
     if (!pattern || fnmatch(pattern, line, 0))
+        return 0;
+    if (after && fitting++ < strtol(after, NULL, 10))
         return 0;
     errno = EIO;
     return 1;

@@ -121,6 +121,30 @@ def set_policy_goes_back_step_by_step(place):
 
 
 @case
+def set_policy_leaves_a_page(place):
+    new = write(place, READ_ONLY)
+    with office(place) as server:
+        kept = f"{place.folder}/kept/port-{server.admin}"
+        status, _, why, _ = set_policy(place, server, "--html", new, said=b"y\n")
+        wants((status, why), (0, ""))
+        names = sorted(os.listdir(kept))
+        wants([it.partition(".")[2] for it in names], ["html", "toml"])
+        wants(names[0].partition(".")[0], names[1].partition(".")[0])
+        with open(f"{kept}/{names[0]}", encoding="utf-8") as file:
+            page = file.read()
+        wants(page.startswith("<!doctype html>\n"), True)
+        wants("\n# Nobody may remove.\n" in page, True)
+        wants("remove: allow by rule all -&gt; deny by rule default\n" in page, True)
+        wants(os.stat(file.name).st_mode & 0o777, 0o600)
+        wants(decision(server), "deny by rule default\n")
+        # It goes when the change is undone, and without the option there is none.
+        status, _, why, _ = set_policy(place, server, "--back", said=b"y\n")
+        wants((status, why), (0, ""))
+        wants([it.rpartition(".")[2] for it in os.listdir(kept)], ["toml"])
+        wants(decision(server), "allow by rule all\n")
+
+
+@case
 def set_policy_notes_names_that_the_server_does_not_have(place):
     with office(place) as server:
         server.administer("PUT", "/clerks/ann", "pass x")
@@ -208,3 +232,45 @@ def set_policy_sees_what_is_in_force(place):
         (["--port"], "--port wants a value"),
     ):
         wants(place.run("popbox-set-policy", *words), (2, "", f"popbox-set-policy: {told}\n"))
+
+
+@case
+def set_policy_replaces_only_what_was_looked_at(place):
+    told = "popbox-set-policy: another policy is in force (nothing was changed)"
+    new, looked = write(place, READ_ONLY), f"{place.folder}/looked"
+    with office(place) as server:
+        before = server.administer("GET", "/policy")
+        for text in ("", before[:-1], READ_ONLY):
+            with open(looked, "w", encoding="utf-8") as file:
+                file.write(text)
+            status, said, why, after = set_policy(place, server, "--yes", "--over", looked, new)
+            wants((status, said, why, after), (3, "", f"{told}\n", before))
+        # Another administrator sets one while this shows what changes.
+        place.stand_in("diff", OTHER_SETS.format(server.admin))
+        status, _, why, after = set_policy(place, server, "--yes", new)
+        wants((status, why.splitlines()[-1], after), (3, told, ""))
+        wants(os.path.exists(f"{place.folder}/kept"), False)
+        os.remove(f"{place.folder}/bin/diff")
+        with open(looked, "w", encoding="utf-8") as file:
+            file.write(after)
+        status, _, _, after = set_policy(place, server, "--yes", "--over", looked, new)
+        wants((status, decision(server)), (0, "deny by rule default\n"))
+
+
+# A diff, after which another policy is in force.
+OTHER_SETS = """REAL "$@"
+curl -s -X PUT --data-binary '# None' http://127.0.0.1:{}/policy >/dev/null"""
+
+
+@case
+def set_policy_gives_what_is_kept_to_the_folders_owner(place):
+    kept, nobody = f"{place.folder}/kept", 65534
+    os.mkdir(kept)
+    os.chown(kept, nobody, nobody)
+    with office(place) as server:
+        wants(set_policy(place, server, "--yes", write(place, READ_ONLY))[0], 0)
+        folder = f"{kept}/port-{server.admin}"
+        for path in (folder, f"{folder}/{os.listdir(folder)[0]}"):
+            found = os.stat(path)
+            wants((path, found.st_uid, found.st_gid), (path, nobody, nobody))
+            wants((path, found.st_mode & 0o077), (path, 0))

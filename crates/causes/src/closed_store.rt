@@ -77,8 +77,8 @@ fn octets_of(rt: &HostRuntime, path: &str) -> u64 {
     }
 }
 
-/// Tells why a database that can be opened was refused as a store.
-fn tell_tables<S: Alter, E: Write>(
+/// Tells why the store at a path, which can be opened, was refused with a fault.
+pub fn tell_tables<S: Alter, E: Write>(
     alloc: Global,
     err: &mut E,
     path: &str,

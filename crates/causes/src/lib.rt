@@ -12,7 +12,7 @@ mod watched;
 
 pub use bad_line::tell_bad_line;
 pub use bad_rule::tell_bad_policy;
-pub use closed_store::tell_closed_store;
+pub use closed_store::{tell_closed_store, tell_tables};
 use converse::{Fault, read_fault, tell_fault};
 use creds::HostName;
 pub use keeping::Keeping;

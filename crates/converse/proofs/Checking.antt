@@ -1,7 +1,7 @@
 -- What is printed of a store, part by part.
-use Rattle.std.proofs.Common.{◌≡◌, ◌<◌, ◌+◌, ℕ, List, [], ◌∷◌, ◌++◌, length, take, get_or, refl, subst, sym, ◌∙◌, ap, append_assoc, append-nil, Option, Result, Ok, Err}
+use Rattle.std.proofs.Common.{◌≡◌, ◌<◌, ◌+◌, ℕ, List, [], ◌∷◌, ◌++◌, length, take, get_or, subst, sym, ◌∙◌, ap, append_assoc, append-nil, Option, Some, Result, Ok, Err, ◌≤◌, arith}
 use Rattle.std.proofs.KnownBytes.{Appends-trans}
-use Rattle.std.proofs.lemmas.List.{take_more}
+use Rattle.std.proofs.lemmas.List.{take_more, length-append}
 use Rattle.std.proofs.lemmas.List.Concat.{flat_map-append}
 use Rattle.std.specs.Prelude.{sum_by}
 use Rattle.std.specs.List.{flat_map}
@@ -9,9 +9,13 @@ use Rattle.std.specs.Io.KnownBytes.{Appends}
 use Rattle.policy.specs.Policy.{Policy}
 use Rattle.vault.specs.declared.answer.Total.{Total}
 use Rattle.vault.specs.declared.fault.VaultFault.{VaultFault}
+use Rattle.vault.specs.declared.record.Keyed.{Keyed}
+use Rattle.vault.specs.declared.record.Receipt.{Receipt}
 use Rattle.vault.specs.Changes.{Contents, records_of, totals}
 use Rattle.converse.specs.declared.check_store.StoreFile.{StoreFile}
-use Rattle.converse.specs.Checked.{counted, counts_line, last_line, file_lines, maildrop_line, clerk_line, store_text}
+use Rattle.converse.specs.Checked.{counted, counts_line, last_line, file_lines, maildrop_line, clerk_line, end_text, store_text}
+use Rattle.converse.specs.Texts.{differing, differing_in, differs_line}
+use Rattle.converse.proofs.Sifting.{all_lines, none_told, some_told, end_differs, end_whole}
 
 -- the lines of the first ones, and that of the next one
 pub told_more : {A : Type 0} (f : A → List ℕ) (xs : List A) (i : ℕ) (x : A) (a b d : Option (List ℕ)) → i < length xs → x ≡ get_or xs i x
@@ -44,14 +48,63 @@ count_or_none (Err e) = 0
 pub rules_answered : (p q : Policy) → ◌≡◌ {A = Result Policy VaultFault} (Ok p) (Ok q) → length q.rules ≡ length p.rules
 rules_answered p q e = sym (ap count_or_none e)
 
--- all of it
-pub store_told : (f : StoreFile) (c : Contents) (names : List (List ℕ)) (ts us : List Total) (rules : ℕ) (a b d e : Option (List ℕ))
-    → ts ≡ totals (records_of c) → us ≡ totals (records_of c) → rules ≡ length c.policy.rules → Appends a b (file_lines f ++ flat_map maildrop_line ts)
-    → Appends b d (flat_map (clerk_line c.clerks) names) → Appends d e (last_line us (length names) rules) → Appends a e (store_text f c names)
-store_told f c names ts us rules a b d e same other count p q r =
-    let all = totals (records_of c) in
-    let clerks = flat_map (clerk_line c.clerks) names in
+-- ---- all of it
+
+-- up to the clerks
+known_told : (f : StoreFile) (c : Contents) (names : List (List ℕ)) (ts : List Total) (a b d : Option (List ℕ)) → ts ≡ totals (records_of c)
+    → Appends a b (file_lines f ++ flat_map maildrop_line ts) → Appends b d (flat_map (clerk_line c.clerks) names)
+    → Appends a d (file_lines f ++ flat_map maildrop_line (totals (records_of c)) ++ flat_map (clerk_line c.clerks) names)
+known_told f c names ts a b d same p q =
     let front = subst (λ (xs : List Total). Appends a b (file_lines f ++ flat_map maildrop_line xs)) same p in
-    let last = subst (λ (n : ℕ). Appends d e (last_line all (length names) n)) count (subst (λ (xs : List Total). Appends d e (last_line xs (length names) rules)) other r) in
-    Appends-trans a d e (file_lines f ++ flat_map maildrop_line all ++ clerks) (last_line all (length names) (length c.policy.rules))
-    (Appends-trans a b d (file_lines f ++ flat_map maildrop_line all) clerks front q) last
+    Appends-trans a b d (file_lines f ++ flat_map maildrop_line (totals (records_of c))) (flat_map (clerk_line c.clerks) names) front q
+
+-- how much longer a text grew
+grew_by : (x y lines : List ℕ) → y ≡ x ++ lines → length y ≡ length x + length lines
+grew_by x y lines e = ap (λ (l : List ℕ). length l) e ∙ length-append x lines
+
+abbrev Lines : Option (List Receipt) → Contents → List Total → List ℕ
+Lines rs c ts = flat_map (λ (s : Total). flat_map differs_line (differing_in rs s.maildrop c)) ts
+
+-- it grew where messages differ, and else didn't
+pub does_differ : (rs : Option (List Receipt)) (c : Contents) (us : List Total) (x y : List ℕ) → us ≡ totals (records_of c) → y ≡ x ++ Lines rs c us
+    → length x < length y → differing rs c ≡ [] → ⊥
+does_differ rs c us x y same told long =
+    let g = grew_by x y (Lines rs c us) told in
+    let n : length (Lines rs c us) ≡ length (flat_map differs_line (differing rs c)) = ap (λ (l : List ℕ). length l) (all_lines rs c us same) in
+    some_told (differing rs c) (omega (arith, g, n, long))
+
+pub differs_not : (rs : Option (List Receipt)) (c : Contents) (us : List Total) (x y : List ℕ) → us ≡ totals (records_of c) → y ≡ x ++ Lines rs c us
+    → length y ≤ length x → differing rs c ≡ []
+differs_not rs c us x y same told short =
+    let g = grew_by x y (Lines rs c us) told in
+    let n : length (Lines rs c us) ≡ length (flat_map differs_line (differing rs c)) = ap (λ (l : List ℕ). length l) (all_lines rs c us same) in
+    none_told (differing rs c) (omega (arith, g, n, short))
+
+-- where messages differ
+pub store_differs : (f : StoreFile) (c : Contents) (names : List (List ℕ)) (rs : Option (List Receipt)) (ts us : List Total) (a b x y : List ℕ)
+    → ts ≡ totals (records_of c) → us ≡ totals (records_of c) → b ≡ a ++ (file_lines f ++ flat_map maildrop_line ts)
+    → x ≡ b ++ flat_map (clerk_line c.clerks) names → y ≡ x ++ Lines rs c us → length x < length y → y ≡ a ++ store_text f c names rs
+store_differs f c names rs ts us a b x y same other p q told long =
+    let all = totals (records_of c) in
+    let K = file_lines f ++ flat_map maildrop_line all ++ flat_map (clerk_line c.clerks) names in
+    let known = known_told f c names ts (Some a) (Some b) (Some x) same p q in
+    let end = end_differs (differing rs c) all (length names) (length c.policy.rules) (does_differ rs c us x y other told long) in
+    told ∙ ap (λ (l : List ℕ). l ++ Lines rs c us) known ∙ ap (λ (l : List ℕ). (a ++ K) ++ l) (all_lines rs c us other ∙ sym end)
+    ∙ append_assoc a K (end_text (differing rs c) all (length names) (length c.policy.rules))
+
+-- where none does
+pub store_whole : (f : StoreFile) (c : Contents) (names : List (List ℕ)) (rs : Option (List Receipt)) (ts us vs : List Total) (rules : ℕ) (a b x y z : List ℕ)
+    → ts ≡ totals (records_of c) → us ≡ totals (records_of c) → vs ≡ totals (records_of c) → rules ≡ length c.policy.rules
+    → b ≡ a ++ (file_lines f ++ flat_map maildrop_line ts) → x ≡ b ++ flat_map (clerk_line c.clerks) names
+    → y ≡ x ++ Lines rs c us → length y ≤ length x → z ≡ y ++ last_line vs (length names) rules → z ≡ a ++ store_text f c names rs
+store_whole f c names rs ts us vs rules a b x y z same other third count p q told short last =
+    let all = totals (records_of c) in
+    let K = file_lines f ++ flat_map maildrop_line all ++ flat_map (clerk_line c.clerks) names in
+    let known = known_told f c names ts (Some a) (Some b) (Some x) same p q in
+    let none = differs_not rs c us x y other told short in
+    let lines : Lines rs c us ≡ [] = all_lines rs c us other ∙ ap (λ (xs : List Keyed). flat_map differs_line xs) none in
+    let still : y ≡ x = told ∙ ap (λ (l : List ℕ). x ++ l) lines ∙ append-nil x in
+    let end = end_whole (differing rs c) all (length names) (length c.policy.rules) none in
+    last ∙ ap (λ (l : List ℕ). l ++ last_line vs (length names) rules) (still ∙ known)
+    ∙ ap (λ (l : List ℕ). (a ++ K) ++ l) (ap (λ (l : List Total). last_line l (length names) rules) third ∙ ap (λ (n : ℕ). last_line all (length names) n) count ∙ sym end)
+    ∙ append_assoc a K (end_text (differing rs c) all (length names) (length c.policy.rules))

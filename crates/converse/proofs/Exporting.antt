@@ -3,7 +3,7 @@ use Rattle.std.proofs.Common.{◌≡◌, ◌⊎◌, inl, inr, ◌<◌, ◌≤◌
 use Rattle.std.proofs.lemmas.List.{take_more, take-map, map-append, length-map}
 use Rattle.std.proofs.lemmas.Bool.{and_parts, or_parts, eq-eqb}
 use Rattle.std.specs.Prelude.{OnOk, OnErr, unwrap_or, filter, is_ok, if◌then◌else◌}
-use Rattle.std.specs.List.{All, list_any, find}
+use Rattle.std.specs.List.{All, list_any, find, flat_map}
 use Rattle.std.specs.Option.{option_map}
 use Rattle.std.specs.Str.{bytes_eq}
 use Rattle.policy.specs.Policy.{are_distinct}
@@ -11,13 +11,16 @@ use Rattle.vault.specs.declared.answer.Head.{Head}
 use Rattle.vault.specs.declared.fault.VaultFault.{VaultFault}
 use Rattle.vault.specs.declared.fault.VaultFault.TheVariants as vault
 use Rattle.vault.specs.declared.record.Keyed.{Keyed}
+use Rattle.vault.specs.declared.record.Receipt.{Receipt}
+use Rattle.vault.proofs.ListLemmas.{bytes_are}
 use Rattle.vault.specs.Calls.{text_under, has_grown, IsRefusal}
 use Rattle.vault.specs.Changes.{Contents, AreSound, head_of, heads, kept_in}
-use Rattle.converse.specs.Causes.{IsRefused, IsExportFault}
+use Rattle.converse.specs.Causes.{IsRefused, IsExportFault, IsExportEnd, IsCheckEnd}
 use Rattle.converse.specs.declared.fault.Fault.{Fault}
 use Rattle.converse.specs.declared.fault.Fault.TheVariants as fault
 use Rattle.converse.proofs.Clauses.{grown_since}
-use Rattle.converse.specs.Exported.{File, export_line, file_name, file_of, files_of, file_under, IsFront, IsMeasured, Takes, TakesFirst}
+use Rattle.converse.specs.Exported.{File, export_line, export_text, report_text, told_of, file_name, file_of, files_of, file_under, IsFront, IsMeasured, Takes, TakesFirst}
+use Rattle.converse.specs.Texts.{is_intact, intact_in, differing_in, differs_text, differs_line, head_line}
 
 -- A loop over a vault kept what was held and that it was clean, and of what was held this holds.
 pub record Stays {V : Type 0} (Holds : V → Contents → Type 0) (IsClean : V → Type 0) (before now : V) (P : Contents → Type 0) : Type 0 where
@@ -62,6 +65,7 @@ cause_still put more written further P Q p w q (fault.NoPolicy e) h = absurd h
 cause_still put more written further P Q p w q fault.NoClock h = absurd h
 cause_still put more written further P Q p w q fault.CannotPut h = p h
 cause_still put more written further P Q p w q fault.CannotWrite h = w h
+cause_still put more written further P Q p w q fault.Differs h = absurd h
 cause_still put more written further P Q p w q fault.OutOfMemory h = tt
 
 -- a refusal since a count is one since an earlier count
@@ -208,7 +212,7 @@ keep : {A : Type 0} (P : A → Type 0) (b : Bool) (x : A) (xs : List A) → P x 
 keep P true x xs h e = (h, e)
 keep P false x xs h e = e
 
-each_filter : {A : Type 0} (P : A → Type 0) (p : A → Bool) (xs : List A) → Each P xs → Each P (filter p xs)
+pub each_filter : {A : Type 0} (P : A → Type 0) (p : A → Bool) (xs : List A) → Each P xs → Each P (filter p xs)
 each_filter P p [] e = tt
 each_filter P p (x ∷ xs) e = keep P (p x) x (filter p xs) e.0 (each_filter P p xs e.1)
 
@@ -257,14 +261,14 @@ found (x ∷ xs) d =
     (find_at x (x.key == x.key) (find (λ (y : Keyed). y.key == x.key) xs) (eq-eqb x.key x.key refl), past x xs xs none (found xs r.1))
 
 -- the text under a message's key is its own
-abbrev HasOwn : List Keyed → Keyed → Type 0
+abbrev pub HasOwn : List Keyed → Keyed → Type 0
 HasOwn all x = text_under x.key all ≡ x.message.text
 
 owned : (all xs : List Keyed) → Each (Found all) xs → Each (HasOwn all) xs
 owned all [] e = tt
 owned all (x ∷ xs) e = (ap (λ (o : Option Keyed). unwrap_or (option_map (λ (y : Keyed). y.message.text) o) []) e.0, owned all xs e.1)
 
-own_in : (d : List ℕ) (c : Contents) → AreSound c → Each (HasOwn c.messages) (kept_in d c.messages)
+pub own_in : (d : List ℕ) (c : Contents) → AreSound c → Each (HasOwn c.messages) (kept_in d c.messages)
 own_in d c sound = each_filter (HasOwn c.messages) (λ (x : Keyed). bytes_eq x.message.maildrop d) c.messages (owned c.messages c.messages (found c.messages sound.keys))
 
 -- ---- a maildrop's heads
@@ -280,28 +284,113 @@ same_files : (c : Contents) (xs : List Keyed) → Each (HasOwn c.messages) xs �
 same_files c [] e = refl
 same_files c (x ∷ xs) e = ap₂ (λ (t : List ℕ) (fs : List File). record { name = file_name x.message.class x.message.k; octets = t } ∷ fs) e.0 (same_files c xs e.1)
 
-pub files_by_heads : (d : List ℕ) (c : Contents) → AreSound c → map (file_under c) (heads d c) ≡ files_of d c
-files_by_heads d c sound = same_files c (kept_in d c.messages) (own_in d c sound)
-
 -- heads that a vault answered
 pub items_measured : (d : List ℕ) (c : Contents) (hs : List Head) → AreSound c → hs ≡ heads d c → All (IsMeasured c) hs
 items_measured d c hs sound same = subst (λ (xs : List Head). All (IsMeasured c) xs) (sym same) (heads_measured d c sound)
 
-pub files_put : (d : List ℕ) (c : Contents) (hs : List Head) → AreSound c → hs ≡ heads d c → map (file_under c) hs ≡ files_of d c
-files_put d c hs sound same = ap (λ (xs : List Head). map (file_under c) xs) same ∙ files_by_heads d c sound
+-- ---- those of its messages that have the texts of their deposits
 
-pub count_put : (d : List ℕ) (c : Contents) (hs : List Head) (n : ℕ) → n ≡ length hs → hs ≡ heads d c → n ≡ length (files_of d c)
-count_put d c hs n is same =
-    is ∙ ap (λ (xs : List Head). length xs) same ∙ length-map (kept_in d c.messages) head_of ∙ sym (length-map (kept_in d c.messages) file_of)
+abbrev pub Against : Type 0
+Against = Option (List Receipt)
 
--- the folder took a maildrop's files where it took those of its heads
-pub files_taken : (d : List ℕ) (c : Contents) (hs : List Head) (a b : Option (List File)) → AreSound c → hs ≡ heads d c → Takes a b (map (file_under c) hs) → Takes a b (files_of d c)
-files_taken d c hs a b sound same p = subst (λ (fs : List File). Takes a b fs) (files_put d c hs sound same) p
+own_of : (rs : Against) (d : List ℕ) (c : Contents) → AreSound c → Each (HasOwn c.messages) (intact_in rs d c)
+own_of rs d c sound = each_filter (HasOwn c.messages) (λ (x : Keyed). is_intact rs x.message) (kept_in d c.messages) (own_in d c sound)
 
-pub first_taken : (d : List ℕ) (c : Contents) (hs : List Head) (a b : Option (List File)) → AreSound c → hs ≡ heads d c → TakesFirst a b (map (file_under c) hs) → TakesFirst a b (files_of d c)
-first_taken d c hs a b sound same p = subst (λ (fs : List File). TakesFirst a b fs) (files_put d c hs sound same) p
+pub intact_measured : (rs : Against) (d : List ℕ) (c : Contents) (hs : List Head) → AreSound c → hs ≡ map head_of (intact_in rs d c) → All (IsMeasured c) hs
+intact_measured rs d c hs sound same =
+    subst (λ (xs : List Head). All (IsMeasured c) xs) (sym same) (all_each (IsMeasured c) (map head_of (intact_in rs d c)) (measured c (intact_in rs d c) (own_of rs d c sound)))
 
--- the line that tells how many there were
-pub line_is : (d : List ℕ) (c : Contents) (hs : List Head) (n : ℕ) (text line : List ℕ) → text ≡ line → line ≡ export_line n → n ≡ length hs → hs ≡ heads d c
-    → text ≡ export_line (length (files_of d c))
-line_is d c hs n text line lent told is same = lent ∙ told ∙ ap export_line (count_put d c hs n is same)
+files_put : (rs : Against) (d : List ℕ) (c : Contents) (hs : List Head) → AreSound c → hs ≡ map head_of (intact_in rs d c) → map (file_under c) hs ≡ files_of rs d c
+files_put rs d c hs sound same = ap (λ (xs : List Head). map (file_under c) xs) same ∙ same_files c (intact_in rs d c) (own_of rs d c sound)
+
+-- the folder took a maildrop's files where it took those of these heads
+pub files_taken : (rs : Against) (d : List ℕ) (c : Contents) (hs : List Head) (a b : Option (List File)) → AreSound c → hs ≡ map head_of (intact_in rs d c)
+    → Takes a b (map (file_under c) hs) → Takes a b (files_of rs d c)
+files_taken rs d c hs a b sound same p = subst (λ (fs : List File). Takes a b fs) (files_put rs d c hs sound same) p
+
+pub first_taken : (rs : Against) (d : List ℕ) (c : Contents) (hs : List Head) (a b : Option (List File)) → AreSound c → hs ≡ map head_of (intact_in rs d c)
+    → TakesFirst a b (map (file_under c) hs) → TakesFirst a b (files_of rs d c)
+first_taken rs d c hs a b sound same p = subst (λ (fs : List File). TakesFirst a b fs) (files_put rs d c hs sound same) p
+
+-- ---- the lines of those that haven't
+
+-- each message of a maildrop has its name
+abbrev pub IsNamed : List ℕ → Keyed → Type 0
+IsNamed d x = x.message.maildrop ≡ d
+
+named_then : (d : List ℕ) (b : Bool) (x : Keyed) (xs : List Keyed) → (b ≡ true → IsNamed d x) → Each (IsNamed d) xs → Each (IsNamed d) (if b then x ∷ xs else xs)
+named_then d true x xs h e = (h refl, e)
+named_then d false x xs h e = e
+
+pub kept_named : (d : List ℕ) (ms : List Keyed) → Each (IsNamed d) (kept_in d ms)
+kept_named d [] = tt
+kept_named d (x ∷ xs) = named_then d (bytes_eq x.message.maildrop d) x (kept_in d xs) (λ e. bytes_are x.message.maildrop d e) (kept_named d xs)
+
+pub differing_named : (rs : Against) (d : List ℕ) (c : Contents) → Each (IsNamed d) (differing_in rs d c)
+differing_named rs d c = each_filter (IsNamed d) (λ (x : Keyed). not (is_intact rs x.message)) (kept_in d c.messages) (kept_named d c.messages)
+
+pub lines_by_heads : (d : List ℕ) (xs : List Keyed) → Each (IsNamed d) xs → flat_map (head_line d) (map head_of xs) ≡ flat_map differs_line xs
+lines_by_heads d [] e = refl
+lines_by_heads d (x ∷ xs) e =
+    ap₂ (λ (n l : List ℕ). differs_text n x.message.class x.message.k ++ l) (sym e.0) (lines_by_heads d xs e.1)
+
+-- the lines of the heads are those of the messages
+pub lines_told : (rs : Against) (d : List ℕ) (c : Contents) (hs : List Head) → hs ≡ map head_of (differing_in rs d c)
+    → flat_map (head_line d) hs ≡ flat_map differs_line (differing_in rs d c)
+lines_told rs d c hs same = ap (λ (xs : List Head). flat_map (head_line d) xs) same ∙ lines_by_heads d (differing_in rs d c) (differing_named rs d c)
+
+told_by : (d : List ℕ) (n : ℕ) (xs : List Keyed) → Each (IsNamed d) xs → told_of d n (map head_of xs) ≡ export_text n xs
+told_by d n [] e = refl
+told_by d n (x ∷ xs) e = lines_by_heads d (x ∷ xs) e
+
+-- what is told of both
+pub report_is : (rs : Against) (d : List ℕ) (c : Contents) (n : ℕ) (is hs : List Head) (text : List ℕ) → n ≡ length is → is ≡ map head_of (intact_in rs d c)
+    → hs ≡ map head_of (differing_in rs d c) → text ≡ told_of d n hs → text ≡ report_text rs d c
+report_is rs d c n is hs text count same other told =
+    told ∙ ap (told_of d n) other ∙ told_by d n (differing_in rs d c) (differing_named rs d c)
+    ∙ ap (λ (m : ℕ). export_text m (differing_in rs d c)) (count ∙ ap (λ (l : List Head). length l) same ∙ length-map (intact_in rs d c) head_of ∙ sym (length-map (intact_in rs d c) file_of))
+
+-- where none is left out it is the line that counts
+pub report_whole : (rs : Against) (d : List ℕ) (c : Contents) → differing_in rs d c ≡ [] → report_text rs d c ≡ export_line (length (files_of rs d c))
+report_whole rs d c none = ap (λ (xs : List Keyed). export_text (length (files_of rs d c)) xs) none
+
+-- a fault of an export is no message that differs
+pub end_of : (D : Type 0) (put written : Bool) (P : VaultFault → Type 0) (f : Fault) → IsExportFault put written P f → IsExportEnd D put written P f
+end_of D put written P fault.CannotRead h = h
+end_of D put written P (fault.BadEvent n) h = h
+end_of D put written P fault.BadHost h = h
+end_of D put written P (fault.Store e) h = h
+end_of D put written P (fault.Talk e) h = h
+end_of D put written P (fault.NoPolicy e) h = h
+end_of D put written P fault.NoClock h = h
+end_of D put written P fault.CannotPut h = h
+end_of D put written P fault.CannotWrite h = h
+end_of D put written P fault.Differs h = absurd h
+end_of D put written P fault.OutOfMemory h = h
+
+pub checked_end : (put written : Bool) (P : VaultFault → Type 0) (f : Fault) → IsExportFault put written P f → IsCheckEnd ⊥ f
+checked_end put written P fault.CannotRead h = tt
+checked_end put written P (fault.BadEvent n) h = tt
+checked_end put written P fault.BadHost h = tt
+checked_end put written P (fault.Store e) h = tt
+checked_end put written P (fault.Talk e) h = tt
+checked_end put written P (fault.NoPolicy e) h = tt
+checked_end put written P fault.NoClock h = tt
+checked_end put written P fault.CannotPut h = tt
+checked_end put written P fault.CannotWrite h = tt
+checked_end put written P fault.Differs h = absurd h
+checked_end put written P fault.OutOfMemory h = tt
+
+-- so is one that says so in any case
+pub checked_any : (D : Type 0) (f : Fault) → IsCheckEnd ⊥ f → IsCheckEnd D f
+checked_any D fault.CannotRead h = tt
+checked_any D (fault.BadEvent n) h = tt
+checked_any D fault.BadHost h = tt
+checked_any D (fault.Store e) h = tt
+checked_any D (fault.Talk e) h = tt
+checked_any D (fault.NoPolicy e) h = tt
+checked_any D fault.NoClock h = tt
+checked_any D fault.CannotPut h = tt
+checked_any D fault.CannotWrite h = tt
+checked_any D fault.Differs h = absurd h
+checked_any D fault.OutOfMemory h = tt

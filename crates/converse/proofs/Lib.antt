@@ -22,3 +22,4 @@ pub mod Exporting
 pub mod Checking
 mod Reasons
 pub mod Forming
+pub mod Sifting

@@ -1,5 +1,5 @@
 -- What sources gave and sinks took, call by call; and that a fault has its cause.
-use Rattle.std.proofs.Common.{◌≡◌, ℕ, ◌<◌, ◌≤◌, Bool, true, false, List, [], ◌∷◌, ◌++◌, ◌==◌, length, append-nil, append_assoc, sym, ◌∙◌, ap, subst, arith, Ok, Err, Result, IsErrAnd, IfErr}
+use Rattle.std.proofs.Common.{◌≡◌, ℕ, ◌<◌, Bool, true, false, List, [], ◌∷◌, ◌++◌, ◌==◌, length, append-nil, append_assoc, sym, ◌∙◌, ap, subst, arith, Ok, Err, Result, IsErrAnd, IfErr}
 use Rattle.converse.specs.Streams.{Reading, Writing, Reads, Writes, reads_failed, writes_failed}
 use Rattle.converse.specs.Talked.{HasFailed, IsFlushedBy}
 use Rattle.converse.specs.declared.talk.TalkFault.{TalkFault}

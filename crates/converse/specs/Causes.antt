@@ -12,7 +12,8 @@ use Rattle.converse.specs.declared.script.ScriptFault.{ScriptFault}
 use Rattle.converse.specs.declared.script.ScriptFault.TheVariants as script
 use Rattle.converse.specs.declared.fault.Fault.{Fault}
 use Rattle.converse.specs.declared.fault.Fault.TheVariants.{CannotRead, BadEvent, BadHost, Store}
-use Rattle.converse.specs.declared.fault.Fault.TheVariants.{CannotPut, CannotWrite, OutOfMemory}
+use Rattle.converse.specs.declared.fault.Fault.TheVariants.{CannotPut, CannotWrite, Differs}
+use Rattle.converse.specs.declared.fault.Fault.TheVariants.{OutOfMemory}
 use Rattle.converse.specs.Printed.{PrintsPart}
 use Rattle.converse.specs.Script.{script_of}
 use Rattle.converse.specs.Told.{fault_line}
@@ -70,3 +71,14 @@ IsExportFault put written Refuses CannotWrite = written ≡ true
 IsExportFault put written Refuses (Store fault) = Refuses fault
 IsExportFault put written Refuses OutOfMemory = ⊤
 IsExportFault put written Refuses _ = ⊥
+
+-- or some messages differ, and then this holds
+abbrev pub IsExportEnd : (differ : Type 0) (put written : Bool) (Refuses : VaultFault → Type 0)
+    → Fault → Type 0
+IsExportEnd differ put written Refuses Differs = differ
+IsExportEnd differ put written Refuses fault = IsExportFault put written Refuses fault
+
+-- why a check of a store ends: that messages differ is told only where this holds
+abbrev pub IsCheckEnd : (differ : Type 0) → Fault → Type 0
+IsCheckEnd differ Differs = differ
+IsCheckEnd differ _ = ⊤

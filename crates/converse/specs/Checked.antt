@@ -1,14 +1,18 @@
 -- What a check prints of a store.
-use Rattle.std.specs.Prelude.{ℕ, ◌-◌, ◌^◌, min, List, [], ◌++◌, length, sum_by, Option, None, Some, codes}
+use Rattle.std.specs.Prelude.{ℕ, ◌-◌, ◌^◌, min, List, [], ◌∷◌, ◌++◌, length, sum_by, Option, None}
+use Rattle.std.specs.Prelude.{Some, codes}
 use Rattle.std.specs.Fmt.{decimal}
 use Rattle.std.specs.List.{flat_map}
 use Rattle.creds.specs.declared.credential.Credential.{Credential}
 use Rattle.creds.specs.declared.credential.Credential.TheVariants.{Apop, Pass}
 use Rattle.vault.specs.declared.answer.Total.{Total}
 use Rattle.vault.specs.declared.record.Clerk.{Clerk}
+use Rattle.vault.specs.declared.record.Keyed.{Keyed}
+use Rattle.vault.specs.declared.record.Receipt.{Receipt}
 use Rattle.vault.specs.Records.{credential_in}
 use Rattle.vault.specs.Changes.{Contents, records_of, totals}
 use Rattle.converse.specs.declared.check_store.StoreFile.{StoreFile}
+use Rattle.converse.specs.Texts.{differing, differs_line}
 
 -- the kind of a clerk's credential
 abbrev pub kind_text : Credential → List ℕ
@@ -53,8 +57,14 @@ abbrev pub last_line : List Total → (clerks rules : ℕ) → List ℕ
 last_line ts clerks rules =
     counts_line (length ts) (counted (sum_by (λ (t : Total). t.messages) ts)) (counted (sum_by (λ (t : Total). t.octets) ts)) clerks rules
 
+-- at the end: the last line or, where messages differ, a line for each of them
+abbrev pub end_text : (differing : List Keyed) → List Total → (clerks rules : ℕ) → List ℕ
+end_text [] ts clerks rules = last_line ts clerks rules
+end_text (x ∷ xs) ts clerks rules = flat_map differs_line (x ∷ xs)
+
 -- of a store in this file, whose clerks have these names: maildrops by name, clerks in this order
-abbrev pub store_text : StoreFile → Contents → (names : List (List ℕ)) → List ℕ
-store_text f c names =
+abbrev pub store_text : StoreFile → Contents → (names : List (List ℕ))
+    → (against : Option (List Receipt)) → List ℕ
+store_text f c names rs =
     file_lines f ++ flat_map maildrop_line (totals (records_of c)) ++ flat_map (clerk_line c.clerks) names
-    ++ last_line (totals (records_of c)) (length names) (length c.policy.rules)
+    ++ end_text (differing rs c) (totals (records_of c)) (length names) (length c.policy.rules)

@@ -1,12 +1,15 @@
 -- The files that an export puts into a folder: a maildrop's messages, the oldest first.
-use Rattle.std.specs.Prelude.{◌≡◌, ◌≤◌, ℕ, ⊤, true, List, ◌++◌, length, map, take, Option, None}
-use Rattle.std.specs.Prelude.{Some, Result, OnErr, codes}
+use Rattle.std.specs.Prelude.{◌≡◌, ◌≤◌, ℕ, ⊤, true, List, [], ◌∷◌, ◌++◌, length, map, take, Option}
+use Rattle.std.specs.Prelude.{None, Some, Result, OnErr, codes}
 use Rattle.std.specs.Fmt.{decimal}
+use Rattle.std.specs.List.{flat_map}
 use Rattle.creds.specs.Uid.{uid_text}
 use Rattle.vault.specs.declared.answer.Head.{Head}
 use Rattle.vault.specs.declared.record.Keyed.{Keyed}
+use Rattle.vault.specs.declared.record.Receipt.{Receipt}
 use Rattle.vault.specs.Calls.{text_under, has_grown}
-use Rattle.vault.specs.Changes.{Contents, kept_in}
+use Rattle.vault.specs.Changes.{Contents}
+use Rattle.converse.specs.Texts.{intact_in, differing_in, differs_line, head_line}
 
 -- a file: its name and its octets
 pub record File : Type 0 where
@@ -21,9 +24,9 @@ file_name class k = uid_text (record { class = class; k = k }) ++ codes ".eml"
 abbrev pub file_of : Keyed → File
 file_of x = record { name = file_name x.message.class x.message.k; octets = x.message.text }
 
--- a maildrop's messages as files, in order of arrival
-abbrev pub files_of : (maildrop : List ℕ) → Contents → List File
-files_of d c = map file_of (kept_in d c.messages)
+-- a maildrop's messages that have the texts of their deposits, as files, in order of arrival
+abbrev pub files_of : (against : Option (List Receipt)) → (maildrop : List ℕ) → Contents → List File
+files_of rs d c = map file_of (intact_in rs d c)
 
 -- a folder, where it tells its files, took these behind those that it had taken
 abbrev pub Takes : (before after : Option (List File)) → List File → Type 0
@@ -43,7 +46,21 @@ CountsRefusal before now answer = (before ≤ now) × OnErr answer (has_grown be
 abbrev pub export_line : ℕ → List ℕ
 export_line n = codes "ok, " ++ decimal n ++ codes " messages\n"
 
+-- or, where messages were left out, a line for each of them
+abbrev pub export_text : (count : ℕ) → (differing : List Keyed) → List ℕ
+export_text n [] = export_line n
+export_text n (x ∷ xs) = flat_map differs_line (x ∷ xs)
+
+-- of a maildrop
+abbrev pub report_text : (against : Option (List Receipt)) → (maildrop : List ℕ) → Contents → List ℕ
+report_text rs d c = export_text (length (files_of rs d c)) (differing_in rs d c)
+
 -- ---- message by message
+
+-- what is printed of so many messages and of the heads of those that were left out
+abbrev pub told_of : (maildrop : List ℕ) → (count : ℕ) → (differing : List Head) → List ℕ
+told_of d n [] = export_line n
+told_of d n (h ∷ hs) = flat_map (head_line d) (h ∷ hs)
 
 -- octets are the front of a text
 abbrev pub IsFront : (octets text : List ℕ) → Type 0

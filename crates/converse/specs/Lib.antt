@@ -15,3 +15,4 @@ pub mod Played
 pub mod Reviewed
 pub mod Exported
 pub mod Checked
+pub mod Texts

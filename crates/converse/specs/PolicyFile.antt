@@ -4,6 +4,7 @@ use Rattle.std.specs.Io.KnownBytes.{Appends}
 use Rattle.std.specs.Str.{IsUtf8}
 use Rattle.policy.specs.Policy.{Policy}
 use Rattle.policy.specs.PolicyText.{rules_of}
+use Rattle.policy.specs.WrittenText.{policy_text}
 use Rattle.policy.specs.declared.fault.PolicyFault.{PolicyFault}
 use Rattle.policy.specs.declared.fault.PolicyFault.TheVariants.{NotToml}
 use Rattle.converse.specs.Printed.{PrintsPart}
@@ -30,3 +31,20 @@ TellsCount file before after =
 abbrev pub TellsCountPart : (file before after : Option (List ℕ)) → Type 0
 TellsCountPart file before after =
     (policy : Policy) × IfSome file (λ octets. IsPolicyText octets policy) × PrintsPart before after (count_line (length policy.rules))
+
+-- the file, where its octets are known, is this text, which is a policy's
+abbrev pub HoldsText : (file : Option (List ℕ)) → (text : List ℕ) → Policy → Type 0
+HoldsText file text policy =
+    IfSome file (λ octets. (octets ≡ text) × IsPolicyText octets policy)
+
+-- of a policy's file: the policy is printed as it is written
+abbrev pub TellsWritten : (file before after : Option (List ℕ)) → Type 0
+TellsWritten file before after =
+    (policy : Policy) × IfSome file (λ octets. IsPolicyText octets policy)
+    × Appends before after (policy_text policy)
+
+-- or a part of that
+abbrev pub TellsWrittenPart : (file before after : Option (List ℕ)) → Type 0
+TellsWrittenPart file before after =
+    (policy : Policy) × IfSome file (λ octets. IsPolicyText octets policy)
+    × PrintsPart before after (policy_text policy)

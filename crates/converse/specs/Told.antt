@@ -12,7 +12,7 @@ use Rattle.office.specs.Trace.{is_open}
 use Rattle.converse.specs.Escapes.{escaped}
 use Rattle.converse.specs.FaultNames.{store_fault_name, talk_fault_name}
 use Rattle.converse.specs.declared.fault.Fault.{Fault}
-use Rattle.converse.specs.declared.fault.Fault.TheVariants.{CannotRead, BadEvent, BadHost, Store, Talk, NoPolicy, NoClock, CannotPut, CannotWrite, OutOfMemory}
+use Rattle.converse.specs.declared.fault.Fault.TheVariants.{CannotRead, BadEvent, BadHost, Store, Talk, NoPolicy, NoClock, CannotPut, CannotWrite, Differs, OutOfMemory}
 
 -- the text of a fault: a policy's has a text of its own, a store's and a conversation's have their name
 abbrev pub fault_text : Fault → List ℕ
@@ -25,6 +25,7 @@ fault_text (NoPolicy f) = policy_fault_text f
 fault_text NoClock = codes "cannot read clock"
 fault_text CannotPut = codes "cannot write file"
 fault_text CannotWrite = codes "cannot write"
+fault_text Differs = codes "texts differ from their digests"
 fault_text OutOfMemory = codes "out of memory"
 
 -- the line on standard error that tells a fault

@@ -1,12 +1,14 @@
-//! `popbox check-policy`: reads a policy's file, and prints how many rules it has or its first
-//! fault.
+//! `popbox check-policy`: reads a policy's file, and prints how many rules it has, or the policy in
+//! its written form, or its first fault.
 
 ghost use Rattle.std.specs.Prelude.{◌≡◌, ◌≤◌, ◌⊎◌, IfOk, IsErr, IsOk, IfSome, OnOk, OnErr, length};
 ghost use Rattle.std.specs.Prelude.{string_bytes};
 ghost use Rattle.std.specs.Io.KnownBytes.{IsAtEnd};
+ghost use Rattle.policy.specs.WrittenText.{policy_text};
 ghost use Rattle.policy.specs.declared.fault.PolicyFault.{PolicyFault};
 ghost use Rattle.converse.specs.PolicyFile.{IsPolicyText, IsFaultOf, IsNoPolicyText, TellsCount};
-ghost use Rattle.converse.specs.PolicyFile.{TellsCountPart};
+ghost use Rattle.converse.specs.PolicyFile.{HoldsText, TellsCountPart, TellsWritten};
+ghost use Rattle.converse.specs.PolicyFile.{TellsWrittenPart};
 ghost use Rattle.converse.specs.Told.{count_line as line_of};
 
 use crate::fault::{Fault, read_fault, tell_fault};
@@ -58,6 +60,75 @@ fn tell_count<R: Read, W: Write>(alloc: Global, file: &mut R, out: &mut W) -> Re
     let line = count_line(alloc, count)?;
     print(out, line.as_bytes())?;
     Ok(())
+}
+
+/// Reads a policy's file to its end, and prints the policy as it is written, without the comments
+/// of the file, to `out`, which is flushed.
+///
+/// Gives the exit status, 0 or 1. Faults are told as `check_policy` tells them. Before `out`
+/// refuses octets nothing is on it; then a beginning of the text may be.
+pub fn write_policy<R: Read, W: Write, E: Write>(
+    alloc: Global,
+    file: &mut R,
+    out: &mut W,
+    err: &mut E,
+) -> u8
+    ensures status { result ≤ 1 }
+    ensures silent { result ≡ 0 → err.new ≡ err.old }
+    ensures good { result ≡ 0 → TellsWritten (R.remaining file.old) (W.contents out.old)
+        (W.contents out.new) }
+    ensures faulty { IfSome (R.remaining file.old)
+        (λ octets. IsNoPolicyText octets → out.new ≡ out.old) }
+    ensures part { (out.new ≡ out.old)
+        ⊎ TellsWrittenPart (R.remaining file.old) (W.contents out.old) (W.contents out.new) }
+{
+    match tell_written(alloc, file, out) {
+        Ok(()) => 0,
+        Err(fault) => tell_fault(err, fault),
+    }
+}
+
+/// Prints the policy of a file as it is written.
+fn tell_written<R: Read, W: Write>(alloc: Global, file: &mut R, out: &mut W) -> Result<(), Fault>
+    ensures ok { OnOk result (TellsWritten (R.remaining file.old) (W.contents out.old)
+        (W.contents out.new)) }
+    ensures faulty { IfSome (R.remaining file.old)
+        (λ octets. IsNoPolicyText octets → out.new ≡ out.old) }
+    ensures part { (out.new ≡ out.old)
+        ⊎ TellsWrittenPart (R.remaining file.old) (W.contents out.old) (W.contents out.new) }
+{
+    let policy = read_file(alloc, file)?;
+    let text = text_of(alloc, &policy)?;
+    print(out, &text)
+}
+
+/// A policy's written text.
+fn text_of(alloc: Global, policy: &Policy) -> Result<Vec<u8>, AllocError>
+    ensures { IfOk result (λ text. text.items ≡ policy_text policy.now) }
+{
+    let mut text = Vec::new(alloc);
+    policy.write(&mut text)?;
+    Ok(text)
+}
+
+/// A policy, and the text of the file that it was read from.
+#[derive(Drop)]
+pub(crate) struct PolicyFile {
+    pub(crate) text: Vec<u8>,
+    pub(crate) policy: Policy,
+}
+
+/// The policy of a file, with the file's text.
+pub(crate) fn read_text<R: Read>(alloc: Global, file: &mut R) -> Result<PolicyFile, Fault>
+    ensures { IfOk result (λ read. HoldsText (R.remaining file.old) read.text.items read.policy) }
+{
+    let mut text = Vec::new(alloc);
+    match file.read_to_end(&mut text) {
+        Ok(_) => {}
+        Err(error) => return Err(read_fault(&error)),
+    }
+    let policy = read_octets(alloc, text.as_slice())?;
+    Ok(PolicyFile { text, policy })
 }
 
 /// The policy of a file.

@@ -1,20 +1,27 @@
 //! `popbox check`: tells what lies in a store.
 
-ghost use Rattle.std.specs.Prelude.{◌≡◌, ◌≤◌, ◌++◌, ◌⊎◌, true, length, sum_by, is_some, IfOk, OnOk};
+ghost use Rattle.std.specs.Prelude.{◌≡◌, ◌≤◌, ◌++◌, ◌⊎◌, [], true, length, sum_by, is_some, IfOk};
+ghost use Rattle.std.specs.Prelude.{IfErr, OnOk, List, Option};
 ghost use Rattle.std.specs.List.{All, flat_map};
 ghost use Rattle.std.specs.Io.KnownBytes.{Appends};
 ghost use Rattle.vault.specs.declared.answer.Total.{Total as Sum};
 ghost use Rattle.vault.specs.Records.{credential_in};
+ghost use Rattle.vault.specs.declared.record.Receipt as receipt;
 ghost use Rattle.vault.specs.Changes.{Contents};
 ghost use Rattle.converse.specs.Printed.{PrintsPart};
 ghost use Rattle.converse.specs.Checked.{kind_text, counted, file_lines, maildrop_line, clerk_line};
 ghost use Rattle.converse.specs.Checked.{counts_front, counts_rest, counts_line, last_line};
 ghost use Rattle.converse.specs.Checked.{store_text};
+ghost use Rattle.converse.specs.Causes.{IsCheckEnd, Tells};
+ghost use Rattle.converse.specs.Texts.{AreMarks, HasNone, against};
+ghost use Rattle.converse.specs.Texts.{differing, differing_in, differs_line};
 
 use crate::fault::{Fault, tell_fault};
 use crate::printing::print;
+use crate::texts::{Mark, Texts, marks_of, print_differing, sift};
 use creds::{Credential, Name};
 use std::alloc::Global;
+use std::collections::BTreeSet;
 use std::io;
 use std::io::Write;
 use vault::{Total, Vault, VaultFault};
@@ -33,13 +40,18 @@ pub struct StoreFile {
 /// for each of these clerks, in this order, with the kind of credential, `apop` or `pass`; and a
 /// last line `ok, ..` with how many there are. Nothing in the store is changed.
 ///
-/// Gives the exit status, 0 or 1. A fault has status 1 and its text on `err`: the store refuses or
-/// has no such clerk, memory runs out, `out` refuses octets. Before the last of them nothing is on
-/// `out`; then a beginning of the lines may be.
+/// If texts are compared, each message is read, one at a time. If its text doesn't have the digest
+/// of its deposit, a line `differs MAILDROP UNIQUE-ID` is printed, by the maildrop's name, the
+/// oldest first; then there is no last line, and the fault is [`Fault::Differs`].
+///
+/// Gives the exit status, 0 or 1. A fault has status 1 and its text on `err`: messages differ, the
+/// store refuses or has no such clerk, memory runs out, `out` refuses octets. With the first of
+/// them all of it is on `out`, with the last a beginning may be, with the others nothing is.
 pub fn check_store<V: Vault, W: Write, E: Write>(
     alloc: Global,
     vault: &mut V,
     clerks: &[Name],
+    texts: &Texts,
     file: &StoreFile,
     out: &mut W,
     err: &mut E,
@@ -47,17 +59,26 @@ pub fn check_store<V: Vault, W: Write, E: Write>(
     ensures status { result ≤ 1 }
     ensures silent { result ≡ 0 → err.new ≡ err.old }
     ensures told { result ≡ 0 → (c : Contents) → V.holds vault.old c → V.is_clean vault.new
-        → Appends (W.contents out.old) (W.contents out.new) (store_text file.now c clerks.now) }
+        → Appends (W.contents out.old) (W.contents out.new)
+        (store_text file.now c clerks.now (against texts.now)) }
+    ensures intact { result ≡ 0 → (c : Contents) → V.holds vault.old c → V.is_clean vault.new
+        → differing (against texts.now) c ≡ [] }
+    ensures why { result ≡ 1 → Tells (E.contents err.old) (E.contents err.new) (IsCheckEnd
+        ((c : Contents) → V.holds vault.old c → V.is_clean vault.new
+        → ¬ (differing (against texts.now) c ≡ []) × Appends
+        (W.contents out.old) (W.contents out.new)
+        (store_text file.now c clerks.now (against texts.now)))) }
     ensures part { (out.new ≡ out.old)
         ⊎ ((c : Contents) → V.holds vault.old c → V.is_clean vault.new
-        → PrintsPart (W.contents out.old) (W.contents out.new) (store_text file.now c clerks.now)) }
+        → PrintsPart (W.contents out.old) (W.contents out.new)
+        (store_text file.now c clerks.now (against texts.now))) }
     ensures known { result ≡ 0 → (c : Contents) → V.holds vault.old c → V.is_clean vault.new
         → All (λ name. is_some (credential_in name c.clerks) ≡ true) clerks.now }
     ensures held { (c : Contents) → V.holds vault.old c → V.is_clean vault.new
         → V.holds vault.new c }
     ensures clean { V.is_clean vault.new → V.is_clean vault.old }
 {
-    match tell_store(alloc, vault, clerks, file, out) {
+    match tell_store(alloc, vault, clerks, texts, file, out) {
         Ok(()) => 0,
         Err(fault) => tell_fault(err, fault),
     }
@@ -68,14 +89,23 @@ fn tell_store<V: Vault, W: Write>(
     alloc: Global,
     vault: &mut V,
     clerks: &[Name],
+    texts: &Texts,
     file: &StoreFile,
     out: &mut W,
 ) -> Result<(), Fault>
     ensures told { OnOk result ((c : Contents) → V.holds vault.old c → V.is_clean vault.new
-        → Appends (W.contents out.old) (W.contents out.new) (store_text file.now c clerks.now)) }
+        → Appends (W.contents out.old) (W.contents out.new)
+        (store_text file.now c clerks.now (against texts.now))) }
+    ensures intact { OnOk result ((c : Contents) → V.holds vault.old c → V.is_clean vault.new
+        → differing (against texts.now) c ≡ []) }
+    ensures why { IfErr result (IsCheckEnd ((c : Contents) → V.holds vault.old c
+        → V.is_clean vault.new → ¬ (differing (against texts.now) c ≡ [])
+        × Appends (W.contents out.old) (W.contents out.new)
+        (store_text file.now c clerks.now (against texts.now)))) }
     ensures part { (out.new ≡ out.old)
         ⊎ ((c : Contents) → V.holds vault.old c → V.is_clean vault.new
-        → PrintsPart (W.contents out.old) (W.contents out.new) (store_text file.now c clerks.now)) }
+        → PrintsPart (W.contents out.old) (W.contents out.new)
+        (store_text file.now c clerks.now (against texts.now))) }
     ensures known { OnOk result ((c : Contents) → V.holds vault.old c → V.is_clean vault.new
         → All (λ name. is_some (credential_in name c.clerks) ≡ true) clerks.now) }
     ensures held { (c : Contents) → V.holds vault.old c → V.is_clean vault.new
@@ -83,25 +113,37 @@ fn tell_store<V: Vault, W: Write>(
     ensures clean { V.is_clean vault.new → V.is_clean vault.old }
 {
     let mut text = Vec::new(alloc);
-    put_store(vault, clerks, file, &mut text)?;
+    let marks = marks_of(alloc, texts)?;
+    let are_intact = put_store(alloc, vault, clerks, &marks, file, &mut text)?;
     print(out, text.as_slice())?;
-    Ok(())
+    if are_intact {
+        return Ok(());
+    }
+    Err(Fault::Differs)
 }
 
-/// Puts what lies in a store behind a text.
+/// Adds what lies in a store to a text. Whether all its messages have the texts of their deposits.
 fn put_store<V: Vault>(
+    alloc: Global,
     vault: &mut V,
     clerks: &[Name],
+    marks: &Option<BTreeSet<Mark>>,
     file: &StoreFile,
     text: &mut Vec<u8>,
-) -> Result<(), Fault>
-    ensures told { OnOk result ((c : Contents) → V.holds vault.old c → V.is_clean vault.new
-        → text.new.items ≡ text.old.items ++ store_text file.now c clerks.now) }
+) -> Result<bool, Fault>
+    ensures told { OnOk result ((rs : Option (List receipt.Receipt)) → AreMarks rs marks.now
+        → (c : Contents) → V.holds vault.old c → V.is_clean vault.new
+        → text.new.items ≡ text.old.items ++ store_text file.now c clerks.now rs) }
+    ensures intact { IfOk result (λ intact. (rs : Option (List receipt.Receipt))
+        → AreMarks rs marks.now
+        → (c : Contents) → V.holds vault.old c → V.is_clean vault.new
+        → HasNone intact (differing rs c)) }
     ensures known { OnOk result ((c : Contents) → V.holds vault.old c → V.is_clean vault.new
         → All (λ name. is_some (credential_in name c.clerks) ≡ true) clerks.now) }
     ensures held { (c : Contents) → V.holds vault.old c → V.is_clean vault.new
         → V.holds vault.new c }
     ensures clean { V.is_clean vault.new → V.is_clean vault.old }
+    ensures own { IfErr result (IsCheckEnd ⊥) }
 {
     let totals = vault.maildrops()?;
     let rules = vault.policy()?.len();
@@ -109,7 +151,63 @@ fn put_store<V: Vault>(
         return Err(Fault::OutOfMemory);
     };
     tell_clerks(vault, clerks, text)?;
+    let before = text.len();
+    tell_differing(alloc, vault, marks, totals.as_slice(), text)?;
+    let after = text.len();
+    if after > before {
+        return Ok(false);
+    }
     match print_last(text, totals.as_slice(), clerks.len(), rules) {
+        Ok(()) => Ok(true),
+        Err(_) => Err(Fault::OutOfMemory),
+    }
+}
+
+/// Prints a line for each message of these maildrops whose text isn't that of its deposit.
+fn tell_differing<V: Vault>(
+    alloc: Global,
+    vault: &mut V,
+    marks: &Option<BTreeSet<Mark>>,
+    totals: &[Total],
+    text: &mut Vec<u8>,
+) -> Result<(), Fault>
+    ensures told { OnOk result ((rs : Option (List receipt.Receipt)) → AreMarks rs marks.now
+        → (c : Contents) → V.holds vault.old c → V.is_clean vault.new
+        → text.new.items ≡ text.old.items
+        ++ flat_map (λ (s : Sum). flat_map differs_line (differing_in rs s.maildrop c))
+        totals.now) }
+    ensures held { (c : Contents) → V.holds vault.old c → V.is_clean vault.new
+        → V.holds vault.new c }
+    ensures clean { V.is_clean vault.new → V.is_clean vault.old }
+    ensures own { IfErr result (IsCheckEnd ⊥) }
+{
+    for total in totals {
+        tell_maildrop(alloc, vault, marks, &total.maildrop, text)?;
+    }
+    Ok(())
+}
+
+/// Prints a line for each message of a maildrop whose text isn't that of its deposit.
+fn tell_maildrop<V: Vault>(
+    alloc: Global,
+    vault: &mut V,
+    marks: &Option<BTreeSet<Mark>>,
+    maildrop: &Name,
+    text: &mut Vec<u8>,
+) -> Result<(), Fault>
+    ensures told { OnOk result ((rs : Option (List receipt.Receipt)) → AreMarks rs marks.now
+        → (c : Contents) → V.holds vault.old c → V.is_clean vault.new
+        → text.new.items ≡ text.old.items
+        ++ flat_map differs_line (differing_in rs maildrop.now c)) }
+    ensures held { (c : Contents) → V.holds vault.old c → V.is_clean vault.new
+        → V.holds vault.new c }
+    ensures clean { V.is_clean vault.new → V.is_clean vault.old }
+    ensures own { IfErr result (IsCheckEnd ⊥) }
+{
+    let mut intact = Vec::new(alloc);
+    let mut differing = Vec::new(alloc);
+    sift(alloc, vault, marks, maildrop, &mut intact, &mut differing)?;
+    match print_differing(text, maildrop, differing.as_slice()) {
         Ok(()) => Ok(()),
         Err(_) => Err(Fault::OutOfMemory),
     }
@@ -157,6 +255,7 @@ fn tell_clerks<V: Vault>(vault: &mut V, clerks: &[Name], text: &mut Vec<u8>) -> 
     ensures held { (c : Contents) → V.holds vault.old c → V.is_clean vault.new
         → V.holds vault.new c }
     ensures clean { V.is_clean vault.new → V.is_clean vault.old }
+    ensures own { IfErr result (IsCheckEnd ⊥) }
 {
     for name in clerks {
         tell_clerk(vault, name, text)?;
@@ -173,6 +272,7 @@ fn tell_clerk<V: Vault>(vault: &mut V, name: &Name, text: &mut Vec<u8>) -> Resul
     ensures held { (c : Contents) → V.holds vault.old c → V.is_clean vault.new
         → V.holds vault.new c }
     ensures clean { V.is_clean vault.new → V.is_clean vault.old }
+    ensures own { IfErr result (IsCheckEnd ⊥) }
 {
     let Some(credential) = vault.credential(name)? else {
         return Err(Fault::Store(VaultFault::NoClerk));

@@ -1,27 +1,32 @@
 //! `popbox export`: puts the messages of a maildrop as files into a folder.
 
 ghost use Rattle.std.specs.Prelude.{◌≡◌, ◌≤◌, ◌<◌, ◌∷◌, ◌⊎◌, [], true, false, ℕ, length, map};
-ghost use Rattle.std.specs.Prelude.{string_bytes, IsErr, IsOk, IfOk, IfErr, OnOk, OnErr};
+ghost use Rattle.std.specs.Prelude.{IsErr, IsOk, IfOk, IfErr, OnOk, OnErr};
 ghost use Rattle.std.specs.List.{All};
 ghost use Rattle.vault.specs.Records.{is_one_of};
 ghost use Rattle.vault.specs.Calls.{text_under, has_grown};
 ghost use Rattle.vault.specs.Changes.{Contents};
-ghost use Rattle.converse.specs.Causes.{IsExportFault, IsRefusedExport, IsRefusedRead, Tells};
+ghost use Rattle.converse.specs.Causes.{IsExportEnd, IsExportFault, IsRefusedExport, IsRefusedRead};
+ghost use Rattle.converse.specs.Causes.{Tells};
 ghost use Rattle.converse.specs.Streams.{Writes, WritesPart, writes_failed};
+ghost use Rattle.std.specs.Io.KnownBytes.{Appends};
 ghost use Rattle.converse.specs.Exported.{files_of, Takes, TakesFirst, export_line, IsFront};
-ghost use Rattle.converse.specs.Exported.{IsMeasured, file_under};
+ghost use Rattle.converse.specs.Exported.{IsMeasured, file_under, report_text, told_of};
+ghost use Rattle.converse.specs.Texts.{HasNone, differing_in, against};
+ghost use Rattle.converse.specs.declared.fault.Fault.TheVariants as faults;
 
 use crate::fault::{Fault, put_fault, tell_fault};
 use crate::streams::Sink;
+use crate::texts::{Texts, marks_of, print_differing, sift};
 use crate::writing::write_text;
 use creds::{Name, Uid};
-use std::alloc::{AllocError, Global};
+use std::alloc::Global;
 use std::io;
 use std::io::Write;
 use vault::{Head, MessageKey, Vault, VaultFault};
 
 /// How many octets of a message are read at once.
-const PAGE_OCTETS: usize = 4096;
+const PAGE_OCTETS: usize = 16_384;
 
 /// A folder that takes files. Contracts see which files it took, where it tells them (a real folder
 /// doesn't); whether the names of all of them last a power cut; and how many of its calls failed.
@@ -60,14 +65,19 @@ pub trait Folder {
 /// file's name is the message's unique-id with `.eml` behind it; its octets are the message's text
 /// with CRLF behind each line. Nothing in the store is changed. One message at a time is in memory.
 ///
+/// If texts are compared, a message whose text doesn't have the digest of its deposit is left out,
+/// and in place of that line a line `differs MAILDROP UNIQUE-ID` is printed for each of them, the
+/// oldest first; the fault is then [`Fault::Differs`].
+///
 /// Gives the exit status, 0 or 1. A fault has status 1 and its text on `err`: there is no such
-/// maildrop, the store refuses, memory runs out, the folder refuses, `out` refuses octets.
-/// The files that were put before a fault stay; none is put in part. Only before the last of these
-/// faults all messages are put, and a beginning of the line may be on `out`.
+/// maildrop, the store refuses, memory runs out, the folder refuses, `out` refuses octets, messages
+/// were left out. The files that were put before a fault stay; none is put in part. Only before the
+/// last two of these faults all messages are put, and a beginning of the lines may be on `out`.
 pub fn export<V: Vault, F: Folder, W: Sink, E: Write>(
     alloc: Global,
     vault: &mut V,
     maildrop: &Name,
+    texts: &Texts,
     folder: &mut F,
     out: &mut W,
     err: &mut E,
@@ -75,56 +85,74 @@ pub fn export<V: Vault, F: Folder, W: Sink, E: Write>(
     ensures status { result ≤ 1 }
     ensures silent { result ≡ 0 → err.new ≡ err.old }
     ensures whole { result ≡ 0 → (c : Contents) → V.holds vault.old c → V.is_clean vault.new
-        → Takes (F.files folder.old) (F.files folder.new) (files_of maildrop.now c) }
+        → Takes (F.files folder.old) (F.files folder.new)
+        (files_of (against texts.now) maildrop.now c) }
     ensures told { result ≡ 0 → (c : Contents) → V.holds vault.old c → V.is_clean vault.new
         → Writes (W.seen out.old) (W.seen out.new)
-        (export_line (length (files_of maildrop.now c))) }
+        (export_line (length (files_of (against texts.now) maildrop.now c))) }
+    ensures intact { result ≡ 0 → (c : Contents) → V.holds vault.old c → V.is_clean vault.new
+        → differing_in (against texts.now) maildrop.now c ≡ [] }
     ensures part { (c : Contents) → V.holds vault.old c → V.is_clean vault.new
-        → TakesFirst (F.files folder.old) (F.files folder.new) (files_of maildrop.now c) }
+        → TakesFirst (F.files folder.old) (F.files folder.new)
+        (files_of (against texts.now) maildrop.now c) }
     ensures last { (out.new ≡ out.old)
         ⊎ ((c : Contents) → V.holds vault.old c → V.is_clean vault.new
-        → Takes (F.files folder.old) (F.files folder.new) (files_of maildrop.now c)
+        → Takes (F.files folder.old) (F.files folder.new)
+        (files_of (against texts.now) maildrop.now c)
         × WritesPart (W.seen out.old) (W.seen out.new)
-        (export_line (length (files_of maildrop.now c)))) }
+        (report_text (against texts.now) maildrop.now c)) }
     ensures missing { (c : Contents) → V.holds vault.old c → V.is_clean vault.new
         → is_one_of maildrop.now c.maildrops ≡ false → result ≡ 1 }
     ensures settled { result ≡ 0 → F.is_settled folder.new ≡ true }
     ensures flushed { result ≡ 0 → (W.seen out.new).flushed ≡ true }
     ensures settled_first { (out.new ≡ out.old) ⊎ (F.is_settled folder.new ≡ true) }
     ensures why { result ≡ 1 → Tells (E.contents err.old) (E.contents err.new)
-        (IsExportFault (has_grown (F.faults folder.old) (F.faults folder.new))
+        (IsExportEnd ((c : Contents) → V.holds vault.old c → V.is_clean vault.new
+        → ¬ (differing_in (against texts.now) maildrop.now c ≡ [])
+        × Takes (F.files folder.old) (F.files folder.new)
+        (files_of (against texts.now) maildrop.now c)
+        × Writes (W.seen out.old) (W.seen out.new) (report_text (against texts.now) maildrop.now c))
+        (has_grown (F.faults folder.old) (F.faults folder.new))
         (writes_failed (W.seen out.old) (W.seen out.new))
         (IsRefusedExport V.holds V.is_clean V.faults vault.old vault.new maildrop.now)) }
     ensures held { (c : Contents) → V.holds vault.old c → V.is_clean vault.new
         → V.holds vault.new c }
     ensures clean { V.is_clean vault.new → V.is_clean vault.old }
 {
-    match put_maildrop(alloc, vault, maildrop, folder, out) {
-        Ok(()) => 0,
+    match put_maildrop(alloc, vault, maildrop, texts, folder, out) {
+        Ok(true) => 0,
+        Ok(false) => tell_fault(err, Fault::Differs),
         Err(fault) => tell_fault(err, fault),
     }
 }
 
-/// Puts the messages of a maildrop into a folder, and prints how many.
+/// Puts the messages of a maildrop that have the texts of their deposits into a folder, and prints
+/// how many or, if messages are left out, which. Whether none is left out.
 fn put_maildrop<V: Vault, F: Folder, W: Sink>(
     alloc: Global,
     vault: &mut V,
     maildrop: &Name,
+    texts: &Texts,
     folder: &mut F,
     out: &mut W,
-) -> Result<(), Fault>
+) -> Result<bool, Fault>
     ensures whole { OnOk result ((c : Contents) → V.holds vault.old c → V.is_clean vault.new
-        → Takes (F.files folder.old) (F.files folder.new) (files_of maildrop.now c)) }
+        → Takes (F.files folder.old) (F.files folder.new)
+        (files_of (against texts.now) maildrop.now c)) }
     ensures told { OnOk result ((c : Contents) → V.holds vault.old c → V.is_clean vault.new
         → Writes (W.seen out.old) (W.seen out.new)
-        (export_line (length (files_of maildrop.now c)))) }
+        (report_text (against texts.now) maildrop.now c)) }
+    ensures intact { IfOk result (λ intact. (c : Contents) → V.holds vault.old c
+        → V.is_clean vault.new → HasNone intact (differing_in (against texts.now) maildrop.now c)) }
     ensures part { (c : Contents) → V.holds vault.old c → V.is_clean vault.new
-        → TakesFirst (F.files folder.old) (F.files folder.new) (files_of maildrop.now c) }
+        → TakesFirst (F.files folder.old) (F.files folder.new)
+        (files_of (against texts.now) maildrop.now c) }
     ensures last { (out.new ≡ out.old)
         ⊎ ((c : Contents) → V.holds vault.old c → V.is_clean vault.new
-        → Takes (F.files folder.old) (F.files folder.new) (files_of maildrop.now c)
+        → Takes (F.files folder.old) (F.files folder.new)
+        (files_of (against texts.now) maildrop.now c)
         × WritesPart (W.seen out.old) (W.seen out.new)
-        (export_line (length (files_of maildrop.now c)))) }
+        (report_text (against texts.now) maildrop.now c)) }
     ensures missing { (c : Contents) → V.holds vault.old c → V.is_clean vault.new
         → is_one_of maildrop.now c.maildrops ≡ false → IsErr result }
     ensures settled { IsOk result → F.is_settled folder.new ≡ true }
@@ -138,11 +166,54 @@ fn put_maildrop<V: Vault, F: Folder, W: Sink>(
         → V.holds vault.new c }
     ensures clean { V.is_clean vault.new → V.is_clean vault.old }
 {
-    let heads = vault.heads(maildrop)?;
-    let line = count_line(alloc, heads.len())?;
-    put_messages(alloc, vault, heads.as_slice(), folder)?;
-    write_text(out, line.as_bytes())?;
-    Ok(())
+    let marks = marks_of(alloc, texts)?;
+    let mut intact = Vec::new(alloc);
+    let mut differing = Vec::new(alloc);
+    sift(alloc, vault, &marks, maildrop, &mut intact, &mut differing)?;
+    let report = report(alloc, maildrop, intact.len(), differing.as_slice())?;
+    put_messages(alloc, vault, intact.as_slice(), folder)?;
+    write_text(out, report.as_slice())?;
+    Ok(differing.is_empty())
+}
+
+/// What is printed if so many messages were put, and these were left out.
+fn report(
+    alloc: Global,
+    maildrop: &Name,
+    count: usize,
+    differing: &[Head],
+) -> Result<Vec<u8>, Fault>
+    ensures told { IfOk result (λ text. text.items ≡ told_of maildrop.now count differing.now) }
+    ensures memory { IfErr result (λ fault. fault ≡ faults.OutOfMemory) }
+{
+    let mut text = Vec::new(alloc);
+    match print_report(&mut text, maildrop, count, differing) {
+        Ok(()) => Ok(text),
+        Err(_) => Err(Fault::OutOfMemory),
+    }
+}
+
+/// Prints it.
+fn print_report<W: Write>(
+    out: &mut W,
+    maildrop: &Name,
+    count: usize,
+    differing: &[Head],
+) -> io::Result<()>
+    ensures { OnOk result (Appends (W.contents out.old) (W.contents out.new)
+        (told_of maildrop.now count differing.now)) }
+{
+    if differing.is_empty() {
+        return print_count(out, count);
+    }
+    print_differing(out, maildrop, differing)
+}
+
+/// Prints how many messages were put.
+fn print_count<W: Write>(out: &mut W, count: usize) -> io::Result<()>
+    ensures { OnOk result (Appends (W.contents out.old) (W.contents out.new) (export_line count)) }
+{
+    writeln!(out, "ok, {count} messages")
 }
 
 /// Puts the messages of these heads into a folder, in their order, and has their names last.
@@ -252,7 +323,11 @@ fn put_message<V: Vault, F: Folder>(
 }
 
 /// Reads the whole text of the message of a head.
-fn read_text<V: Vault>(alloc: Global, vault: &mut V, head: &Head) -> Result<Vec<u8>, Fault>
+pub(crate) fn read_text<V: Vault>(
+    alloc: Global,
+    vault: &mut V,
+    head: &Head,
+) -> Result<Vec<u8>, Fault>
     ensures text { IfOk result (λ text. (c : Contents) → V.holds vault.old c → V.is_clean vault.new
         → IsMeasured c head.now → text.items ≡ text_under head.now.key c.messages) }
     ensures held { (c : Contents) → V.holds vault.old c → V.is_clean vault.new
@@ -298,11 +373,4 @@ fn read_more<V: Vault>(vault: &mut V, key: MessageKey, text: &mut Vec<u8>) -> Re
     }
     text.extend_from_slice(&page[..count])?;
     Ok(())
-}
-
-/// The line that tells how many messages were put.
-fn count_line(alloc: Global, count: usize) -> Result<String, AllocError>
-    ensures { IfOk result (λ line. string_bytes line ≡ export_line count) }
-{
-    format!(in alloc; "ok, {count} messages\n")
 }

@@ -40,6 +40,8 @@ pub enum Fault {
     CannotPut,
     /// Standard output refuses octets.
     CannotWrite,
+    /// Texts of messages don't have the digests of their deposits. Standard output names them.
+    Differs,
     /// Memory ran out.
     OutOfMemory,
 }
@@ -58,6 +60,7 @@ impl fmt::Display for Fault {
             Fault::NoClock => f.write_str("cannot read clock"),
             Fault::CannotPut => f.write_str("cannot write file"),
             Fault::CannotWrite => f.write_str("cannot write"),
+            Fault::Differs => f.write_str("texts differ from their digests"),
             Fault::OutOfMemory => f.write_str("out of memory"),
         }
     }

@@ -23,6 +23,7 @@ pub mod script;
 mod streams;
 pub mod talk;
 pub mod talk_over_store;
+pub mod texts;
 mod writing;
 
 pub use fault::{Fault, fault_text, put_fault, read_fault, tell_fault};
@@ -30,6 +31,7 @@ pub use noted::Noted;
 pub use printer::{Flushed, Printer};
 pub use record::Record;
 pub use streams::{Sink, Source};
+pub use texts::Texts;
 
 /// A conversation removes what its QUIT removes, and nothing else.
 pub fn removes_by_quit_alone()

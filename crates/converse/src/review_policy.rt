@@ -6,7 +6,7 @@ ghost use Rattle.converse.specs.Reviewed.{TellsChange, TellsChangePart, TellsRev
 ghost use Rattle.converse.specs.Reviewed.{TellsReviewPart, TellsStored, TellsStoredChange};
 ghost use Rattle.converse.specs.Reviewed.{TellsStoredChangePart, TellsStoredPart, status_of};
 
-use crate::check_policy::read_file;
+use crate::check_policy::{read_file, read_text};
 use crate::fault::{Fault, tell_fault};
 use crate::printing::print;
 use policy::Policy;
@@ -54,9 +54,10 @@ fn tell_review<R: Read, W: Write>(
     ensures part { (out.new ≡ out.old) ⊎ TellsReviewPart choice.now (R.remaining file.old)
         (W.contents out.old) (W.contents out.new) }
 {
-    let policy = read_file(alloc, file)?;
-    let text = review_policy(alloc, &policy, choice)?;
-    print(out, &text)
+    let read = read_text(alloc, file)?;
+    let text = review_policy(alloc, &read.policy, &read.text, choice)?;
+    print(out, &text)?;
+    Ok(())
 }
 
 /// Reads the files of the old policy and of the new one to their ends, the old one first, and
@@ -99,9 +100,9 @@ fn tell_change<O: Read, R: Read, W: Write>(
         (R.remaining file.old) (W.contents out.old) (W.contents out.new) }
 {
     let before = read_file(alloc, old)?;
-    let policy = read_file(alloc, file)?;
-    let nobody = Kept::nobody(alloc);
-    let (text, differ) = review_against(alloc, &before, &policy, &nobody, choice)?;
+    let read = read_text(alloc, file)?;
+    let none = Kept::nobody(alloc);
+    let (text, differ) = review_against(alloc, &before, &read.policy, &none, &read.text, choice)?;
     print(out, &text)?;
     Ok(differ)
 }
@@ -145,8 +146,8 @@ fn tell_stored<R: Read, W: Write>(
     ensures part { (out.new ≡ out.old) ⊎ TellsStoredPart choice.now before.now kept.now
         (R.remaining file.old) (W.contents out.old) (W.contents out.new) }
 {
-    let policy = read_file(alloc, file)?;
-    let (text, differ) = review_stored(alloc, before, &policy, kept, choice)?;
+    let read = read_text(alloc, file)?;
+    let (text, differ) = review_stored(alloc, before, &read.policy, kept, &read.text, choice)?;
     print(out, &text)?;
     Ok(differ)
 }

@@ -3,3 +3,4 @@ pub mod Stopped
 pub mod Jobs
 pub mod Sittings
 pub mod Commands
+pub mod Checks

@@ -1,26 +1,60 @@
-//! What lies in a store over tables, told with all its clerks.
-ghost use Rattle.std.specs.Prelude.{◌≡◌, ◌≤◌, ◌⊎◌};
+//! The report on a store over tables, with all its clerks, its texts compared with its deposits.
+ghost use Rattle.std.specs.Prelude.{◌≡◌, ◌≤◌, ◌⊎◌, [], true, IfOk, IfErr};
 ghost use Rattle.std.specs.Io.KnownBytes.{Appends};
 ghost use Rattle.sqlite.specs.Held.{state};
 ghost use Rattle.sqlite.specs.State.{HasCleanDisk};
+ghost use Rattle.vault.specs.Calls.{has_grown};
 ghost use Rattle.vault.specs.Changes.{Contents};
 ghost use Rattle.sqlvault.specs.Clerks.{clerk_names};
 ghost use Rattle.sqlvault.specs.Stands.{Holds};
+ghost use Rattle.converse.specs.Causes.{IsCheckEnd, IsRefused, Tells};
 ghost use Rattle.converse.specs.Checked.{store_text};
 ghost use Rattle.converse.specs.Printed.{PrintsPart};
+ghost use Rattle.converse.specs.Texts.{against, differing};
+ghost use Rattle.jobs.specs.Checks.{held_against};
 
 use converse::check_store::{StoreFile, check_store};
-use converse::{Fault, tell_fault};
+use converse::{Fault, Texts, tell_fault};
 use sqlite::Alter;
 use sqlvault::SqlVault;
 use std::alloc::Global;
 use std::io::Write;
+use vault::VaultFault;
+
+/// What the texts of a store's messages are compared with: the digests of all its deposits, or
+/// nothing.
+pub(crate) fn texts_of<S: Alter>(
+    vault: &mut SqlVault<S>,
+    compared: bool,
+) -> Result<Texts, VaultFault>
+    ensures told { (c : Contents) → Holds (state S.Store vault.old.conn) c
+        → HasCleanDisk (state S.Store vault.new.conn)
+        → IfOk result (λ texts. against texts ≡ held_against compared c) }
+    ensures held { (c : Contents) → Holds (state S.Store vault.old.conn) c
+        → HasCleanDisk (state S.Store vault.new.conn) → Holds (state S.Store vault.new.conn) c }
+    ensures clean { HasCleanDisk (state S.Store vault.new.conn)
+        → HasCleanDisk (state S.Store vault.old.conn) }
+    ensures counted { vault.old.faults ≤ vault.new.faults }
+    ensures cause { IfErr result (λ fault. (c : Contents) → Holds (state S.Store vault.old.conn) c
+        → HasCleanDisk (state S.Store vault.new.conn)
+        → IsRefused true (has_grown vault.old.faults vault.new.faults) fault) }
+{
+    if !compared {
+        return Ok(Texts::Taken);
+    }
+    match vault.receipts() {
+        Ok(receipts) => Ok(Texts::Compared(receipts)),
+        Err(fault) => Err(fault),
+    }
+}
 
 /// Prints what lies in a store, as [`check_store`] of `converse` does, with a line for each of its
-/// clerks, by name.
+/// clerks, by name. If texts are `compared`, each message's is compared with the digest that the
+/// store keeps of its deposit.
 pub fn check_all<S: Alter, W: Write, E: Write>(
     alloc: Global,
     vault: &mut SqlVault<S>,
+    compared: bool,
     file: &StoreFile,
     out: &mut W,
     err: &mut E,
@@ -30,19 +64,32 @@ pub fn check_all<S: Alter, W: Write, E: Write>(
     ensures told { result ≡ 0 → (c : Contents) → Holds (state S.Store vault.old.conn) c
         → HasCleanDisk (state S.Store vault.new.conn)
         → Appends (W.contents out.old) (W.contents out.new)
-        (store_text file.now c (clerk_names c.clerks)) }
+        (store_text file.now c (clerk_names c.clerks) (held_against compared c)) }
+    ensures intact { result ≡ 0 → (c : Contents) → Holds (state S.Store vault.old.conn) c
+        → HasCleanDisk (state S.Store vault.new.conn)
+        → differing (held_against compared c) c ≡ [] }
+    ensures why { result ≡ 1 → Tells (E.contents err.old) (E.contents err.new) (IsCheckEnd
+        ((c : Contents) → Holds (state S.Store vault.old.conn) c
+        → HasCleanDisk (state S.Store vault.new.conn)
+        → ¬ (differing (held_against compared c) c ≡ [])
+        × Appends (W.contents out.old) (W.contents out.new)
+        (store_text file.now c (clerk_names c.clerks) (held_against compared c)))) }
     ensures part { (out.new ≡ out.old)
         ⊎ ((c : Contents) → Holds (state S.Store vault.old.conn) c
         → HasCleanDisk (state S.Store vault.new.conn)
         → PrintsPart (W.contents out.old) (W.contents out.new)
-        (store_text file.now c (clerk_names c.clerks))) }
+        (store_text file.now c (clerk_names c.clerks) (held_against compared c))) }
     ensures held { (c : Contents) → Holds (state S.Store vault.old.conn) c
         → HasCleanDisk (state S.Store vault.new.conn) → Holds (state S.Store vault.new.conn) c }
     ensures clean { HasCleanDisk (state S.Store vault.new.conn)
         → HasCleanDisk (state S.Store vault.old.conn) }
 {
+    let texts = match texts_of(vault, compared) {
+        Ok(texts) => texts,
+        Err(fault) => return tell_fault(err, Fault::from(fault)),
+    };
     match vault.clerk_names() {
-        Ok(names) => check_store(alloc, vault, names.as_slice(), file, out, err),
+        Ok(names) => check_store(alloc, vault, names.as_slice(), &texts, file, out, err),
         Err(fault) => tell_fault(err, Fault::from(fault)),
     }
 }

@@ -2,6 +2,7 @@
 #![tactic(auto)]
 
 mod checking;
+mod exporting;
 mod job;
 mod looking;
 mod opening;
@@ -14,6 +15,7 @@ mod twice;
 mod whole_laws;
 
 pub use checking::check_all;
+pub use exporting::export_from;
 pub use job::Job;
 pub use looking::Looking;
 pub use opening::{Careful, open};

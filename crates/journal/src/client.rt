@@ -1,14 +1,26 @@
 //! The mail programs' connections, as the log tells of them.
+ghost use Rattle.std.specs.Prelude.{◌≡◌, ◌≢◌, ◌⊎◌, ◌<◌, ◌==◌, [], Some, None, IfOk, IfSome, map};
+ghost use Rattle.std.specs.Prelude.{find, position, length, string_bytes};
+ghost use Rattle.journal.specs.Lines.{cause_text as cause_words};
+ghost use Rattle.journal.specs.Sessions.{heard_after, heard_of, heard_by, is_in, is_number};
+ghost use Rattle.journal.specs.Sessions.{left_client, left_by, who_text, numbered_text};
+ghost use Rattle.journal.specs.Sessions.{client_text, held_text, holder_of, who_of, told_of};
+ghost use Rattle.journal.specs.Sessions.{loss_text, loss_of, lost_of};
+ghost use Rattle.journal.specs.Sessions.{waited_text, behind_account};
+ghost use Rattle.journal.specs.declared.client.Client.{Client as AClient};
+
 use super::account_text::{cause_text, has_line, line_of};
+use super::heard::Heard;
 use creds::{LoginName, Name};
 use office::{Account, Verdict};
 use serving::Link;
 use std::alloc::{AllocError, Global};
 use std::net::IpAddr;
+use std::time::Instant;
 
 /// A mail program's connection, and what the office judged of it.
 #[derive(Drop)]
-struct Client {
+pub(crate) struct Client {
     link: Link,
     /// From where it came, where that is known.
     ip: Option<IpAddr>,
@@ -16,93 +28,162 @@ struct Client {
     address: String,
     /// The connection's number, once it is opened.
     number: Option<u64>,
-    /// Who logged in last.
-    session: Option<LoginName>,
-    /// Whether that session goes on, as far as it was heard.
-    is_in: bool,
-    /// How many messages that session has marked.
-    marked: u64,
-    has_quit: bool,
+    heard: Heard,
+    /// Since when the line that is next has lain unread; `None` where none lies so.
+    unread: Option<Instant>,
+    /// For how many seconds the line that was read last had lain unread.
+    waited: u64,
     /// Why it ends, as its line tells it: the first cause that was heard, or empty.
     cause: String,
 }
 
+/// The connection's number, where it was opened, and the client's address.
+fn who_text(alloc: Global, number: Option<u64>, address: &str) -> Result<String, AllocError>
+    ensures { IfOk result (λ text. string_bytes text ≡ who_text number address.now) }
+{
+    match number {
+        Some(number) => numbered_text(alloc, number, address),
+        None => client_text(alloc, address),
+    }
+}
+
+/// A connection's number and the client's address.
+fn numbered_text(alloc: Global, number: u64, address: &str) -> Result<String, AllocError>
+    ensures { IfOk result (λ text. string_bytes text ≡ numbered_text number address.now) }
+{
+    let text = format!(in alloc; "connection={number} client={address}")?;
+    Ok(text)
+}
+
+/// The client's address.
+fn client_text(alloc: Global, address: &str) -> Result<String, AllocError>
+    ensures { IfOk result (λ text. string_bytes text ≡ client_text address.now) }
+{
+    let text = format!(in alloc; "client={address}")?;
+    Ok(text)
+}
+
+/// A connection's number and its clerk, as values of a line.
+fn held_text(alloc: Global, number: u64, name: &LoginName) -> Result<String, AllocError>
+    ensures { IfOk result (λ text. string_bytes text ≡ held_text number name.now) }
+{
+    let text = format!(in alloc; " connection={number} clerk={}", name.clerk)?;
+    Ok(text)
+}
+
+/// For how many seconds a login waited, as a value of its line; empty where it didn't wait.
+fn waited_text(alloc: Global, seconds: u64) -> Result<String, AllocError>
+    ensures { IfOk result (λ text. string_bytes text ≡ waited_text seconds) }
+{
+    if seconds == 0 {
+        return Ok(String::new(alloc));
+    }
+    let text = format!(in alloc; " waited={seconds}")?;
+    Ok(text)
+}
+
+/// The line of a connection that ended without a QUIT.
+fn loss_text(alloc: Global, who: &str, session: &str, cause: &str) -> Result<String, AllocError>
+    ensures { IfOk result (λ text. string_bytes text ≡ loss_text who.now session.now cause.now) }
+{
+    let text = format!(in alloc; "event=closed {who}{session}{cause}")?;
+    Ok(text)
+}
+
 impl Client {
     /// The connection's number, where it was opened, and the client's address.
-    fn who(&self, alloc: Global) -> Result<String, AllocError> {
-        let address = self.address.as_str();
-        match self.number {
-            Some(number) => format!(in alloc; "connection={number} client={address}"),
-            None => format!(in alloc; "client={address}"),
-        }
+    fn who(&self, alloc: Global) -> Result<String, AllocError>
+        ensures { IfOk result (λ text. string_bytes text ≡ who_of self.now) }
+    {
+        who_text(alloc, self.number, self.address.as_str())
+    }
+
+    /// Keeps what an account says of the session, and the first cause of its end.
+    fn take(&mut self, alloc: Global, account: &Account)
+        ensures heard { self.new.heard ≡ heard_after account.now self.old.heard }
+        ensures number { self.new.number ≡ self.old.number }
+        ensures link { self.new.link ≡ self.old.link }
+        ensures address { self.new.address ≡ self.old.address }
+        ensures cause { (self.new.cause ≡ self.old.cause)
+            ⊎ (string_bytes self.new.cause ≡ cause_words account.now) }
+    {
+        self.end_by(alloc, cause_text(account));
+        self.heard.take(account);
     }
 
     /// Keeps why it ends, as its line tells it, where that wasn't heard before. Without memory it
     /// isn't kept.
-    fn end_by(&mut self, alloc: Global, cause: &str) {
-        if self.cause.is_empty()
-            && let Ok(cause) = String::from_str(alloc, cause)
-        {
+    fn end_by(&mut self, alloc: Global, cause: &str)
+        ensures same { (self.new.heard ≡ self.old.heard) × (self.new.number ≡ self.old.number)
+            × (self.new.link ≡ self.old.link) × (self.new.address ≡ self.old.address) }
+        ensures cause { (self.new.cause ≡ self.old.cause)
+            ⊎ (string_bytes self.new.cause ≡ cause.now) }
+        ensures first { string_bytes self.old.cause ≢ [] → self.new.cause ≡ self.old.cause }
+    {
+        if !self.cause.is_empty() {
+            return;
+        }
+        if let Ok(cause) = String::from_str(alloc, cause) {
             self.cause = cause;
         }
     }
 
-    /// Keeps what an account says of the session.
-    fn take(&mut self, alloc: Global, account: &Account) {
-        self.end_by(alloc, cause_text(account));
-        match account {
-            Account::Login(name, _, Verdict::Accepted) => {
-                self.session = Some(*name);
-                self.is_in = true;
-                self.marked = 0;
-            }
-            Account::Marked => self.marked = self.marked.saturating_add(1),
-            Account::Unmarked => self.marked = 0,
-            Account::Quit(_) | Account::QuitBeforeLogin => {
-                self.is_in = false;
-                self.has_quit = true;
-            }
-            Account::Login(_, _, _) | Account::NoName => {}
-            Account::Nothing | Account::Ended(_) => {}
-        }
+    /// Its session, if it is in a maildrop, is over.
+    fn leave(&mut self, maildrop: &Name)
+        ensures { self.new ≡ left_client maildrop.now self.old }
+    {
+        self.heard.leave(maildrop);
     }
 
-    /// Whether its session is in a maildrop.
-    fn is_in_maildrop(&self, maildrop: &Name) -> bool {
-        match self.session {
-            Some(name) => self.is_in && name.maildrop == *maildrop,
-            None => false,
-        }
+    /// The line of a connection that ended without a QUIT.
+    fn loss(&self, alloc: Global) -> Result<String, AllocError>
+        ensures { IfOk result (λ text. string_bytes text ≡ loss_of self.now) }
+    {
+        let who = self.who(alloc)?;
+        let session = self.heard.session_text(alloc)?;
+        loss_text(alloc, who.as_str(), session.as_str(), self.cause.as_str())
     }
 
-    /// The session's clerk, maildrop and marked messages, as values of a line; empty without a
-    /// session.
-    fn session_text(&self, alloc: Global) -> Result<String, AllocError> {
-        let marked = self.marked;
-        match &self.session {
-            Some(name) => format!(in alloc;
-                " clerk={} maildrop={} marked={marked}",
-                name.clerk, name.maildrop
-            ),
+    /// The values of a line that tells of its session.
+    fn holder(&self, alloc: Global) -> Result<String, AllocError>
+        ensures { IfOk result (λ text. string_bytes text ≡ holder_of (Some self.now)) }
+    {
+        match self.number {
+            Some(number) => match &self.heard.name {
+                Some(name) => held_text(alloc, number, name),
+                None => Ok(String::new(alloc)),
+            },
             None => Ok(String::new(alloc)),
         }
     }
 
-    /// The line of a connection that ended without a QUIT.
-    fn loss(&self, alloc: Global) -> Result<String, AllocError> {
-        let who = self.who(alloc)?;
-        let session = self.session_text(alloc)?;
-        let cause = self.cause.as_str();
-        format!(in alloc; "event=closed {who}{session}{cause}")
+    /// Takes an account. Its line, where it has one.
+    fn hear(&mut self, alloc: Global, account: &Account) -> Option<Result<String, AllocError>>
+        ensures heard { self.new.heard ≡ heard_after account.now self.old.heard }
+        ensures line { IfSome result (λ line. IfOk line (λ text. string_bytes text
+            ≡ told_of account.now (Some self.old))) }
+    {
+        let line = if has_line(account) {
+            Some(told(alloc, self, account))
+        } else {
+            None
+        };
+        self.take(alloc, account);
+        line
     }
 
-    /// The values of a line that tells of its session.
-    fn holder(&self, alloc: Global) -> Result<String, AllocError> {
-        match (self.number, &self.session) {
-            (Some(number), Some(name)) => {
-                format!(in alloc; " connection={number} clerk={}", name.clerk)
+    /// What stands behind an account's line: of a login how long it waited, of a session's QUIT its
+    /// commands.
+    fn behind(&self, alloc: Global, account: &Account) -> Result<String, AllocError>
+        ensures { IfOk result (λ text. string_bytes text ≡ behind_account account.now self.now) }
+    {
+        match account {
+            Account::Login(_, _, _) => waited_text(alloc, self.waited),
+            Account::Quit(_) => self.heard.counts_text(alloc),
+            Account::NoName | Account::Marked | Account::Unmarked => Ok(String::new(alloc)),
+            Account::QuitBeforeLogin | Account::Nothing | Account::Ended(_) => {
+                Ok(String::new(alloc))
             }
-            _ => Ok(String::new(alloc)),
         }
     }
 }
@@ -135,45 +216,75 @@ impl Clients {
             ip,
             address,
             number: None,
-            session: None,
-            is_in: false,
-            marked: 0,
-            has_quit: false,
+            heard: Heard::nothing(),
+            unread: None,
+            waited: 0,
             cause: String::new(alloc),
         })?;
         Ok(())
     }
 
-    /// The client at a link.
-    fn at(&mut self, link: Link) -> Option<&mut Client> {
-        self.clients.iter_mut().find(|client| client.link == link)
+    /// The place of the client at a link.
+    fn place_at(&self, link: Link) -> Option<usize>
+        ensures value { result ≡ position (λ (client : AClient). client.link.number == link.number)
+            self.now.clients.items }
+        ensures within { IfSome result (λ at. at < length self.now.clients.items) }
+    {
+        self.clients
+            .iter()
+            .position(|client| client.link.number == link.number)
     }
 
-    /// The client of a connection.
-    fn of(&mut self, connection: u64) -> Option<&mut Client> {
+    /// The place of the client of a connection.
+    fn place_of(&self, connection: u64) -> Option<usize>
+        ensures value { result ≡ position (λ (client : AClient). is_number connection client.number)
+            self.now.clients.items }
+        ensures within { IfSome result (λ at. at < length self.now.clients.items) }
+    {
         self.clients
-            .iter_mut()
-            .find(|client| client.number == Some(connection))
+            .iter()
+            .position(|client| has_number(client, connection))
     }
 
     /// Takes the address of a link, which a proxy told: it is written without a port.
     pub fn locate(&mut self, alloc: Global, link: Link, ip: IpAddr) {
-        let Some(client) = self.at(link) else {
+        let Some(at) = self.place_at(link) else {
             return;
         };
-        if client.ip == Some(ip) {
+        if self.clients[at].ip == Some(ip) {
             return;
         }
         if let Ok(address) = format!(in alloc; "{ip}") {
-            client.ip = Some(ip);
-            client.address = address;
+            self.clients[at].ip = Some(ip);
+            self.clients[at].address = address;
         }
+    }
+
+    /// Octets lie on a link, and were looked at without being read.
+    pub fn look(&mut self, link: Link, now: Instant) {
+        if let Some(at) = self.place_at(link)
+            && self.clients[at].unread.is_none()
+        {
+            self.clients[at].unread = Some(now);
+        }
+    }
+
+    /// Octets of a link were read, at this moment.
+    pub fn read(&mut self, link: Link, now: Instant) {
+        let Some(at) = self.place_at(link) else {
+            return;
+        };
+        self.clients[at].waited = match self.clients[at].unread {
+            Some(since) => now.duration_since(since).as_secs(),
+            None => 0,
+        };
+        self.clients[at].unread = None;
     }
 
     /// Keeps why a link ends, as its line tells it, where that wasn't heard before.
     pub fn end_by(&mut self, alloc: Global, link: Link, cause: &str) {
-        if let Some(client) = self.at(link) {
-            client.end_by(alloc, cause);
+        if let Some(at) = self.place_at(link) {
+            self.clients[at].end_by(alloc, cause);
         }
     }
 
@@ -184,9 +295,9 @@ impl Clients {
         link: Link,
         connection: u64,
     ) -> Option<Result<String, AllocError>> {
-        let client = self.at(link)?;
-        client.number = Some(connection);
-        Some(connect_text(alloc, client))
+        let at = self.place_at(link)?;
+        self.clients[at].number = Some(connection);
+        Some(connect_text(alloc, &self.clients[at]))
     }
 
     /// Takes an account of a connection. Its line, where it has one.
@@ -195,47 +306,86 @@ impl Clients {
         alloc: Global,
         connection: u64,
         account: &Account,
-    ) -> Option<Result<String, AllocError>> {
-        if let Account::Login(name, _, Verdict::Accepted) = account {
-            self.leave(&name.maildrop);
+    ) -> Option<Result<String, AllocError>>
+        ensures line { IfSome result (λ line. IfOk line (λ text. string_bytes text
+            ≡ told_of account.now (find (λ (client : AClient). is_number connection client.number)
+            (left_by account.now self.old.clients.items)))) }
+        ensures heard { map heard_of self.new.clients.items ≡ heard_by connection account.now
+            (left_by account.now self.old.clients.items) }
+    {
+        leave_by(&mut self.clients, account);
+        match self.place_of(connection) {
+            Some(at) => self.clients[at].hear(alloc, account),
+            None => None,
         }
-        let client = self.of(connection)?;
-        client.take(alloc, account);
-        if !has_line(account) {
-            return None;
-        }
-        Some(told(alloc, client, account))
     }
 
-    /// The session in a maildrop, if one is known, is over: another one begins.
-    fn leave(&mut self, maildrop: &Name) {
-        for client in self.clients.iter_mut() {
-            if client.is_in_maildrop(maildrop) {
-                client.is_in = false;
-            }
-        }
+    /// The place of the client who is in a maildrop.
+    fn place_in(&self, maildrop: &Name) -> Option<usize>
+        ensures value { result ≡ position (λ (client : AClient). is_in maildrop.now client.heard)
+            self.now.clients.items }
+        ensures within { IfSome result (λ at. at < length self.now.clients.items) }
+    {
+        self.clients
+            .iter()
+            .position(|client| client.heard.is_in_maildrop(maildrop))
     }
 
     /// Who is in a maildrop, as values of a line; empty where that isn't known.
-    pub fn holder(&self, alloc: Global, maildrop: &Name) -> Result<String, AllocError> {
-        let found = self
-            .clients
-            .iter()
-            .find(|client| client.is_in_maildrop(maildrop));
-        match found {
-            Some(client) => client.holder(alloc),
+    pub fn holder(&self, alloc: Global, maildrop: &Name) -> Result<String, AllocError>
+        ensures { IfOk result (λ text. string_bytes text ≡ holder_of
+            (find (λ (client : AClient). is_in maildrop.now client.heard)
+            self.now.clients.items)) }
+    {
+        match self.place_in(maildrop) {
+            Some(at) => self.clients[at].holder(alloc),
             None => Ok(String::new(alloc)),
         }
     }
 
     /// A link is closed. Its line, where nobody quit on it.
-    pub fn close(&mut self, alloc: Global, link: Link) -> Option<Result<String, AllocError>> {
-        let at = self.clients.iter().position(|client| client.link == link)?;
+    pub fn close(&mut self, alloc: Global, link: Link) -> Option<Result<String, AllocError>>
+        ensures line { IfSome result (λ line. IfOk line (λ text. string_bytes text
+            ≡ lost_of (find (λ (client : AClient). client.link.number == link.number)
+            self.old.clients.items))) }
+    {
+        let Some(at) = self.place_at(link) else {
+            return None;
+        };
         let client = self.clients.swap_remove(at);
-        if client.has_quit {
+        if client.heard.has_quit {
             return None;
         }
         Some(client.loss(alloc))
+    }
+}
+
+/// The session in a maildrop, if one is known, is over: another one begins.
+fn leave(clients: &mut [Client], maildrop: &Name)
+    ensures { clients.new ≡ map (left_client maildrop.now) clients.old }
+{
+    for client in clients.iter_mut() {
+        client.leave(maildrop);
+    }
+}
+
+/// Where an account says that a login was accepted, the session that is kept in its maildrop is
+/// over.
+fn leave_by(clients: &mut [Client], account: &Account)
+    ensures { clients.new ≡ left_by account.now clients.old }
+{
+    if let Account::Login(name, _, Verdict::Accepted) = account {
+        leave(clients, &name.maildrop);
+    }
+}
+
+/// Whether a client's connection has a number.
+fn has_number(client: &Client, connection: u64) -> bool
+    ensures { result ≡ is_number connection client.now.number }
+{
+    match client.number {
+        Some(number) => number == connection,
+        None => false,
     }
 }
 
@@ -246,7 +396,12 @@ fn connect_text(alloc: Global, client: &Client) -> Result<String, AllocError> {
 }
 
 /// The line of an account.
-fn told(alloc: Global, client: &Client, account: &Account) -> Result<String, AllocError> {
+fn told(alloc: Global, client: &Client, account: &Account) -> Result<String, AllocError>
+    ensures { IfOk result (λ text. string_bytes text ≡ told_of account.now (Some client.now)) }
+{
     let who = client.who(alloc)?;
-    line_of(alloc, who.as_str(), account)
+    let line = line_of(alloc, who.as_str(), account)?;
+    let behind = client.behind(alloc, account)?;
+    let text = format!(in alloc; "{line}{behind}")?;
+    Ok(text)
 }

@@ -13,7 +13,7 @@ use std::alloc::{AllocError, Global};
 use std::cell::{Cell, RefCell};
 use std::io::Write;
 use std::net::{IpAddr, SocketAddr};
-use std::time::Clock;
+use std::time::{Clock, Instant};
 
 /// What the parts of a log share: how many lines were lost, and the connections of mail programs
 /// and of the administration.
@@ -97,6 +97,24 @@ impl<'a> Journal<'a> {
     pub fn locate(&self, link: Link, ip: IpAddr) {
         if let Ok(mut clients) = self.shared.clients.try_borrow_mut() {
             clients.locate(self.alloc(), link, ip);
+        }
+    }
+
+    /// Keeps that octets lie on a mail program's link, and were looked at without being read.
+    pub fn look(&self, link: Link) {
+        if let Ok(now) = Instant::now(self.rt)
+            && let Ok(mut clients) = self.shared.clients.try_borrow_mut()
+        {
+            clients.look(link, now);
+        }
+    }
+
+    /// Keeps that octets of a mail program's link were read.
+    pub fn read(&self, link: Link) {
+        if let Ok(now) = Instant::now(self.rt)
+            && let Ok(mut clients) = self.shared.clients.try_borrow_mut()
+        {
+            clients.read(link, now);
         }
     }
 

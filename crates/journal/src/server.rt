@@ -1,5 +1,6 @@
 //! A server's start and its end, and its store's size.
 use super::journal::{Journal, quoted};
+use super::settings::{Settings, settings_text};
 use super::watch::Loss;
 use std::alloc::{AllocError, Global};
 use std::fs;
@@ -31,8 +32,8 @@ fn opening_text(alloc: Global, rt: &HostRuntime, store: &str) -> Result<String, 
     format!(in alloc; "event=open store={store} file={file} log={log}")
 }
 
-/// Notes a start, what the store holds, and where others than its owner may read it. Without totals
-/// what it holds isn't known.
+/// Notes a start, what the store holds and which options are in force, and where others than its
+/// owner may read it. Without totals what it holds isn't known.
 pub fn note_start(
     journal: &Journal<'_>,
     rt: &HostRuntime,
@@ -40,12 +41,13 @@ pub fn note_start(
     admin_port: u16,
     store: &str,
     totals: &Option<Vec<Total>>,
+    settings: &Settings,
 ) {
     if !journal.is_on() {
         return;
     }
     let alloc = journal.alloc();
-    journal.note(start_text(alloc, pop, admin_port, store, totals));
+    journal.note(start_text(alloc, pop, admin_port, store, totals, settings));
     if let Ok(metadata) = fs::metadata(rt, store) {
         let mode = metadata.permissions().mode() & 0o777;
         if mode & 0o044 != 0 {
@@ -61,10 +63,14 @@ fn start_text(
     admin_port: u16,
     store: &str,
     totals: &Option<Vec<Total>>,
+    settings: &Settings,
 ) -> Result<String, AllocError> {
     let store = quoted(alloc, store.as_bytes())?;
     let held = held_text(alloc, totals)?;
-    format!(in alloc; "event=start pop={pop} admin=127.0.0.1:{admin_port} store={store}{held}")
+    let settings = settings_text(alloc, settings)?;
+    format!(in alloc;
+        "event=start pop={pop} admin=127.0.0.1:{admin_port} store={store}{held}{settings}"
+    )
 }
 
 /// What a store holds, as it stands in a line; nothing where it isn't known.

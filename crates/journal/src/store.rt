@@ -2,6 +2,7 @@
 ghost use Rattle.std.specs.Prelude.{◌≡◌};
 
 use super::journal::{Journal, Told};
+use super::message_ids::message_id;
 use creds::{Credential, DepositId, Name};
 use mailtext::MailText;
 use policy::Policy;
@@ -15,6 +16,8 @@ pub struct LoggedVault<'a, V: Vault> {
     pub vault: V,
     pub journal: Journal<'a>,
     pub told: Told,
+    /// Whether a deposit's line tells the Message-ID.
+    pub message_ids: bool,
 }
 
 /// Whether a fault says that the store or memory refused, and isn't an answer to the call.
@@ -61,16 +64,29 @@ fn answer_text(
     }
 }
 
+/// The Message-ID of a mail, as a value of a line; empty where its head doesn't tell it plainly.
+fn message_id_text(alloc: Global, text: &MailText) -> Result<String, AllocError> {
+    match message_id(text.top(0)) {
+        Some(id) => match str::from_utf8(id) {
+            Ok(id) => format!(in alloc; " message-id={id}"),
+            Err(_) => Ok(String::new(alloc)),
+        },
+        None => Ok(String::new(alloc)),
+    }
+}
+
 /// The line of a deposit, by the file that it came in.
 fn deposit_text(
     alloc: Global,
     maildrop: &Name,
     class: &Name,
     id: &DepositId,
+    message_id: Result<String, AllocError>,
     answer: &Result<Deposited, VaultFault>,
 ) -> Result<String, AllocError> {
     let answer = answer_text(answer, alloc)?;
-    format!(in alloc; "event=deposit file={maildrop}.{class}.{id}.eml {answer}")
+    let message_id = message_id?;
+    format!(in alloc; "event=deposit file={maildrop}.{class}.{id}.eml {answer}{message_id}")
 }
 
 /// The line of a removal, by a session in the maildrop.
@@ -103,12 +119,13 @@ fn note_deposit(
     maildrop: &Name,
     class: &Name,
     id: &DepositId,
+    message_id: Result<String, AllocError>,
     answer: &Result<Deposited, VaultFault>,
 ) {
     if !journal.is_on() {
         return;
     }
-    let text = deposit_text(journal.alloc(), maildrop, class, id, answer);
+    let text = deposit_text(journal.alloc(), maildrop, class, id, message_id, answer);
     if comes_again(answer) {
         told.note_once(&journal, text);
     } else {
@@ -140,13 +157,23 @@ fn note_removal(
 }
 
 impl<'a, V: Vault> LoggedVault<'a, V> {
-    /// A vault around this one.
-    pub fn new(vault: V, journal: Journal<'a>) -> LoggedVault<'a, V> {
+    /// A vault around this one. `message_ids`: a deposit's line tells the Message-ID.
+    pub fn new(vault: V, journal: Journal<'a>, message_ids: bool) -> LoggedVault<'a, V> {
         LoggedVault {
             vault,
             journal,
             told: Told::new(journal.alloc()),
+            message_ids,
         }
+    }
+
+    /// The Message-ID of a mail, as a value of its deposit's line; empty where it isn't logged.
+    fn message_id_text(&self, text: &MailText) -> Result<String, AllocError> {
+        let alloc = self.journal.alloc();
+        if !self.message_ids || !self.journal.is_on() {
+            return Ok(String::new(alloc));
+        }
+        message_id_text(alloc, text)
     }
 
     /// The vault inside.
@@ -155,6 +182,7 @@ impl<'a, V: Vault> LoggedVault<'a, V> {
             vault,
             journal: _,
             told: _,
+            message_ids: _,
         } = self;
         vault
     }
@@ -184,7 +212,9 @@ impl<V: Vault> Vault for LoggedVault<'_, V> {
         text: &MailText,
     ) -> Result<Deposited, VaultFault> {
         let answer = self.vault.deposit(maildrop, class, id, text);
-        note_deposit(self.journal, &mut self.told, maildrop, class, id, &answer);
+        let message_id = self.message_id_text(text);
+        let told = &mut self.told;
+        note_deposit(self.journal, told, maildrop, class, id, message_id, &answer);
         answer
     }
 

@@ -77,11 +77,14 @@ impl<W: Wire + Peers> LoggedWire<'_, W> {
         }
     }
 
-    /// Keeps what a read of a client's link tells of it: its address where octets came, and where
-    /// it is broken that its first line was refused, if it was.
+    /// Keeps what a read of a client's link tells of it: if octets came, its address and how long
+    /// they lay unread; if it is broken, that its first line was refused, if it was.
     fn follow_read(&self, link: Link, came: Io) {
         match came {
-            Io::Count(_) => self.locate(link),
+            Io::Count(_) => {
+                self.locate(link);
+                self.journal.read(link);
+            }
             Io::Broken => {
                 if let Some(refusal) = self.wire.refusal(link) {
                     self.journal.refuse(link, refusal);
@@ -121,7 +124,14 @@ impl<W: Wire + Peers> Wire for LoggedWire<'_, W> {
     }
 
     fn look(&mut self, port: Port, link: Link, buffer: &mut [u8]) -> Io {
-        self.wire.look(port, link, buffer)
+        let lies = self.wire.look(port, link, buffer);
+        if let Io::Count(_) = lies
+            && self.journal.is_on()
+            && port == Port::Pop
+        {
+            self.journal.look(link);
+        }
+        lies
     }
 
     fn read(&mut self, port: Port, link: Link, buffer: &mut [u8]) -> Io {

@@ -99,7 +99,14 @@ next T octets = account_of T (Bytes 1 (octets ++ line_end)) (Tagged Done)
 -- his QUIT, a first and a second mark, a reset, a name that is out of place, and the end of his session, and of none
 lines_of_a_session : shows (run_judged_at_quit bob_marks) (λ T. next T (codes "QUIT") ∷ next T (codes "DELE 1") ∷ next T (codes "DELE 2") ∷ next T (codes "RSET") ∷ next T (codes "USER bob")
     ∷ account_of T (Admin (EndSession 1)) (Tagged Done) ∷ account_of T (Admin (EndSession 2)) (Tagged Done) ∷ [])
-    ≡ Quit (record { name = record { clerk = codes "bob"; maildrop = codes "orders" }; marked = 2; removed = record { class = codes "note"; k = 2 } ∷ []; denied = Some (codes "default"); is_done = true })
+    ≡ Quit (record {
+      name = record { clerk = codes "bob"; maildrop = codes "orders" };
+      marked = 2;
+      removed = record { class = codes "note"; k = 2 }
+          ∷ [];
+      denied = Some (codes "default");
+      is_done = true;
+    })
     ∷ Marked ∷ Nothing ∷ Unmarked ∷ Nothing ∷ Ended end.SessionEnded ∷ Nothing ∷ []
 unfolding digits login_name decode_pairs md5 M.digest_bytes M.hash_after M.compress M.rounds M.block_words
 lines_of_a_session = refl

@@ -26,7 +26,8 @@ use Rattle.office.specs.Trace.{history, idle_acts, idle_numbers, is_left, next_l
 use Rattle.office.specs.Kept.{LineContext, asks}
 use Rattle.office.specs.Transaction.{Transaction, LiesIn, transaction_of, transaction_said, transaction_answered, transaction_asks, transaction_reply}
 use Rattle.office.specs.Answered.{reply_of, tag_of, HasTransaction}
-use Rattle.office.specs.Accounts.{command_account, fault_told, line_account, transaction_account, quit_or, quit_account, removal_by, line_told, acts_account, acts_told, failed_told, account_of, outcome_told, removal_told, removal_seen, state_account}
+use Rattle.office.specs.Accounts.{command_account, fault_told, line_account, transaction_account, quit_or, quit_account, removal_by, line_told, acts_account, acts_told}
+use Rattle.office.specs.Accounts.{failed_told, account_of, outcome_told, removal_told, removal_seen, state_account}
 use Rattle.office.specs.declared.account.Account.{Account}
 use Rattle.office.specs.declared.account.Account.TheVariants as account
 use Rattle.office.specs.declared.account.Removal.{Removal}
@@ -112,7 +113,8 @@ pub state_told : (c : Contents) (p : Policy) (s : Session) (v : Transaction) (w 
     → told ≡ state_account w p (Some v) (reading x) (Says (transaction_reply w p v x)) u
 state_told c p s v w u x told seat may is =
     let quits = is_quit (reading x) in
-    is ∙ (ap (λ (r : Removal). quit_or quits (account.Quit r) (line_account (reading x) (Says (transaction_reply w p v x)) None)) (removal_alike c p s seat.0 seat.1 w ∙ ap (removal_seen w p) (sym seat.2))
+    is ∙ (ap (λ (r : Removal). quit_or quits (account.Quit r) (line_account (reading x) (Says (transaction_reply w p v x)) None))
+    (removal_alike c p s seat.0 seat.1 w ∙ ap (removal_seen w p) (sym seat.2))
     ∙ ap (λ (o : Account). quit_or quits (account.Quit (removal_seen w p v)) o) (transaction_told p v u w x may))
 
 -- ---- a line that acts
@@ -126,7 +128,8 @@ told_with : (B : Records) (G : List Entry) (c : ℕ) (x : Cut) (w : LineOutcome)
 told_with B G c x outcome.Done = refl
 told_with B G c x outcome.Failed = refl
 
-pub line_so : (B : Records) (G : List Entry) (c : ℕ) (k : Contents) (d : LineContext) (t : LoginState) (old : Option Session) (j : Judges B G c k d t old) → t.user ≡ user G c → (x : Cut) (w : LineOutcome)
+pub line_so : (B : Records) (G : List Entry) (c : ℕ) (k : Contents) (d : LineContext) (t : LoginState) (old : Option Session) (j : Judges B G c k d t old)
+    → t.user ≡ user G c → (x : Cut) (w : LineOutcome)
     → (w ≡ outcome.Failed → asks d.policy t j.transaction (reading x) ≡ true)
     → state_account w d.policy j.transaction (reading x) (Says (reply_of w d t j.transaction x)) t.user ≡ acts_account B G (line_act c (tag_of w) (Some x))
 line_so B G c k d t old j named x w may =
@@ -190,7 +193,8 @@ module _ (T : Trace) where
   deposit_told d class id text (Tagged t) = refl
 
   -- a command's account, by its outcome
-  command_shown : (command : AdminCommand) (t : Tag) → account_of T (event.Admin command) (event_tag_of (shown_at T.base T.log (history T) (event.Admin command) t)) ≡ outcome_told (shown_at T.base T.log (history T) (event.Admin command) t)
+  command_shown : (command : AdminCommand) (t : Tag)
+      → account_of T (event.Admin command) (event_tag_of (shown_at T.base T.log (history T) (event.Admin command) t)) ≡ outcome_told (shown_at T.base T.log (history T) (event.Admin command) t)
   command_shown command Done = refl
   command_shown command Failed = refl
   command_shown command NoMemory = refl

@@ -22,6 +22,7 @@ use Rattle.office.specs.declared.login_state.LineOutcome.TheVariants as outcome
 use Rattle.office.proofs.Lying.{found, found_messages, lies_found, lies_marked}
 use Rattle.office.proofs.GoingOn.{marks_alike}
 use Rattle.office.proofs.Hearing.{lined}
+use Rattle.office.proofs.SmallLemmas.{no_some}
 
 -- what a login would find by these contents
 abbrev pub finds : Contents → Policy → LoginName → List store.Message
@@ -30,19 +31,10 @@ finds c p name = visible class_of p name (in_maildrop name.maildrop (records_of 
 -- an accepted login begins without marks
 no_marks : (r : Result Command LineFault) (reply : Reply) (u : Option LoginName) (name : LoginName) (ms : List ℕ) → logs_in r (Says reply) u ≡ Some name → marks_after_line (Says reply) ms ≡ []
 no_marks (Ok (Pass p)) (MaildropHas n m) u name ms e = refl
-no_marks (Ok (Pass p)) _ u name ms e = absurd (nobody name e)
-  where
-    nobody : (name : LoginName) → None ≡ Some name → ⊥
-    nobody name e = cc
+no_marks (Ok (Pass p)) _ u name ms e = absurd (no_some name e)
 no_marks (Ok (Apop who d)) (MaildropHas n m) u name ms e = refl
-no_marks (Ok (Apop who d)) _ u name ms e = absurd (nobody name e)
-  where
-    nobody : (name : LoginName) → None ≡ Some name → ⊥
-    nobody name e = cc
-no_marks _ reply u name ms e = absurd (nobody name e)
-  where
-    nobody : (name : LoginName) → None ≡ Some name → ⊥
-    nobody name e = cc
+no_marks (Ok (Apop who d)) _ u name ms e = absurd (no_some name e)
+no_marks _ reply u name ms e = absurd (no_some name e)
 
 -- only a QUIT removes
 pub held_same : (w : LineOutcome) (p : Policy) (o : Option Session) (r : Result Command LineFault) (c : Contents) → is_quit r ≡ false → held_after w p o r c ≡ c

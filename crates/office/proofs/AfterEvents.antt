@@ -76,7 +76,8 @@ module _ {V : Type 0} (vault : Ghosts V) where
     clean = λ clean. subst vault.is_clean same clean;
     each = λ T st clean. stands_after o o' T e w (stands T st clean) (outcome T st) (no_cause (vault.faults o.vault) (vault.faults o'.vault) w not_failed)
         (λ up answered. subst vault.is_up (sym same) up)
-        (λ up left may. inl (settled_leaves T (subst (λ (v : V). Keeps (vault.holds v) T) (sym same) st.keeps) (λ d held. settles d clean (subst vault.is_up (sym same) up) held) left may)) settles clean;
+        (λ up left may. inl (settled_leaves T (subst (λ (v : V). Keeps (vault.holds v) T) (sym same) st.keeps)
+        (λ d held. settles d clean (subst vault.is_up (sym same) up) held) left may)) settles clean;
   }
 
   -- an event that is ignored: what was looked at stands where it stood

@@ -36,7 +36,8 @@ piece_cut k0 k v w p rest now clock e r t = subst (λ (k : Kept). record k0 { he
 pub rest_cut : (k0 k : Kept) → k0 ≡ k → (w : Held) (cut n : ℕ) (octets piece : List ℕ) → piece ≡ k0.pending → k0.pending ≡ drop cut octets → w ≡ fed k0.held piece → n ≡ through_newline piece
     → record k0 { held = w; pending = drop (cut + n) octets } ≡ cut_through k.pending k
 rest_cut k0 k v w cut n octets piece given left e taken =
-    let rest : drop (cut + n) octets ≡ drop (through_newline k0.pending) k0.pending = sym (drop-drop n cut octets) ∙ (ap (drop n) (sym left) ∙ ap (λ m. drop m k0.pending) (taken ∙ ap through_newline given)) in
+    let rest : drop (cut + n) octets ≡ drop (through_newline k0.pending) k0.pending = sym (drop-drop n cut octets)
+    ∙ (ap (drop n) (sym left) ∙ ap (λ m. drop m k0.pending) (taken ∙ ap through_newline given)) in
     let fed_is : w ≡ fed k0.held k0.pending = e ∙ ap (fed k0.held) given in
     subst (λ (k : Kept). record k0 { held = w; pending = drop (cut + n) octets } ≡ cut_through k.pending k) v (rw (fed_is, rest) refl)
 
@@ -57,7 +58,8 @@ err_or_not (Err e) it = it
 -- ---- the account before a line
 
 -- a line that tells anew, whatever the account told before
-pub told_anew : (After : Contents → Type 0) (grown : Bool) (c : Contents) (d : LineContext) (x : Cut) (w : LineOutcome) (v : Option Transaction) (old new : Option Session) (before now : LoginState) (output : Output)
+pub told_anew : (After : Contents → Type 0) (grown : Bool) (c : Contents) (d : LineContext) (x : Cut) (w : LineOutcome) (v : Option Transaction)
+    (old new : Option Session) (before now : LoginState) (output : Output)
     (was told : Account) → AfterLine After grown c d x w v old new before now output account.Nothing told → AfterLine After grown c d x w v old new before now output was told
 told_anew After grown c d x w v old new before now output was told a =
     record { owed = a.owed; state = a.state; session = a.session; held = a.held; may = a.may; cause = a.cause; account = λ fresh. a.account refl }
@@ -104,7 +106,8 @@ module _ (k : Kept) (x : Cut) (there : x ∷ [] ≡ whole_line k.held) where
 pub none_next : (k : Kept) → [] ≡ whole_line k.held → k.held.whole ≡ false
 none_next k none = none_shown k.held.whole (line_of k) none
 
-pub next_none : (k : Kept) → [] ≡ whole_line k.held → (After : Contents → Type 0) (grown : Bool) (c : Contents) (p : Policy) (locks : BTreeMap (List ℕ) ℕ) (v : Option Transaction) (was : Account) (output : Output)
+pub next_none : (k : Kept) → [] ≡ whole_line k.held
+    → (After : Contents → Type 0) (grown : Bool) (c : Contents) (p : Policy) (locks : BTreeMap (List ℕ) ℕ) (v : Option Transaction) (was : Account) (output : Output)
     → output ≡ nothing_owed → After c → AfterNext After grown c p locks v k (record k { output = output }) outcome.Done was was
 next_none k none After grown c p locks v was output taken held =
     let part = none_next k none in

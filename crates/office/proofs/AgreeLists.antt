@@ -7,7 +7,6 @@ use Rattle.std.specs.Str.{bytes_eq}
 use Rattle.std.proofs.lemmas.Slice.Eq.{bytes_eq-Decides}
 use Rattle.std.proofs.lemmas.List.Elements.{filter-append}
 use Rattle.std.proofs.lemmas.List.Folds.{find-append}
-use Rattle.std.proofs.lemmas.List.Sums.{sum_by-append}
 use Rattle.creds.specs.Names.{by_name}
 use Rattle.creds.specs.declared.credential.Credential.{Credential}
 use Rattle.vault.specs.Records.{Records, Agree, without, in_maildrop, receipts_of, receipt_of, class_count, credential_in, same_message}
@@ -17,9 +16,8 @@ use Rattle.vault.specs.declared.record.Keyed.{Keyed}
 use Rattle.vault.specs.declared.record.Message.{Message}
 use Rattle.vault.specs.declared.record.Receipt.{Receipt}
 use Rattle.office.proofs.NameOrder.{same_last, same_filter, same_any, same_length}
-
-bytes_are : (a b : List ℕ) → bytes_eq a b ≡ true → a ≡ b
-bytes_are a b h = (bytes_eq-Decides a b).0 h
+use Rattle.office.proofs.SmallLemmas.{classes_more}
+use Rattle.vault.proofs.ListLemmas.{bytes_are}
 
 -- ---- maildrops
 
@@ -83,7 +81,8 @@ names_left name [] = refl
 names_left name (x ∷ xs) = at (not (bytes_eq x.name name)) (names_left name xs)
   where
     at : (b : Bool) → names_in (without_clerk name xs) ≡ filter (λ d. not (bytes_eq d name)) (names_in xs)
-        → names_in (cond b (x ∷ without_clerk name xs) (without_clerk name xs)) ≡ cond b (x.name ∷ filter (λ d. not (bytes_eq d name)) (names_in xs)) (filter (λ d. not (bytes_eq d name)) (names_in xs))
+        → names_in (cond b (x ∷ without_clerk name xs) (without_clerk name xs)) ≡ cond b (x.name ∷ filter (λ d. not (bytes_eq d name)) (names_in xs))
+        (filter (λ d. not (bytes_eq d name)) (names_in xs))
     at true h = ap (λ ns. x.name ∷ ns) h
     at false h = h
 
@@ -239,12 +238,6 @@ receipt-last d id rs r =
     ap (λ xs. receipt_of id xs) (filter-append (λ (x : Receipt). bytes_eq x.maildrop d) rs (r ∷ []))
     ∙ find-append (λ (x : Receipt). bytes_eq x.id id) (receipts_of d rs) (receipts_of d (r ∷ []))
 
-counts-last : (class d : List ℕ) (rs : List Receipt) (r : Receipt)
-    → class_count class (receipts_of d (rs ++ r ∷ [])) ≡ class_count class (receipts_of d rs) + class_count class (receipts_of d (r ∷ []))
-counts-last class d rs r =
-    ap (λ xs. class_count class xs) (filter-append (λ (x : Receipt). bytes_eq x.maildrop d) rs (r ∷ []))
-    ∙ sum_by-append (λ (x : Receipt). cond (bytes_eq x.class class) 1 0) (receipts_of d rs) (receipts_of d (r ∷ []))
-
 pub agree_deposit : (c : Contents) (R : Records) (key : ℕ) (m : Message) (r : Receipt) → Agree (records_of c) R
     → Agree (records_of (with_deposit key m r c)) (record R { messages = R.messages ++ m ∷ []; deposits = R.deposits ++ r ∷ [] })
 agree_deposit c R key m r a =
@@ -260,7 +253,7 @@ agree_deposit c R key m r a =
           receipt-last d id c.deposits r
           ∙ (ap (λ o. option_or o (receipt_of id (receipts_of d (r ∷ [])))) (a.receipts d id) ∙ sym (receipt-last d id R.deposits r));
       counts = λ d class.
-          counts-last class d c.deposits r
-          ∙ (ap (λ n. n + class_count class (receipts_of d (r ∷ []))) (a.counts d class) ∙ sym (counts-last class d R.deposits r));
+          classes_more class d c.deposits r
+          ∙ (ap (λ n. n + class_count class (receipts_of d (r ∷ []))) (a.counts d class) ∙ sym (classes_more class d R.deposits r));
       policy = a.policy;
     }

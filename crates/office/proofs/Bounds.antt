@@ -12,7 +12,8 @@ use Rattle.mailtext.specs.Text.{kept_form}
 use Rattle.creds.specs.declared.login_name.LoginName.{LoginName}
 use Rattle.creds.specs.Names.{is_name, is_deposit_id}
 use Rattle.policy.specs.Policy.{Policy, is_sound_policy}
-use Rattle.vault.specs.Records.{Records, IsSound, is_sound_message, is_sound_receipt, is_receipt_for, is_counted, is_one_of, octets_of, class_of, class_count, receipts_of, same_message, without, in_maildrop, most_octets, most_messages, most_deposits}
+use Rattle.vault.specs.Records.{Records, IsSound, is_sound_message, is_sound_receipt, is_receipt_for, is_counted, is_one_of, octets_of, class_of, class_count, receipts_of}
+use Rattle.vault.specs.Records.{same_message, without, in_maildrop, most_octets, most_messages, most_deposits}
 use Rattle.vault.specs.declared.record.Message.{Message}
 use Rattle.vault.specs.declared.record.Receipt.{Receipt}
 use Rattle.vault.specs.Changes.{message_for}
@@ -27,6 +28,8 @@ use Rattle.office.specs.Formed.{is_u64, is_formed_command}
 use Rattle.office.specs.Laws.{In}
 use Rattle.office.proofs.UniqueIds.{all_in}
 use Rattle.office.proofs.Accepting.{taken}
+use Rattle.office.proofs.SmallLemmas.{without_none}
+use Rattle.vault.proofs.ListLemmas.{all_filter, filter_fits}
 
 -- ---- lists
 
@@ -36,16 +39,6 @@ all_if p q (x ∷ xs) f h =
     let r = and_parts (p x) (list_all p xs) h in
     rw (f x (inl refl) r.0, all_if p q xs (λ y i. f y (inr i)) r.1) refl
 
-pub all_filter : {A : Type 0} (p q : A → Bool) (xs : List A) → list_all p xs ≡ true → list_all p (filter q xs) ≡ true
-all_filter p q [] h = refl
-all_filter p q (x ∷ xs) h =
-    let r = and_parts (p x) (list_all p xs) h in
-    at (q x) r.0 (all_filter p q xs r.1)
-  where
-    at : (b : Bool) → p x ≡ true → list_all p (filter q xs) ≡ true → list_all p (cond b (x ∷ filter q xs) (filter q xs)) ≡ true
-    at true e k = rw (e, k) refl
-    at false e k = k
-
 pub any_witness : {A : Type 0} (p : A → Bool) (xs : List A) → list_any p xs ≡ true → (x : A) × In x xs × (p x ≡ true)
 any_witness p [] h = absurd (true≢false (sym h))
 any_witness {A} p (x ∷ xs) h = at (p x) refl h (λ k. any_witness p xs k)
@@ -53,14 +46,6 @@ any_witness {A} p (x ∷ xs) h = at (p x) refl h (λ k. any_witness p xs k)
     at : (b : Bool) → p x ≡ b → (b || list_any p xs) ≡ true → (list_any p xs ≡ true → (y : A) × In y xs × (p y ≡ true)) → (y : A) × In y (x ∷ xs) × (p y ≡ true)
     at true e k rest = (x, inl refl, e)
     at false e k rest = let r = rest k in (r.0, inr r.1, r.2)
-
-pub filter_short : {A : Type 0} (p : A → Bool) (xs : List A) → length (filter p xs) ≤ length xs
-filter_short p [] = leb-true 0 0 refl
-filter_short p (x ∷ xs) = at (p x) (filter_short p xs)
-  where
-    at : (b : Bool) → length (filter p xs) ≤ length xs → length (cond b (x ∷ filter p xs) (filter p xs)) ≤ length (x ∷ xs)
-    at true h = omega arith
-    at false h = omega arith
 
 -- ---- messages without two lists
 
@@ -76,10 +61,6 @@ without_more (x ∷ xs) rs ts =
     rw (list_any-append (same_message x) rs ts)
     (more_at (λ (m : Message). not (list_any (same_message m) ts)) (list_any (same_message x) rs) (list_any (same_message x) ts) x
     (without xs (rs ++ ts)) (without xs rs) refl (without_more xs rs ts))
-
-pub without_none : (ms : List Message) → without ms [] ≡ ms
-without_none [] = refl
-without_none (m ∷ ms) = ap (λ xs. m ∷ xs) (without_none ms)
 
 -- ---- acts whose values are of their types
 
@@ -105,7 +86,8 @@ small m a b c = rw (a, le-leb m.k most_deposits b, le-leb (octets_of m) most_oct
 -- a sound message has a sound receipt
 small_message : (B : Records) → IsSound B → (m : Message) → is_sound_message B m ≡ true → is_small m ≡ true
 small_message B s m h =
-    let p = and_parts (bytes_eq (kept_form m.text) m.text && nat_lt 0 (octets_of m) && nat_le (octets_of m) most_octets && is_one_of m.maildrop B.maildrops) (list_any (is_receipt_for m) B.deposits) h in
+    let p = and_parts (bytes_eq (kept_form m.text) m.text && nat_lt 0 (octets_of m) && nat_le (octets_of m) most_octets && is_one_of m.maildrop B.maildrops)
+    (list_any (is_receipt_for m) B.deposits) h in
     let q = and_parts (bytes_eq (kept_form m.text) m.text && nat_lt 0 (octets_of m) && nat_le (octets_of m) most_octets) (is_one_of m.maildrop B.maildrops) p.0 in
     let r = and_parts (bytes_eq (kept_form m.text) m.text && nat_lt 0 (octets_of m)) (nat_le (octets_of m) most_octets) q.0 in
     let w = any_witness (is_receipt_for m) B.deposits p.1 in
@@ -118,8 +100,10 @@ small_message B s m h =
         let b = and_parts (bytes_eq m.maildrop r.maildrop) (bytes_eq m.class r.class) a.0 in
         let class : m.class ≡ r.class = (bytes_eq-Decides m.class r.class).0 b.1 in
         let k : m.k ≡ r.k = eqb-true m.k r.k a.1 in
-        let c = and_parts (is_name r.maildrop && is_deposit_id r.id && is_name r.class && is_counted B.deposits r && nat_le (class_count r.class (receipts_of r.maildrop B.deposits)) most_deposits) (length r.digest == 32) t in
-        let d = and_parts (is_name r.maildrop && is_deposit_id r.id && is_name r.class && is_counted B.deposits r) (nat_le (class_count r.class (receipts_of r.maildrop B.deposits)) most_deposits) c.0 in
+        let c = and_parts (is_name r.maildrop && is_deposit_id r.id && is_name r.class && is_counted B.deposits r && nat_le (class_count r.class (receipts_of r.maildrop B.deposits)) most_deposits)
+        (length r.digest == 32) t in
+        let d = and_parts (is_name r.maildrop && is_deposit_id r.id && is_name r.class && is_counted B.deposits r)
+        (nat_le (class_count r.class (receipts_of r.maildrop B.deposits)) most_deposits) c.0 in
         let f = and_parts (is_name r.maildrop && is_deposit_id r.id && is_name r.class) (is_counted B.deposits r) d.0 in
         let g = and_parts (is_name r.maildrop && is_deposit_id r.id) (is_name r.class) f.0 in
         let n = and_parts (nat_lt 0 r.k) (nat_le r.k (class_count r.class (receipts_of r.maildrop B.deposits))) f.1 in
@@ -147,7 +131,7 @@ arrivals_small B s ((a, t) ∷ H) f =
 
 fewer : (o : Option ℕ) (chosen : ℕ → List Message) (rs xs : List Message) → length (without xs (removed_after o chosen rs)) ≤ length (without xs rs)
 fewer None chosen rs xs = le_refl (length (without xs rs))
-fewer (Some c) chosen rs xs = rw (without_more xs rs (chosen c)) (filter_short (λ (m : Message). not (list_any (same_message m) (chosen c))) (without xs rs))
+fewer (Some c) chosen rs xs = rw (without_more xs rs (chosen c)) (filter_fits (λ (m : Message). not (list_any (same_message m) (chosen c))) (without xs rs))
 
 one_more : (d : List ℕ) (m : Message) (rs xs : List Message) (most : ℕ) → length (without (in_maildrop d xs) rs) ≤ most
     → (bytes_eq m.maildrop d ≡ true → length (without (in_maildrop d xs) rs) < most) → length (without (in_maildrop d (xs ++ m ∷ [])) rs) ≤ most
@@ -187,7 +171,7 @@ in_small B G policy name h k = (
   all_filter is_small (λ (m : Message). may_read policy name m.class) (present B G name.maildrop)
       (all_filter is_small (λ (m : Message). not (list_any (same_message m) (removed B G))) (in_maildrop name.maildrop (arrivals B G))
       (all_filter is_small (λ (m : Message). bytes_eq m.maildrop name.maildrop) (arrivals B G) h)),
-  le_trans (filter_short (λ (m : Message). may_read policy name m.class) (present B G name.maildrop)) k,
+  le_trans (filter_fits (λ (m : Message). may_read policy name m.class) (present B G name.maildrop)) k,
 )
 
 view_step : (o : Option LoginName) (found : LoginName → List Message) (before : List Message) → ((name : LoginName) → IsSmallView (found name)) → IsSmallView before

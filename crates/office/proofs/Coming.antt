@@ -1,5 +1,6 @@
 -- Connections that come, locks that are let go, and events that nothing comes of.
-use Rattle.std.proofs.Common.{◌≡◌, ℕ, ◌+◌, ◌<◌, ◌≤◌, Bool, true, false, cond, List, [], ◌∷◌, map, refl, sym, ◌∙◌, ap, ap₂, arith, subst, true≢false, Option, Some, None, Result, Ok, Err, lt-ltb, le-leb, ◌^◌, eqb, eqb-true, eq-eqb, ⊎_elim, string_bytes, nat_cmp}
+use Rattle.std.proofs.Common.{◌≡◌, ℕ, ◌+◌, ◌<◌, ◌≤◌, Bool, true, false, cond, List, [], ◌∷◌, map, refl, sym, ◌∙◌, ap, ap₂, arith, subst, true≢false, Option, Some, None, Result, Ok}
+use Rattle.std.proofs.Common.{Err, lt-ltb, le-leb, ◌^◌, eqb, eqb-true, eq-eqb, ⊎_elim, string_bytes, nat_cmp}
 use Rattle.std.proofs.lemmas.Bool.{cases_Bool}
 use Rattle.std.proofs.lemmas.Bool.Decides.{nat_tests}
 use Rattle.std.proofs.lemmas.Map.Text.{is_eq-slice_cmp}
@@ -117,7 +118,14 @@ nothing_stands Holds o o' T e m st n on p b s l k connections locks =
     let number : (opened T'.log, moment T'.log) ≡ (opened T.log, moment T.log) = ap (λ (x : Log). x.number) (n.log 0) in
     let idle : idle_seconds T'.log ≡ idle_seconds T.log = ap (λ (x : Log). x.idle) (n.log 0) in
     record {
-      keeps = record { contents = st.keeps.contents; held = on st.keeps.contents st.keeps.held; agree = rw same st.keeps.agree; sound = st.keeps.sound; formed = n.formed; began = begun_on e m T.log st.began };
+      keeps = record {
+        contents = st.keeps.contents;
+        held = on st.keeps.contents st.keeps.held;
+        agree = rw same st.keeps.agree;
+        sound = st.keeps.sound;
+        formed = n.formed;
+        began = begun_on e m T.log st.began;
+      };
       began = begins_on e m T.log st.began;
       policy = p ∙ rw same st.policy;
       boot = b ∙ rw same st.boot;
@@ -230,7 +238,14 @@ module _ {V : Type 0} (Holds : V → Contents → Type 0) (o o' : Office V) (T :
       ∙ (ap (λ x. greeted newest (setting (history T)).0 x o.limits.removals o.moment) st.host ∙ (ap (λ x. greeted newest (setting (history T)).0 (setting (history T)).1 x o.moment) st.judged
       ∙ ap (greeted newest (setting (history T)).0 (setting (history T)).1 (judging (history T))) st.moment)))) in
       record {
-        keeps = record { contents = st.keeps.contents; held = on st.keeps.contents st.keeps.held; agree = st.keeps.agree; sound = st.keeps.sound; formed = rw formed st.keeps.formed; began = begun_on event.Connect (Tagged Done) T.log st.began };
+        keeps = record {
+          contents = st.keeps.contents;
+          held = on st.keeps.contents st.keeps.held;
+          agree = st.keeps.agree;
+          sound = st.keeps.sound;
+          formed = rw formed st.keeps.formed;
+          began = begun_on event.Connect (Tagged Done) T.log st.began;
+        };
         began = begins_on event.Connect (Tagged Done) T.log st.began;
         policy = p ∙ st.policy;
         boot = b ∙ st.boot;

@@ -1,5 +1,6 @@
 -- The connections that are kept are those that are open, counted.
-use Rattle.std.proofs.Common.{◌≡◌, ℕ, zero, suc, ◌+◌, ◌<◌, ◌≤◌, Bool, true, false, List, [], ◌∷◌, length, filter, refl, sym, ◌∙◌, ap, ⊎_elim, arith, Option, Some, None, IsSome, is_some, nat_cmp, nat_le, nat_lt, le-leb, ◌==◌}
+use Rattle.std.proofs.Common.{◌≡◌, ℕ, zero, suc, ◌+◌, ◌<◌, ◌≤◌, Bool, true, false, List, [], ◌∷◌, length, filter, refl, sym, ◌∙◌, ap, ⊎_elim, arith, Option, Some, None, IsSome}
+use Rattle.std.proofs.Common.{is_some, nat_cmp, nat_le, nat_lt, le-leb, ◌==◌}
 use Rattle.std.specs.Prelude.{⊤}
 use Rattle.std.proofs.lemmas.Bool.{cases_Bool, cases_eq, lt-leb}
 use Rattle.std.proofs.lemmas.Bool.Decides.{nat_tests}
@@ -16,6 +17,7 @@ use Rattle.office.specs.Expected.{is_full, most_open, most_number}
 use Rattle.office.specs.Kept.{Kept}
 use Rattle.office.specs.Stands.{Seen, seen, IsKeptFor, is_seen_open, StandsFor}
 use Rattle.office.specs.declared.office.Office.{Office}
+use Rattle.office.proofs.SmallLemmas.{less_than, not_above, not_below, at_itself}
 
 abbrev Entries : Type 0
 Entries = List (ℕ × Kept)
@@ -24,9 +26,6 @@ Entries = List (ℕ × Kept)
 abbrev Ascends : ℕ → Entries → Type 0
 Ascends a [] = ⊤
 Ascends a ((k, v) ∷ es) = (a ≤ k) × Ascends (k + 1) es
-
-less_than : (a b : ℕ) → nat_cmp a b ≡ Less → a < b
-less_than a b e = grind (arith, nat_tests, e)
 
 ascends_behind : (k : ℕ) (es : Entries) → AllByRecursion (λ y. nat_cmp k y ≡ Less) (keys_of es) → IsStrictlySortedBy nat_cmp (keys_of es) → Ascends (k + 1) es
 unfolding IsStrictlySortedBy
@@ -38,15 +37,6 @@ ascends : (a : ℕ) (es : Entries) → IsStrictlySortedBy nat_cmp (keys_of es) �
 unfolding IsStrictlySortedBy
 ascends a [] sorted low = tt
 ascends a ((k, v) ∷ es) sorted low = (low k (let e : is_at (nat_cmp k) k ≡ true = grind (arith, nat_tests) in rw e refl), ascends_behind k es sorted.0 sorted.1)
-
-not_above : (c k : ℕ) → c < k → is_at (nat_cmp c) k ≡ false
-not_above c k h = grind (arith, nat_tests, h)
-
-not_below : (c k : ℕ) → k < c → is_at (nat_cmp c) k ≡ false
-not_below c k h = grind (arith, nat_tests, h)
-
-at_itself : (k : ℕ) → is_at (nat_cmp k) k ≡ true
-at_itself k = grind (arith, nat_tests)
 
 -- nothing stands below the keys
 none_below : (c b : ℕ) (es : Entries) → c < b → Ascends b es → lookup (is_at (nat_cmp c)) es ≡ None
@@ -81,7 +71,8 @@ module _ (p : ℕ → Bool) where
       let here : p a ≡ true = sym (found a (omega arith)) ∙ (let t = at_itself k in rw (e, t) refl) in
       filter_in p a (range_with_len (a + 1) n) here
       ∙ (ap (λ m. m + 1) (count_of_keys n (a + 1) es (rw e up.1)
-      (λ c h. let f : is_some (lookup (is_at (nat_cmp c)) ((k, v) ∷ es)) ≡ p c = found c (omega (arith, h)) in let t = not_below c k (omega (arith, e, h)) in rw t at f) (λ c h. none c (omega (arith, h))))
+      (λ c h. let f : is_some (lookup (is_at (nat_cmp c)) ((k, v) ∷ es)) ≡ p c = found c (omega (arith, h)) in let t = not_below c k (omega (arith, e, h)) in rw t at f)
+      (λ c h. none c (omega (arith, h))))
       ∙ omega arith))
       (λ (ne : a ≡ k → ⊥).
       let above : a < k = omega (arith, up.0, ne) in
@@ -94,7 +85,8 @@ kept_is_open : (c : Contents) (s : Seen) (o : Option Kept) → IsKeptFor c s o �
 kept_is_open c s None h = sym h.closed
 kept_is_open c s (Some k) m = sym m.opened
 
-pub open_numbers-len : {V : Type 0} (Holds : V → Contents → Type 0) (o : Office V) (T : Trace) → StandsFor Holds o T → IsOrdered nat_cmp o.connections → length (open_numbers T) ≡ btree_map_len o.connections
+pub open_numbers-len : {V : Type 0} (Holds : V → Contents → Type 0) (o : Office V) (T : Trace) → StandsFor Holds o T → IsOrdered nat_cmp o.connections
+    → length (open_numbers T) ≡ btree_map_len o.connections
 open_numbers-len Holds o T st ordered =
     let there : (c : ℕ) → is_some (get nat_cmp o.connections c) ≡ is_open T c = λ c. kept_is_open st.keeps.contents (seen T c) (get nat_cmp o.connections c) (st.connections c) in
     count_of_keys (is_open T) (opened T.log) 1 o.connections.entries
@@ -105,7 +97,8 @@ open_numbers-len Holds o T st ordered =
 last_number : (most n : ℕ) → n ≤ most → (n == most) ≡ nat_lt most (n + 1)
 last_number most n fits = grind (arith, nat_tests, fits)
 
-module _ {V : Type 0} (Holds : V → Contents → Type 0) (o : Office V) (T : Trace) (st : StandsFor Holds o T) (ordered : IsOrdered nat_cmp o.connections) (len : ℕ) (counted : len ≡ btree_map_len o.connections) where
+module _ {V : Type 0} (Holds : V → Contents → Type 0) (o : Office V) (T : Trace) (st : StandsFor Holds o T)
+    (ordered : IsOrdered nat_cmp o.connections) (len : ℕ) (counted : len ≡ btree_map_len o.connections) where
   open_len : length (open_numbers T) ≡ len
   open_len = open_numbers-len Holds o T st ordered ∙ sym counted
 

@@ -14,8 +14,9 @@ use Rattle.office.specs.History.{Entry, Act, Tag, Said, Answers, Deposit, receip
 use Rattle.office.specs.Told.{told, said_to}
 use Rattle.office.specs.Laws.{In, DepositIdsActOnce}
 use Rattle.office.proofs.Snapshot.{filter_in}
-use Rattle.office.proofs.UniqueIds.{distinct_last, distinct_filter}
+use Rattle.office.proofs.UniqueIds.{distinct_last}
 use Rattle.office.proofs.Accepting.{taken}
+use Rattle.vault.proofs.ListLemmas.{distinct_filter}
 
 some_none : {A : Type 0} (z : A) → Some z ≡ None → ⊥
 some_none z e = cc

@@ -1,5 +1,6 @@
 -- An act that ends one connection, and one that changes nothing.
-use Rattle.std.proofs.Common.{◌≡◌, ℕ, ◌≤◌, ◌&&◌, Bool, true, false, List, ◌∷◌, ◌++◌, Option, Some, None, IsSome, refl, sym, ◌∙◌, ap, subst, true≢false, eqb, eqb-true, eq-eqb, ⊎_elim, string_bytes, nat_cmp}
+use Rattle.std.proofs.Common.{◌≡◌, ℕ, ◌≤◌, ◌&&◌, Bool, true, false, List, ◌∷◌, ◌++◌, Option, Some, None, IsSome, refl, sym, ◌∙◌, ap, subst, true≢false, eqb, eqb-true, eq-eqb}
+use Rattle.std.proofs.Common.{⊎_elim, string_bytes, nat_cmp}
 use Rattle.std.proofs.lemmas.Bool.{cases_Bool}
 use Rattle.std.specs.BTreeMap.{get, is_at, Updates}
 use Rattle.creds.specs.declared.login_name.LoginName.{LoginName}
@@ -86,7 +87,8 @@ module _ {V : Type 0} (Holds : V → Contents → Type 0) (o o' : Office V) (T :
   -- one connection is ended
   pub ended_by : (c : ℕ) → Ends T e t c → (st : StandsFor Holds o T) (k : Kept) → get nat_cmp o.connections c ≡ Some k → ((k : Contents) → Holds o.vault k → Holds o'.vault k)
       → o'.policy ≡ o.policy → o'.boot ≡ o.boot → string_bytes o'.host ≡ string_bytes o.host → o'.limits ≡ o.limits → counters o' ≡ counters o
-      → get nat_cmp o'.connections c ≡ None → ((q : ℕ) → is_at (nat_cmp c) q ≡ false → get nat_cmp o'.connections q ≡ get nat_cmp o.connections q) → Released (maildrop_of k.session) o.locks o'.locks → StandsFor Holds o' after
+      → get nat_cmp o'.connections c ≡ None → ((q : ℕ) → is_at (nat_cmp c) q ≡ false → get nat_cmp o'.connections q ≡ get nat_cmp o.connections q)
+      → Released (maildrop_of k.session) o.locks o'.locks → StandsFor Holds o' after
   ended_by c x st k found on p b s w n gone_is kept_are r =
       let m : Matches st.keeps.contents (seen T c) k = subst (IsKeptFor st.keeps.contents (seen T c)) found (st.connections c) in
       let there : (q : ℕ) → eqb c q ≡ false → get nat_cmp o'.connections q ≡ get nat_cmp o.connections q = λ q e. kept_are q (is_apart c q e) in
@@ -142,8 +144,10 @@ module _ (T : Trace) (c n : ℕ) (t : Tag) (left : is_left T.log (history T) c n
   gone_acts = rw left (ap (λ (a : List (Act × Tag)). a ++ acts T) ends)
 
   gone_seen : seen (given T (event.Took c n) (Tagged t)) c
-      ≡ seen_by (stream (given T (event.Took c n) (Tagged t)).log c) (taken (given T (event.Took c n) (Tagged t)).log c) (clock (given T (event.Took c n) (Tagged t)).log c) (facts T.base ((Gone c, Done) ∷ acts T) c)
-  gone_seen = ap (λ H. seen_by (stream (given T (event.Took c n) (Tagged t)).log c) (taken (given T (event.Took c n) (Tagged t)).log c) (clock (given T (event.Took c n) (Tagged t)).log c) (facts T.base H c)) gone_acts
+      ≡ seen_by (stream (given T (event.Took c n) (Tagged t)).log c) (taken (given T (event.Took c n) (Tagged t)).log c)
+      (clock (given T (event.Took c n) (Tagged t)).log c) (facts T.base ((Gone c, Done) ∷ acts T) c)
+  gone_seen = ap (λ H. seen_by (stream (given T (event.Took c n) (Tagged t)).log c) (taken (given T (event.Took c n) (Tagged t)).log c)
+      (clock (given T (event.Took c n) (Tagged t)).log c) (facts T.base H c)) gone_acts
 
   gone_whole : whole T.base (acts (given T (event.Took c n) (Tagged t))) ≡ whole T.base (acts T)
   gone_whole = whole-took T c n t

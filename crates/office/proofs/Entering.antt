@@ -1,12 +1,12 @@
 -- What a maildrop that is opened has, by what the session that begins counts.
-use Rattle.std.proofs.Common.{◌≡◌, ℕ, suc, ◌+◌, ◌<◌, ◌^◌, Bool, true, false, not, List, [], ◌∷◌, length, refl, sym, ◌∙◌, ap, ap₂, subst, Option, Some, None, Ok, Err, Result, is_some}
+use Rattle.std.proofs.Common.{◌≡◌, ℕ, suc, ◌+◌, ◌<◌, ◌^◌, Bool, true, false, List, [], ◌∷◌, length, refl, sym, ◌∙◌, ap, ap₂, subst, Option, Some, None, Ok, Err, Result, is_some}
 use Rattle.std.proofs.lemmas.List.Sums.{sum_by-cons}
-use Rattle.std.specs.Prelude.{map, filter, sum_by, if◌then◌else◌}
+use Rattle.std.specs.Prelude.{map, sum_by, if◌then◌else◌}
 use Rattle.std.specs.BTreeMap.{BTreeMap}
 use Rattle.creds.specs.declared.login_name.LoginName.{LoginName}
 use Rattle.policy.specs.Policy.{Policy}
-use Rattle.popline.specs.Commands.{Pass, Apop}
-use Rattle.popline.specs.Replies.{Reply, MaildropHas, NoSuchMaildrop, InUse}
+use Rattle.popline.specs.Commands.{Pass}
+use Rattle.popline.specs.Replies.{MaildropHas, NoSuchMaildrop, InUse}
 use Rattle.vault.specs.declared.answer.Head.{Head}
 use Rattle.vault.specs.declared.fault.VaultFault.{VaultFault}
 use Rattle.vault.specs.declared.fault.VaultFault.TheVariants as fault
@@ -16,39 +16,17 @@ use Rattle.vault.specs.Changes.{Contents, AreSound, records_of, head_of, heads}
 use Rattle.vault.specs.Calls.{heads_result}
 use Rattle.session.specs.Session.{Session, started}
 use Rattle.session.specs.Session as head
-use Rattle.session.specs.View.{visible, is_marked, numbered_from, unmarked, total_of}
+use Rattle.session.specs.View.{visible, unmarked, total_of}
 use Rattle.session.specs.declared.removals.Removals.{Removals}
-use Rattle.office.specs.History.{Says}
-use Rattle.office.specs.Answered.{is_locked_by, SessionAfter, HasTransaction}
+use Rattle.office.specs.Answered.{is_locked_by, HasTransaction}
 use Rattle.office.specs.Transaction.{Transaction}
-use Rattle.office.specs.Sessions.{logs_in}
 use Rattle.creds.specs.Credential.{ByPass}
 use Rattle.office.specs.Replying.{when_permitted, name_or_nobody}
 use Rattle.office.specs.Kept.{LineContext, authorization_said, judged}
 use Rattle.office.specs.declared.login_state.LoginState.{LoginState}
-use Rattle.office.specs.Entering.{entered, began}
+use Rattle.office.specs.Entering.{entered}
 use Rattle.office.proofs.Lying.{found, found_heads, found_messages, found_fit}
-
--- ---- a view without marks
-
-none_marked : {A : Type 0} (n : ℕ) (xs : List A) → filter (λ (row : ℕ × A). not (is_marked [] row.0)) (numbered_from n xs) ≡ numbered_from n xs
-none_marked n [] = refl
-none_marked n (x ∷ xs) = ap (λ rows. (n, x) ∷ rows) (none_marked (n + 1) xs)
-
-length_numbered : {A : Type 0} (n : ℕ) (xs : List A) → length (numbered_from n xs) ≡ length xs
-length_numbered n [] = refl
-length_numbered n (x ∷ xs) = ap suc (length_numbered (n + 1) xs)
-
-total_numbered : {A : Type 0} (f : A → ℕ) (n : ℕ) (xs : List A) → sum_by (λ (row : ℕ × A). f row.1) (numbered_from n xs) ≡ sum_by f xs
-total_numbered f n [] = refl
-total_numbered {A} f n (x ∷ xs) =
-    sum_by-cons (λ (row : ℕ × A). f row.1) (n, x) (numbered_from (n + 1) xs) ∙ (ap (λ k. f x + k) (total_numbered f (n + 1) xs) ∙ sym (sum_by-cons f x xs))
-
-pub all_counted : {A : Type 0} (xs : List A) → length (unmarked [] xs) ≡ length xs
-all_counted xs = ap length (none_marked 1 xs) ∙ length_numbered 1 xs
-
-pub all_octets : {A : Type 0} (f : A → ℕ) (xs : List A) → total_of f (unmarked [] xs) ≡ sum_by f xs
-all_octets {A} f xs = ap (sum_by (λ (row : ℕ × A). f row.1)) (none_marked 1 xs) ∙ total_numbered f 1 xs
+use Rattle.office.proofs.Alike.{all_unmarked, total_unmarked}
 
 -- the heads of messages have their octets
 same_octets : (kept : List Keyed) → sum_by head.octets_of (map head_of kept) ≡ octets_of_all (map (λ (x : Keyed). x.message) kept)
@@ -88,10 +66,10 @@ module _ (c : Contents) (p : Policy) (name : LoginName) where
     begun = started p j name.clerk name.maildrop (heads name.maildrop c)
 
     counted : length (unmarked begun.marks begun.view) ≡ length (visible class_of p name (in_maildrop name.maildrop (records_of c).messages))
-    counted = all_counted begun.view ∙ (ap length (found_heads c p name) ∙ (same_number (found c p name) ∙ ap length (found_messages c p name)))
+    counted = all_unmarked begun.view ∙ (ap length (found_heads c p name) ∙ (same_number (found c p name) ∙ ap length (found_messages c p name)))
 
     summed : total_of head.octets_of (unmarked begun.marks begun.view) ≡ octets_of_all (visible class_of p name (in_maildrop name.maildrop (records_of c).messages))
-    summed = all_octets head.octets_of begun.view ∙ (ap (sum_by head.octets_of) (found_heads c p name) ∙ (same_octets (found c p name) ∙ ap octets_of_all (found_messages c p name)))
+    summed = total_unmarked head.octets_of begun.view ∙ (ap (sum_by head.octets_of) (found_heads c p name) ∙ (same_octets (found c p name) ∙ ap octets_of_all (found_messages c p name)))
 
     fits : AreSound c → sum_by head.octets_of begun.view < 2 ^ 64
     fits a = subst (λ (view : List Head). sum_by head.octets_of view < 2 ^ 64) (sym (found_heads c p name)) (found_fit c p name a)
@@ -110,18 +88,9 @@ module _ (c : Contents) (p : Policy) (name : LoginName) where
 
 -- ---- the session that an accepted login leaves
 
-pub pass_begins : (c : Contents) (p : Policy) (j : Removals) (name : LoginName) (password : List ℕ) (reply : Reply)
-    → SessionAfter false (logs_in (Ok (Pass password)) (Says reply) (Some name)) c p j reply None (began reply (started p j name.clerk name.maildrop (heads name.maildrop c)))
-pass_begins c p j name password (MaildropHas n m) = refl
-pass_begins c p j name password _ = refl
-
-pub apop_begins : (c : Contents) (p : Policy) (j : Removals) (name : LoginName) (digest : List ℕ) (u : Option LoginName) (reply : Reply)
-    → SessionAfter false (logs_in (Ok (Apop name digest)) (Says reply) u) c p j reply None (began reply (started p j name.clerk name.maildrop (heads name.maildrop c)))
-apop_begins c p j name digest u (MaildropHas n m) = refl
-apop_begins c p j name digest u _ = refl
-
 -- a password is given where a login name is in force
-pub pass_said : (d : LineContext) (t : LoginState) (password : List ℕ) (name : LoginName) → t.user ≡ Some name → authorization_said d t (Ok (Pass password)) ≡ judged d t.failures name (ByPass password)
+pub pass_said : (d : LineContext) (t : LoginState) (password : List ℕ) (name : LoginName) → t.user ≡ Some name
+    → authorization_said d t (Ok (Pass password)) ≡ judged d t.failures name (ByPass password)
 pass_said d t password name e = ap (λ u. when_permitted (is_some u) (judged d t.failures (name_or_nobody u) (ByPass password))) e
 
 -- a session that is kept has its messages
@@ -130,7 +99,8 @@ has_transaction c s None h = absurd h
 has_transaction c s (Some w) h = (w, h)
 
 -- what holds of every transaction that a session has holds of one
-pub state_case : (c : Contents) (s : Session) (v : Option Transaction) (P : Option Transaction → Type 0) → ((w : Transaction) → HasTransaction c (Some s) (Some w) → P (Some w)) → HasTransaction c (Some s) v → P v
+pub state_case : (c : Contents) (s : Session) (v : Option Transaction) (P : Option Transaction → Type 0)
+    → ((w : Transaction) → HasTransaction c (Some s) (Some w) → P (Some w)) → HasTransaction c (Some s) v → P v
 state_case c s None P f h = absurd h
 state_case c s (Some w) P f h = f w h
 

@@ -1,5 +1,7 @@
 -- What one more event on a connection changes in what the trace says, and how what is kept follows it.
-use Rattle.std.proofs.Common.{◌≡◌, ℕ, ◌+◌, ◌<◌, ◌≤◌, Bool, true, false, not, ◌&&◌, ◌||◌, cond, List, [], ◌∷◌, ◌++◌, drop, length, map, refl, sym, ◌∙◌, ap, ap₂, ⊎_elim, arith, append_assoc, Option, Some, None, IsSome, slice_get, append-nil, eqb, ◌==◌, subst, eq-eqb, ne_eqb, string_bytes, nat_cmp, nat_lt, lt-ltb, le-ltb, length-drop, drop-drop, true≢false}
+use Rattle.std.proofs.Common.{◌≡◌, ℕ, ◌+◌, ◌<◌, ◌≤◌, Bool, true, false, not, ◌&&◌, ◌||◌, cond, List, [], ◌∷◌, ◌++◌, drop, length, map, refl, sym, ◌∙◌, ap, ap₂, ⊎_elim, arith}
+use Rattle.std.proofs.Common.{append_assoc, Option, Some, None, IsSome, slice_get, append-nil, eqb, ◌==◌, subst, eq-eqb, ne_eqb, string_bytes, nat_cmp, nat_lt, lt-ltb, le-ltb}
+use Rattle.std.proofs.Common.{length-drop, drop-drop, true≢false}
 use Rattle.std.proofs.lemmas.List.{drop_all}
 use Rattle.std.proofs.lemmas.Bool.{cases_eq}
 use Rattle.std.proofs.lemmas.Bool.Decides.{nat_tests}
@@ -36,6 +38,7 @@ use Rattle.office.proofs.Owing.{none_owed}
 use Rattle.office.proofs.Standing.{counters, counted}
 use Rattle.office.proofs.Hearing.{streamed, took, lined, at_drop, Awaits, open_still}
 use Rattle.office.proofs.Beginning.{begins_on, begun_on}
+use Rattle.office.proofs.SmallLemmas.{and_false}
 
 -- what a history says of a connection
 pub record Facts : Type 0 where
@@ -103,10 +106,6 @@ seen_by octets took clock f = record {
 never : (quits live : Bool) → (not (quits || true) && live) ≡ false
 never true live = refl
 never false live = refl
-
-and_false : (a : Bool) → (a && false) ≡ false
-and_false true = refl
-and_false false = refl
 
 module _ (B : Records) where
   -- ---- a line is nothing to another connection
@@ -276,7 +275,8 @@ moved_so Holds o o' T e t c st formed p b h l n same idle number there others co
     }
 
 -- where only one connection changes, it is enough to look at that
-pub moved : {V : Type 0} (Holds : V → Contents → Type 0) (o o' : Office V) (T : Trace) (e : Event) (m : EventTag) (t : Tag) (c : ℕ) → m ≡ Tagged t → (st : StandsFor Holds o T) → is_formed T.log e ≡ true
+pub moved : {V : Type 0} (Holds : V → Contents → Type 0) (o o' : Office V) (T : Trace) (e : Event) (m : EventTag) (t : Tag) (c : ℕ) → m ≡ Tagged t
+    → (st : StandsFor Holds o T) → is_formed T.log e ≡ true
     → o'.policy ≡ o.policy → o'.boot ≡ o.boot → string_bytes o'.host ≡ string_bytes o.host → o'.limits ≡ o.limits → counters o' ≡ counters o
     → whole T.base (acts (given T e (Tagged t))) ≡ whole T.base (acts T) → idle_seconds (given T e (Tagged t)).log ≡ idle_seconds T.log
     → counted (given T e (Tagged t)).log ≡ counted T.log → IsSome (get nat_cmp o.connections c)
@@ -291,7 +291,8 @@ marked outcome.Done o e = rw e refl
 marked outcome.Failed o e = rw e refl
 
 -- a session that is kept is one of a trace that says the same of it
-pub same_session : (k : Contents) (s s' : Seen) (o : Option Session) → s'.live ≡ s.live → s'.login ≡ s.login → s'.judging ≡ s.judging → s'.marks ≡ s.marks → s'.view ≡ s.view → IsSession k s o → IsSession k s' o
+pub same_session : (k : Contents) (s s' : Seen) (o : Option Session) → s'.live ≡ s.live → s'.login ≡ s.login → s'.judging ≡ s.judging
+    → s'.marks ≡ s.marks → s'.view ≡ s.view → IsSession k s o → IsSession k s' o
 same_session k s s' None l n j m v i = l ∙ i
 same_session k s s' (Some o) l n j m v i = record {
   live = l ∙ i.live;
@@ -371,7 +372,8 @@ module _ (T : Trace) (c n : ℕ) where
   seen-took t a b o p q r =
       let s = serving (history T) c in
       let y = closing (history T) c in
-      ap (λ k. seen_by (stream T.log c) (cond k (taken T.log c + n) (taken T.log c)) (cond k (moment T.log) (clock T.log c)) (facts T.base (acts_of_took now_left s y c t next ++ acts T) c)) (eq-eqb c c refl)
+      ap (λ k. seen_by (stream T.log c) (cond k (taken T.log c + n) (taken T.log c)) (cond k (moment T.log) (clock T.log c)) (facts T.base (acts_of_took now_left s y c t next ++ acts T) c))
+      (eq-eqb c c refl)
       ∙ (ap (λ a. after_took t a s y next) p ∙ (ap (λ b. after_took t a s b next) q ∙ ap (λ o. after_took t a s b o) r))
 
   at_moment : (now : ℕ) → now ≡ moment T.log → took (seen T c) n (moment T.log) ≡ took (seen T c) n now

@@ -32,7 +32,8 @@ lets_none_in (Ok (Pass password)) user = refl
 lets_none_in (Ok (Apop name digest)) user = refl
 lets_none_in _ user = refl
 
-pub begins_none : (r : Result Command LineFault) (user : Option LoginName) (c : Contents) (p : Policy) (j : Removals) → SessionAfter (is_quit r) (logs_in r (Says StoreFailed) user) c p j StoreFailed None None
+pub begins_none : (r : Result Command LineFault) (user : Option LoginName) (c : Contents) (p : Policy) (j : Removals)
+    → SessionAfter (is_quit r) (logs_in r (Says StoreFailed) user) c p j StoreFailed None None
 begins_none r user c p j = let nobody = lets_none_in r user in rw nobody (at (is_quit r))
   where
     at : (b : Bool) → SessionAfter b None c p j StoreFailed None None

@@ -25,17 +25,6 @@ acts_looking after it = record {
   stop = λ c held clean up. record { says = λ left may. inl (it.stop c held clean up left may) };
 }
 
--- a part that ended as it should in fewer cases
-pub acts_less : {V Own Less : Type 0} {vault : Ghosts V} {old new : V}
-    {after : Contents → Contents} → (Less → Own) → ActsOnce vault old new Own after
-    → ActsOnce vault old new Less after
-acts_less less it = record {
-  counted = it.counted;
-  clean = it.clean;
-  up = λ c held clean up is. it.up c held clean up (less is);
-  stop = it.stop;
-}
-
 -- one call that changes records once, where what it makes of them is `after`
 pub acts_once : {V A Own : Type 0} (vault : Ghosts V) {old new : V}
     {Done : Contents → (Contents → Type 0) → Result A VaultFault → Type 0}

@@ -19,14 +19,15 @@ use Rattle.office.specs.History.{Act, Open, Gone, Idle, Deposit, Administer, Res
 use Rattle.office.specs.Connections.{setting, setting_after, judging, serving, closing}
 use Rattle.office.specs.Told.{told, said_to}
 use Rattle.office.specs.Answers.{AdminCommand}
-use Rattle.office.specs.Events.{Event, EventTag, Ignored, Tagged, Log, Trace}
+use Rattle.office.specs.Events.{Event, EventTag, Ignored, Tagged, Log}
 use Rattle.office.specs.Events as event
 use Rattle.office.specs.Log.{opened, opened_after, next_number, moment}
 use Rattle.office.specs.Trace.{acts_at, acts_from, act_of_part, acts_of_took, acts_of_piece, line_act, idle_acts, idle_numbers, next_line, is_left}
 use Rattle.office.specs.Formed.{is_u64, are_formed, is_formed}
 use Rattle.office.specs.Laws.{In, IsStart, boots, boots_after, stamps, stamps_after, BeginsWithStart, GreetingsDiffer}
 use Rattle.office.proofs.Snapshot.{any_false}
-use Rattle.office.proofs.UniqueIds.{any_in, apart, not_true}
+use Rattle.office.proofs.UniqueIds.{any_in, apart}
+use Rattle.vault.proofs.ListLemmas.{not_true}
 
 -- ---- timestamps
 

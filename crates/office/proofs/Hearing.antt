@@ -1,10 +1,13 @@
 -- How what is kept of a connection follows the trace as a piece comes or is resumed.
-use Rattle.std.proofs.Common.{◌≡◌, ℕ, zero, suc, ◌+◌, ◌≤◌, Bool, true, false, not, ◌||◌, ◌&&◌, cond, List, [], ◌∷◌, ◌++◌, drop, length, map, refl, sym, ◌∙◌, ap, arith, Some, None, is_some, slice_get, append-nil, ◌==◌, length-append, add-one, length-drop, min, subst, true≢false}
+use Rattle.std.proofs.Common.{◌≡◌, ℕ, zero, suc, ◌+◌, ◌≤◌, Bool, true, false, not, ◌||◌, ◌&&◌, cond, List, [], ◌∷◌, ◌++◌, drop, length, map, refl, sym, ◌∙◌, ap, arith, Some, None}
+use Rattle.std.proofs.Common.{is_some, slice_get, append-nil, ◌==◌, length-append, add-one, length-drop, min, subst, true≢false}
 use Rattle.std.proofs.lemmas.Bool.Decides.{nat_tests}
 use Rattle.std.proofs.lemmas.List.{drop-append-le, length-take}
 use Rattle.std.specs.Bool.{if◌then◌else◌}
 use Rattle.popline.specs.Cutting.{Cut, cut_of, cut, pieces, onto_first, begun, prefixed, fed, whole_line, coming, through_newline, has_newline, before_newline}
-use Rattle.popline.specs.Replies.{Reply, Greeting, LineTooLong, UnknownCommand, WrongState, BadArguments, Capabilities, SendPass, LoginFailed, LoginFailedClosing, DeniedBy, NoSuchMaildrop, InUse, MaildropHas, DropListing, ScanListing, ScanLine, UidListing, UidLine, Message, TopPart, Marked, Okay, NoSuchMessage, AlreadyMarked, Bye, RemovalDenied, RemovalFailed, StoreFailed, bytes_of}
+use Rattle.popline.specs.Replies.{Reply, Greeting, LineTooLong, UnknownCommand, WrongState, BadArguments, Capabilities, SendPass, LoginFailed, LoginFailedClosing, DeniedBy}
+use Rattle.popline.specs.Replies.{NoSuchMaildrop, InUse, MaildropHas, DropListing, ScanListing, ScanLine, UidListing, UidLine, Message, TopPart, Marked, Okay, NoSuchMessage}
+use Rattle.popline.specs.Replies.{AlreadyMarked, Bye, RemovalDenied, RemovalFailed, StoreFailed, bytes_of}
 use Rattle.office.specs.History.{Says}
 use Rattle.office.specs.Connections.{reading, closes, is_quit, user_after_line, is_failure, has_message}
 use Rattle.creds.specs.declared.login_name.LoginName.{LoginName}
@@ -45,10 +48,45 @@ at_end (suc n) (a ∷ xs) e = at_end n xs e
 
 -- what a trace says of a connection after more octets came at a moment, after some were taken, and after a line got this reply
 abbrev pub streamed : Seen → List ℕ → (now : ℕ) → Seen
-streamed s p now = record { connected = s.connected; closing = s.closing; live = s.live; stream = s.stream ++ p; acted = s.acted; serving = s.serving; sent = s.sent; taken = s.taken; user = s.user; failures = s.failures; stamp = s.stamp; judging = s.judging; login = s.login; marks = s.marks; view = s.view; clock = if has_newline p then now else s.clock }
+streamed s p now = record {
+  connected = s.connected;
+  closing = s.closing;
+  live = s.live;
+  stream = s.stream
+      ++ p;
+  acted = s.acted;
+  serving = s.serving;
+  sent = s.sent;
+  taken = s.taken;
+  user = s.user;
+  failures = s.failures;
+  stamp = s.stamp;
+  judging = s.judging;
+  login = s.login;
+  marks = s.marks;
+  view = s.view;
+  clock = if has_newline p then now else s.clock;
+}
 
 abbrev pub took : Seen → ℕ → (now : ℕ) → Seen
-took s n now = record { connected = s.connected; closing = s.closing; live = s.live; stream = s.stream; acted = s.acted; serving = s.serving; sent = s.sent; taken = s.taken + n; user = s.user; failures = s.failures; stamp = s.stamp; judging = s.judging; login = s.login; marks = s.marks; view = s.view; clock = now }
+took s n now = record {
+  connected = s.connected;
+  closing = s.closing;
+  live = s.live;
+  stream = s.stream;
+  acted = s.acted;
+  serving = s.serving;
+  sent = s.sent;
+  taken = s.taken + n;
+  user = s.user;
+  failures = s.failures;
+  stamp = s.stamp;
+  judging = s.judging;
+  login = s.login;
+  marks = s.marks;
+  view = s.view;
+  clock = now;
+}
 
 -- `found` is what a login would find
 abbrev pub lined : Seen → Cut → Reply → (found : LoginName → List store.Message) → Seen
@@ -120,7 +158,8 @@ pub owed_more : (s : Seen) (x : Cut) (r : Reply) (found : LoginName → List sto
 owed_more s x r found le e = drop-append-le s.taken s.sent (bytes_of r) le ∙ ap (λ o. o ++ bytes_of r) e
 
 -- where there is no LF, all is cut
-one_through : (b : ℕ) (bs : List ℕ) (t : Bool) → cond t true (has_newline bs) ≡ false → (has_newline bs ≡ false → drop (through_newline bs) bs ≡ []) → drop (cond t 1 (through_newline bs + 1)) (b ∷ bs) ≡ []
+one_through : (b : ℕ) (bs : List ℕ) (t : Bool) → cond t true (has_newline bs) ≡ false → (has_newline bs ≡ false → drop (through_newline bs) bs ≡ [])
+    → drop (cond t 1 (through_newline bs + 1)) (b ∷ bs) ≡ []
 one_through b bs true e rest = cc
 one_through b bs false e rest = rw add-one (rest e)
 
@@ -246,5 +285,6 @@ module _ (c : Contents) (s : Seen) (k k' : Kept) (p : List ℕ) (answer : Reply)
       }
 
   pub line_heard : (c' : Contents) (found : LoginName → List store.Message) → has_newline p ≡ true → IsSession c' (lined s (line_after k p) answer found) k'.session
-      → OwesReply c' k'.session k'.output answer → (closes (reading (line_after k p)) (Says answer) ≡ true → (lined s (line_after k p) answer found).live ≡ false) → Matches c' (lined s (line_after k p) answer found) k'
+      → OwesReply c' k'.session k'.output answer
+      → (closes (reading (line_after k p)) (Says answer) ≡ true → (lined s (line_after k p) answer found).live ≡ false) → Matches c' (lined s (line_after k p) answer found) k'
   line_heard c' found h sits owes parts = heard_at c' found (line_after k p) (sym acting_is) h sits owes parts

@@ -17,7 +17,8 @@ bob_receives ls = replies (codes "+OK POP3 server ready <1.7@h.test>" ∷ codes 
 
 -- a denied DELE marks, and the QUIT keeps what it marked
 denied_at_the_quit : shows (run_judged_at_quit bob_deletes) (λ T. both (received 1 T) (kept_ids T))
-    ≡ both (bob_receives (codes "+OK message 3 deleted" ∷ codes "+OK message 2 deleted" ∷ codes "-ERR message 3 is deleted" ∷ codes "+OK 1 21" ∷ codes "-ERR some deleted messages not removed, denied by rule default" ∷ []))
+    ≡ both (bob_receives (codes "+OK message 3 deleted" ∷ codes "+OK message 2 deleted" ∷ codes "-ERR message 3 is deleted" ∷ codes "+OK 1 21"
+    ∷ codes "-ERR some deleted messages not removed, denied by rule default" ∷ []))
     ((codes "note", 1) ∷ (codes "pay", 1) ∷ (codes "todo", 1) ∷ [])
 unfolding digits login_name decode_pairs md5 M.digest_bytes M.hash_after M.compress M.rounds M.block_words
 denied_at_the_quit = refl

@@ -11,7 +11,7 @@ use Rattle.vault.specs.Records.{Records, Agree, class_of}
 use Rattle.vault.specs.Changes.{Contents, AreSound, records_of}
 use Rattle.session.specs.Session.{Session}
 use Rattle.session.specs.View.{to_remove}
-use Rattle.office.specs.History.{Act, Line, Tag, Entry, Said, Says, is_done, in_force}
+use Rattle.office.specs.History.{Line, Tag, Entry, Said, Says, is_done, in_force}
 use Rattle.office.specs.Connections.{reading, is_quit, closes}
 use Rattle.office.specs.Sessions.{live, marks, view, logs_in, in_session, records, removed, removed_after, removed_by, quits_if}
 use Rattle.office.specs.Replying.{reply_to_cut, line_may_fail, may_fail, state_at}
@@ -28,6 +28,7 @@ use Rattle.office.proofs.SameReply.{SameState, same_reply, same_may_fail}
 use Rattle.office.proofs.Agreeing.{AgreesInAuthorization, AgreesInTransaction, same_authorization, same_transaction, transaction_removal}
 use Rattle.office.proofs.Remembering.{transaction_no_login, transaction_closes}
 use Rattle.office.proofs.LineRecords.{agree_line}
+use Rattle.office.proofs.SmallLemmas.{no_some, and_false}
 
 -- A line is answered, may be refused, and leaves the records, as the history says.
 pub record Judges (B : Records) (G : List Entry) (c : ℕ) (k : Contents) (d : LineContext) (t : LoginState) (old : Option Session) : Type 0 where
@@ -58,10 +59,6 @@ module _ (B : Records) (G : List Entry) (c : ℕ) (d : LineContext) (t : LoginSt
 
 -- ---- before a login
 
-and_false : (a : Bool) → (a && false) ≡ false
-and_false true = refl
-and_false false = refl
-
 refused_in : (r : Result Command LineFault) (u : Option LoginName) → logs_in r (Says LoginFailedClosing) u ≡ None
 refused_in (Ok (Pass p)) u = refl
 refused_in (Ok (Apop who d)) u = refl
@@ -74,9 +71,11 @@ authorization_closed r _ u l e h = rw h refl
 
 -- who isn't in session removes nothing
 authorization_records : (B : Records) (G : List Entry) (c : ℕ) (x : Cut) (t : Tag) (said : Said) → live G c ≡ false → records B (record { act = Line c x; tag = t; said = said } ∷ G) ≡ records B G
-authorization_records B G c x t said lv = ap (λ rs. record (records B G) { messages = Rattle.vault.specs.Records.without (Rattle.office.specs.History.arrivals B G) rs }) (at (is_quit (reading x) && is_done t))
+authorization_records B G c x t said lv = ap
+    (λ rs. record (records B G) { messages = Rattle.vault.specs.Records.without (Rattle.office.specs.History.arrivals B G) rs }) (at (is_quit (reading x) && is_done t))
   where
-    at : (b : Bool) → removed_after (quits_if b c) (λ n. removed_by (in_session G n) (λ (name : LoginName). to_remove class_of (in_force B G) name (marks G n) (view B G n))) (removed B G) ≡ removed B G
+    at : (b : Bool) → removed_after (quits_if b c)
+        (λ n. removed_by (in_session G n) (λ (name : LoginName). to_remove class_of (in_force B G) name (marks G n) (view B G n))) (removed B G) ≡ removed B G
     at true = rw lv (append-nil (removed B G))
     at false = refl
 
@@ -88,12 +87,9 @@ authorization_judges B G c k d t a = record {
   quits = λ w. let l = a.authorization in rw l refl;
   fails = fails B G c d t None (same_authorization B G c d t a);
   agrees = λ sound g w x said. rw (authorization_records B G c x (tag_of w) said a.authorization) g;
-  stays = λ o e x w u. absurd (nobody o e);
+  stays = λ o e x w u. absurd (no_some o e);
   parts = λ s l found x w h. authorization_closed (reading x) (reply_of w d t None x) s.user s.live (l ∙ a.authorization) h;
 }
-  where
-    nobody : (o : Session) → None ≡ Some o → ⊥
-    nobody o e = cc
 
 -- ---- in a session
 

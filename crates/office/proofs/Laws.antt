@@ -18,7 +18,9 @@ use Rattle.office.specs.History.{Entry, Act, Tag, Done, Failed, NoMemory, Said, 
 use Rattle.office.specs.Sessions.{live, login, login_after, login_by, logs_in, ends_session, present, holds, holder, is_login_to}
 use Rattle.office.specs.Connections.{user, opens, reading, heard, heard_after, put_number, failures}
 use Rattle.office.specs.Told.{told, said_to}
-use Rattle.office.specs.Replying.{LineState, InAuthorization, InTransaction, authorization_says, session_says, obeyed, transaction_at, state_at, opening, logging_in, login_failed, maildrop_has, reply_to_reading, said_to_line, is_permitted, name_or_nobody, when_permitted, stamp}
+use Rattle.office.specs.Replying.{LineState, InAuthorization, InTransaction, authorization_says, session_says, obeyed, transaction_at, state_at, opening, logging_in, login_failed}
+use Rattle.office.specs.Replying.{maildrop_has, reply_to_reading, said_to_line, is_permitted, name_or_nobody, when_permitted, stamp}
+use Rattle.office.proofs.SmallLemmas.{no_some}
 
 pub live_side : (ends : Bool) (o : Option LoginName) (before : Bool) → (not ends && (is_some o || before)) ≡ true → (ends ≡ false) × ((o ≡ None) → before ≡ true)
 live_side true o before h = absurd (true≢false (sym h))
@@ -51,9 +53,6 @@ step e G d c h =
     (λ p. inl p)
     (λ (p : (login_by e.act e.said c (user G c) ≡ None) × (is_login_to d (login G c) ≡ true)). inr (rw (lv.1 p.0) p.1))
     (login_side (opens e.act c) (login_by e.act e.said c (user G c)) (login G c) d (no_opening e.act e.tag e.said c lv.0) parts.1)
-
-pub no_some : {A : Type 0} (x : A) → None ≡ Some x → ⊥
-no_some x e = cc
 
 silent : (r : Result Command LineFault) (u : Option LoginName) → logs_in r Silence u ≡ None
 silent (Ok (Pass p)) u = refl
@@ -114,7 +113,8 @@ unfolding has_counts
 judged_so B G n command true h e = absurd (true≢false (sym e ∙ h))
 judged_so B G n command false h e = e
 
-lock_done : (B : Records) (G : List Entry) (n : ℕ) (r : Result Command LineFault) (name : LoginName) → logs_in r (Says (reply_to_reading (state_at B G n) r Done)) (user G n) ≡ Some name → holder G name.maildrop ≡ None
+lock_done : (B : Records) (G : List Entry) (n : ℕ) (r : Result Command LineFault) (name : LoginName)
+    → logs_in r (Says (reply_to_reading (state_at B G n) r Done)) (user G n) ≡ Some name → holder G name.maildrop ≡ None
 unfolding has_counts
 lock_done B G n (Ok (Pass p)) name e =
     let s = state_at B G n in
@@ -151,7 +151,8 @@ when_equal n c o name e = ⊎_elim
     (cases_Bool (n == c))
 
 -- a login is a line of that connection, on a front on which nobody held the maildrop
-lock : (B : Records) (G : List Entry) (a : Act) (t : Tag) (c : ℕ) (name : LoginName) → login_by a (said_to B G a t) c (user G c) ≡ Some name → (line_number a ≡ Some c) × (holder G name.maildrop ≡ None)
+lock : (B : Records) (G : List Entry) (a : Act) (t : Tag) (c : ℕ) (name : LoginName) → login_by a (said_to B G a t) c (user G c) ≡ Some name
+    → (line_number a ≡ Some c) × (holder G name.maildrop ≡ None)
 unfolding line_number
 lock B G (Line n x) t c name e =
     let h = when_equal n c (logs_in (reading x) (said_to_line B G n x t) (user G c)) name e in
@@ -166,7 +167,8 @@ lock B G (Restart b h r) t c name e = absurd (no_some name e)
 same_number : (o : Option ℕ) (c q : ℕ) → o ≡ Some c → o ≡ Some q → c ≡ q
 same_number o c q h k = let e : Some c ≡ Some q = sym h ∙ k in cc
 
-none_at : (p : ℕ → Bool) (x : ℕ) (found : Option ℕ) (q : ℕ) (among b : Bool) → p x ≡ b → cond b (Some x) found ≡ None → (found ≡ None → among ≡ true → p q ≡ false) → ((x == q) ≡ true) ⊎ (among ≡ true) → p q ≡ false
+none_at : (p : ℕ → Bool) (x : ℕ) (found : Option ℕ) (q : ℕ) (among b : Bool) → p x ≡ b → cond b (Some x) found ≡ None
+    → (found ≡ None → among ≡ true → p q ≡ false) → ((x == q) ≡ true) ⊎ (among ≡ true) → p q ≡ false
 none_at p x found q among true f e rest m = absurd (no_some x (sym e))
 none_at p x found q among false f e rest m = ⊎_elim (λ h. subst (λ k. p k ≡ false) (eqb-true x q h) f) (λ h. rest e h) m
 
@@ -180,7 +182,8 @@ put_among : (n x : ℕ) (xs : List ℕ) (c : ℕ) (same less : Bool) → (n == x
     → list_any (λ k. k == c) (x ∷ xs) ≡ true → list_any (λ k. k == c) (cond same (x ∷ xs) (cond less (n ∷ x ∷ xs) (x ∷ put_number n xs))) ≡ true
 put_among n x xs c true less f rest h = h
 put_among n x xs c false true f rest h = or_right (n == c) (list_any (λ k. k == c) (x ∷ xs)) h
-put_among n x xs c false false f rest h = ⊎_elim (λ e. or_left (x == c) (list_any (λ k. k == c) (put_number n xs)) e) (λ e. or_right (x == c) (list_any (λ k. k == c) (put_number n xs)) (rest e)) (or_cases (x == c) (list_any (λ k. k == c) xs) h)
+put_among n x xs c false false f rest h = ⊎_elim (λ e. or_left (x == c) (list_any (λ k. k == c) (put_number n xs)) e)
+    (λ e. or_right (x == c) (list_any (λ k. k == c) (put_number n xs)) (rest e)) (or_cases (x == c) (list_any (λ k. k == c) xs) h)
 
 still_put : (n : ℕ) (xs : List ℕ) (c : ℕ) → list_any (λ k. k == c) xs ≡ true → list_any (λ k. k == c) (put_number n xs) ≡ true
 still_put n [] c h = absurd (true≢false (sym h))

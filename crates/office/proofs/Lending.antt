@@ -1,11 +1,11 @@
 -- An office lends what it owes, so its events have marks that they may have.
-use Rattle.std.proofs.Common.{◌≡◌, ◌≤◌, ℕ, Bool, true, false, List, [], ◌∷◌, length, refl, ap, arith, nat_cmp, None, Some, Option}
+use Rattle.std.proofs.Common.{◌≡◌, ◌≤◌, ℕ, List, [], ◌∷◌, length, refl, ap, arith, nat_cmp, None, Some, Option}
 use Rattle.std.specs.BTreeMap.{get}
 use Rattle.vault.specs.Changes.{Contents}
 use Rattle.office.specs.History.{Done}
 use Rattle.office.specs.Events.{Limits, Event, Trace, Tagged, given}
 use Rattle.office.specs.Events as event
-use Rattle.office.specs.Trace.{history, rest, rest_if, is_open, untaken, most_lent}
+use Rattle.office.specs.Trace.{history, rest, is_open, untaken, most_lent}
 use Rattle.office.specs.Expected.{IsOutcome}
 use Rattle.office.specs.Outcomes.{Outcome, event_tag_of}
 use Rattle.office.specs.Outcomes as outcome
@@ -18,11 +18,7 @@ use Rattle.office.specs.Taken.{IsAdmitted, AreAdmitted, IsSentExactly}
 use Rattle.office.specs.Runs.{Step, AreSteps, followed}
 use Rattle.office.specs.declared.event.Event.{Event as Given}
 use Rattle.office.specs.declared.office.Office.{Office}
-use Rattle.office.proofs.SentExactly.{taken_is_sent}
-
-rest_open : (b : Bool) (u : List ℕ) → b ≡ true → rest_if b u ≡ u
-rest_open true u e = refl
-rest_open false u e = cc
+use Rattle.office.proofs.SentExactly.{taken_is_sent, rest_open}
 
 lends : (k : Contents) (T : Trace) (c : ℕ) (l : Option Kept) → IsKeptFor k (seen T c) l → length_of_lent l ≤ length (rest T c)
 lends k T c None over = omega arith

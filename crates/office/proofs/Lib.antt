@@ -1,3 +1,4 @@
+mod SmallLemmas
 pub mod Sample
 mod CommandRows
 mod JudgedRows
@@ -63,6 +64,7 @@ mod Picking
 mod Quitting
 mod Remembering
 mod Obeying
+mod Permitted
 mod Taking
 mod Telling
 mod NumberLemmas
@@ -70,7 +72,6 @@ mod Texts
 mod ListedRows
 mod Owing
 mod Paging
-mod Pages
 mod Restarting
 mod Ticking
 pub mod Stopping

@@ -1,5 +1,5 @@
 -- A line on a trace: what is kept of its connection, of each other, of the locks and of the store is what the trace says with the line.
-use Rattle.std.proofs.Common.{◌≡◌, ℕ, Bool, true, false, List, ◌∷◌, ◌++◌, Option, Some, None, refl, sym, ◌∙◌, ap, subst, true≢false, ⊎_elim, eqb, slice_get, eq-eqb, is_some, Result, Ok}
+use Rattle.std.proofs.Common.{◌≡◌, ℕ, Bool, true, false, List, ◌∷◌, ◌++◌, Option, Some, None, refl, sym, ◌∙◌, ap, subst, nat_cmp, true≢false, ⊎_elim, eqb, slice_get, eq-eqb, is_some, Result, Ok}
 use Rattle.std.proofs.lemmas.Bool.{cases_Bool}
 use Rattle.std.proofs.lemmas.Slice.Eq.{bytes_eq-Decides}
 use Rattle.std.specs.BTreeMap.{BTreeMap, get}
@@ -29,6 +29,7 @@ use Rattle.office.specs.Kept.{Kept, LineContext, answered, line_after, asks}
 use Rattle.office.specs.Answered.{name_cmp, judged_at, reply_of, tag_of, held_after, held_if, SessionAfter, Becomes, BecomesIf, LocksFollow}
 use Rattle.office.specs.Stands.{Seen, seen, untaken_of, Matches, IsKeptFor, IsSession, IsTransaction, Keeps}
 use Rattle.office.specs.declared.login_state.LineOutcome.{LineOutcome}
+use Rattle.office.specs.declared.office.Office.{Office}
 use Rattle.office.specs.declared.login_state.LineOutcome.TheVariants as outcome
 use Rattle.office.proofs.NameOrder.{same_any}
 use Rattle.office.proofs.AgreeLists.{in_maildrop-without}
@@ -40,8 +41,9 @@ use Rattle.office.proofs.Acting.{finds, session_after, held_same}
 use Rattle.office.proofs.Owing.{StayFor, owes_on}
 use Rattle.office.proofs.Agreeing.{AgreesInAuthorization}
 use Rattle.office.proofs.Judging.{Judges, authorization_judges, transaction_judges}
-use Rattle.office.proofs.Events.{finds_by, line_entry, same_session}
+use Rattle.office.proofs.Events.{Moves, finds_by, line_entry, same_session}
 use Rattle.office.proofs.Hearing.{lined, Awaits, part_heard, line_heard, acts_next}
+use Rattle.office.proofs.SmallLemmas.{no_some}
 
 -- what a session saw of a store is there after another connection's line
 stays_after : (w : LineOutcome) (p : Policy) (old : Option Session) (r : Result Command LineFault) (c : Contents) (d : List ℕ)
@@ -72,7 +74,8 @@ carry k k' s kq stays m = record {
   piece_kept = m.piece_kept;
 }
   where
-    at : (o : Option Session) → ((q : Session) → o ≡ Some q → IsTransaction k s q → (x : Keyed) → In x k.messages → x.message.maildrop ≡ q.name.maildrop → In x k'.messages) → IsSession k s o → IsSession k' s o
+    at : (o : Option Session) → ((q : Session) → o ≡ Some q → IsTransaction k s q → (x : Keyed) → In x k.messages → x.message.maildrop ≡ q.name.maildrop → In x k'.messages)
+        → IsSession k s o → IsSession k' s o
     at None on i = i
     at (Some q) on i = record {
       live = i.live;
@@ -213,10 +216,7 @@ module _ {Before : Contents → Type 0} (T : Trace) (n : ℕ) (keeps : Keeps Bef
       -- the messages of a session that goes on stay
       stays_own : (quits : Bool) (logged : Option LoginName) → is_quit (reading x) ≡ quits → SessionAfter quits logged store_now policy k.state.removals (reply w) k.session k'.session
           → StayFor store_now (held_after w policy k.session (reading x) store_now) k'.session
-      stays_own true logged q is = λ o e. absurd (nobody o (sym is ∙ e))
-        where
-          nobody : (o : Session) → None ≡ Some o → ⊥
-          nobody o e = cc
+      stays_own true logged q is = λ o e. absurd (no_some o (sym is ∙ e))
       stays_own false logged q is = λ o e y i f. subst (λ (c : Contents). In y c.messages) (sym (held_same w policy k.session (reading x) store_now q)) i
 
       owes_line : has_newline p ≡ true → OwesReply (held_after w policy k.session (reading x) store_now) k'.session k'.output (reply w)
@@ -227,7 +227,7 @@ module _ {Before : Contents → Type 0} (T : Trace) (n : ℕ) (keeps : Keeps Bef
             serves = r.serves;
           }
 
-      pub here : Matches after (seen T' n) k'
+      here : Matches after (seen T' n) k'
       here = ⊎_elim
           (λ h. subst (λ b. Matches (held_if b w policy k.session (reading x) store_now) (seen T' n) k') (sym h)
           (subst (λ y. Matches (held_after w policy k.session (reading x) store_now) y k') (sym (seen_line h))
@@ -239,7 +239,7 @@ module _ {Before : Contents → Type 0} (T : Trace) (n : ℕ) (keeps : Keeps Bef
           (subst (λ b. OwesIf b store_now k'.session k'.output (reply w)) h owes))))
           (cases_Bool (has_newline p))
 
-      pub agrees : Agree (records_of after) (records T.base (history T'))
+      agrees : Agree (records_of after) (records T.base (history T'))
       agrees = ⊎_elim
           (λ h. subst (λ b. Agree (records_of (held_if b w policy k.session (reading x) store_now)) (records T.base (history T'))) (sym h)
           (subst (λ R. Agree (records_of (held_after w policy k.session (reading x) store_now)) R) (sym (line_records h (next h)))
@@ -263,7 +263,7 @@ module _ {Before : Contents → Type 0} (T : Trace) (n : ℕ) (keeps : Keeps Bef
       stays_line true d apart y i f = stays_after w policy k.session (reading x) store_now d apart y i f
       stays_line false d apart y i f = i
 
-      pub carried : (q : ℕ) → eqb n q ≡ false → (o : Option Kept) → IsKeptFor store_now (seen T q) o → IsKeptFor after (seen T q) o
+      carried : (q : ℕ) → eqb n q ≡ false → (o : Option Kept) → IsKeptFor store_now (seen T q) o → IsKeptFor after (seen T q) o
       carried q ne o i = carry_kept store_now after (seen T q) o (λ z j. stays_line (has_newline p) z.name.maildrop (λ own e f.
           let both = alone z.name.maildrop q (subst (λ d. holds_by (seen T n) d ≡ true) f (mine own e)) (holding (seen T q) z.name.maildrop z.name j.live j.login refl) in
           true≢false (sym (subst (λ y. eqb n y ≡ true) both (eq-eqb n n refl)) ∙ ne))) i
@@ -276,7 +276,19 @@ module _ {Before : Contents → Type 0} (T : Trace) (n : ℕ) (keeps : Keeps Bef
           (λ h. ap (λ (y : Seen). y.login) (part_seen h (no_line h)) ∙ lg)
           (cases_Bool (has_newline p))
 
-      pub locked : (d : List ℕ) → get name_cmp locks' d ≡ holder (history T') d
+      locked : (d : List ℕ) → get name_cmp locks' d ≡ holder (history T') d
       locked d = sym (holder_is T.base (acts T') d (get name_cmp locks' d)
           (locks_follow (seen T) (seen T') n others locks locks' (λ m. lock_found T.base (acts T) m (get name_cmp locks m) (sym (held m))) store_now after k.session k'.session
           (same_session store_now s (seen T n) k.session (sym l) (sym lg) (sym jg) (sym mk) (sym vw) m.session) here.session alone same_login follow d))
+
+      -- one connection has moved to where the line leaves it
+      pub line_moves : {V : Type 0} (Holds : V → Contents → Type 0) (o o' : Office V) → get nat_cmp o'.connections n ≡ Some k' → o'.locks ≡ locks' → Holds o'.vault after
+          → Moves Holds o o' T store_now n T'
+      line_moves Holds o o' kept same put = record {
+        contents = after;
+        held = put;
+        agree = agrees;
+        here = rw kept here;
+        carried = λ q e i. carried q e (get nat_cmp o.connections q) i;
+        locks = λ d. ap (λ l. get name_cmp l d) same ∙ locked d;
+      }

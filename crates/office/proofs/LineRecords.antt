@@ -1,5 +1,5 @@
 -- What a store holds after a line of a session agrees with the history's records with that line.
-use Rattle.std.proofs.Common.{◌≡◌, ℕ, Bool, true, false, ◌&&◌, List, ◌∷◌, ◌++◌, Result, Ok, Err, refl, sym, ◌∙◌, ap, subst}
+use Rattle.std.proofs.Common.{◌≡◌, ℕ, ◌&&◌, List, ◌∷◌, ◌++◌, Result, Ok, Err, sym, ◌∙◌, ap, subst}
 use Rattle.std.specs.Prelude.{map}
 use Rattle.creds.specs.declared.login_name.LoginName.{LoginName}
 use Rattle.popline.specs.Cutting.{Cut}
@@ -22,10 +22,7 @@ use Rattle.office.specs.declared.login_state.LineOutcome.TheVariants as outcome
 use Rattle.office.proofs.Bounds.{without_more}
 use Rattle.office.proofs.Removing.{agree_removed}
 use Rattle.office.proofs.Agreeing.{AgreesInTransaction, chosen_alike, transaction_name}
-
-and_false : (b : Bool) → (b && false) ≡ false
-and_false true = refl
-and_false false = refl
+use Rattle.office.proofs.SmallLemmas.{and_false}
 
 module _ (B : Records) (G : List Entry) (c : ℕ) (p : Policy) (s : Session) (kept : List Keyed) (a : AgreesInTransaction B G c p (transaction_of s kept)) where
   -- what the session of a connection would remove

@@ -1,7 +1,6 @@
 -- What a session says of its heads is what is said of the messages beneath them.
-use Rattle.std.proofs.Common.{◌≡◌, ◌<◌, ◌^◌, ℕ, List, [], ◌∷◌, length, refl, sym, ◌∙◌, ap, ap₂, subst}
+use Rattle.std.proofs.Common.{◌≡◌, ◌<◌, ◌^◌, ℕ, List, [], ◌∷◌, length, refl, sym, ◌∙◌, ap, ap₂}
 use Rattle.std.specs.Prelude.{map, sum_by}
-use Rattle.creds.specs.declared.login_name.LoginName.{LoginName}
 use Rattle.popline.specs.Commands.{Stat, ListAll, UidlAll, Rset}
 use Rattle.popline.specs.Replies.{MaildropHas, DropListing, ScanListing, UidListing}
 use Rattle.policy.specs.Policy.{Policy}
@@ -15,6 +14,7 @@ use Rattle.session.specs.Session as head
 use Rattle.session.specs.View.{unmarked, sizes_of, uids_of, total_of}
 use Rattle.office.specs.Transaction.{LiesIn, transaction_told}
 use Rattle.office.proofs.Alike.{sizes_of-map, uids_of-map, total_of-map, length_unmarked-map, all_unmarked, total_unmarked}
+use Rattle.office.proofs.Lying.{lies_marked}
 
 -- a stored message without its key
 abbrev pub message_of : Keyed → Message
@@ -50,15 +50,6 @@ module _ (c : Contents) (s : Session) (kept : List Keyed) (lies : LiesIn c s kep
   pub uidl_said : (p : Policy) → UidListing (uids_of head.uid_of (unmarked s.marks s.view)) ≡ transaction_told p s kept UidlAll
   uidl_said p = ap UidListing uids_alike
 
--- a session goes on over the same messages
-pub lies_still : (c : Contents) (s new : Session) (kept : List Keyed) → LiesIn c s kept → new.name ≡ s.name → new.view ≡ s.view → LiesIn c new kept
-lies_still c s new kept lies e f = record {
-  heads = f ∙ lies.heads;
-  there = lies.there;
-  within = λ x i. lies.within x i ∙ sym (ap (λ (name : LoginName). name.maildrop) e);
-  fits = subst (λ (view : List Head). sum_by head.octets_of view < 2 ^ 64) (sym f) lies.fits;
-}
-
 module _ (c : Contents) (s : Session) (kept : List Keyed) (lies : LiesIn c s kept) where
   abbrev unmarked_all : Session
   unmarked_all = record s { marks = [] }
@@ -66,7 +57,7 @@ module _ (c : Contents) (s : Session) (kept : List Keyed) (lies : LiesIn c s kep
   unmarked_said : (p : Policy) (n m : ℕ) → n ≡ length (unmarked [] s.view)
       → (sum_by head.octets_of s.view < 2 ^ 64 → m ≡ total_of head.octets_of (unmarked [] s.view)) → MaildropHas n m ≡ transaction_told p s kept Rset
   unmarked_said p n m e f =
-      let still = lies_still c s unmarked_all kept lies refl refl in
+      let still = lies_marked c s unmarked_all kept lies refl refl in
       ap₂ MaildropHas (e ∙ (lengths_alike c unmarked_all kept still ∙ all_unmarked (map message_of kept)))
       (f lies.fits ∙ (totals_alike c unmarked_all kept still ∙ total_unmarked records.octets_of (map message_of kept)))
 

@@ -25,6 +25,7 @@ use Rattle.office.specs.Laws.{In}
 use Rattle.office.specs.Transaction.{LiesIn}
 use Rattle.office.proofs.Snapshot.{in_filter, filter_in, in_front}
 use Rattle.office.proofs.UniqueIds.{all_in}
+use Rattle.vault.proofs.ListLemmas.{filter-map}
 
 -- ---- a session goes on
 
@@ -60,15 +61,6 @@ stays_by_removal c d keys x i other =
 
 -- ---- lists
 
-pub filter-map : {A B : Type 0} (f : A → B) (p : B → Bool) (xs : List A) → filter p (map f xs) ≡ map f (filter (λ x. p (f x)) xs)
-filter-map f p [] = refl
-filter-map {A} {B} f p (x ∷ xs) = at (p (f x)) (filter-map f p xs)
-  where
-    at : (b : Bool) → filter p (map f xs) ≡ map f (filter (λ y. p (f y)) xs)
-        → cond b (f x ∷ filter p (map f xs)) (filter p (map f xs)) ≡ map f (cond b (x ∷ filter (λ y. p (f y)) xs) (filter (λ y. p (f y)) xs))
-    at true h = ap (λ ys. f x ∷ ys) h
-    at false h = h
-
 sum-map : {A B : Type 0} (f : A → B) (g : B → ℕ) (xs : List A) → sum_by g (map f xs) ≡ sum_by (λ x. g (f x)) xs
 sum-map f g [] = refl
 sum-map f g (x ∷ xs) = sum_by-cons g (f x) (map f xs) ∙ (ap (λ n. g (f x) + n) (sum-map f g xs) ∙ sym (sum_by-cons (λ y. g (f y)) x xs))
@@ -96,7 +88,8 @@ bounded sum n each most cap a b c = let d = mul-le-mul_right each b in omega (ar
 
 octets_within : (B : Records) (m : Message) → is_sound_message B m ≡ true → octets_of m ≤ most_octets
 octets_within B m h =
-    let p = and_parts (bytes_eq (kept_form m.text) m.text && nat_lt 0 (octets_of m) && nat_le (octets_of m) most_octets && is_one_of m.maildrop B.maildrops) (list_any (is_receipt_for m) B.deposits) h in
+    let p = and_parts (bytes_eq (kept_form m.text) m.text && nat_lt 0 (octets_of m) && nat_le (octets_of m) most_octets && is_one_of m.maildrop B.maildrops)
+    (list_any (is_receipt_for m) B.deposits) h in
     let q = and_parts (bytes_eq (kept_form m.text) m.text && nat_lt 0 (octets_of m) && nat_le (octets_of m) most_octets) (is_one_of m.maildrop B.maildrops) p.0 in
     let r = and_parts (bytes_eq (kept_form m.text) m.text && nat_lt 0 (octets_of m)) (nat_le (octets_of m) most_octets) q.0 in
     leb-true (octets_of m) most_octets r.1

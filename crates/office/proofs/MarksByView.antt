@@ -22,15 +22,14 @@ use Rattle.office.specs.History.{Entry, Act, Tag, Done, Failed, NoMemory, Said, 
 use Rattle.office.specs.Sessions.{live, login, login_by, logs_in, view, marks, marks_after, marks_after_line, ends_session}
 use Rattle.office.specs.Connections.{user, reading, judging}
 use Rattle.office.specs.Told.{told, said_to}
-use Rattle.office.specs.Replying.{LineState, InTransaction, transaction_at, state_at, said_to_line, reply_to_reading, is_allowed, is_permitted, when_permitted, refusal, deleted_if, served_if, quit_says, name_or_nobody}
+use Rattle.office.specs.Replying.{LineState, InTransaction, transaction_at, state_at, said_to_line, reply_to_reading, is_allowed, is_permitted, when_permitted, refusal, deleted_if}
+use Rattle.office.specs.Replying.{served_if, name_or_nobody}
 use Rattle.office.specs.Laws.{MarksAreByView, marks_by_view, marks_by_act, marks_by_line, marks_unless_login, is_markable}
-use Rattle.office.proofs.Laws.{live_side, no_some}
+use Rattle.office.proofs.Laws.{live_side}
+use Rattle.office.proofs.SmallLemmas.{no_some, quit_keeps}
 
-quit_keeps : (o : Option (List ℕ)) (ms : List ℕ) → marks_after_line (Says (quit_says o)) ms ≡ ms
-quit_keeps None ms = refl
-quit_keeps (Some rule) ms = refl
-
-picked_keeps : (o : Option Message) (b : Bool) (n : ℕ) (f : Message → Reply) (ms : List ℕ) → ((m : Message) → marks_after_line (Says (f m)) ms ≡ ms) → marks_after_line (Says (referred o b NoSuchMessage (AlreadyMarked n) f)) ms ≡ ms
+picked_keeps : (o : Option Message) (b : Bool) (n : ℕ) (f : Message → Reply) (ms : List ℕ) → ((m : Message) → marks_after_line (Says (f m)) ms ≡ ms)
+    → marks_after_line (Says (referred o b NoSuchMessage (AlreadyMarked n) f)) ms ≡ ms
 picked_keeps None b n f ms h = refl
 picked_keeps (Some m) true n f ms h = refl
 picked_keeps (Some m) false n f ms h = h m
@@ -54,7 +53,8 @@ decided true rule n ms = refl
 decided false rule n ms = refl
 
 dele_marks : (j : Removals) (o : Option Message) (b : Bool) (n : ℕ) (policy : Policy) (name : LoginName) (ms : List ℕ)
-    → marks_after_line (Says (referred o b NoSuchMessage (AlreadyMarked n) (λ (m : Message). deleted_if j (removal policy name m.class) n))) ms ≡ (if not b && is_markable j o policy name then ms ++ n ∷ [] else ms)
+    → marks_after_line (Says (referred o b NoSuchMessage (AlreadyMarked n) (λ (m : Message). deleted_if j (removal policy name m.class) n))) ms ≡
+    (if not b && is_markable j o policy name then ms ++ n ∷ [] else ms)
 dele_marks j None true n policy name ms = refl
 dele_marks j None false n policy name ms = refl
 dele_marks j (Some m) true n policy name ms = refl
@@ -125,7 +125,8 @@ login_marks (Ok (Pass password)) (Says (MaildropHas n m)) u name ms e = refl
 login_marks (Ok (Apop who digest)) (Says (MaildropHas n m)) u name ms e = refl
 login_marks _ _ u name ms e = absurd (no_some name e)
 
-at_login : (b : Bool) (r : Result Command LineFault) (s : Said) (u : Option LoginName) (name : LoginName) (ms : List ℕ) → cond b (logs_in r s u) None ≡ Some name → cond b (marks_after_line s ms) ms ≡ []
+at_login : (b : Bool) (r : Result Command LineFault) (s : Said) (u : Option LoginName) (name : LoginName) (ms : List ℕ)
+    → cond b (logs_in r s u) None ≡ Some name → cond b (marks_after_line s ms) ms ≡ []
 at_login true r s u name ms e = login_marks r s u name ms e
 at_login false r s u name ms e = absurd (no_some name e)
 

@@ -39,7 +39,8 @@ removed_by_quit B H c m (Some name) e h =
     (snapshot B H c name e m (removed_seen (in_force B (told B H)) name (marks (told B H) c) (view B (told B H) c) m h)).came
 
 removed_before : (B : Records) (H : List (Act × Tag)) (m : Message) (o : Option ℕ) → (In m (removed B (told B H)) → In m (arrivals B (told B H)))
-    → In m (removed_after o (λ c. removed_by (in_session (told B H) c) (λ (name : LoginName). to_remove class_of (in_force B (told B H)) name (marks (told B H) c) (view B (told B H) c))) (removed B (told B H)))
+    → In m (removed_after o (λ c. removed_by (in_session (told B H) c) (λ (name : LoginName). to_remove class_of (in_force B (told B H)) name (marks (told B H) c) (view B (told B H) c)))
+    (removed B (told B H)))
     → In m (arrivals B (told B H))
 removed_before B H m None before h = before h
 removed_before B H m (Some c) before h = ⊎_elim before (λ i. removed_by_quit B H c m (in_session (told B H) c) refl i)
@@ -62,7 +63,8 @@ record HasReceipt (rs : List Receipt) (m : Message) : Type 0 where
 in_base : (B : Records) → IsSound B → (m : Message) → In m B.messages → HasReceipt B.deposits m
 in_base B s m i =
     let a = all_in (is_sound_message B) B.messages m s.messages i in
-    let p = and_parts (bytes_eq (kept_form m.text) m.text && nat_lt 0 (octets_of m) && nat_le (octets_of m) most_octets && is_one_of m.maildrop B.maildrops) (list_any (is_receipt_for m) B.deposits) a in
+    let p = and_parts (bytes_eq (kept_form m.text) m.text && nat_lt 0 (octets_of m) && nat_le (octets_of m) most_octets && is_one_of m.maildrop B.maildrops)
+    (list_any (is_receipt_for m) B.deposits) a in
     let w = any_witness (is_receipt_for m) B.deposits p.1 in
     let x = and_parts (bytes_eq m.maildrop w.0.maildrop && bytes_eq m.class w.0.class) (m.k == w.0.k) w.2 in
     let y = and_parts (bytes_eq m.maildrop w.0.maildrop) (bytes_eq m.class w.0.class) x.0 in

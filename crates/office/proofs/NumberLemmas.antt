@@ -7,6 +7,7 @@ use Rattle.std.specs.List.{list_all}
 use Rattle.std.specs.Prelude.{SomeIff, nat_lt, nat_le}
 use Rattle.std.specs.Str.Parse.{AllDigits, IsNumeral, digits_value}
 use Rattle.office.specs.Numbers.{is_number, number_of}
+use Rattle.office.proofs.SmallLemmas.{nat_lt-true, nat_le-true}
 
 abbrev is_decimal : ℕ → Bool
 is_decimal b = is_digit b 10
@@ -44,16 +45,10 @@ test_of_numeral : (field : List ℕ) → Numeral field → is_number field ≡ t
 test_of_numeral field h =
     four _ _ _ _ (lt-ltb 0 (length field) h.0.0) (test_of_digits field h.0.1) (le-leb (length field) 20 h.1) (lt-ltb (digits_value 10 field) (2 ^ 64) h.2)
 
-lt_of_test : (m n : ℕ) → nat_lt m n ≡ true → m < n
-lt_of_test m n h = grind (arith, nat_tests)
-
-le_of_test : (m n : ℕ) → nat_le m n ≡ true → m ≤ n
-le_of_test m n h = grind (arith, nat_tests)
-
 numeral_of_test : (field : List ℕ) → is_number field ≡ true → Numeral field
 numeral_of_test field h =
     let t = of_four (nat_lt 0 (length field)) (list_all is_decimal field) (nat_le (length field) 20) (nat_lt (digits_value 10 field) (2 ^ 64)) h in
-    ((lt_of_test 0 (length field) t.0, digits_of_test field t.1), le_of_test (length field) 20 t.2, lt_of_test (digits_value 10 field) (2 ^ 64) t.3)
+    ((nat_lt-true 0 (length field) t.0, digits_of_test field t.1), nat_le-true (length field) 20 t.2, nat_lt-true (digits_value 10 field) (2 ^ 64) t.3)
 
 number_by : (r : Option ℕ) (field : List ℕ) (b : Bool) → is_number field ≡ b → SomeIff r (Numeral field) (digits_value 10 field) → r ≡ cond b (Some (digits_value 10 field)) None
 number_by (Some n) field true e h = ap Some h.1

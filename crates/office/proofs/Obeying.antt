@@ -1,5 +1,5 @@
 -- What becomes of a line of a session by the reply that was put, and by what the store did.
-use Rattle.std.proofs.Common.{◌≡◌, Bool, true, false, List, Some, Result, Ok, Err, refl, sym, subst, true≢false}
+use Rattle.std.proofs.Common.{◌≡◌, Bool, false, List, Some, Result, Ok, Err, refl, sym, subst, true≢false}
 use Rattle.std.specs.Prelude.{IfOk}
 use Rattle.popline.specs.Commands.{Command, ListAll, UidlAll}
 use Rattle.popline.specs.Cutting.{Cut, TooLong}
@@ -61,10 +61,6 @@ module _ (After : Contents → Type 0) (grown : Bool) (c : Contents) (p : Policy
       (uidl_said c s kept lies p) (record { name = refl; removals = refl; view = refl; marks = λ n. refl }) held
 
 -- ---- a line and what it reads as
-
-pub is_the_long : (x : Cut) → is_too_long x ≡ true → x ≡ TooLong
-is_the_long TooLong e = refl
-is_the_long (cutting.Line l) e = absurd (true≢false (sym e))
 
 pub reads_so : (s : LineState) (x : Cut) (t : Tag) → is_too_long x ≡ false → reply_to_reading s (reading x) t ≡ reply_to s x t
 reads_so s (cutting.Line l) t e = refl

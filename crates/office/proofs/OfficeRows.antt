@@ -11,11 +11,13 @@ use Rattle.office.specs.Answers.{SetPolicy}
 use Rattle.office.specs.Events.{Took, Gone, Tick, Admin, Restart}
 use Rattle.office.specs.Outcomes.{Ignored, NotReady, NoSuchConnection}
 use Rattle.office.specs.Trace.{is_open}
-use Rattle.office.proofs.Sample.{w_rules, without_groups, shows, both, run, connect, gives, says, received, replies, Give, outcome, Step, as_ann, ann_receives, kept_ids, deposit, freeze, answered, second_as_bob}
+use Rattle.office.proofs.Sample.{w_rules, without_groups, shows, both, run, connect, gives, says, received, replies, Give, outcome, Step, as_ann, ann_receives, kept_ids, deposit}
+use Rattle.office.proofs.Sample.{freeze, answered, second_as_bob}
 
 -- while ann is in
 abbrev refused : List Step
-refused = (connect 1 ++ says 1 as_ann ++ connect 2 ++ says 2 second_as_bob ++ connect 3 ++ says 3 (codes "APOP dan/orders 7ca2ad5ddffc2ecbe3f9683e818e67ba" ∷ []) ++ connect 4 ++ says 4 (codes "APOP mrose/nowhere d6e5467fb8a897c4d4d3652c663f6b37" ∷ []))
+refused = (connect 1 ++ says 1 as_ann ++ connect 2 ++ says 2 second_as_bob ++ connect 3
+    ++ says 3 (codes "APOP dan/orders 7ca2ad5ddffc2ecbe3f9683e818e67ba" ∷ []) ++ connect 4 ++ says 4 (codes "APOP mrose/nowhere d6e5467fb8a897c4d4d3652c663f6b37" ∷ []))
 
 -- in use, denied, and no such maildrop
 refusals_at_login : shows (run refused) (λ T. received 2 T ∷ received 3 T ∷ received 4 T ∷ [])
@@ -62,7 +64,10 @@ abbrev restarted : List Step
 restarted = (connect 1 ++ says 1 (as_ann ++ codes "DELE 4" ∷ codes "QUIT" ∷ []) ++ Give (Restart 8) ∷ connect 1)
 
 -- the greeting of the new boot number; then a new text, the sample's own, another under its id, and its own in another class
-unique_ids_over_a_restart : shows (run restarted) (λ T. both (received 1 T) (answered T (deposit (codes "todo") (codes "d6") (codes "A: 2\n")) ∷ answered T (deposit (codes "todo") (codes "d4") (codes "A: 1\n\none\ntwo\nthree\n")) ∷ answered T (deposit (codes "todo") (codes "d4") (codes "A: 3\n")) ∷ answered T (deposit (codes "note") (codes "d4") (codes "A: 1\n\none\ntwo\nthree\n")) ∷ []))
+unique_ids_over_a_restart : shows (run restarted)
+    (λ T. both (received 1 T) (answered T (deposit (codes "todo") (codes "d6") (codes "A: 2\n"))
+    ∷ answered T (deposit (codes "todo") (codes "d4") (codes "A: 1\n\none\ntwo\nthree\n"))
+    ∷ answered T (deposit (codes "todo") (codes "d4") (codes "A: 3\n")) ∷ answered T (deposit (codes "note") (codes "d4") (codes "A: 1\n\none\ntwo\nthree\n")) ∷ []))
     ≡ both (ann_receives (codes "+OK message 4 deleted" ∷ codes "+OK bye" ∷ codes "+OK POP3 server ready <1.8@h.test>" ∷ []))
     (codes "new todo.2\n"
     ∷ codes "known todo.1\n"

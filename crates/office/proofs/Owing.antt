@@ -1,5 +1,6 @@
 -- What is owed: what stands ready, and what its source puts behind it.
-use Rattle.std.proofs.Common.{◌≡◌, ℕ, ◌<◌, ◌≤◌, Bool, true, false, List, [], ◌∷◌, ◌++◌, drop, take, length, min, refl, sym, ◌∙◌, ap, subst, arith, true≢false, Option, Some, None, append-nil, length-append, length-drop}
+use Rattle.std.proofs.Common.{◌≡◌, ℕ, ◌<◌, ◌≤◌, Bool, true, false, List, [], ◌∷◌, ◌++◌, drop, take, length, min, refl, sym, ◌∙◌, ap, subst, arith, true≢false, Option, Some, None}
+use Rattle.std.proofs.Common.{append-nil, length-append, length-drop}
 use Rattle.std.proofs.lemmas.List.{take-append-le, take_min, length-take}
 use Rattle.popline.specs.Replies.{Reply, bytes_of}
 use Rattle.vault.specs.declared.record.Keyed.{Keyed}
@@ -28,7 +29,8 @@ not_text e h = true≢false (sym h)
 
 -- octets that stand ready, with nothing behind them
 pub owes_ready : (c : Contents) (s : Option Session) (o : Output) (octets : List ℕ) → o ≡ record { ready = octets; source = Nothing } → Owes c s o octets
-owes_ready c s o octets e = subst (λ (x : Output). Owes c s x octets) (sym e) (record { coming = []; is = sym (append-nil octets); feeds = feeds_nothing c s; filled = λ h. absurd (true≢false (sym h)) })
+owes_ready c s o octets e = subst (λ (x : Output). Owes c s x octets) (sym e)
+    (record { coming = []; is = sym (append-nil octets); feeds = feeds_nothing c s; filled = λ h. absurd (true≢false (sym h)) })
 
 -- a reply that needs no source
 pub owes_said : (c : Contents) (s : Option Session) (o : Output) (reply : Reply) → o ≡ record { ready = bytes_of reply; source = Nothing } → OwesReply c s o reply
@@ -72,14 +74,6 @@ feeds_some c None (Text r) coming h f = absurd f
 feeds_some c (Some s) (Sizes done) coming h f = not_nil _ coming (sym f)
 feeds_some c (Some s) (Uids done) coming h f = not_nil _ coming (sym f)
 feeds_some c (Some s) (Text r) coming h f = not_nil _ coming (sym f.coming)
-
-empty_behind : (xs ys : List ℕ) → is_empty ys ≡ false → is_empty (xs ++ ys) ≡ false
-empty_behind [] ys h = h
-empty_behind (x ∷ xs) ys h = refl
-
--- where something comes, something is owed behind whatever stands ready
-pub owes_some : (c : Contents) (s : Option Session) (o : Output) (octets : List ℕ) → Owes c s o octets → is_feeding o.source ≡ true → is_empty octets ≡ false
-owes_some c s o octets w h = ap is_empty w.is ∙ empty_behind o.ready w.coming (feeds_some c s o.source w.coming h w.feeds)
 
 length_some : (xs : List ℕ) → is_empty xs ≡ false → 0 < length xs
 length_some [] h = absurd (true≢false h)

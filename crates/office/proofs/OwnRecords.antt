@@ -1,13 +1,8 @@
 -- Every store holds its own records with no acts.
-use Rattle.std.specs.Prelude.{◌≡◌, List, [], ◌∷◌}
 use Rattle.std.proofs.Common.{refl, sym, ap}
-use Rattle.vault.specs.Records.{without, in_maildrop}
-use Rattle.vault.specs.declared.record.Message.{Message}
+use Rattle.vault.specs.Records.{in_maildrop}
 use Rattle.office.specs.Laws.{OwnRecordsAgree}
-
-without_none : (ms : List Message) → without ms [] ≡ ms
-without_none [] = refl
-without_none (m ∷ ms) = ap (λ xs. m ∷ xs) (without_none ms)
+use Rattle.office.proofs.SmallLemmas.{without_none}
 
 pub own_records_agree : OwnRecordsAgree
 own_records_agree B = record {

@@ -22,7 +22,8 @@ on_extended (Ok x) items old other P e f = f e
 on_extended (Err x) items old other P e f = tt
 
 -- the same, by its length
-pub length_extended : {E : Type 0} (r : Result (Unit {0}) E) (items old other : List ℕ) (room : ℕ) → items ≡ (if is_ok r then old ++ other else old) → length other ≤ room → length items ≤ length old + room
+pub length_extended : {E : Type 0} (r : Result (Unit {0}) E) (items old other : List ℕ) (room : ℕ) → items ≡ (if is_ok r then old ++ other else old)
+    → length other ≤ room → length items ≤ length old + room
 length_extended (Ok x) items old other room e h = rw e (omega (arith, length-append old other, h))
 length_extended (Err x) items old other room e h = rw e (omega arith)
 

@@ -1,13 +1,13 @@
 -- A piece of octets on a trace: what it leaves, and what its event is answered.
-use Rattle.std.proofs.Common.{◌≡◌, ℕ, ◌≤◌, Bool, true, false, List, ◌++◌, length, Option, Some, refl, ◌∙◌, ap, nat_cmp, eqb}
+use Rattle.std.proofs.Common.{◌≡◌, ℕ, ◌≤◌, Bool, true, false, List, ◌++◌, length, Some, refl, ◌∙◌, nat_cmp}
 use Rattle.std.specs.BTreeMap.{BTreeMap, get}
 use Rattle.popline.specs.Cutting.{coming, whole_line, has_newline}
 use Rattle.popline.specs.Replies.{Reply}
 use Rattle.policy.specs.Policy.{Policy}
-use Rattle.vault.specs.Changes.{Contents, AreSound, records_of}
+use Rattle.vault.specs.Changes.{Contents, AreSound}
 use Rattle.office.specs.History.{Done, Failed, Says, in_force}
 use Rattle.office.specs.Connections.{reading}
-use Rattle.office.specs.Sessions.{holder, records}
+use Rattle.office.specs.Sessions.{holder}
 use Rattle.office.specs.Events.{Trace, Bytes, Tagged, given}
 use Rattle.office.specs.Log.{moment}
 use Rattle.office.specs.Trace.{history, acts_of_piece, next_line}
@@ -16,8 +16,7 @@ use Rattle.office.specs.Outcomes.{Outcome}
 use Rattle.office.specs.Output.{nothing_owed}
 use Rattle.office.specs.Kept.{Kept, clocked, answered, line_after, asks}
 use Rattle.office.specs.Answered.{name_cmp, judged_at, reply_of, tag_of, shown_of, held_if, LocksFollow}
-use Rattle.vault.specs.Records.{Agree}
-use Rattle.office.specs.Stands.{seen, untaken_of, Matches, IsKeptFor, Keeps}
+use Rattle.office.specs.Stands.{seen, untaken_of, Matches, Keeps}
 use Rattle.office.specs.declared.office.Office.{Office}
 use Rattle.office.specs.declared.login_state.LineOutcome.{LineOutcome}
 use Rattle.office.specs.declared.login_state.LineOutcome.TheVariants as outcome
@@ -30,7 +29,7 @@ use Rattle.office.specs.declared.account.Account.{Account}
 use Rattle.office.proofs.AfterLines.{lines_go}
 use Rattle.office.specs.Accounts.{account_if, state_account, acts_account}
 use Rattle.office.proofs.Accounts.{line_so}
-use Rattle.office.proofs.LineDone.{judges, here, agrees, carried, locked}
+use Rattle.office.proofs.LineDone.{judges, line_moves}
 
 module _ {Before : Contents → Type 0} (T : Trace) (n : ℕ) (p : List ℕ) (keeps : Keeps Before T) (sound : AreSound keeps.contents) (policy : Policy) (rules : policy ≡ in_force T.base (history T))
     (locks : BTreeMap (List ℕ) ℕ) (held : (d : List ℕ) → get name_cmp locks d ≡ holder (history T) d)
@@ -57,36 +56,12 @@ module _ {Before : Contents → Type 0} (T : Trace) (n : ℕ) (p : List ℕ) (ke
       abbrev left : Contents
       left = held_if (has_newline p) w policy k.session (reading (line_after k p)) keeps.contents
 
-      piece_here : Matches left (seen (given T (Bytes n p) (Tagged (tag_of w))) n) k'
-      piece_here = here T n keeps sound policy rules locks held (streamed (seen T n) p now) set p ready refl refl refl refl refl refl refl refl (Bytes n p) w k' locks' did.may did.kept law did.session follow did.owes refl
-          (λ h nx. seen-bytes_line T n p now moment_is w (line_after k p) h nx) (λ h nx. records-bytes_line T n p w (line_after k p) h nx)
-          (λ h d. rw d (seen-bytes_part T n p h now)) (λ h d. records-bytes_part T n p (tag_of w) h) (λ q e. seen-bytes_other T n p q (tag_of w) e)
-
-      piece_agrees : Agree (records_of left) (records T.base (history (given T (Bytes n p) (Tagged (tag_of w)))))
-      piece_agrees = agrees T n keeps sound policy rules locks held (streamed (seen T n) p now) set p ready refl refl refl refl refl refl refl refl (Bytes n p) w k' locks' did.may did.kept law did.session follow did.owes refl
-          (λ h nx. seen-bytes_line T n p now moment_is w (line_after k p) h nx) (λ h nx. records-bytes_line T n p w (line_after k p) h nx)
-          (λ h d. rw d (seen-bytes_part T n p h now)) (λ h d. records-bytes_part T n p (tag_of w) h) (λ q e. seen-bytes_other T n p q (tag_of w) e)
-
-      piece_carried : (q : ℕ) → eqb n q ≡ false → (o : Option Kept) → IsKeptFor keeps.contents (seen T q) o → IsKeptFor left (seen T q) o
-      piece_carried = carried T n keeps sound policy rules locks held (streamed (seen T n) p now) set p ready refl refl refl refl refl refl refl refl (Bytes n p) w k' locks' did.may did.kept law did.session follow did.owes refl
-          (λ h nx. seen-bytes_line T n p now moment_is w (line_after k p) h nx) (λ h nx. records-bytes_line T n p w (line_after k p) h nx)
-          (λ h d. rw d (seen-bytes_part T n p h now)) (λ h d. records-bytes_part T n p (tag_of w) h) (λ q e. seen-bytes_other T n p q (tag_of w) e)
-
-      piece_locked : (d : List ℕ) → get name_cmp locks' d ≡ holder (history (given T (Bytes n p) (Tagged (tag_of w)))) d
-      piece_locked = locked T n keeps sound policy rules locks held (streamed (seen T n) p now) set p ready refl refl refl refl refl refl refl refl (Bytes n p) w k' locks' did.may did.kept law did.session follow did.owes refl
-          (λ h nx. seen-bytes_line T n p now moment_is w (line_after k p) h nx) (λ h nx. records-bytes_line T n p w (line_after k p) h nx)
-          (λ h d. rw d (seen-bytes_part T n p h now)) (λ h d. records-bytes_part T n p (tag_of w) h) (λ q e. seen-bytes_other T n p q (tag_of w) e)
-
       pub piece_moves : {V : Type 0} (Holds : V → Contents → Type 0) (o o' : Office V) → get nat_cmp o'.connections n ≡ Some k' → o'.locks ≡ locks' → Holds o'.vault left
           → Moves Holds o o' T keeps.contents n (given T (Bytes n p) (Tagged (tag_of w)))
-      piece_moves Holds o o' kept same put = record {
-        contents = left;
-        held = put;
-        agree = piece_agrees;
-        here = rw kept piece_here;
-        carried = λ q e i. piece_carried q e (get nat_cmp o.connections q) i;
-        locks = λ d. ap (λ l. get name_cmp l d) same ∙ piece_locked d;
-      }
+      piece_moves = line_moves T n keeps sound policy rules locks held (streamed (seen T n) p now) set p ready refl refl refl refl refl refl refl refl
+          (Bytes n p) w k' locks' did.may did.kept law did.session follow did.owes refl
+          (λ h nx. seen-bytes_line T n p now moment_is w (line_after k p) h nx) (λ h nx. records-bytes_line T n p w (line_after k p) h nx)
+          (λ h d. rw d (seen-bytes_part T n p h now)) (λ h d. records-bytes_part T n p (tag_of w) h) (λ q e. seen-bytes_other T n p q (tag_of w) e)
 
     -- a piece that isn't ignored is answered what became of its line
     pub piece_answered : (lent : ℕ → ℕ) (o : Outcome) → o ≡ shown_of w → IsOutcome T lent (Bytes n p) o

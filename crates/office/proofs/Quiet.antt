@@ -10,7 +10,8 @@ use Rattle.vault.specs.Calls.{IsAnswer, has_grown}
 use Rattle.vault.specs.declared.fault.VaultFault.{VaultFault}
 use Rattle.vault.specs.declared.fault.VaultFault.TheVariants as fault
 use Rattle.session.specs.declared.removals.Removals.{Removals}
-use Rattle.office.specs.Answers.{AdminCommand, ListMaildrops, ShowMaildrop, AddMaildrop, DropMaildrop, ShowClerk, PutClerk, DropClerk, ShowPolicy, SetPolicy, ListGroups, ListSessions, EndSession, Explain}
+use Rattle.office.specs.Answers.{AdminCommand, ListMaildrops, ShowMaildrop, AddMaildrop, DropMaildrop, ShowClerk, PutClerk, DropClerk, ShowPolicy, SetPolicy, ListGroups}
+use Rattle.office.specs.Answers.{ListSessions, EndSession, Explain}
 use Rattle.office.specs.History.{Act, Administer, Tag, Done, Failed, NoMemory, Silence, Entry, in_force, is_done}
 use Rattle.office.specs.Connections.{setting, connected, closing, acted, serving, sent, user, failures}
 use Rattle.office.specs.Sessions.{live, login, marks, view, holder, records}

@@ -1,5 +1,5 @@
 -- What a QUIT asks of the store, and what it leaves.
-use Rattle.std.proofs.Common.{◌≡◌, ℕ, ◌==◌, length, arith, Bool, true, false, not, ◌&&◌, List, [], ◌∷◌, Option, Some, None, Ok, refl, sym, ◌∙◌, ap, subst}
+use Rattle.std.proofs.Common.{◌≡◌, ℕ, ◌==◌, length, arith, Bool, true, false, not, List, [], ◌∷◌, Option, None, Ok, refl, sym, ◌∙◌, ap, subst}
 use Rattle.std.proofs.lemmas.Bool.Decides.{nat_tests}
 use Rattle.std.specs.Prelude.{map}
 use Rattle.std.specs.Str.{bytes_eq}
@@ -18,20 +18,15 @@ use Rattle.vault.specs.declared.record.Message.{Message}
 use Rattle.session.specs.Session.{Session}
 use Rattle.session.specs.Session as head
 use Rattle.session.specs.View.{marked, to_remove, denying, is_marked}
-use Rattle.office.specs.History.{Says}
-use Rattle.office.specs.Sessions.{marks_after_line}
 use Rattle.office.specs.Replying.{quit_says, is_empty}
 use Rattle.office.specs.Output.{Output, OwesReply}
 use Rattle.office.specs.Transaction.{LiesIn, IsAnswered, transaction_asks, transaction_of, keys_to_remove, without_marked}
 use Rattle.office.specs.declared.login_state.LineOutcome.TheVariants as outcome
 use Rattle.office.proofs.Alike.{to_remove-map, denying-map, length_marked-map}
 use Rattle.office.proofs.Listed.{message_of}
+use Rattle.office.proofs.SmallLemmas.{and_false, quit_keeps}
 
 -- ---- no key
-
-and_false : (b : Bool) → (b && false) ≡ false
-and_false true = refl
-and_false false = refl
 
 without_none : (d : List ℕ) (ms : List Keyed) → without_keys d [] ms ≡ ms
 without_none d [] = refl
@@ -60,10 +55,6 @@ store_refused fault.NoClerk r n = cc
 same_uids : (xs : List Keyed) → map head.uid_of (map head_of xs) ≡ map records.uid_of (map message_of xs)
 same_uids [] = refl
 same_uids (x ∷ xs) = ap (λ (uids : List Uid). head.uid_of (head_of x) ∷ uids) (same_uids xs)
-
-quit_keeps : (o : Option (List ℕ)) (marks : List ℕ) → marks_after_line (Says (quit_says o)) marks ≡ marks
-quit_keeps None marks = refl
-quit_keeps (Some rule) marks = refl
 
 no_key : (xs : List Keyed) → not (is_empty (map message_of xs)) ≡ false → map head.key_of (map head_of xs) ≡ []
 no_key [] e = refl

@@ -10,7 +10,7 @@ use Rattle.session.specs.declared.removals.Removals.TheVariants.{JudgedAtDele}
 use Rattle.office.specs.History.{Act, Open, Line, Restart, Tag, Done, Failed}
 use Rattle.office.specs.Connections.{sent}
 use Rattle.office.specs.Told.{told}
-use Rattle.office.specs.Events.{Took, Tagged, Bytes, Trace}
+use Rattle.office.specs.Events.{Tagged, Bytes, Trace}
 use Rattle.office.specs.Events as events
 use Rattle.office.specs.Expected.{may_show}
 use Rattle.office.proofs.Sample.{W, run, connect, says, as_ann, ann_receives, kept_ids, replies, received, Step, Drain, ran}

@@ -1,5 +1,5 @@
 -- What a QUIT removes by keys is what it removes by messages.
-use Rattle.std.proofs.Common.{◌≡◌, ℕ, ◌+◌, Bool, true, false, not, ◌&&◌, ◌||◌, List, [], ◌∷◌, refl, sym, ◌∙◌, ap, ap₂, subst, inl, inr, ⊎_elim, true≢false}
+use Rattle.std.proofs.Common.{◌≡◌, ℕ, ◌+◌, Bool, true, false, not, ◌&&◌, List, [], ◌∷◌, refl, sym, ◌∙◌, ap, subst, inl, inr, ⊎_elim, true≢false}
 use Rattle.std.proofs.lemmas.Bool.{and_parts, or_left, or_right, eq-eqb, eqb-true, false_from_ne_true}
 use Rattle.std.proofs.lemmas.Slice.Eq.{bytes_eq-Decides}
 use Rattle.std.specs.Prelude.{map, filter, cond, ◌==◌}
@@ -19,9 +19,10 @@ use Rattle.office.specs.Laws.{In}
 use Rattle.office.specs.Transaction.{LiesIn, keys_to_remove, without_marked}
 use Rattle.office.proofs.AgreeLists.{in_maildrop-without}
 use Rattle.office.proofs.Bounds.{any_witness}
-use Rattle.office.proofs.Lying.{filter-map}
 use Rattle.office.proofs.Snapshot.{in_filter}
-use Rattle.office.proofs.UniqueIds.{any_in, not_true}
+use Rattle.office.proofs.UniqueIds.{any_in}
+use Rattle.vault.proofs.ListLemmas.{filter-map, not_true, distinct-map}
+use Rattle.office.proofs.Alike.{to_remove-map}
 
 -- ---- lists
 
@@ -73,30 +74,6 @@ both_ways false c f g = sym (false_from_ne_true c (λ e. true≢false (sym (g e)
 
 -- ---- what is removed, of any rows
 
-module _ {A B : Type 0} (f : A → B) where
-  abbrev pub numbered_as : ℕ × A → ℕ × B
-  numbered_as row = (row.0, f row.1)
-
-  numbered_from-map : (n : ℕ) (xs : List A) → numbered_from n (map f xs) ≡ map numbered_as (numbered_from n xs)
-  numbered_from-map n [] = refl
-  numbered_from-map n (x ∷ xs) = ap (λ rows. (n, f x) ∷ rows) (numbered_from-map (n + 1) xs)
-
-  rows-map : (rows : List (ℕ × A)) → map (λ (row : ℕ × B). row.1) (map numbered_as rows) ≡ map f (map (λ (row : ℕ × A). row.1) rows)
-  rows-map [] = refl
-  rows-map (row ∷ rows) = ap (λ ys. f row.1 ∷ ys) (rows-map rows)
-
-  pub marked-map : (marks : List ℕ) (xs : List A) → marked marks (map f xs) ≡ map numbered_as (marked marks xs)
-  marked-map marks xs =
-      ap (λ rows. filter (λ (row : ℕ × B). is_marked marks row.0) rows) (numbered_from-map 1 xs)
-      ∙ filter-map numbered_as (λ (row : ℕ × B). is_marked marks row.0) (numbered xs)
-
-  pub to_remove-map : (class_of : B → List ℕ) (p : Policy) (name : LoginName) (marks : List ℕ) (xs : List A)
-      → to_remove class_of p name marks (map f xs) ≡ map f (to_remove (λ x. class_of (f x)) p name marks xs)
-  to_remove-map class_of p name marks xs =
-      ap (λ rows. filter (λ y. may_remove p name (class_of y)) (map (λ (row : ℕ × B). row.1) rows)) (marked-map marks xs)
-      ∙ (ap (λ ys. filter (λ y. may_remove p name (class_of y)) ys) (rows-map (marked marks xs))
-      ∙ filter-map f (λ y. may_remove p name (class_of y)) (map (λ (row : ℕ × A). row.1) (marked marks xs)))
-
 in_numbered : {A : Type 0} (n : ℕ) (xs : List A) (row : ℕ × A) → In row (numbered_from n xs) → In row.1 xs
 in_numbered n [] row h = absurd h
 in_numbered {A} n (x ∷ xs) row h = ⊎_elim (λ e. inl (ap (λ (r : ℕ × A). r.1) e)) (λ k. inr (in_numbered (n + 1) xs row k)) h
@@ -147,14 +124,6 @@ same_from a b d c k =
 
 same_turned : (a b : Message) → same_message a b ≡ true → same_message b a ≡ true
 same_turned a b h = let p = same_parts a b h in same_from b a (sym p.0) (sym p.1) (sym p.2)
-
-distinct-map : {A B : Type 0} (f : A → B) (same : B → B → Bool) (xs : List A) → are_distinct same (map f xs) ≡ are_distinct (λ x y. same (f x) (f y)) xs
-distinct-map f same [] = refl
-distinct-map f same (x ∷ xs) = ap₂ (λ a b. not a && b) (any-map (same (f x)) xs) (distinct-map f same xs)
-  where
-    any-map : (p : _ → Bool) (ys : List _) → list_any p (map f ys) ≡ list_any (λ y. p (f y)) ys
-    any-map p [] = refl
-    any-map p (y ∷ ys) = ap (λ b. p (f y) || b) (any-map p ys)
 
 module _ (c : Contents) (s : Session) (kept : List Keyed) (p : Policy) (a : AreSound c) (l : LiesIn c s kept) where
   abbrev keys : List ℕ

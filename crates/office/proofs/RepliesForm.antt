@@ -1,5 +1,6 @@
 -- Over sound records and events of their types, every reply has the form that replies have.
-use Rattle.std.specs.Prelude.{◌≡◌, ℕ, zero, suc, ◌+◌, ◌≤◌, ◌<◌, ◌^◌, Bool, true, false, not, ◌&&◌, ◌||◌, ◌==◌, nat_le, List, [], ◌∷◌, ◌++◌, length, sum_by, Option, Some, None, Result, Ok, Err, is_some, if◌then◌else◌, max}
+use Rattle.std.specs.Prelude.{◌≡◌, ℕ, zero, suc, ◌+◌, ◌≤◌, ◌<◌, ◌^◌, Bool, true, false, not, ◌&&◌, ◌||◌, ◌==◌, nat_le, List, [], ◌∷◌, ◌++◌, length, sum_by, Option, Some, None}
+use Rattle.std.specs.Prelude.{Result, Ok, Err, is_some, if◌then◌else◌, max}
 use Rattle.std.proofs.Common.{refl, subst, inl, inr}
 use Rattle.std.proofs.lemmas.Bool.{and_parts, leb-true, ltb-true, le-leb}
 use Rattle.std.proofs.lemmas.List.Folds.{list_all-append}
@@ -13,7 +14,8 @@ use Rattle.mailtext.specs.Text.{lines_of, stuffed_lines, top_part}
 use Rattle.creds.specs.Names.{is_name, has_length, is_name_octet, is_host, is_host_octet, is_host_part, is_deposit_id}
 use Rattle.creds.specs.declared.login_name.LoginName.{LoginName}
 use Rattle.creds.specs.Credential.{Shown, ByPass, ByApop, is_admitted}
-use Rattle.policy.specs.Policy.{Policy, decide, decision_of, matches, are_clerks, are_sound_groups, are_sound_rules, know_groups, is_sound_policy, is_sound_rule, are_distinct, same_name, default_rule, is_pattern, lists_any, is_any, most_rules}
+use Rattle.policy.specs.Policy.{Policy, decide, decision_of, matches, are_clerks, are_sound_groups, are_sound_rules, know_groups, is_sound_policy, is_sound_rule, are_distinct}
+use Rattle.policy.specs.Policy.{same_name, default_rule, is_pattern, lists_any, is_any, most_rules}
 use Rattle.policy.specs.declared.decide.Decision.{Decision}
 use Rattle.policy.specs.declared.rule.Rule.{Rule}
 use Rattle.policy.specs.declared.rule.Action.{Action}
@@ -36,17 +38,20 @@ use Rattle.session.specs.declared.removals.Removals.{Removals}
 use Rattle.office.specs.History.{Entry, Act, Open, Line, Gone, Idle, Deposit, Administer, Restart, Tag, Done, Failed, NoMemory, in_force, credential, exists}
 use Rattle.office.specs.Connections.{setting, user, failures, serving, closing}
 use Rattle.office.specs.Sessions.{present, view, marks, login, live, holder}
-use Rattle.office.specs.Replying.{Transaction, LineState, InAuthorization, InTransaction, transaction_at, state_at, stamp, login_failed, maildrop_has, opening, logging_in, deleted_if, served_if, quit_says, authorization_says, session_says, is_permitted, when_permitted, refusal, name_or_nobody, obeyed, reply_to_command, reply_to_reading, reply_to, reply_to_cut, said_to_line}
+use Rattle.office.specs.Replying.{Transaction, LineState, InAuthorization, InTransaction, transaction_at, state_at, stamp, login_failed, maildrop_has, opening, logging_in}
+use Rattle.office.specs.Replying.{deleted_if, served_if, quit_says, authorization_says, session_says, is_permitted, when_permitted, refusal, name_or_nobody, obeyed}
+use Rattle.office.specs.Replying.{reply_to_command, reply_to_reading, reply_to, reply_to_cut, said_to_line}
 use Rattle.office.specs.Told.{told, said_to, answers_if_done, deposited, administered}
 use Rattle.office.specs.Answers.{Answer}
-use Rattle.office.specs.Events.{Event, EventTag, Ignored, Tagged, Log, Trace}
+use Rattle.office.specs.Events.{Event, Ignored, Tagged, Log}
 use Rattle.office.specs.Events as event
 use Rattle.office.specs.Log.{moment}
 use Rattle.office.specs.Trace.{acts_at, acts_from, line_act, act_of_part, acts_of_took, acts_of_piece, idle_acts, idle_numbers, next_line, is_left}
 use Rattle.office.specs.Formed.{is_u64, are_formed, is_formed}
 use Rattle.office.specs.Laws.{In, IfReply, AllReplies, RepliesHaveTheirForm}
 use Rattle.office.proofs.UniqueIds.{all_in}
-use Rattle.office.proofs.Bounds.{formed_act, all_formed, is_small, IsSmallView, IsBoot, all_filter, filter_short, in_small, views_small, policies_sound, boots_small, arrivals_small, present_fits}
+use Rattle.office.proofs.Bounds.{formed_act, all_formed, is_small, IsSmallView, IsBoot, in_small, views_small, policies_sound, boots_small, arrivals_small, present_fits}
+use Rattle.vault.proofs.ListLemmas.{all_filter, filter_fits}
 
 -- ---- names of rules
 
@@ -75,7 +80,8 @@ found_in {A} p (y ∷ ys) x e = at (p y) e (λ k. found_in p ys x k)
 
 sound_rule_name : (r : Rule) → is_sound_rule r ≡ true → is_name r.name ≡ true
 sound_rule_name r h =
-    let a = and_parts (is_name r.name && not (bytes_eq r.name default_rule) && are_clerks r.clerk && is_pattern r.maildrop && is_pattern r.class && lists_any r.actions) (not r.actions.open || is_any r.class) h in
+    let a = and_parts (is_name r.name && not (bytes_eq r.name default_rule) && are_clerks r.clerk && is_pattern r.maildrop && is_pattern r.class && lists_any r.actions)
+    (not r.actions.open || is_any r.class) h in
     let b = and_parts (is_name r.name && not (bytes_eq r.name default_rule) && are_clerks r.clerk && is_pattern r.maildrop && is_pattern r.class) (lists_any r.actions) a.0 in
     let c = and_parts (is_name r.name && not (bytes_eq r.name default_rule) && are_clerks r.clerk && is_pattern r.maildrop) (is_pattern r.class) b.0 in
     let d = and_parts (is_name r.name && not (bytes_eq r.name default_rule) && are_clerks r.clerk) (is_pattern r.maildrop) c.0 in
@@ -139,7 +145,7 @@ total_small f xs h l =
 unmarked_small : (marks : List ℕ) (ms : List Message) → IsSmallView ms → (length (unmarked marks ms) < 2 ^ 64) × (total_of octets_of (unmarked marks ms) < 2 ^ 64)
 unmarked_small marks ms s =
     let p = λ (row : ℕ × Message). not (is_marked marks row.0) in
-    let a = filter_short p (numbered ms) in
+    let a = filter_fits p (numbered ms) in
     let b = numbered_len 1 ms in
     let l = s.1 in
     let c = all_filter (λ (row : ℕ × Message). is_small row.1) p (numbered ms) (numbered_small 1 ms s.0) in

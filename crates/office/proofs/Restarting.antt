@@ -24,7 +24,15 @@ pub restart_stands : {V : Type 0} (Holds : V → Contents → Type 0) (o o' : Of
 restart_stands Holds o o' T boot st formed on p b s l n connections locks =
     let T' = given T (event.Restart boot) (Tagged Done) in
     record {
-      keeps = record { contents = st.keeps.contents; held = on st.keeps.contents st.keeps.held; agree = st.keeps.agree; sound = st.keeps.sound; formed = rw formed st.keeps.formed; began = begun_on (event.Restart boot) (Tagged Done) T.log st.began };
+      keeps = record {
+        contents = st.keeps.contents;
+        held = on st.keeps.contents st.keeps.held;
+        agree = st.keeps.agree;
+        sound = st.keeps.sound;
+        formed = rw formed st.keeps.formed;
+        began = begun_on
+            (event.Restart boot) (Tagged Done) T.log st.began;
+      };
       began = begins_on (event.Restart boot) (Tagged Done) T.log st.began;
       policy = p ∙ st.policy;
       boot = b;

@@ -83,7 +83,8 @@ ran_more vault first o o' es ss ss' e T r n le =
       admitted = steps_admitted vault.holds T (es ++ e ∷ []) ss' follows.each;
       causes = subst (HaveCauses before now) back (causes_more before (vault.faults (vault_of o)) now ss s r.causes le n.done.cause);
       up = λ up a. let all = answered_all ss s (subst AreAnswered n.entered a) in n.done.up (r.up up all.0) all.1;
-      stop = λ up. subst (StopLeavesRun (vault.may_leave (vault_of o')) T (es ++ e ∷ [])) back (stop_more vault.holds (vault.may_leave (vault_of o')) T es ss e s r.follows.each (λ a. n.done.stop (r.up up a)));
+      stop = λ up. subst (StopLeavesRun (vault.may_leave (vault_of o')) T (es ++ e ∷ [])) back
+          (stop_more vault.holds (vault.may_leave (vault_of o')) T es ss e s r.follows.each (λ a. n.done.stop (r.up up a)));
     }
 
 -- ---- how many failed

@@ -18,7 +18,8 @@ use Rattle.vault.specs.Records.{class_of, octets_of, uid_of}
 use Rattle.vault.specs.declared.record.Message as store
 use Rattle.session.specs.View.{is_marked, marked, unmarked, numbered, at_number, referred, may_remove, removal, to_remove, denying, sizes_of, uids_of, total_of}
 use Rattle.office.specs.History.{Tag, Done, Failed, NoMemory}
-use Rattle.office.specs.Replying.{Transaction, LineState, InAuthorization, InTransaction, authorization_says, session_says, quit_says, name_or_nobody, is_readable, is_empty, pick, login_asked, transaction_asks, is_allowed, is_permitted, when_permitted, obeyed, reply_to_command, reply_to_reading, reply_to, may_fail}
+use Rattle.office.specs.Replying.{Transaction, LineState, InAuthorization, InTransaction, authorization_says, session_says, quit_says, name_or_nobody, is_readable, is_empty, pick}
+use Rattle.office.specs.Replying.{login_asked, transaction_asks, is_allowed, is_permitted, when_permitted, obeyed, reply_to_command, reply_to_reading, reply_to, may_fail}
 
 -- ---- marks count by number
 

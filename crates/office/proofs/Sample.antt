@@ -28,7 +28,8 @@ use Rattle.office.specs.Trace.{history, rest}
 use Rattle.office.specs.Expected.{outcome_of, octets_taken}
 
 abbrev pub rule : List ℕ → Effect → List ℕ → Pattern → Pattern → Bool → Bool → Bool → Rule
-rule name effect clerk maildrop class o r m = record { name = name; effect = effect; clerk = clerks.Is clerk; maildrop = maildrop; class = class; actions = record { «open» = o; read = r; remove = m } }
+rule name effect clerk maildrop class o r m = record
+    { name = name; effect = effect; clerk = clerks.Is clerk; maildrop = maildrop; class = class; actions = record { «open» = o; read = r; remove = m } }
 
 abbrev pub ord : Pattern
 ord = Is (codes "orders")

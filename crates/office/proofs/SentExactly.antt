@@ -1,5 +1,6 @@
 -- What a connection took is a beginning of what it was sent.
-use Rattle.std.proofs.Common.{◌≡◌, ℕ, ◌+◌, ◌≤◌, Bool, true, false, not, ◌&&◌, ◌||◌, ◌==◌, nat_lt, List, [], ◌∷◌, ◌++◌, length, take, drop, max, refl, sym, ◌∙◌, ap, arith, None, Some, Option, eq-eqb, ne_eqb, ⊎_elim, subst, true≢false, append-nil, append_assoc, length-append}
+use Rattle.std.proofs.Common.{◌≡◌, ℕ, ◌+◌, ◌≤◌, Bool, true, false, not, ◌&&◌, ◌||◌, ◌==◌, nat_lt, List, [], ◌∷◌, ◌++◌, length, take, drop, max, refl, sym, ◌∙◌, ap, arith, None}
+use Rattle.std.proofs.Common.{Some, Option, eq-eqb, ne_eqb, ⊎_elim, subst, true≢false, append-nil, append_assoc, length-append}
 use Rattle.std.proofs.Math.Seq.{take-add}
 use Rattle.std.proofs.lemmas.List.{length-drop, take-append-le, take-append-drop}
 use Rattle.std.proofs.lemmas.Bool.{cases_eq, ltb-false}
@@ -11,11 +12,12 @@ use Rattle.office.specs.Connections.{opens, connected, sent, sent_after, octets_
 use Rattle.office.specs.Replying.{is_empty}
 use Rattle.office.specs.Answers.{AdminCommand}
 use Rattle.office.specs.Told.{told, said_to}
-use Rattle.office.specs.Events.{Limits, Event, EventTag, Tagged, Ignored, Log, Trace, given}
+use Rattle.office.specs.Events.{Limits, Event, EventTag, Tagged, Ignored, Log, Trace}
 use Rattle.office.specs.Events as event
 use Rattle.office.specs.Outcomes.{Outcome, Reason, NoSuchConnection, NotReady, PieceTooLong, event_tag_of}
 use Rattle.office.specs.Log.{next_number, taken, moment}
-use Rattle.office.specs.Trace.{acts_from, acts_at, acts_of_piece, acts_of_took, act_of_part, act_of_all, line_act, idle_acts, idle_numbers, history, rest, rest_if, is_open, is_open_by, is_left, untaken, next_line}
+use Rattle.office.specs.Trace.{acts_from, acts_at, acts_of_piece, acts_of_took, act_of_part, act_of_all, line_act, idle_acts, idle_numbers, history, rest, rest_if, is_open}
+use Rattle.office.specs.Trace.{is_open_by, is_left, untaken, next_line}
 use Rattle.office.specs.Expected.{ignored, shown_at, or_ignored, reason_if, most_in_a_piece}
 use Rattle.office.specs.Taken.{trace_of, all_taken, all_taken_by, closes_at, has_closed_by, IsAdmitted, AreAdmittedBy}
 use Rattle.office.specs.Laws.{TakenIsSent}
@@ -127,7 +129,7 @@ takes_owed T c count t a =
     let owed = a.owed c in
     record { here = f.0; fits = omega (arith, within, owed) }
 
-rest_open : (b : Bool) (u : List ℕ) → b ≡ true → rest_if b u ≡ u
+pub rest_open : (b : Bool) (u : List ℕ) → b ≡ true → rest_if b u ≡ u
 rest_open true u e = refl
 rest_open false u e = cc
 

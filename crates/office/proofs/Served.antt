@@ -10,7 +10,8 @@ use Rattle.popline.specs.declared.command.LineFault.{LineFault}
 use Rattle.popline.specs.declared.command.LineFault.TheVariants.{Unknown, Syntax}
 use Rattle.popline.specs.declared.command.Keyword.{Keyword}
 use Rattle.popline.specs.declared.command.Keyword.TheVariants as keyword
-use Rattle.popline.specs.Replies.{Reply, LineTooLong, UnknownCommand, LoginFailed, LoginFailedClosing, NoSuchMaildrop, InUse, NoSuchMessage, AlreadyMarked, DeniedBy, Marked, BadArguments, ScanLine, UidLine, Message as MessageReply, TopPart}
+use Rattle.popline.specs.Replies.{Reply, LineTooLong, UnknownCommand, LoginFailed, LoginFailedClosing, NoSuchMaildrop, InUse, NoSuchMessage, AlreadyMarked, DeniedBy, Marked}
+use Rattle.popline.specs.Replies.{BadArguments, ScanLine, UidLine, Message as MessageReply, TopPart}
 use Rattle.mailtext.specs.Text.{lines_of, stuffed_lines, top_part}
 use Rattle.policy.specs.declared.decide.Decision.{Decision}
 use Rattle.vault.specs.Records.{Records, class_of, octets_of, uid_of}
@@ -24,7 +25,9 @@ use Rattle.office.specs.Connections.{judging, user, opens, failures, has_message
 use Rattle.office.specs.Told.{told, said_to, answers_if_done, deposited, administered}
 use Rattle.office.specs.Answers.{Answer}
 use Rattle.policy.specs.Policy.{Policy}
-use Rattle.office.specs.Replying.{LineState, InAuthorization, InTransaction, transaction_at, state_at, authorization_says, session_says, said_to_line, reply_to_reading, is_allowed, is_permitted, when_permitted, obeyed, refusal, deleted_if, served_if, quit_says, name_or_nobody, logging_in, login_failed, opening, stamp, maildrop_has}
+use Rattle.office.specs.Replying.{LineState, InAuthorization, InTransaction, transaction_at, state_at, authorization_says, session_says, said_to_line, reply_to_reading, is_allowed}
+use Rattle.office.specs.Replying.{is_permitted, when_permitted, obeyed, refusal, deleted_if, served_if, quit_says, name_or_nobody, logging_in, login_failed, opening, stamp}
+use Rattle.office.specs.Replying.{maildrop_has}
 use Rattle.office.specs.Served.{IsReplyWith, IsServed, IsServedTo, ServedIsAllowed}
 use Rattle.office.proofs.Laws.{live_side, no_opening}
 
@@ -54,7 +57,8 @@ live_is_named B ((a, t) ∷ H) c h =
 
 -- ---- replies without a message
 
-login_is_plain : (a b c d : Bool) (o : Decision) (n : ℕ) (found : List Message) → Plain (if a then login_failed n else if b then DeniedBy o.rule else if c then NoSuchMaildrop else if d then InUse else maildrop_has found)
+login_is_plain : (a b c d : Bool) (o : Decision) (n : ℕ) (found : List Message)
+    → Plain (if a then login_failed n else if b then DeniedBy o.rule else if c then NoSuchMaildrop else if d then InUse else maildrop_has found)
 login_is_plain true b c d o n found = failed_is_plain n
   where
     failed_is_plain : (n : ℕ) → Plain (login_failed n)

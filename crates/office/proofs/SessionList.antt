@@ -1,5 +1,6 @@
 -- The sessions, as they are kept and as a history has them.
-use Rattle.std.proofs.Common.{◌≡◌, ℕ, ◌+◌, ◌<◌, ◌≤◌, ◌==◌, ◌||◌, Bool, true, false, List, [], ◌∷◌, map, refl, sym, ◌∙◌, ap, ap₂, subst, ⊎_elim, arith, eqb-true, true≢false, Option, Some, None, cond, nat_cmp, nat_lt}
+use Rattle.std.proofs.Common.{◌≡◌, ℕ, ◌+◌, ◌<◌, ◌≤◌, ◌==◌, ◌||◌, Bool, true, false, List, [], ◌∷◌, map, refl, sym, ◌∙◌, ap, ap₂, subst, ⊎_elim, arith, eqb-true, true≢false, Option}
+use Rattle.std.proofs.Common.{Some, None, cond, nat_cmp, nat_lt}
 use Rattle.std.specs.Prelude.{⊤}
 use Rattle.std.proofs.lemmas.Bool.{cases_Bool, cases_eq}
 use Rattle.std.proofs.lemmas.Bool.Decides.{nat_tests}
@@ -30,6 +31,7 @@ use Rattle.office.specs.Stands.{Seen, seen, IsSession, IsKeptFor, Keeps, StandsF
 use Rattle.office.specs.declared.office.Office.{Office}
 use Rattle.office.proofs.Laws.{held_heard}
 use Rattle.office.proofs.Quiet.{Became, done, lacked, keeps_same}
+use Rattle.office.proofs.SmallLemmas.{nat_lt-true, less_than, not_above, not_below, at_itself, no_some}
 
 -- ---- entries whose numbers ascend
 
@@ -42,9 +44,6 @@ from_below : (a b : ℕ) (ks : List ℕ) → a ≤ b → Ascends b ks → Ascend
 from_below a b [] h up = tt
 from_below a b (k ∷ ks) h up = (omega (arith, h, up.0), up.1)
 
-less_than : (a b : ℕ) → nat_cmp a b ≡ Less → a < b
-less_than a b e = grind (arith, nat_tests, e)
-
 ascends_behind : (k : ℕ) (ks : List ℕ) → AllByRecursion (λ y. nat_cmp k y ≡ Less) ks → IsStrictlySortedBy nat_cmp ks → Ascends (k + 1) ks
 unfolding IsStrictlySortedBy
 ascends_behind k [] all sorted = tt
@@ -56,9 +55,6 @@ unfolding IsStrictlySortedBy
 ascends [] sorted = tt
 ascends (k ∷ ks) sorted = (omega arith, ascends_behind k ks sorted.0 sorted.1)
 
-below : (a b : ℕ) → nat_lt a b ≡ true → a < b
-below a b h = grind (arith, nat_tests, h)
-
 not_more : (a b : ℕ) → nat_lt a b ≡ false → b ≤ a
 not_more a b h = grind (arith, nat_tests, h)
 
@@ -67,15 +63,6 @@ unlike a b h e = grind (arith, nat_tests, h, e)
 
 at_number : (c k : ℕ) → is_at (nat_cmp c) k ≡ (k == c)
 at_number c k = grind (arith, nat_tests)
-
-not_above : (c k : ℕ) → c < k → is_at (nat_cmp c) k ≡ false
-not_above c k h = grind (arith, nat_tests, h)
-
-not_below : (c k : ℕ) → k < c → is_at (nat_cmp c) k ≡ false
-not_below c k h = grind (arith, nat_tests, h)
-
-at_itself : (k : ℕ) → is_at (nat_cmp k) k ≡ true
-at_itself k = grind (arith, nat_tests)
 
 -- what is found by a number
 abbrev found : {X : Type 0} → ℕ → List (ℕ × X) → Option X
@@ -92,9 +79,6 @@ found_first k v es = rw (at_itself k) refl
 found_behind : {X : Type 0} (c k : ℕ) (v : X) (es : List (ℕ × X)) → k < c → found c ((k, v) ∷ es) ≡ found c es
 found_behind c k v es h = rw (not_below c k h) refl
 
-no_some : {X : Type 0} (x : X) → None ≡ Some x → ⊥
-no_some x e = cc
-
 -- entries that ascend are told by what is found in them
 same_entries : {X : Type 0} (a : ℕ) (es fs : List (ℕ × X)) → Ascends a (keys_of es) → Ascends a (keys_of fs) → ((c : ℕ) → found c es ≡ found c fs) → es ≡ fs
 same_entries a [] [] up to same = refl
@@ -102,7 +86,7 @@ same_entries a [] ((q, w) ∷ fs) up to same = absurd (no_some w (same q ∙ fou
 same_entries a ((k, v) ∷ es) [] up to same = absurd (no_some v (sym (same k) ∙ found_first k v es))
 same_entries {X} a ((k, v) ∷ es) ((q, w) ∷ fs) up to same = ⊎_elim
     (λ (e : k ≡ q). alike e (λ low rest. same_entries (k + 1) es fs up.1 low rest))
-    (λ (ne : k ≡ q → ⊥). ⊎_elim (λ h. absurd (missing (below k q h))) (λ h. absurd (added (omega (arith, not_more k q h, ne)))) (cases_Bool (nat_lt k q)))
+    (λ (ne : k ≡ q → ⊥). ⊎_elim (λ h. absurd (missing (nat_lt-true k q h))) (λ h. absurd (added (omega (arith, not_more k q h, ne)))) (cases_Bool (nat_lt k q)))
     (cases_eq k q)
   where
     missing : k < q → ⊥
@@ -114,7 +98,7 @@ same_entries {X} a ((k, v) ∷ es) ((q, w) ∷ fs) up to same = ⊎_elim
     behind : k ≡ q → (c : ℕ) → found c es ≡ found c fs
     behind e c = ⊎_elim
         (λ (h : nat_lt k c ≡ true).
-        let more = below k c h in
+        let more = nat_lt-true k c h in
         sym (found_behind c k v es more) ∙ (same c ∙ found_behind c q w fs (omega (arith, more, e))))
         (λ (h : nat_lt k c ≡ false).
         let less = not_more k c h in
@@ -170,9 +154,10 @@ put_ascends : (n a : ℕ) (xs : List ℕ) → a ≤ n → Ascends a xs → Ascen
 put_ascends n a [] h up = (h, tt)
 put_ascends n a (x ∷ xs) h up = at (n == x) refl (nat_lt n x) refl (λ low. put_ascends n (x + 1) xs low up.1)
   where
-    at : (same : Bool) → (n == x) ≡ same → (less : Bool) → nat_lt n x ≡ less → (x + 1 ≤ n → Ascends (x + 1) (put_number n xs)) → Ascends a (cond same (x ∷ xs) (cond less (n ∷ x ∷ xs) (x ∷ put_number n xs)))
+    at : (same : Bool) → (n == x) ≡ same → (less : Bool) → nat_lt n x ≡ less → (x + 1 ≤ n → Ascends (x + 1) (put_number n xs))
+        → Ascends a (cond same (x ∷ xs) (cond less (n ∷ x ∷ xs) (x ∷ put_number n xs)))
     at true e less f rest = up
-    at false e true f rest = (h, (let less = below n x f in omega (arith, less), up.1))
+    at false e true f rest = (h, (let less = nat_lt-true n x f in omega (arith, less), up.1))
     at false e false f rest = (up.0, rest (let more = not_more n x f in let ne = unlike n x e in omega (arith, more, ne)))
 
 after_ascends : (a : Act) (xs : List ℕ) → Ascends 0 xs → Ascends 0 (heard_after a xs)
@@ -210,7 +195,8 @@ same_rows : (f : ℕ → Option LoginName) (xs : List ℕ) → rows (λ o. o) (p
 same_rows f [] = refl
 same_rows f (x ∷ xs) = at (session_row x (f x)) (same_rows f xs)
   where
-    at : (o : Option (ℕ × LoginName)) → rows (λ o. o) (paired f xs) ≡ filter_map (λ c. session_row c (f c)) xs → cons_option o (rows (λ o. o) (paired f xs)) ≡ cons_option o (filter_map (λ c. session_row c (f c)) xs)
+    at : (o : Option (ℕ × LoginName)) → rows (λ o. o) (paired f xs) ≡ filter_map (λ c. session_row c (f c)) xs
+        → cons_option o (rows (λ o. o) (paired f xs)) ≡ cons_option o (filter_map (λ c. session_row c (f c)) xs)
     at o h = ap (λ ys. cons_option o ys) h
 
 -- ---- who is in session
@@ -255,7 +241,8 @@ named_kept None = refl
 named_kept (Some k) = refl
 
 -- the rows of what is kept are the sessions of the trace
-pub kept_sessions : {V : Type 0} (Holds : V → Contents → Type 0) (o : Office V) (T : Trace) → StandsFor Holds o T → IsOrdered nat_cmp o.connections → filter_map kept_row o.connections.entries ≡ sessions (history T)
+pub kept_sessions : {V : Type 0} (Holds : V → Contents → Type 0) (o : Office V) (T : Trace) → StandsFor Holds o T → IsOrdered nat_cmp o.connections
+    → filter_map kept_row o.connections.entries ≡ sessions (history T)
 kept_sessions Holds o T st ordered =
     let es = o.connections.entries in
     let by_key : Ascends 0 (keys_of es) = ascends (keys_of es) ordered in

@@ -11,12 +11,13 @@ use Rattle.sha2.specs.Sha256.{sha256}
 use Rattle.mailtext.specs.Text.{line_end}
 use Rattle.office.specs.Answers.{AddMaildrop, DropMaildrop, ShowMaildrop, EndSession}
 use Rattle.office.specs.History.{Failed}
-use Rattle.office.specs.Events.{Event, Connect, Bytes, Took, Tick, Deposit, Admin, Restart, Tagged, Trace}
+use Rattle.office.specs.Events.{Event, Connect, Bytes, Took, Tick, Admin, Restart, Tagged, Trace}
 use Rattle.office.specs.Events as events
 use Rattle.office.specs.Outcomes as outcomes
 use Rattle.office.specs.Trace.{is_open}
 use Rattle.office.specs.Expected.{outcome_of, may_show}
-use Rattle.office.proofs.Sample.{lent, shows, both, Step, Give, Drain, Sip, run, ran, connect, says, received, replies, as_ann, ann, ann_receives, kept_ids, deposit, answered, pipelined, d1, d4, second_as_bob}
+use Rattle.office.proofs.Sample.{lent, shows, both, Step, Give, Drain, Sip, run, ran, connect, says, received, replies, as_ann, ann, ann_receives, kept_ids, deposit, answered}
+use Rattle.office.proofs.Sample.{pipelined, d1, d4, second_as_bob}
 
 -- ---- ids over a drop and a restart
 
@@ -41,7 +42,9 @@ unfolding digits login_name decode_pairs md5 M.digest_bytes M.hash_after M.compr
 answers_while_dropped = refl
 
 -- it is empty; to a known id, to the same of another class, and to a new one
-added_again_over_a_drop : shows (run added_again) (λ T. answered T (Admin (ShowMaildrop (codes "orders"))) ∷ answered T (deposit (codes "note") (codes "d1") d1) ∷ answered T (deposit (codes "pay") (codes "d1") d1) ∷ answered T (deposit (codes "note") (codes "d6") (codes "x\n")) ∷ [])
+added_again_over_a_drop : shows (run added_again)
+    (λ T. answered T (Admin (ShowMaildrop (codes "orders"))) ∷ answered T (deposit (codes "note") (codes "d1") d1)
+    ∷ answered T (deposit (codes "pay") (codes "d1") d1) ∷ answered T (deposit (codes "note") (codes "d6") (codes "x\n")) ∷ [])
     ≡ []
     ∷ codes "known note.1\n"
     ∷ codes "conflict\n"
@@ -150,7 +153,8 @@ pass_without_an_argument = refl
 -- refused credentials count over both kinds, of clerks that aren't known too; bad arguments don't count
 failed_logins_of_both_kinds : received 1 (run (connect 1 ++ says 1 (codes "APOP eve/orders c4c9334bac560ecc979e58001b3e22fb" ∷ codes "APOP ann/orders c4c9" ∷ codes "USER nobody/orders"
     ∷ codes "PASS x" ∷ codes "APOP mrose/orders c4c9334bac560ecc979e58001b3e22fb" ∷ codes "NOOP" ∷ [])))
-    ≡ replies (codes "+OK POP3 server ready <1.7@h.test>" ∷ codes "-ERR login failed" ∷ codes "-ERR bad arguments" ∷ codes "+OK send PASS" ∷ codes "-ERR login failed" ∷ codes "-ERR login failed, closing" ∷ [])
+    ≡ replies (codes "+OK POP3 server ready <1.7@h.test>" ∷ codes "-ERR login failed" ∷ codes "-ERR bad arguments" ∷ codes "+OK send PASS"
+    ∷ codes "-ERR login failed" ∷ codes "-ERR login failed, closing" ∷ [])
 unfolding digits login_name decode_pairs md5 M.digest_bytes M.hash_after M.compress M.rounds M.block_words
 failed_logins_of_both_kinds = refl
 

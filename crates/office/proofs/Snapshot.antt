@@ -15,11 +15,14 @@ use Rattle.vault.specs.declared.record.Message.{Message}
 use Rattle.session.specs.View.{visible, may_read, to_remove, marked, numbered, numbered_from, may_remove, is_marked}
 use Rattle.office.specs.Answers.{New}
 use Rattle.office.specs.History.{Entry, Act, Tag, Said, Answers, Line, Open, Gone, Idle, Deposit, Administer, Restart, is_done, arrivals, arrivals_after, in_force}
-use Rattle.office.specs.Sessions.{live, login, login_after, login_by, logs_in, quits, quits_if, removed, removed_after, removed_by, view, marks, ends_session, present, holds, is_login_to, in_session, when_live}
+use Rattle.office.specs.Sessions.{live, login, login_after, login_by, logs_in, quits, quits_if, removed, removed_after, removed_by, view, marks, ends_session, present, holds}
+use Rattle.office.specs.Sessions.{is_login_to, in_session, when_live}
 use Rattle.office.specs.Connections.{user, reading, is_quit, opens}
 use Rattle.office.specs.Told.{told, said_to}
 use Rattle.office.specs.Laws.{In, ViewStaysPresent}
-use Rattle.office.proofs.Laws.{one_holder, live_side, no_opening, no_some}
+use Rattle.office.proofs.Laws.{one_holder, live_side, no_opening}
+use Rattle.office.proofs.SmallLemmas.{no_some}
+use Rattle.vault.proofs.ListLemmas.{not_true, not_false}
 
 in_filter_at : {A : Type 0} (p : A → Bool) (y : A) (ys fs : List A) (x : A) (b : Bool) → p y ≡ b → (In x fs → In x ys × (p x ≡ true)) → In x (cond b (y ∷ fs) fs) → In x (y ∷ ys) × (p x ≡ true)
 in_filter_at p y ys fs x true f rest h = ⊎_elim (λ e. (inl e, ap p e ∙ f)) (λ k. let r = rest k in (inr r.0, r.1)) h
@@ -116,13 +119,6 @@ pub record IsThere (B : Records) (G : List Entry) (d : List ℕ) (m : Message) :
   pub within : m.maildrop ≡ d
   pub left : list_any (same_message m) (removed B G) ≡ false
 
-not_true : (b : Bool) → not b ≡ true → b ≡ false
-not_true true e = absurd (true≢false (sym e))
-not_true false e = refl
-
-not_false : (b : Bool) → b ≡ false → not b ≡ true
-not_false b e = rw e refl
-
 present_in : (B : Records) (G : List Entry) (d : List ℕ) (m : Message) → In m (present B G d) → IsThere B G d m
 present_in B G d m h =
     let a = in_filter (λ (x : Message). not (list_any (same_message x) (removed B G))) (in_maildrop d (arrivals B G)) m h in
@@ -159,7 +155,8 @@ removed_rest B e G m h others = at_quit (quits e.act e.tag) refl
         (at_session q eq (in_session G q) refl)
 
 same_maildrop : (a b : Message) → same_message a b ≡ true → a.maildrop ≡ b.maildrop
-same_maildrop a b h = (bytes_eq-Decides a.maildrop b.maildrop).0 (and_parts (bytes_eq a.maildrop b.maildrop) (bytes_eq a.class b.class) (and_parts (bytes_eq a.maildrop b.maildrop && bytes_eq a.class b.class) (a.k == b.k) h).0).0
+same_maildrop a b h = (bytes_eq-Decides a.maildrop b.maildrop).0
+    (and_parts (bytes_eq a.maildrop b.maildrop) (bytes_eq a.class b.class) (and_parts (bytes_eq a.maildrop b.maildrop && bytes_eq a.class b.class) (a.k == b.k) h).0).0
 
 holding : (G : List Entry) (d : List ℕ) (c : ℕ) (name : LoginName) → live G c ≡ true → login G c ≡ Some name → name.maildrop ≡ d → holds G d c ≡ true
 holding G d c name l e s =

@@ -40,10 +40,12 @@ module _ {Before : Contents → Type 0} (T : Trace) (n : ℕ) (keeps : Keeps Bef
     (part : has_newline p ≡ false → slice_get (cut s.stream) s.acted ≡ None → records T.base (history (given T e (Tagged Done))) ≡ records T.base (history T)) where
   -- the line that is next, whatever it is answered
   next_is : has_newline p ≡ true → slice_get (cut s.stream) s.acted ≡ Some (line_after k p)
-  next_is h = acts_next keeps.contents s k (answered k p Bye k.session nothing_owed) p Bye m refl (λ more. coming-fed k.held (answered k p Bye k.session nothing_owed).held p (through_newline p) refl refl more) h
+  next_is h = acts_next keeps.contents s k (answered k p Bye k.session nothing_owed) p Bye m refl
+      (λ more. coming-fed k.held (answered k p Bye k.session nothing_owed).held p (through_newline p) refl refl more) h
 
   next_none : has_newline p ≡ false → slice_get (cut s.stream) s.acted ≡ None
-  next_none h = none_next keeps.contents s k (answered k p Bye k.session nothing_owed) p Bye m refl (λ more. coming-fed k.held (answered k p Bye k.session nothing_owed).held p (through_newline p) refl refl more) h
+  next_none h = none_next keeps.contents s k (answered k p Bye k.session nothing_owed) p Bye m refl
+      (λ more. coming-fed k.held (answered k p Bye k.session nothing_owed).held p (through_newline p) refl refl more) h
 
   abbrev after : Contents
   after = held_if (has_newline p) line_outcome.Done d.policy k.session (reading (line_after k p)) keeps.contents
@@ -73,7 +75,15 @@ formed_done T e (Tagged t) f = f
 
 pub keeps_with_it : {Before Holds : Contents → Type 0} (left : Contents) (T : Trace) (e : Event) (w : Outcome) → Keeps Before (given T e (event_tag_of w)) → Holds left
     → SaysTrace left (with_it_done T e w) → Keeps Holds (with_it_done T e w)
-keeps_with_it left T e w k held says = record { contents = left; held = held; agree = says; sound = k.sound; formed = formed_done T.log e (event_tag_of w) k.formed; began = begun_done e (event_tag_of w) T.log k.began }
+keeps_with_it left T e w k held says = record {
+  contents = left;
+  held = held;
+  agree = says;
+  sound = k.sound;
+  formed = formed_done T.log e
+      (event_tag_of w) k.formed;
+  began = begun_done e (event_tag_of w) T.log k.began;
+}
 
 pub either_so : (w : Outcome) {A B C D : Type 0} → (A → C) → (B → D) → EitherOrWith w A B → EitherOrWith w C D
 either_so (outcome.Opened c) f g h = g h

@@ -2,8 +2,6 @@
 use Rattle.std.proofs.Common.{◌≡◌, ℕ, ◌<◌, ◌≤◌, Bool, true, false, List, [], ◌∷◌, drop, length, refl, sym, ◌∙◌, ap, subst, arith, true≢false, length-drop}
 use Rattle.std.proofs.lemmas.List.{length-take}
 use Rattle.vault.specs.Changes.{Contents}
-use Rattle.std.proofs.lemmas.Bool.Decides.{nat_tests}
-use Rattle.vault.specs.Calls.{has_grown}
 use Rattle.office.specs.History.{Failed, NoMemory}
 use Rattle.office.specs.Connections.{serving, closing}
 use Rattle.office.specs.Events.{Trace}
@@ -67,10 +65,6 @@ lacking_ends false c = refl
 
 pub refused_ends : (serving : Bool) (c : ℕ) → serving ≡ true → act_of_part serving c Failed ≡ gone_act c
 refused_ends serving c e = rw e refl
-
--- the count of faults grew in the second of two calls
-pub grown_behind : (a b c : ℕ) → a ≤ b → has_grown b c ≡ true → has_grown a c ≡ true
-grown_behind a b c h e = grind (arith, nat_tests)
 
 -- all is taken, and the connection stays open: its next line may act
 pub record TakesAll (c : Contents) (T : Trace) (x n now : ℕ) (k : Kept) : Type 0 where

@@ -1,7 +1,7 @@
 -- The message under a number of a session, and its text under its key.
-use Rattle.std.proofs.Common.{◌≡◌, ◌<◌, ◌≤◌, ℕ, zero, suc, Bool, true, false, not, ◌&&◌, ◌==◌, cond, List, [], ◌∷◌, length, Option, Some, None, Result, Ok, Err, slice_get, refl, sym, ◌∙◌, ap, ap₂, subst, ⊎_elim, inl, inr, true≢false, arith}
+use Rattle.std.proofs.Common.{◌≡◌, ◌<◌, ℕ, zero, suc, Bool, true, false, not, ◌&&◌, ◌==◌, cond, List, [], ◌∷◌, length, Option, Some, None, Result, Ok, Err, slice_get, refl}
+use Rattle.std.proofs.Common.{sym, ◌∙◌, ap, ap₂, subst, ⊎_elim, inl, inr, true≢false, arith}
 use Rattle.std.proofs.lemmas.Bool.{and_parts, or_parts, eq-eqb}
-use Rattle.std.proofs.lemmas.Bool.Decides.{nat_tests}
 use Rattle.std.proofs.lemmas.Slice.Eq.{bytes_eq-Decides}
 use Rattle.std.specs.Prelude.{map, nat_le, nat_lt, unwrap_or, if◌then◌else◌}
 use Rattle.std.specs.List.{list_any, list_all, find}
@@ -33,6 +33,8 @@ use Rattle.office.specs.declared.login_state.LineOutcome.{LineOutcome}
 use Rattle.office.specs.declared.login_state.LineOutcome.TheVariants as outcome
 use Rattle.office.proofs.Alike.{refer-map, at_number-map}
 use Rattle.office.proofs.Listed.{message_of}
+use Rattle.office.proofs.SmallLemmas.{nat_le-true}
+use Rattle.vault.proofs.ListLemmas.{not_true}
 
 -- ---- the message under a number
 
@@ -149,10 +151,6 @@ apart_in y (z ∷ zs) x e i =
     let r = or_parts (y.key == z.key) (list_any (λ (z : Keyed). y.key == z.key) zs) e in
     ⊎_elim (λ (same : x ≡ z). ap (λ (w : Keyed). y.key == w.key) same ∙ r.0) (λ k. apart_in y zs x r.1 k) i
 
-not_true : (b : Bool) → not b ≡ true → b ≡ false
-not_true true e = absurd (true≢false (sym e))
-not_true false e = refl
-
 pub find_key : (xs : List Keyed) → are_distinct (λ (x y : Keyed). x.key == y.key) xs ≡ true → (x : Keyed) → In x xs → find (λ (y : Keyed). y.key == x.key) xs ≡ Some x
 find_key [] d x i = absurd i
 find_key (y ∷ ys) d x i =
@@ -171,23 +169,21 @@ all_in p (y ∷ ys) h x i =
     let r = and_parts (p y.message) (list_all p (map message_of ys)) h in
     ⊎_elim (λ (same : x ≡ y). ap (λ (z : Keyed). p z.message) same ∙ r.0) (λ k. all_in p ys r.1 x k) i
 
-le_true : (m n : ℕ) → nat_le m n ≡ true → m ≤ n
-le_true m n e = grind (arith, nat_tests)
-
 not_empty : (xs : List ℕ) → nat_lt 0 (length xs) ≡ true → xs ≡ [] → ⊥
 not_empty [] e h = absurd (true≢false (sym e))
 not_empty (x ∷ xs) e h = cc
 
 text_form : (B : Records) (m : Stored) → is_sound_message B m ≡ true → IsMailText m.text
 text_form B m h =
-    let a = and_parts (bytes_eq (kept_form m.text) m.text && nat_lt 0 (octets_of m) && nat_le (octets_of m) most_octets && is_one_of m.maildrop B.maildrops) (list_any (is_receipt_for m) B.deposits) h in
+    let a = and_parts (bytes_eq (kept_form m.text) m.text && nat_lt 0 (octets_of m) && nat_le (octets_of m) most_octets && is_one_of m.maildrop B.maildrops)
+    (list_any (is_receipt_for m) B.deposits) h in
     let b = and_parts (bytes_eq (kept_form m.text) m.text && nat_lt 0 (octets_of m) && nat_le (octets_of m) most_octets) (is_one_of m.maildrop B.maildrops) a.0 in
     let d = and_parts (bytes_eq (kept_form m.text) m.text && nat_lt 0 (octets_of m)) (nat_le (octets_of m) most_octets) b.0 in
     let e = and_parts (bytes_eq (kept_form m.text) m.text) (nat_lt 0 (octets_of m)) d.0 in
     record {
       nonempty = not_empty m.text e.1;
       kept = (bytes_eq-Decides (kept_form m.text) m.text).0 e.0;
-      within = le_true (octets_of m) most_octets d.1;
+      within = nat_le-true (octets_of m) most_octets d.1;
     }
 
 pub has_text : (c : Contents) → AreSound c → (x : Keyed) → In x c.messages → HasText c x.key (octets_of x.message)

@@ -1,5 +1,6 @@
 -- A tick: which connections end, and what is left of the connections, the locks and what the trace says.
-use Rattle.std.proofs.Common.{◌≡◌, ℕ, zero, suc, ◌+◌, ◌<◌, ◌≤◌, Bool, true, false, not, ◌&&◌, ◌||◌, cond, List, [], ◌∷◌, ◌++◌, filter, refl, sym, ◌∙◌, ap, subst, true≢false, arith, append_assoc, Option, Some, None, IsSome, is_some, eqb, eqb-true, ⊎_elim, nat_cmp, nat_le, max, string_bytes}
+use Rattle.std.proofs.Common.{◌≡◌, ℕ, zero, suc, ◌+◌, ◌<◌, ◌≤◌, Bool, true, false, not, ◌&&◌, ◌||◌, cond, List, [], ◌∷◌, ◌++◌, filter, refl, sym, ◌∙◌, ap, subst, true≢false, arith}
+use Rattle.std.proofs.Common.{append_assoc, Option, Some, None, IsSome, is_some, eqb, eqb-true, ⊎_elim, nat_cmp, nat_le, max, string_bytes}
 use Rattle.std.proofs.lemmas.Bool.{cases_Bool, eqb-false}
 use Rattle.std.proofs.lemmas.Bool.Decides.{nat_tests}
 use Rattle.std.proofs.lemmas.Cmp.{eq_by_cmp_equiv, nat_cmp_total, nat_list_cmp_total}
@@ -30,6 +31,7 @@ use Rattle.office.proofs.Laws.{one_holder}
 use Rattle.office.proofs.Locked.{IsLock, lock_found, holder_is}
 use Rattle.office.proofs.Standing.{counters}
 use Rattle.office.proofs.Beginning.{begins_on, begun_on}
+use Rattle.office.proofs.SmallLemmas.{and_false}
 
 -- ---- the maps
 
@@ -72,10 +74,6 @@ ended false f = f
 
 eqb_sym : (a b : ℕ) → eqb a b ≡ eqb b a
 eqb_sym a b = grind (arith, nat_tests)
-
-and_none : (b : Bool) → (b && false) ≡ false
-and_none true = refl
-and_none false = refl
 
 module _ (B : Records) where
   one_ended : (H : List (Act × Tag)) (c q : ℕ) (b : Bool) → eqb c q ≡ b → facts B ((Idle c, Done) ∷ H) q ≡ ended b (facts B H q)
@@ -123,10 +121,10 @@ module _ (B : Records) where
       (there : (d : List ℕ) (q : ℕ) → holds (told B H) d q ≡ true → among ns q ≡ false → is_some (get nat_cmp connections q) ≡ true) where
     none_held : (d : List ℕ) (c q : ℕ) → holds (told B H) d c ≡ true → among ns c ≡ true → (b : Bool) → holds (told B H) d q ≡ b → (not (among ns q) && b) ≡ false
     none_held d c q h e true k = let n = subst (λ x. among ns x ≡ true) (one_holder B H d c q h k) e in rw n refl
-    none_held d c q h e false k = and_none (not (among ns q))
+    none_held d c q h e false k = and_false (not (among ns q))
 
     lock_of : (d : List ℕ) (o : Option ℕ) → holder (told B H) d ≡ o → IsLock (told B (idle_acts ns ++ H)) d (lock_of_kept connections o)
-    lock_of d None e = let free = lock_found B H d None e in λ q. holds-idle ns H d q ∙ (ap (λ b. not (among ns q) && b) (free q) ∙ and_none (not (among ns q)))
+    lock_of d None e = let free = lock_found B H d None e in λ q. holds-idle ns H d q ∙ (ap (λ b. not (among ns q) && b) (free q) ∙ and_false (not (among ns q)))
     lock_of d (Some c) e = at (among ns c) refl
       where
         held : holds (told B H) d c ≡ true
@@ -154,11 +152,12 @@ module _ (T : Trace) (now : ℕ) where
 
   among_idle : (q : ℕ) → among now_idle q ≡ ((among (range_with_len 1 (opened T.log)) q && is_open T q) && nat_le (clock T.log q + idle_seconds T.log) now)
   among_idle q =
-      is_member-filter nat_eq_equiv (λ c. nat_le (clock T.log c + idle_seconds T.log) now) q (λ x e. ap (λ c. nat_le (clock T.log c + idle_seconds T.log) now) (eqb-true q x e)) (open_numbers_at T.log (history T))
+      is_member-filter nat_eq_equiv (λ c. nat_le (clock T.log c + idle_seconds T.log) now) q
+      (λ x e. ap (λ c. nat_le (clock T.log c + idle_seconds T.log) now) (eqb-true q x e)) (open_numbers_at T.log (history T))
       ∙ ap (λ b. b && nat_le (clock T.log q + idle_seconds T.log) now) (is_member-filter nat_eq_equiv (is_open T) q (λ x e. ap (is_open T) (eqb-true q x e)) (range_with_len 1 (opened T.log)))
 
   closed_idle : (q : ℕ) → is_open T q ≡ false → among now_idle q ≡ false
-  closed_idle q e = let n = and_none (among (range_with_len 1 (opened T.log)) q) in among_idle q ∙ rw (e, n) refl
+  closed_idle q e = let n = and_false (among (range_with_len 1 (opened T.log)) q) in among_idle q ∙ rw (e, n) refl
 
   open_idle : (q : ℕ) → is_open T q ≡ true → 1 ≤ q → q ≤ opened T.log → among now_idle q ≡ nat_le (clock T.log q + idle_seconds T.log) now
   open_idle q e low high = let r = in_range (opened T.log) 1 q low (omega (arith, high)) in among_idle q ∙ rw (r, e) refl
@@ -219,7 +218,15 @@ module _ {V : Type 0} (Holds : V → Contents → Type 0) (o o' : Office V) (T :
     tick_stands on p b s l n locks =
         let same : whole T.base (acts ticked) ≡ whole T.base (acts T) = whole-idle T.base idle_now (acts T) in
         record {
-          keeps = record { contents = st.keeps.contents; held = on st.keeps.contents st.keeps.held; agree = rw (records-idle T.base idle_now (acts T)) st.keeps.agree; sound = st.keeps.sound; formed = st.keeps.formed; began = begun_on (event.Tick t) (Tagged Done) T.log st.began };
+          keeps = record {
+            contents = st.keeps.contents;
+            held = on st.keeps.contents st.keeps.held;
+            agree = rw
+                (records-idle T.base idle_now (acts T)) st.keeps.agree;
+            sound = st.keeps.sound;
+            formed = st.keeps.formed;
+            began = begun_on (event.Tick t) (Tagged Done) T.log st.began;
+          };
           began = begins_on (event.Tick t) (Tagged Done) T.log st.began;
           policy = p ∙ (st.policy ∙ ap (λ (w : Whole). w.rules) (sym same));
           boot = b ∙ (st.boot ∙ ap (λ (w : Whole). w.office.0) (sym same));

@@ -32,7 +32,8 @@ none_true false h = refl
 -- ---- a line
 
 -- who isn't in session
-pub authorization_asks_none : (c : Contents) (p : Policy) (t : LoginState) (v : Option Transaction) (r : Result Command LineFault) → HasTransaction c None v → asks p t v r ≡ false → authorization_asks t r ≡ false
+pub authorization_asks_none : (c : Contents) (p : Policy) (t : LoginState) (v : Option Transaction) (r : Result Command LineFault)
+    → HasTransaction c None v → asks p t v r ≡ false → authorization_asks t r ≡ false
 authorization_asks_none c p t None r sits none = none
 authorization_asks_none c p t (Some v) r sits none = absurd sits
 

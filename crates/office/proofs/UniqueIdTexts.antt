@@ -22,11 +22,12 @@ use Rattle.office.specs.Told.{told, said_to}
 use Rattle.office.specs.Trace.{acts}
 use Rattle.office.specs.Laws.{In, uid_text_of, same_uid_text, UniqueIdTextsDiffer}
 use Rattle.office.proofs.Snapshot.{in_filter, any_false}
-use Rattle.office.proofs.UniqueIds.{any_in, apart, not_true, all_in, unique_ids_are_unique}
+use Rattle.office.proofs.UniqueIds.{any_in, apart, all_in, unique_ids_are_unique}
 use Rattle.office.proofs.Accepting.{taken}
 use Rattle.office.proofs.Bounds.{formed_act, all_formed, all_if}
 use Rattle.office.proofs.Greetings.{same_front}
 use Rattle.office.proofs.RepliesForm.{formed_acts}
+use Rattle.vault.proofs.ListLemmas.{not_true}
 
 -- ---- texts
 

@@ -1,10 +1,8 @@
 -- No two accepted deposits into a maildrop's name have one unique-id.
-use Rattle.std.specs.Prelude.{◌≡◌, ℕ, ◌+◌, ◌≤◌, Bool, true, false, not, ◌&&◌, ◌==◌, nat_le, nat_lt, List, [], ◌∷◌, ◌++◌, cond, ◌⊎◌, filter, count_by, length}
+use Rattle.std.specs.Prelude.{◌≡◌, ℕ, ◌+◌, ◌≤◌, Bool, true, false, not, ◌&&◌, ◌==◌, nat_le, nat_lt, List, [], ◌∷◌, ◌++◌, cond, ◌⊎◌, filter, length}
 use Rattle.std.proofs.Common.{refl, sym, ◌∙◌, ap, eqb-true, ⊎_elim, inl, inr, subst, true≢false}
 use Rattle.std.proofs.lemmas.Bool.{cases_Bool, and_parts, or_from, or_parts, leb-true}
 use Rattle.std.proofs.lemmas.Slice.Eq.{bytes_eq-Decides}
-use Rattle.std.proofs.lemmas.List.Elements.{filter-append}
-use Rattle.std.proofs.lemmas.List.Sums.{sum_by-append}
 use native.Mathlib.Omega.{arith}
 use Rattle.std.specs.List.{list_any, list_all}
 use Rattle.std.specs.Str.{bytes_eq}
@@ -20,20 +18,10 @@ use Rattle.office.specs.Told.{told, said_to}
 use Rattle.office.specs.Laws.{In, UniqueIdsAreUnique}
 use Rattle.office.proofs.Snapshot.{in_filter, any_false}
 use Rattle.office.proofs.Accepting.{taken}
+use Rattle.office.proofs.SmallLemmas.{classes_more}
+use Rattle.vault.proofs.ListLemmas.{not_true, bytes_same, distinct_filter}
 
 -- ---- lists of deposits
-
-counted_more : (p : Receipt → Bool) (xs : List Receipt) (n : Receipt) → count_by p (xs ++ n ∷ []) ≡ count_by p xs + count_by p (n ∷ [])
-counted_more p xs n = sum_by-append (λ x. cond (p x) 1 0) xs (n ∷ [])
-
-classes_more : (class d : List ℕ) (xs : List Receipt) (n : Receipt)
-    → class_count class (receipts_of d (xs ++ n ∷ [])) ≡ class_count class (receipts_of d xs) + class_count class (receipts_of d (n ∷ []))
-classes_more class d xs n =
-    ap (λ rs. class_count class rs) (filter-append (λ (r : Receipt). bytes_eq r.maildrop d) xs (n ∷ []))
-    ∙ sum_by-append (λ (r : Receipt). cond (bytes_eq r.class class) 1 0) (receipts_of d xs) (receipts_of d (n ∷ []))
-
-pub bytes_same : (xs : List ℕ) → bytes_eq xs xs ≡ true
-bytes_same xs = (bytes_eq-Decides xs xs).1 refl
 
 classes_own : (n : Receipt) → class_count n.class (receipts_of n.maildrop (n ∷ [])) ≡ 1
 classes_own n = rw (bytes_same n.maildrop, bytes_same n.class) refl
@@ -72,10 +60,6 @@ any_last : (p : Receipt → Bool) (xs : List Receipt) (n : Receipt) → list_any
 any_last p [] n h e = or_from (p n) false e refl
 any_last p (x ∷ xs) n h e = let r = or_parts (p x) (list_any p xs) h in or_from (p x) (list_any p (xs ++ n ∷ [])) r.0 (any_last p xs n r.1 e)
 
-pub not_true : (b : Bool) → not b ≡ true → b ≡ false
-not_true true e = absurd (true≢false (sym e))
-not_true false e = refl
-
 pub apart : (b c : Bool) → b ≡ false → c ≡ true → (not b && c) ≡ true
 apart b c e f = rw (e, f) refl
 
@@ -99,12 +83,6 @@ distinct_at : {A : Type 0} (same : A → A → Bool) (p : A → Bool) (x : A) (x
 distinct_at same p x xs true h a = apart (list_any (same x) (filter p xs)) (are_distinct same (filter p xs))
     (any_false (same x) (filter p xs) (λ y i t. any_in (same x) xs y a (in_filter p xs y i).0 t)) h
 distinct_at same p x xs false h a = h
-
-pub distinct_filter : {A : Type 0} (same : A → A → Bool) (p : A → Bool) (xs : List A) → are_distinct same xs ≡ true → are_distinct same (filter p xs) ≡ true
-distinct_filter same p [] h = refl
-distinct_filter same p (x ∷ xs) h =
-    let r = and_parts (not (list_any (same x) xs)) (are_distinct same xs) h in
-    distinct_at same p x xs (p x) (distinct_filter same p xs r.1) (not_true (list_any (same x) xs) r.0)
 
 -- ---- over a history
 

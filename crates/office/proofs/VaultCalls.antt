@@ -18,10 +18,14 @@ use Rattle.vault.specs.declared.fault.VaultFault.TheVariants as fault
 use Rattle.vault.specs.declared.record.Clerk.{Clerk}
 use Rattle.vault.specs.declared.record.Keyed.{Keyed}
 use Rattle.vault.specs.declared.record.Receipt.{Receipt}
-use Rattle.vault.specs.Records.{Records, Agree, in_maildrop, without, receipts_of, receipt_of, class_count, is_one_of, is_sound_credential, credential_in, most_octets, most_messages, most_deposits, most_clerks, most_maildrops}
-use Rattle.vault.specs.Changes.{Contents, records_of, DepositAnswer, Accepted, KnownAs, deposit_answer, deposit_answered, message_for, receipt_for, with_deposit, heads, head_of, kept_in, PutAnswer, WasNew, WasThere, NoRoom, put_answer, put_clerk_answer, put_maildrop_answer, with_clerk, without_clerk, with_clerks, with_maildrop, without_maildrop, with_maildrops, DropAnswer, Gone, NotThere, drop_answer, total_in, totals}
+use Rattle.vault.specs.Records.{Records, Agree, in_maildrop, without, receipts_of, receipt_of, class_count, is_one_of, is_sound_credential, credential_in, most_octets}
+use Rattle.vault.specs.Records.{most_messages, most_deposits, most_clerks, most_maildrops}
+use Rattle.vault.specs.Changes.{Contents, records_of, DepositAnswer, Accepted, KnownAs, deposit_answer, deposit_answered, message_for, receipt_for, with_deposit, heads, head_of}
+use Rattle.vault.specs.Changes.{kept_in, PutAnswer, WasNew, WasThere, NoRoom, put_answer, put_clerk_answer, put_maildrop_answer, with_clerk, without_clerk, with_clerks}
+use Rattle.vault.specs.Changes.{with_maildrop, without_maildrop, with_maildrops, DropAnswer, Gone, NotThere, drop_answer, total_in, totals}
 use Rattle.vault.specs.Changes as changes
-use Rattle.vault.specs.Calls.{IsDeposited, DepositLeft, deposit_result, deposit_answer_in, present_in, seen_as, heads_result, AreHeads, IsCredential, put_result, IsClerkPut, drop_clerk_result, IsClerkDropped, IsMaildropAdded, drop_result, IsMaildropDropped, AreTotals}
+use Rattle.vault.specs.Calls.{IsDeposited, DepositLeft, deposit_result, deposit_answer_in, present_in, seen_as, heads_result, AreHeads, IsCredential, put_result, IsClerkPut}
+use Rattle.vault.specs.Calls.{drop_clerk_result, IsClerkDropped, IsMaildropAdded, drop_result, IsMaildropDropped, AreTotals}
 use Rattle.office.specs.Answers.{Answer, ListMaildrops, ShowMaildrop, AddMaildrop, DropMaildrop, ShowClerk, PutClerk, DropClerk, Explain}
 use Rattle.office.specs.Answers as answer
 use Rattle.office.specs.History.{Deposit, Administer, Done, Answers, in_force, clerks, maildrops, exists, arrivals, receipts, deposits}
@@ -307,13 +311,15 @@ module _ {Before : Contents → Type 0} (After : Contents → Type 0) (T : Trace
   keep_added WasNew e h =
       let s = ap records_added (add_told WasNew e) in
       keeps_with T add_command Done (with_maildrops (with_maildrop d names_kept) k.contents) k (λ x i. i) h
-      (subst (λ R. Agree (records_of (with_maildrops (with_maildrop d names_kept) k.contents)) R) (sym s) (agree_maildrops k.contents (records T.base (history T)) (with_maildrop d names_kept) (with_maildrop d names_told) k.agree
+      (subst (λ R. Agree (records_of (with_maildrops (with_maildrop d names_kept) k.contents)) R) (sym s)
+      (agree_maildrops k.contents (records T.base (history T)) (with_maildrop d names_kept) (with_maildrop d names_told) k.agree
       (same_with d names_kept names_told k.agree.maildrops))) form
   keep_added WasThere e h =
       let s = ap records_added (add_told WasThere e) in
       let t = nothing_more d names_kept (found_there (is_one_of d names_kept) (length names_kept) most_maildrops e) in
       keeps_with T add_command Done (with_maildrops (with_maildrop d names_kept) k.contents) k (λ x i. i) h
-      (subst (λ R. Agree (records_of (with_maildrops (with_maildrop d names_kept) k.contents)) R) (sym s) (agree_maildrops k.contents (records T.base (history T)) (with_maildrop d names_kept) names_told k.agree (ap by_name t ∙ k.agree.maildrops))) form
+      (subst (λ R. Agree (records_of (with_maildrops (with_maildrop d names_kept) k.contents)) R) (sym s)
+      (agree_maildrops k.contents (records T.base (history T)) (with_maildrop d names_kept) names_told k.agree (ap by_name t ∙ k.agree.maildrops))) form
   keep_added NoRoom e h = keeps_same T add_command Done k h (ap records_added (add_told NoRoom e)) form
 
   pub maildrop_added : (answered : Result Bool VaultFault) → IsMaildropAdded After k.contents d answered
@@ -352,7 +358,8 @@ module _ {Before : Contents → Type 0} (After : Contents → Type 0) (T : Trace
   keep_dropped Gone e h =
       let s = ap records_dropped (drop_told Gone e) in
       keeps_with T drop_command Done (with_maildrops (without_maildrop d before_drop) k.contents) k (λ x i. i) h
-      (subst (λ R. Agree (records_of (with_maildrops (without_maildrop d before_drop) k.contents)) R) (sym s) (agree_maildrops k.contents (records T.base (history T)) (without_maildrop d before_drop) (without_maildrop d told_before_drop) k.agree
+      (subst (λ R. Agree (records_of (with_maildrops (without_maildrop d before_drop) k.contents)) R) (sym s)
+      (agree_maildrops k.contents (records T.base (history T)) (without_maildrop d before_drop) (without_maildrop d told_before_drop) k.agree
       (same_without d before_drop told_before_drop k.agree.maildrops))) refl
   keep_dropped NotThere e h = keeps_same T drop_command Done k h (ap records_dropped (drop_told NotThere e)) refl
   keep_dropped changes.NotEmpty e h = keeps_same T drop_command Done k h (ap records_dropped (drop_told changes.NotEmpty e)) refl

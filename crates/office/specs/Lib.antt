@@ -17,6 +17,7 @@ pub mod History
 pub mod Connections
 pub mod Sessions
 pub mod Replying
+pub mod Permitted
 pub mod Told
 pub mod Events
 pub mod Outcomes
@@ -26,7 +27,6 @@ pub mod Expected
 pub mod Formed
 pub mod Taken
 pub mod Input
-pub mod Buffered
 pub mod Stands
 pub mod Laws
 pub mod Served

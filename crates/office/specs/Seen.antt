@@ -5,7 +5,7 @@ use Rattle.creds.specs.declared.uid.Uid.{Uid}
 use Rattle.office.specs.Events as events
 use Rattle.office.specs.Answers as answers
 use Rattle.office.specs.Outcomes as outcomes
-use Rattle.office.specs.Events.{EventTag, Trace, given}
+use Rattle.office.specs.Events.{Trace, given}
 use Rattle.office.specs.declared.command.AdminCommand.{AdminCommand}
 use Rattle.office.specs.declared.command.AdminCommand.TheVariants as command
 use Rattle.office.specs.declared.answer.Answer.{Answer}

@@ -6,7 +6,7 @@ use policy::{Decision, Policy};
 use std::marker::Model;
 use vault::Total;
 
-/// What a deposit or a command is answered, where the store didn't refuse it.
+/// What a deposit or a command is answered, if the store didn't refuse it.
 #[derive(Drop)]
 pub enum Answer {
     /// The deposit was put into the maildrop, under this unique-id.

@@ -9,7 +9,7 @@ ghost use Rattle.vault.specs.Calls.{has_grown};
 ghost use Rattle.vault.specs.Parts.{OnlyLooks};
 ghost use Rattle.office.specs.Stopping.{WasDone, ActsOnce};
 ghost use Rattle.office.specs.Replying.{is_empty};
-ghost use Rattle.office.specs.Output.{nothing_owed, most_output, lent_of, is_feeding, reads_text};
+ghost use Rattle.office.specs.Output.{nothing_owed, lent_of, is_feeding, reads_text};
 ghost use Rattle.office.specs.Output.{Owes};
 ghost use Rattle.office.specs.Transaction.{Transaction};
 ghost use Rattle.office.specs.Kept.{clocked, line_after, asks, nothing_said, maildrop_of};
@@ -149,22 +149,14 @@ impl Connection {
         self.cutter.held() + self.pending[self.cut..].len()
     }
 
-    /// How many octets of what it is owed stand ready, whatever the store did.
-    pub fn output(&self) -> usize
-        ensures value { result ≡ length self.now.output.ready }
-        ensures most { result ≤ most_output }
-    {
-        self.output.kept()
-    }
-
     pub fn is_closing(&self) -> bool
         ensures { result ≡ self.now.state.closing }
     {
         self.state.closing
     }
 
-    /// Takes octets that stand ready, at this moment, and reads more where few are left. `false`
-    /// where the store refused a page: the caller then ends the connection.
+    /// Takes octets that stand ready, at this moment, and reads more if few are left. `false`
+    /// if the store refused a page: the caller then ends the connection.
     pub fn take<V: Vault>(
         &mut self,
         alloc: Global,
@@ -217,7 +209,7 @@ impl Connection {
         moment >= self.clock && moment - self.clock >= seconds
     }
 
-    /// The maildrop that the connection's session holds, where it has one.
+    /// The maildrop that the connection's session holds, if it has one.
     pub fn maildrop(&self) -> Option<Name>
         ensures { result ≡ maildrop_of self.now.session }
     {
@@ -254,8 +246,8 @@ impl Connection {
         self.state.failures
     }
 
-    /// Whom the line that is whole with this piece would log in: nobody where no line is whole,
-    /// where the line isn't a login, or where somebody is in session. The piece isn't taken.
+    /// Whom the line that is whole with this piece would log in: nobody if no line is whole,
+    /// if the line isn't a login, or if somebody is in session. The piece isn't taken.
     pub fn coming_login(&self, piece: &[u8]) -> Option<LoginName>
         ensures { result ≡ coming_login (is_some self.now.session) self.now.state.user
             (line_with self.now piece.now) }
@@ -282,7 +274,7 @@ impl Connection {
     }
 
     /// Takes the next piece at this moment, and answers the first line that is now whole; the lines
-    /// behind it wait for [`Connection::resume`]. `account`, which tells nothing yet, becomes what
+    /// after it wait for [`Connection::resume`]. `account`, which tells nothing yet, becomes what
     /// was judged.
     pub fn hear<V: Vault>(
         &mut self,
@@ -349,7 +341,7 @@ impl Connection {
         self.answer_next(alloc, vault, policy, locks, number, account)
     }
 
-    /// Cuts a piece that came at this moment up to its first LF, and keeps what is behind it. Only
+    /// Cuts a piece that came at this moment up to its first LF, and keeps what follows it. Only
     /// a piece with LF sets the clock, and takes memory.
     fn cut_piece(&mut self, piece: &[u8], now: u64) -> Result<(), AllocError>
         requires { length piece.now ≤ most_in_a_piece }

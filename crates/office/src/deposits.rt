@@ -12,7 +12,7 @@ use creds::{DepositId, Name};
 use mailtext::{TextFault, canon};
 use vault::{Deposited, Vault, VaultFault};
 
-/// The outcome where the vault failed: want of memory, or `Failed`.
+/// The outcome if the vault failed: want of memory, or `Failed`.
 pub(crate) fn refused(fault: VaultFault) -> Outcome
     ensures { outcome_seen result ≡ refused_of fault }
 {

@@ -48,7 +48,7 @@ pub enum Outcome {
     Done,
     /// The store refused. Of a line its reply says so; of a deposit or a command no record changed.
     Failed,
-    /// Want of memory. Where it came while a connection's line or taking was done, that connection
+    /// Want of memory. If it came while a connection's line or taking was done, that connection
     /// is ended as by [`Event::Gone`]; else nothing changed.
     NoMemory,
     Ignored(Reason),

@@ -50,7 +50,7 @@ pub fn marks_are_by_view()
     ensures { MarksAreByView }
 {}
 
-/// Where all boot numbers differ, all timestamps of greetings differ.
+/// If all boot numbers differ, all timestamps of greetings differ.
 pub fn greetings_differ()
     ensures { GreetingsDiffer }
 {}
@@ -61,7 +61,7 @@ pub fn deposit_ids_act_once()
 {}
 
 /// Over a sound store and events of their types, every reply's first line has at most 512 octets,
-/// and its text begins with `[` only where the maildrop is in use.
+/// and its text begins with `[` only if the maildrop is in use.
 pub fn replies_have_their_form()
     ensures { RepliesHaveTheirForm }
 {}
@@ -73,9 +73,9 @@ pub fn served_is_allowed()
     ensures { ServedIsAllowed }
 {}
 
-/// Where each event is answered as it may be, what a connection took, followed by what it is still
+/// If each event is answered as it may be, what a connection took, followed by what it is still
 /// owed, is exactly what the history sends it. Once it is ended, it took a beginning of that; and
-/// all of it, where its own closing ended it.
+/// all of it, if its own closing ended it.
 pub fn taken_is_sent()
     ensures { TakenIsSent }
 {}
@@ -86,7 +86,7 @@ pub fn openings_are_admitted()
 {}
 
 /// Over a run, the store's count of faults grew at least by the number of steps that were answered
-/// `Failed`, while the count is below its greatest value. So where it didn't grow, none failed.
+/// `Failed`, while the count is below its greatest value. So if it didn't grow, none failed.
 pub fn failures_are_counted()
     ensures { FailuresAreCounted }
 {}
@@ -100,7 +100,7 @@ pub fn own_trace_is_kept<V: Vault>(vault: &V)
     let _vault = vault;
 }
 
-/// Of the trace that an office stands for: where boot numbers differ, the greetings' timestamps
+/// Of the trace that an office stands for: if boot numbers differ, the greetings' timestamps
 /// differ; unique-ids as they are written differ; replies have their form; and each message that is
 /// served was allowed.
 pub fn laws_of_its_trace<V: Vault>(office: &Office<V>)

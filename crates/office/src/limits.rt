@@ -27,7 +27,7 @@ impl Model for Limits {
 }
 
 impl Limits {
-    /// Idle seconds, with removals judged at the DELE. None where the seconds are out of range.
+    /// Idle seconds, with removals judged at the DELE. None if the seconds are out of range.
     pub fn new(idle: u32) -> Option<Limits>
         ensures valid { IsSome result ↔ ((600 ≤ idle) × (idle ≤ 86400)) }
         ensures value { IfSome result (λ limits. limits

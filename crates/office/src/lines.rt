@@ -1,7 +1,8 @@
 //! The reply to a line, and what is remembered after it.
 ghost use Rattle.std.specs.Prelude.{◌≡◌, Option, None, Some, true, false, Ok, OnOk, OnErr, IfOk};
-ghost use Rattle.std.specs.Prelude.{IsOkAnd};
-ghost use Rattle.popline.specs.Seen.{cut_seen, command_seen, reading_seen, reply_seen};
+ghost use Rattle.std.specs.Prelude.{IsOkAnd, is_some};
+ghost use Rattle.popline.specs.Commands.{keyword_of};
+ghost use Rattle.popline.specs.Seen.{cut_seen, command_seen, reply_seen};
 ghost use Rattle.vault.specs.Changes.{Contents};
 ghost use Rattle.vault.specs.Calls.{IsDone, seen_as, has_grown};
 ghost use Rattle.vault.specs.Call.{Looks};
@@ -9,7 +10,7 @@ ghost use Rattle.vault.specs.Parts.{OnlyLooks};
 ghost use Rattle.office.specs.History.{Says};
 ghost use Rattle.office.specs.Connections.{reading, is_quit, user_after_line, closes, is_failure};
 ghost use Rattle.office.specs.Sessions.{logs_in};
-ghost use Rattle.office.specs.Replying.{is_allowed as is_allowed_of};
+ghost use Rattle.office.specs.Replying.{is_allowed};
 ghost use Rattle.office.specs.Stopping.{WasDone, ActsOnce};
 ghost use Rattle.office.specs.Output.{nothing_owed};
 ghost use Rattle.office.specs.Transaction.{Transaction};
@@ -27,26 +28,12 @@ use crate::login_state::{LineContext, LineOutcome, LoginState};
 use crate::output::Output;
 use crate::transaction;
 use creds::{LoginName, Proof};
-use popline::{Command, Cut, Keyword, LineFault, Reply};
+use popline::{Command, Cut, Reply};
 use session::Session;
 use std::alloc::{AllocError, Global};
 use vault::{Vault, VaultFault};
 
-/// Whether a command may be given in this state: in a session or before one, with a login name in
-/// force or none.
-fn is_allowed(keyword: Keyword, live: bool, has_user: bool) -> bool
-    ensures { result ≡ is_allowed_of keyword live has_user }
-{
-    match keyword {
-        Keyword::Capa | Keyword::Quit => true,
-        Keyword::User | Keyword::Apop => !live,
-        Keyword::Pass => !live && has_user,
-        Keyword::Stat | Keyword::List | Keyword::Uidl | Keyword::Retr | Keyword::Top => live,
-        Keyword::Dele | Keyword::Rset | Keyword::Noop => live,
-    }
-}
-
-/// The reply to a command before a login, and the session where one begins.
+/// The reply to a command that may be given before a login, and the session if one begins.
 fn command_reply<V: Vault>(
     alloc: Global,
     vault: &mut V,
@@ -55,6 +42,8 @@ fn command_reply<V: Vault>(
     command: &Command<'_>,
     state: LoginState,
 ) -> Result<(Reply<'static>, Option<Session>), VaultFault>
+    requires { is_allowed (keyword_of (command_seen command.now)) false (is_some state.user)
+        ≡ true }
     ensures said { (c : Contents) → V.holds vault.old c → V.is_clean vault.new
         → IsDone (V.holds vault.new) c c
         (Ok (authorization_said (context_over c context.entry locks.now) state
@@ -77,7 +66,7 @@ fn command_reply<V: Vault>(
         Command::Capa => Ok((Reply::Capabilities, None)),
         Command::User(_) => Ok((Reply::SendPass, None)),
         Command::Pass(password) => match user {
-            None => Ok((Reply::WrongState, None)),
+            None => unreachable!(),
             Some(name) => {
                 let proof = Proof::Pass(*password);
                 judge(
@@ -92,16 +81,11 @@ fn command_reply<V: Vault>(
             )
         }
         Command::Quit => Ok((Reply::Bye, None)),
-        Command::Stat | Command::List(_) | Command::Uidl(_) | Command::Retr(_) => {
-            Ok((Reply::WrongState, None))
-        }
-        Command::Top(_, _) | Command::Dele(_) | Command::Rset | Command::Noop => {
-            Ok((Reply::WrongState, None))
-        }
+        _ => unreachable!(),
     }
 }
 
-/// The reply to a line before a login, and the session where one begins.
+/// The reply to a line before a login, and the session if one begins.
 fn reply_to<V: Vault>(
     alloc: Global,
     vault: &mut V,
@@ -122,16 +106,9 @@ fn reply_to<V: Vault>(
     ensures unasked { authorization_asks state (reading line.now) ≡ false
         → vault.new ≡ vault.old }
 {
-    if line.is_too_long() {
-        return Ok((Reply::LineTooLong, None));
-    }
-    match line.reading() {
-        Err(LineFault::Unknown) => Ok((Reply::UnknownCommand, None)),
-        Err(LineFault::Syntax(keyword)) if is_allowed(*keyword, false, state.user.is_some()) => {
-            Ok((Reply::BadArguments, None))
-        }
-        Err(LineFault::Syntax(_)) => Ok((Reply::WrongState, None)),
+    match line.permitted(false, state.user.is_some()) {
         Ok(command) => command_reply(alloc, vault, context, locks, command, state),
+        Err(reply) => Ok((reply, None)),
     }
 }
 
@@ -180,8 +157,8 @@ fn next_login_state(line: &CommandLine<'_>, reply: &Reply<'_>, state: LoginState
     }
 }
 
-/// Answers a line before a login: puts its reply, and remembers what it leaves. Where a session
-/// begins, returns it and locks its maildrop. Where the store fails, the reply says so. `account`
+/// Answers a line before a login: puts its reply, and remembers what it leaves. If a session
+/// begins, returns it and locks its maildrop. If the store fails, the reply says so. `account`
 /// becomes what was judged.
 fn authorization_answer<V: Vault>(
     alloc: Global,
@@ -270,7 +247,7 @@ fn transaction_answer<V: Vault>(
 }
 
 /// Answers a line: puts its reply, and keeps what the line leaves: what is remembered, the session
-/// and its maildrop's lock. Where the store fails, the reply says so. `account`, which tells
+/// and its maildrop's lock. If the store fails, the reply says so. `account`, which tells
 /// nothing yet, becomes what was judged. An error is want of memory.
 pub fn answer<V: Vault>(
     alloc: Global,

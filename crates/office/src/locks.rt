@@ -13,7 +13,7 @@ use std::collections::BTreeMap;
 /// The connection that holds each locked maildrop.
 pub type Locks = BTreeMap<Name, u64>;
 
-/// Locks the maildrop of a session that begins, if one does. Nothing is locked where memory is
+/// Locks the maildrop of a session that begins, if one does. Nothing is locked if memory is
 /// refused.
 pub fn lock(locks: &mut Locks, number: u64, begun: &Option<Session>) -> Result<(), AllocError>
     ensures ok { OnOk result (LocksFollow number None begun.now locks.old locks.new) }

@@ -1,6 +1,6 @@
 //! Logging in: the credential is looked at first, then the policy, the maildrop and its lock (RFC
 //! 1939, 4 and 7).
-ghost use Rattle.std.specs.Prelude.{◌≡◌, true, [], Some, Ok, IfOk};
+ghost use Rattle.std.specs.Prelude.{◌≡◌, [], Some, Ok, IfOk};
 ghost use Rattle.creds.specs.Credential.{shown as proof_shown, is_admitted};
 ghost use Rattle.popline.specs.Seen.{reply_seen};
 ghost use Rattle.policy.specs.Policy.{decide};
@@ -12,7 +12,7 @@ ghost use Rattle.vault.specs.Call.{Looks};
 ghost use Rattle.session.specs.Session.{started};
 ghost use Rattle.office.specs.Replying.{login_failed};
 ghost use Rattle.office.specs.Kept.{judged};
-ghost use Rattle.office.specs.Answered.{context_over, judged_at};
+ghost use Rattle.office.specs.Answered.{context_over};
 ghost use Rattle.office.specs.Entering.{entered, began};
 
 use crate::locks::Locks;
@@ -27,7 +27,7 @@ use vault::{Vault, VaultFault};
 /// How many refused credentials a connection has before the next one closes it.
 const FAILURES_BEFORE_CLOSING: u8 = 2;
 
-/// The reply to a refused credential, where so many were refused before it.
+/// The reply to a refused credential, if so many were refused before it.
 fn refusal(failures: u8) -> Reply<'static>
     ensures { reply_seen result ≡ login_failed failures }
 {
@@ -100,7 +100,7 @@ fn enter<V: Vault>(
     Ok((Reply::MaildropHas { messages, octets }, Some(session)))
 }
 
-/// The reply to a login, and the session where one begins.
+/// The reply to a login, and the session if one begins.
 pub(crate) fn judge<V: Vault>(
     alloc: Global,
     vault: &mut V,

@@ -25,7 +25,7 @@ impl<V: Vault> Office<V> {
         }
     }
 
-    /// How many credentials connection `c` had refused since it opened; 0 where it isn't open. The
+    /// How many credentials connection `c` had refused since it opened; 0 if it isn't open. The
     /// third refusal closes the connection, which stays open, and has 3 here, until the reply to it
     /// is taken.
     ///
@@ -40,12 +40,12 @@ impl<V: Vault> Office<V> {
     }
 
     /// Whom a piece that isn't given yet would log in, with the next line of connection `c`: the
-    /// name in force for a PASS, its own for an APOP. `None` where no octets may come on it, where
-    /// somebody is in session on it, or where its next line, with this piece behind what came
+    /// name in force for a PASS, its own for an APOP. `None` if no octets may come on it, if
+    /// somebody is in session on it, or if its next line, with this piece after what came
     /// before, isn't whole or is no login that would be judged.
     ///
     /// It reads the line as the office would. It asks no store, takes no memory and changes
-    /// nothing: whether there is such a clerk or maildrop isn't looked at. Lines behind the next
+    /// nothing: whether there is such a clerk or maildrop isn't looked at. Lines after the next
     /// one aren't looked at either.
     pub fn login_brought(&self, c: u64, piece: &[u8]) -> Option<LoginName>
         ensures { (T : Trace) → StandsFor V.holds self.now T

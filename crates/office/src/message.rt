@@ -21,7 +21,7 @@ use session::Session;
 use std::alloc::{AllocError, Global};
 use vault::Vault;
 
-/// Begins to send a message behind the first line of its reply. Where the store refuses the first
+/// Begins to send a message after the first line of its reply. If the store refuses the first
 /// pages, the reply is that the store failed.
 fn serve<V: Vault>(
     alloc: Global,
@@ -44,7 +44,7 @@ fn serve<V: Vault>(
     Ok(LineOutcome::Failed)
 }
 
-/// Begins to send a message of a session, where the policy in force lets the clerk read it (RFC
+/// Begins to send a message of a session, if the policy in force lets the clerk read it (RFC
 /// 1939, 5: RETR).
 pub(crate) fn retrieve<V: Vault>(
     alloc: Global,
@@ -74,7 +74,7 @@ pub(crate) fn retrieve<V: Vault>(
     }
 }
 
-/// Begins to send the top of a message of a session, where the policy in force lets the clerk read
+/// Begins to send the top of a message of a session, if the policy in force lets the clerk read
 /// it (RFC 1939, 7: TOP).
 pub(crate) fn top<V: Vault>(
     alloc: Global,

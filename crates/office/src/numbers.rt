@@ -9,9 +9,9 @@ use std::str;
 /// The most digits of a number.
 const MOST_DIGITS: usize = 20;
 
-/// The number that 1 to 20 decimal digits write; leading zeros are allowed. `None` where there is
-/// no digit, where there are more than 20 octets or another octet than a digit (a sign too), and
-/// where the number is 2^64 or greater.
+/// The number that 1 to 20 decimal digits write; leading zeros are allowed. `None` if there is
+/// no digit, if there are more than 20 octets or another octet than a digit (a sign too), and
+/// if the number is 2^64 or greater.
 pub fn read_number(field: &[u8]) -> Option<u64>
     ensures { result ≡ number_of field.now }
 {

@@ -4,7 +4,7 @@ ghost use Rattle.std.specs.Prelude.{take, min, None, IfOk, IfErr, OnOk, OnErr, M
 ghost use Rattle.office.specs.Events.{Trace, given};
 ghost use Rattle.office.specs.Seen.{event_seen, command_seen, outcome_seen, followed_by};
 ghost use Rattle.office.specs.Events as event;
-ghost use Rattle.office.specs.Trace.{history, rest, is_open, is_ready, IsLent, most_lent};
+ghost use Rattle.office.specs.Trace.{rest, is_open, is_ready, IsLent, most_lent};
 ghost use Rattle.office.specs.Expected.{IsOutcome, is_full, octets_taken, asks_no_store, may_show};
 ghost use Rattle.office.specs.Expected.{Succeeds};
 ghost use Rattle.office.specs.Outcomes.{event_tag_of, HasCause, HasMemory};
@@ -20,8 +20,6 @@ ghost use Rattle.office.specs.AfterEvent.{AfterEvent};
 ghost use Rattle.std.specs.Ordering.{nat_cmp};
 ghost use Rattle.std.specs.BTreeMap.{Updates};
 ghost use Rattle.office.specs.Locks.{Released};
-ghost use Rattle.office.specs.Buffered.{output_kept};
-ghost use Rattle.office.specs.Output.{most_output};
 ghost use Rattle.office.specs.Answered.{shown_of};
 ghost use Rattle.office.specs.Accounts.{IsAccount, outcome_told};
 ghost use Rattle.office.specs.Runs.{Step as Shown, followed, Follows, Enters, Ran};
@@ -83,7 +81,7 @@ fn outcome_of(line_outcome: LineOutcome) -> Outcome
     }
 }
 
-/// What the outcome of a command tells: that it ended a session, where it did.
+/// What the outcome of a command tells: that it ended a session, if it did.
 fn ended_by(outcome: &Outcome) -> Account
     ensures { result ≡ outcome_told (outcome_seen outcome.now) }
 {
@@ -127,8 +125,8 @@ impl<V: Vault> Office<V> {
     /// Opens an office over a vault, under a host's name and the number of this start. No
     /// connection is open. It reads the store's policy.
     ///
-    /// `BadHost` exactly where the host isn't of 1 to 64 octets of `a-z`, `0-9`, `.` and `-`, no
-    /// part between dots empty or with `-` at an end. `Store` where the store refused. After a
+    /// `BadHost` exactly if the host isn't of 1 to 64 octets of `a-z`, `0-9`, `.` and `-`, no
+    /// part between dots empty or with `-` at an end. `Store` if the store refused. After a
     /// fault the vault comes back with what it held.
     pub fn open(
         alloc: Global,
@@ -384,7 +382,7 @@ impl<V: Vault> Office<V> {
             (event_seen event.entry) (outcome_seen result)) }
         ensures admitted { OfEachTrace V.Vault self.old self.new (λ T.
             IsAdmitted T (event_seen event.entry) (event_tag_of (outcome_seen result))) }
-        // Where each event so far was answered as it may be, each connection is sent exactly what
+        // If each event so far was answered as it may be, each connection is sent exactly what
         // the history sends it.
         ensures sent { OfEachTrace V.Vault self.old self.new (λ T.
             AreAdmitted T → (c : ℕ) → IsSentExactly (followed_by T
@@ -397,7 +395,7 @@ impl<V: Vault> Office<V> {
             → V.is_clean (vault_of self.old) → may_show T (event_seen event.entry) Failed ≡ false
             → vault_of self.new ≡ vault_of self.old }
         ensures succeeds { Succeeds (event_seen event.entry) (outcome_seen result) }
-        // Some events are never answered `NoMemory`: a piece without LF, a taking of a part where
+        // Some events are never answered `NoMemory`: a piece without LF, a taking of a part if
         // all that is owed is lent, and others (`may_lack_memory_at`).
         ensures memory { OfEachTrace V.Vault self.old self.new (λ T.
             may_show T (event_seen event.entry) NoMemory ≡ false → HasMemory
@@ -409,7 +407,7 @@ impl<V: Vault> Office<V> {
 
     /// Does one event, as [`Office::step`] does, and tells what it judged: `account` becomes the
     /// account of this event, whatever it told before. It is that of the line that acted, also
-    /// where the store failed; or why the connection ended, where it is gone, memory was wanting, a
+    /// if the store failed; or why the connection ended, if it is gone, memory was wanting, a
     /// page was refused or a command ended its session. Other events have none, nor has one that is
     /// ignored.
     pub fn step_with_account(&mut self, event: Event<'_>, account: &mut Account) -> Outcome
@@ -455,7 +453,7 @@ impl<V: Vault> Office<V> {
     /// Does events in order. The transcript has a step for each: its outcome, and the octets that
     /// it took.
     ///
-    /// `NoMemory(done)` where the transcript couldn't grow: exactly the first `done` events are
+    /// `NoMemory(done)` if the transcript couldn't grow: exactly the first `done` events are
     /// done.
     pub fn run(&mut self, events: &[Event<'_>]) -> Result<Transcript, RunFault>
         ensures ok { IfOk result (λ steps. OfEachTrace V.Vault self.old self.new (λ T.
@@ -528,8 +526,8 @@ impl<V: Vault> Office<V> {
         Ok(octets)
     }
 
-    /// The octets that a connection may take now: the first 16,384 that it is owed, or all where
-    /// they are fewer. None where it isn't open.
+    /// The octets that a connection may take now: the first 16,384 that it is owed, or all if
+    /// they are fewer. None if it isn't open.
     pub fn owed(&self, c: u64) -> &[u8]
         ensures lent { (T : Trace) → StandsFor V.holds self.now T → IsLent (rest T c) result.now }
         ensures count { length result.now ≡ lent_by self.now c }
@@ -544,7 +542,8 @@ impl<V: Vault> Office<V> {
     }
 
     /// How many octets of its input are kept of a connection, whatever the store does: at most 255
-    /// of a line and 4,096 of a piece. None, where it isn't open.
+    /// of a line and 4,096 of a piece. None if it isn't open. The program doesn't call it: it is
+    /// here for this bound.
     pub fn input_kept(&self, c: u64) -> usize
         ensures value { result ≡ input_kept self.now c }
         ensures most { input_kept self.now c ≤ most_input }
@@ -552,18 +551,6 @@ impl<V: Vault> Office<V> {
         match self.connections.get(&c) {
             None => 0,
             Some(connection) => connection.input(),
-        }
-    }
-
-    /// How many octets of what it is owed are kept of a connection, whatever the store does: at
-    /// most 49,408, for which the room is made at its opening. None, where it isn't open.
-    pub fn output_kept(&self, c: u64) -> usize
-        ensures value { result ≡ output_kept self.now c }
-        ensures most { output_kept self.now c ≤ most_output }
-    {
-        match self.connections.get(&c) {
-            None => 0,
-            Some(connection) => connection.output(),
         }
     }
 

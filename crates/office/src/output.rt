@@ -1,6 +1,6 @@
 //! What a connection is owed: octets that stand ready, and what feeds them (RFC 1939, 3: replies of
 //! many lines).
-ghost use Rattle.std.specs.Prelude.{◌≡◌, ◌≤◌, ◌<◌, ◌++◌, ◌⊎◌, ℕ, List, [], Option, Some, true};
+ghost use Rattle.std.specs.Prelude.{◌≡◌, ◌≤◌, ◌<◌, ◌++◌, ◌⊎◌, ℕ, List, [], Some, true};
 ghost use Rattle.std.specs.Prelude.{false, IfOk, IsOkAnd, IsTrue, OnOk, drop, length, codes};
 ghost use Rattle.std.specs.Fmt.{decimal};
 ghost use Rattle.popline.specs.Replies.{bytes_of, one_line, scan_text, uid_row_text, scan_begun};
@@ -72,7 +72,7 @@ impl Model for Output {
         × (length o.ready.items ≤ most_output) };
 }
 
-/// Takes back what was put behind the first octets where it outgrows the room, and reports want of
+/// Takes back what was put after the first octets if it outgrows the room, and reports want of
 /// memory. No reply and no line is so long.
 fn keep_within_room(octets: &mut Vec<u8>, first: usize) -> Result<(), AllocError>
     requires { (first ≤ length octets.old.items) × (first ≤ most_output) }
@@ -121,7 +121,7 @@ fn uids_behind(session: &Session, done: usize) -> Uids<'_>
     rows
 }
 
-/// Puts the line of one message and its octets, where it fits into the room.
+/// Puts the line of one message and its octets, if it fits into the room.
 fn put_size(alloc: Global, ready: &mut Vec<u8>, number: u64, octets: u64) -> Result<(), AllocError>
     requires { length ready.old.items ≤ most_output }
     ensures ok { OnOk result (ready.new.items ≡ ready.old.items
@@ -145,7 +145,7 @@ fn put_uid(alloc: Global, ready: &mut Vec<u8>, number: u64, uid: Uid) -> Result<
     keep_within_room(ready, before)
 }
 
-/// Puts the dot behind a listing, where it fits into the room.
+/// Puts the dot after a listing, if it fits into the room.
 fn end_listing(ready: &mut Vec<u8>) -> Result<(), AllocError>
     requires { length ready.old.items ≤ most_output }
     ensures ok { OnOk result (ready.new.items ≡ ready.old.items ++ last_line) }
@@ -245,14 +245,6 @@ impl Output {
         self.ready.len() == self.taken
     }
 
-    /// How many octets stand ready, whatever the store did.
-    pub fn kept(&self) -> usize
-        ensures value { result ≡ length self.now.ready }
-        ensures most { result ≤ most_output }
-    {
-        self.ready.len() - self.taken
-    }
-
     /// Forgets all that is owed.
     pub fn clear(&mut self)
         ensures { self.new ≡ nothing_owed }
@@ -317,7 +309,7 @@ impl Output {
         keep_within_room(&mut self.ready, before)
     }
 
-    /// Takes octets that stand ready. Where few are left, returns what feeds the output: the caller
+    /// Takes octets that stand ready. If few are left, returns what feeds the output: the caller
     /// puts more of it.
     pub fn take(&mut self, octets: usize) -> Source
         requires { octets ≤ length self.old.ready }
@@ -372,7 +364,7 @@ impl Output {
         Ok(())
     }
 
-    /// Puts pages of a message, until 16,384 octets stand ready. `false` where the store refused a
+    /// Puts pages of a message, until 16,384 octets stand ready. `false` if the store refused a
     /// page.
     pub fn send_text<V: Vault>(&mut self, vault: &mut V, text: Reading) -> Result<bool, AllocError>
         requires { self.old.source ≡ Source.Nothing }

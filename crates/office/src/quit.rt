@@ -52,7 +52,7 @@ pub(crate) fn quit<V: Vault>(
         → V.holds vault.new c) }
     ensures acts { ActsOnce V.Vault vault.old vault.new (IsOkAnd result WasDone)
         (without_marked policy.now session.now) }
-    // Where nothing is to be removed, no store is asked.
+    // If nothing is to be removed, no store is asked.
     ensures unasked { keys_to_remove policy.now session.now ≡ [] → vault.new ≡ vault.old }
 {
     let (keys, denied) = session.to_remove(policy)?;

@@ -1,6 +1,6 @@
 //! A message that is sent page by page (RFC 1939, 5: RETR; 7: TOP).
 ghost use Rattle.std.specs.Prelude.{◌≡◌, ◌≤◌, ◌<◌, ◌++◌, ◌+◌, ℕ, List, [], Some, None, true, false};
-ghost use Rattle.std.specs.Prelude.{min, length, take, drop, OnOk, IfOk, IfSome, IsOkAnd};
+ghost use Rattle.std.specs.Prelude.{length, take, drop, OnOk, IfOk, IfSome, IsOkAnd};
 ghost use Rattle.std.specs.Prelude.{if◌then◌else◌};
 ghost use Rattle.mailtext.specs.Text.{kept_form, lines_of, stuffed_lines, top_part};
 ghost use Rattle.mailtext.specs.Streams.{stuffed_from, nothing_come};
@@ -41,7 +41,7 @@ pub struct Reading {
 pub enum PutPage {
     /// It was put, and more is to come.
     More,
-    /// It was put, and the dot behind it.
+    /// It was put, and the dot after it.
     Last,
     /// The store refused it, or gave what no clean store gives.
     Refused,
@@ -94,7 +94,7 @@ impl Reading {
     }
 
     /// Reads the next page into the front of a buffer, and answers how many octets it has. `None`
-    /// where the store refused, or gave a page that no clean store gives.
+    /// if the store refused, or gave a page that no clean store gives.
     fn read<V: Vault>(&self, vault: &mut V, page: &mut [u8]) -> Result<Option<usize>, AllocError>
         requires { 0 < length page.old }
         ensures some { IfOk result (λ read. IfSome read (λ n. (0 < n) × (n ≤ length page.new))) }

@@ -58,7 +58,7 @@ pub(crate) fn uid_line(session: &Session, n: u64) -> Reply<'static>
     }
 }
 
-/// Marks a message, where the policy lets the clerk remove its class.
+/// Marks a message, if the policy lets the clerk remove its class.
 pub(crate) fn delete(session: &mut Session, policy: &Policy, n: u64) -> Reply<'static>
     ensures said { (c : Contents) (kept : List Keyed) → LiesIn c session.old kept
         → reply_seen result ≡ transaction_told policy.now session.old kept (Dele n) }

@@ -18,7 +18,7 @@ use std::alloc::{AllocError, Global};
 use std::collections::BTreeMap;
 use vault::Vault;
 
-/// Adds a connection's session to the rows, where it has one.
+/// Adds a connection's session to the rows, if it has one.
 fn put_session(
     rows: &mut Vec<SessionRow>,
     number: u64,

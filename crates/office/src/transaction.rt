@@ -1,9 +1,9 @@
 //! A line of a session: what it is answered, what it changes, and what is remembered of it (RFC
 //! 1939, 5 and 6).
-ghost use Rattle.std.specs.Prelude.{◌≡◌, List, Option, None, true, false, Ok, Err, OnErr};
+ghost use Rattle.std.specs.Prelude.{◌≡◌, List, Option, None, true, false, Ok, OnErr};
 ghost use Rattle.std.specs.Prelude.{IfOk, IsOkAnd};
-ghost use Rattle.popline.specs.Commands.{command_of};
-ghost use Rattle.popline.specs.Seen.{command_seen, cut_seen, reading_seen, reply_seen};
+ghost use Rattle.popline.specs.Commands.{keyword_of};
+ghost use Rattle.popline.specs.Seen.{command_seen, reply_seen};
 ghost use Rattle.policy.specs.Policy.{Policy};
 ghost use Rattle.vault.specs.Changes.{Contents};
 ghost use Rattle.vault.specs.Calls.{has_grown};
@@ -16,6 +16,7 @@ ghost use Rattle.office.specs.Accounts.{command_account, line_account};
 ghost use Rattle.office.specs.Telling.{is_told};
 ghost use Rattle.office.specs.Stopping.{WasDone, ActsOnce};
 ghost use Rattle.office.specs.Output.{nothing_owed, OwesReply};
+ghost use Rattle.office.specs.Replying.{is_allowed};
 ghost use Rattle.office.specs.Transaction.{Transaction, transaction_of, LiesIn};
 ghost use Rattle.office.specs.Transaction.{GoesOn, IsAnswered, IsAnsweredBy};
 ghost use Rattle.office.specs.Transaction.{transaction_said, transaction_reply, transaction_asks};
@@ -33,30 +34,17 @@ use crate::quit::quit;
 use crate::referring::{delete, reset, scan_line, uid_line};
 use creds::LoginName;
 use policy::Policy;
-use popline::{Command, Keyword, LineFault, Reply};
+use popline::{Command, Reply};
 use session::Session;
 use std::alloc::{AllocError, Global};
 use vault::Vault;
 
-/// The reply to a line that doesn't read as a command. USER, PASS and APOP are refused as out of
-/// place, whatever arguments they have.
-fn misread(fault: LineFault) -> Reply<'static>
-    ensures said { (p : Policy) (v : Transaction)
-        → reply_seen result ≡ transaction_said p v (Err fault) }
-    ensures session { (s : State) → GoesOn (reply_seen result) s s }
-{
-    match fault {
-        LineFault::Unknown => Reply::UnknownCommand,
-        LineFault::Syntax(Keyword::User | Keyword::Pass | Keyword::Apop) => Reply::WrongState,
-        LineFault::Syntax(_) => Reply::BadArguments,
-    }
-}
-
-/// The reply to a command that sends no listing and asks no store. DELE marks a message, RSET takes
-/// all marks away.
+/// The reply to a command that may be given in a session, sends no listing and asks no store. DELE
+/// marks a message, RSET takes all marks away.
 fn plain_reply(session: &mut Session, policy: &Policy, command: &Command<'_>) -> Reply<'static>
+    requires told { is_told (command_seen command.now) ≡ true }
+    requires allowed { is_allowed (keyword_of (command_seen command.now)) true false ≡ true }
     ensures said { (c : Contents) (kept : List Keyed) → LiesIn c session.old kept
-        → is_told (command_seen command.now) ≡ true
         → reply_seen result ≡ transaction_said policy.now (transaction_of session.old kept)
         (Ok (command_seen command.now)) }
     ensures session { GoesOn (reply_seen result) session.old session.new }
@@ -69,10 +57,7 @@ fn plain_reply(session: &mut Session, policy: &Policy, command: &Command<'_>) ->
         Command::Dele(n) => delete(session, policy, *n),
         Command::Rset => reset(session),
         Command::Noop => Reply::Okay,
-        Command::User(_) | Command::Pass(_) | Command::Apop(_, _) => Reply::WrongState,
-        // The caller answers these.
-        Command::Quit | Command::Retr(_) | Command::Top(_, _) => Reply::WrongState,
-        Command::List(None) | Command::Uidl(None) => Reply::WrongState,
+        _ => unreachable!(),
     }
 }
 
@@ -97,8 +82,9 @@ fn put(
     Ok(outcome)
 }
 
-/// Does what a command says, and puts the reply. `account`, which tells nothing yet, becomes what
-/// it did to the marks. A QUIT leaves the session and `account` to the caller.
+/// Does what a command says that may be given in a session, and puts the reply. `account`, which
+/// tells nothing yet, becomes what it did to the marks. A QUIT leaves the session and `account` to
+/// the caller.
 fn answer_command<V: Vault>(
     alloc: Global,
     vault: &mut V,
@@ -108,7 +94,8 @@ fn answer_command<V: Vault>(
     session: &mut Session,
     account: &mut Account,
 ) -> Result<LineOutcome, AllocError>
-    requires { output.old ≡ nothing_owed }
+    requires empty { output.old ≡ nothing_owed }
+    requires allowed { is_allowed (keyword_of (command_seen command.now)) true false ≡ true }
     ensures done { IfOk result (λ outcome. (c : Contents) (kept : List Keyed)
         → V.holds vault.old c
         → V.is_clean vault.new → LiesIn c session.old kept
@@ -146,45 +133,6 @@ fn answer_command<V: Vault>(
     }
 }
 
-/// Does what a line says, and puts the reply. `account`, which tells nothing yet, becomes what it
-/// did to the marks. A QUIT leaves the session and `account` to the caller.
-fn answer_reading<V: Vault>(
-    alloc: Global,
-    vault: &mut V,
-    policy: &Policy,
-    line: &CommandLine<'_>,
-    output: &mut Output,
-    session: &mut Session,
-    account: &mut Account,
-) -> Result<LineOutcome, AllocError>
-    requires { output.old ≡ nothing_owed }
-    ensures done { IfOk result (λ outcome. (c : Contents) (kept : List Keyed)
-        → V.holds vault.old c
-        → V.is_clean vault.new → LiesIn c session.old kept
-        → IsAnswered (V.holds vault.new) (has_grown (V.faults vault.old) (V.faults vault.new)) c
-        policy.now session.old session.new kept output.new (reading line.now) outcome) }
-    ensures err { OnErr result ((c : Contents) → V.holds vault.old c → V.is_clean vault.new
-        → V.holds vault.new c) }
-    ensures acts { ActsOnce V.Vault vault.old vault.new (IsOkAnd result WasDone)
-        (held_after_line LineOutcome.Done policy.now session.old (reading line.now)) }
-    ensures account { is_quit (reading line.now) ≡ false → account.old ≡ Account.Nothing
-        → IfOk result (λ outcome. (c : Contents) (kept : List Keyed)
-        → LiesIn c session.old kept
-        → account.new ≡ line_account (reading line.now)
-        (Says (transaction_answered outcome policy.now (transaction_of session.old kept)
-        (reading line.now))) None) }
-    ensures account_err { OnErr result (account.new ≡ account.old) }
-    ensures quits { is_quit (reading line.now) ≡ true → session.new ≡ session.old }
-    ensures unasked { (c : Contents) (kept : List Keyed) → LiesIn c session.old kept
-        → transaction_asks policy.now (transaction_of session.old kept) (reading line.now) ≡ false
-        → vault.new ≡ vault.old }
-{
-    match line.reading() {
-        Ok(command) => answer_command(alloc, vault, policy, command, output, session, account),
-        Err(fault) => say(alloc, output, &misread(*fault)),
-    }
-}
-
 /// Answers a line of a session: puts its reply, and sets or takes away marks. `account`, which
 /// tells nothing yet, becomes what the line did to the marks. A QUIT removes the marked messages;
 /// the caller then ends the session, which stays as it is, and gives its account.
@@ -219,10 +167,10 @@ pub(crate) fn answer<V: Vault>(
         → transaction_asks policy.now (transaction_of session.old kept) (reading line.now) ≡ false
         → vault.new ≡ vault.old }
 {
-    if line.is_too_long() {
-        return say(alloc, output, &Reply::LineTooLong);
+    match line.permitted(true, false) {
+        Ok(command) => answer_command(alloc, vault, policy, command, output, session, account),
+        Err(reply) => say(alloc, output, &reply),
     }
-    answer_reading(alloc, vault, policy, line, output, session, account)
 }
 
 /// The login name in force after a line.

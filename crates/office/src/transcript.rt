@@ -4,7 +4,7 @@ ghost use Rattle.std.specs.Prelude.{◌≡◌};
 use crate::Outcome;
 use std::marker::Model;
 
-/// The outcome of one event, and the octets that it took, where it was a taking that was accepted.
+/// The outcome of one event, and the octets that it took, if it was a taking that was accepted.
 #[derive(Drop)]
 pub struct Step {
     outcome: Outcome,

@@ -53,12 +53,12 @@ fn link_waits(
 impl<V: Vault> Office<V> {
     /// Whether a piece that isn't given yet may wait, because a login in it would be told that the
     /// maildrop is in use: octets may come on the connection, its last line or taking was less than
-    /// so many seconds ago, and the next line, with this piece behind what came before, is a PASS
+    /// so many seconds ago, and the next line, with this piece after what came before, is a PASS
     /// or an APOP (RFC 1939, section 7) for a maildrop that another session holds.
     ///
     /// It reads the line as the office would: for a PASS the name in force counts, for an APOP its
     /// own. It asks no store, takes no memory and changes nothing; whether the credential is right
-    /// isn't looked at. Lines behind the next one aren't looked at either.
+    /// isn't looked at. Lines after the next one aren't looked at either.
     pub fn waits(&self, c: u64, piece: &[u8], seconds: u64) -> bool
         ensures { (T : Trace) → StandsFor V.holds self.now T
             → result ≡ waits_at T c piece.now seconds }

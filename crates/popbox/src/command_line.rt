@@ -1,5 +1,6 @@
 //! The command line of popbox: its subcommands, their options and defaults.
 
+use crate::version::{FOOT, VERSION};
 use clap::builder::ValueParser;
 use clap::{Arg, ArgAction, ArgMatches, Command, value_parser};
 use session::Removals;
@@ -95,16 +96,17 @@ fn talk<'a>(alloc: Global) -> Result<Command<'a>, AllocError> {
     subcommand(alloc, "talk", about, arguments)
 }
 
-/// `check-policy [--verbose] FILE`.
+/// `check-policy [--write] [--verbose] FILE`.
 fn check_policy<'a>(alloc: Global) -> Result<Command<'a>, AllocError> {
     let file = Arg::new(alloc, "FILE").help("The policy's file; - is standard input");
-    let arguments = vec![in alloc; file.required(true)]?;
+    let write = "Prints the policy as popbox writes it, without comments";
+    let arguments = vec![in alloc; flag(alloc, "write", write), file.required(true)]?;
     let about = "Checks a policy, and prints how many rules it has or its first fault";
     subcommand(alloc, "check-policy", about, arguments)
 }
 
-/// `review-policy [--against OLD] [--store PATH] [--clerk NAME] [--maildrop NAME] [--format FORMAT]
-/// [--verbose] NEW`.
+/// `review-policy [--against OLD] [--store PATH] [--clerk NAME] [--maildrop NAME] [--only PART]
+/// [--format FORMAT] [--verbose] NEW`.
 fn review_policy<'a>(alloc: Global) -> Result<Command<'a>, AllocError> {
     let against = option(
         alloc,
@@ -118,6 +120,7 @@ fn review_policy<'a>(alloc: Global) -> Result<Command<'a>, AllocError> {
     );
     let clerk = option(alloc, "clerk", "NAME", "Tells of this clerk alone");
     let maildrop = option(alloc, "maildrop", "NAME", "Tells of this maildrop alone");
+    let only = option(alloc, "only", "PART", "Leaves out who may do what");
     let format = option(alloc, "format", "FORMAT", "How it is written");
     let file = Arg::new(alloc, "NEW").help("The policy's file; - is standard input");
     let arguments = vec![in alloc;
@@ -125,8 +128,9 @@ fn review_policy<'a>(alloc: Global) -> Result<Command<'a>, AllocError> {
         store,
         clerk,
         maildrop,
+        only.value_parser(["changes"].as_slice()),
         format
-            .value_parser(["text", "csv"].as_slice())
+            .value_parser(["text", "csv", "html", "json"].as_slice())
             .default_value("text"),
         file.required(true),
     ]?;
@@ -171,9 +175,20 @@ fn patience<'a>(alloc: Global) -> Result<Vec<Arg<'a>>, AllocError> {
     Ok(arguments)
 }
 
+/// `[--log] [--log-message-ids]`: what is logged.
+fn logging<'a>(alloc: Global) -> Result<Vec<Arg<'a>>, AllocError> {
+    let log = "Writes a line for each event to standard error";
+    let ids = "With --log: a deposit's line has the Message-ID of the message";
+    let arguments = vec![in alloc;
+        flag(alloc, "log", log),
+        flag(alloc, "log-message-ids", ids),
+    ]?;
+    Ok(arguments)
+}
+
 /// `serve --store PATH --spool DIR [--listen IPV4] [--pop-port N] [--admin-port N] [--host NAME]
 /// [--idle N] [--wait N] [--login-seconds N] [--full-house-seconds N] [--slow-guesses]
-/// [--proxy-protocol] [--removals WHEN] [--turns N] [--log] [--verbose]`.
+/// [--proxy-protocol] [--removals WHEN] [--turns N] [--log] [--log-message-ids] [--verbose]`.
 fn serve<'a>(alloc: Global) -> Result<Command<'a>, AllocError> {
     let listen = option(
         alloc,
@@ -204,17 +219,13 @@ fn serve<'a>(alloc: Global) -> Result<Command<'a>, AllocError> {
         host(alloc),
         removals(alloc),
         turns.value_parser(value_parser!(u64)),
-        flag(
-            alloc,
-            "log",
-            "Writes a line for each event to standard error"
-        ),
     ]?;
     let about = "Serves clients over the network, and takes messages from a folder";
-    subcommand(alloc, "serve", about, arguments)?.args(patience(alloc)?)
+    let command = subcommand(alloc, "serve", about, arguments)?;
+    command.args(patience(alloc)?)?.args(logging(alloc)?)
 }
 
-/// `export --store PATH --maildrop M [--verbose] DIR`.
+/// `export --store PATH --maildrop M [--damaged] [--verbose] DIR`.
 fn export<'a>(alloc: Global) -> Result<Command<'a>, AllocError> {
     let maildrop = option(
         alloc,
@@ -226,16 +237,22 @@ fn export<'a>(alloc: Global) -> Result<Command<'a>, AllocError> {
     let arguments = vec![in alloc;
         store(alloc, "The store's file, which no server has").required(true),
         maildrop.required(true),
+        flag(
+            alloc,
+            "damaged",
+            "Also writes messages whose texts differ from their digests"
+        ),
         folder.required(true),
     ]?;
     let about = "Writes each message of a maildrop as a file, the oldest first";
     subcommand(alloc, "export", about, arguments)
 }
 
-/// `check --store PATH [--verbose]`.
+/// `check --store PATH [--quick] [--verbose]`.
 fn check<'a>(alloc: Global) -> Result<Command<'a>, AllocError> {
     let file = store(alloc, "The store's file, which no server has");
-    let arguments = vec![in alloc; file.required(true)]?;
+    let quick = "Doesn't compare the messages' texts with their digests";
+    let arguments = vec![in alloc; file.required(true), flag(alloc, "quick", quick)]?;
     let about = "Opens a store, judges all that lies in it, and prints what that is";
     subcommand(alloc, "check", about, arguments)
 }
@@ -251,9 +268,9 @@ fn add<'a>(
 /// The whole command line.
 pub fn make_command<'a>(alloc: Global) -> Result<Command<'a>, AllocError> {
     let command = Command::new(alloc, "popbox")
-        .version("0.1.0")
+        .version(VERSION)
         .about("A POP3 server for shared maildrops")
-        .after_help("--verbose behind a command: a fault is told with what it is about")
+        .after_help(FOOT)
         .subcommand_required(true)
         .arg_required_else_help(true);
     let command = add(command, replay(alloc))?;

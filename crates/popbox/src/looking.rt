@@ -57,15 +57,22 @@ fn choice_of(options: &ArgMatches<'_>) -> Option<Choice> {
         Some(text) => Some(Name::read(text.as_bytes())?),
         None => None,
     };
-    let format = match options.get_str("format") {
-        Some("csv") => Format::Csv,
-        _ => Format::Text,
-    };
     Some(Choice {
         clerk,
         maildrop,
-        format,
+        format: format_of(options),
+        only_changes: options.get_str("only").is_some(),
     })
+}
+
+/// How the review is written.
+fn format_of(options: &ArgMatches<'_>) -> Format {
+    match options.get_str("format") {
+        Some("csv") => Format::Csv,
+        Some("html") => Format::Html,
+        Some("json") => Format::Json,
+        _ => Format::Text,
+    }
 }
 
 /// The octets of the new policy's file, or of standard input.

@@ -2,11 +2,13 @@
 #![tactic(auto)]
 
 mod command_line;
+mod copies;
 mod looking;
 mod resting;
 mod serve;
 mod store_file;
 mod stored;
+mod version;
 
 use causes::{
     Keeping, STANDARD_INPUT, Watched, tell_bad_line, tell_bad_policy, tell_closed_store, tell_host,
@@ -15,7 +17,7 @@ use causes::{
 use clap::ArgMatches;
 use clap::error::ErrorKind;
 use command_line::{is_verbose, make_command, removals_of};
-use converse::check_policy::check_policy;
+use converse::check_policy::{check_policy, write_policy};
 use converse::script::{ScriptFault, read_script};
 use converse::{Fault, Flushed, Noted, tell_fault};
 use jobs::{Job, Replaying, Talking, open_do_close};
@@ -452,20 +454,34 @@ fn host_of<'a>(options: &ArgMatches<'a>) -> &'a str {
 }
 
 /// Runs `popbox check-policy`: prints to standard output how many rules the policy of the named
-/// file, or of standard input, has.
+/// file, or of standard input, has; by `--write` the policy as it is written.
 fn run_check_policy<E: Write>(
     rt: &HostRuntime,
     options: &ArgMatches<'_>,
     err: &mut E,
 ) -> Result<u8, Fault> {
-    let is_verbose = is_verbose(options);
     let path = options.get_str("FILE").unwrap_or("");
     if path == "-" {
-        return check_input(rt, &mut rt.reader(), STANDARD_INPUT, is_verbose, err);
+        return check_input(rt, &mut rt.reader(), STANDARD_INPUT, options, err);
     }
     match fs::open(rt, path) {
-        Ok(mut file) => check_input(rt, &mut file, path, is_verbose, err),
-        Err(error) => Ok(tell_unread(err, is_verbose, path, &error)),
+        Ok(mut file) => check_input(rt, &mut file, path, options, err),
+        Err(error) => Ok(tell_unread(err, is_verbose(options), path, &error)),
+    }
+}
+
+/// Reads a policy, and prints how many rules it has, or by `--write` the policy.
+fn tell_policy<S: Read, W: Write, E: Write>(
+    alloc: Global,
+    options: &ArgMatches<'_>,
+    input: &mut S,
+    out: &mut W,
+    err: &mut E,
+) -> u8 {
+    if options.get_flag("write") {
+        write_policy(alloc, input, out, err)
+    } else {
+        check_policy(alloc, input, out, err)
     }
 }
 
@@ -474,13 +490,13 @@ fn check_input<S: Read, E: Write>(
     rt: &HostRuntime,
     input: &mut S,
     name: &str,
-    is_verbose: bool,
+    options: &ArgMatches<'_>,
     err: &mut E,
 ) -> Result<u8, Fault> {
     let alloc: Global = rt.alloc();
     let mut out = BufWriter::new(alloc, io::writer(rt)).map_err(|_| Fault::OutOfMemory)?;
-    if !is_verbose {
-        return Ok(check_policy(alloc, input, &mut out, err));
+    if !is_verbose(options) {
+        return Ok(tell_policy(alloc, options, input, &mut out, err));
     }
     let mut text = Vec::new(alloc);
     if let Err(error) = input.read_to_end(&mut text) {
@@ -488,7 +504,7 @@ fn check_input<S: Read, E: Write>(
     }
     let mut out = Watched::new(out);
     let mut rest = text.as_slice();
-    let status = check_policy(alloc, &mut rest, &mut out, err);
+    let status = tell_policy(alloc, options, &mut rest, &mut out, err);
     if status != 0 {
         let _ = tell_bad_policy(alloc, err, name, text.as_slice());
         tell_refusal(err, "standard output", out.refusal());

@@ -1,14 +1,15 @@
 //! `popbox export` and `popbox check`: over a store that no server has, which stays as it is.
 
 use crate::command_line::is_verbose;
+use crate::copies::{is_copy, open_copy, tell_copy, tell_copy_tables, tell_lost_log};
 use crate::store_file::log_octets;
 use causes::{Watched, tell_closed_store, tell_refusal, tell_unread};
 use clap::ArgMatches;
 use converse::check_store::StoreFile;
-use converse::export::{Folder, export};
+use converse::export::Folder;
 use converse::{Fault, Noted, tell_fault};
 use creds::Name;
-use jobs::{check_all, open_fault};
+use jobs::{check_all, export_from, open_fault};
 use mailsql::meta::find_meta_row;
 use sqlite::{Alter, Connection, Error, ErrorCode, FileStore, Wary};
 use sqlite_disk::Disk;
@@ -129,7 +130,8 @@ pub fn run_export<E: Write>(
 }
 
 /// Opens the store at a path, and does an errand over it. A store that is refused is told as
-/// `popbox replay` tells it.
+/// `popbox replay` tells it. If it lies where nothing can be written, or has no log beside it, it
+/// is read into memory, so that no file is changed or created.
 fn run_errand<E: Write>(
     rt: &HostRuntime,
     errand: &Errand<'_>,
@@ -137,6 +139,13 @@ fn run_errand<E: Write>(
     options: &ArgMatches<'_>,
     err: &mut E,
 ) -> Result<u8, Fault> {
+    tell_lost_log(rt, err, path);
+    if is_copy(rt, path) {
+        return match open_copy(rt, path) {
+            Ok(conn) => run_over_connection(rt, conn, errand, path, options, err),
+            Err(error) => Ok(tell_copy(err, is_verbose(options), path, &error)),
+        };
+    }
     let closed = match Connection::open_from(rt, path, false, Wary) {
         Ok(conn) => return run_over_connection(rt, conn, errand, path, options, err),
         Err((error, _)) => Closed::Refused(open_fault(&error)),
@@ -159,6 +168,9 @@ pub fn tell_closed<E: Write>(
     let status = tell_fault(err, Fault::from(fault));
     if is_verbose {
         let _ = match closed {
+            Closed::Refused(fault) if *fault != VaultFault::NoMemory && is_copy(rt, path) => {
+                tell_copy_tables(rt, err, path, *fault)
+            }
             Closed::Refused(fault) => tell_closed_store(rt, err, path, *fault),
             Closed::Older(found) => writeln!(
                 err,
@@ -246,7 +258,8 @@ fn check_over<A: Alter, E: Write>(
         version: VERSION as u64,
         octets,
     };
-    let status = check_all(alloc, vault, &file, &mut out, err);
+    let compared = !options.get_flag("quick");
+    let status = check_all(alloc, vault, compared, &file, &mut out, err);
     if is_verbose(options) {
         tell_refusal(err, "standard output", out.refusal());
     }
@@ -254,9 +267,9 @@ fn check_over<A: Alter, E: Write>(
 }
 
 /// Puts a maildrop's messages into a folder, and prints how many to standard output.
-fn export_over<V: Vault, E: Write>(
+fn export_over<A: Alter, E: Write>(
     rt: &HostRuntime,
-    vault: &mut V,
+    vault: &mut SqlVault<A>,
     maildrop: &Name,
     path: &str,
     store: &str,
@@ -273,7 +286,8 @@ fn export_over<V: Vault, E: Write>(
         faults: 0,
         refusal: None,
     };
-    let status = export(alloc, vault, maildrop, &mut folder, &mut out, err);
+    let compared = !options.get_flag("damaged");
+    let status = export_from(alloc, vault, maildrop, compared, &mut folder, &mut out, err);
     if is_verbose(options) && status != 0 {
         if let Err(VaultFault::NoMaildrop) = vault.heads(maildrop) {
             let _ = writeln!(err, "why: {store}: it has no maildrop {maildrop}");

@@ -3,8 +3,8 @@ use crate::command_line::{is_verbose, removals_of};
 use clap::ArgMatches;
 use converse::{Fault, tell_fault};
 use journal::{
-    FileId, Folder, Guarded, Journal, LoggedSpool, LoggedVault, LoggedWire, Loss, Peers, Shared,
-    StoreWatch, note_end, note_loss, note_opening, note_start,
+    FileId, Folder, Guarded, Journal, LoggedSpool, LoggedVault, LoggedWire, Loss, Peers, Settings,
+    Shared, StoreWatch, note_end, note_loss, note_opening, note_start,
 };
 use office::{Limits, Office};
 use proxy::ProxiedWire;
@@ -50,7 +50,8 @@ pub fn serve_over<V: Vault, E: Write>(
     };
     let shared = Shared::new(rt.alloc());
     let journal = Journal::new(rt, options.get_flag("log"), &shared);
-    let mut vault = LoggedVault::new(Recent::new(rt.alloc(), vault), journal);
+    let message_ids = options.get_flag("log-message-ids");
+    let mut vault = LoggedVault::new(Recent::new(rt.alloc(), vault), journal, message_ids);
     let totals = totals_of(&mut vault, &journal);
     let watch = StoreWatch::new(rt, path.as_str(), before);
     let limits = limits.with_removals(removals_of(options));
@@ -70,6 +71,25 @@ pub fn serve_over<V: Vault, E: Write>(
             );
             (served, office.into_vault().into_vault().into_vault())
         }
+    }
+}
+
+/// An option that is a number of seconds.
+fn seconds_of(options: &ArgMatches<'_>, name: &str) -> u32 {
+    options.get_one::<u32>(name).unwrap_or(0)
+}
+
+/// The options in force that say how clients are served and what is logged.
+fn settings_of(options: &ArgMatches<'_>) -> Settings {
+    Settings {
+        removals: removals_of(options),
+        idle: seconds_of(options, "idle"),
+        wait: seconds_of(options, "wait"),
+        login_seconds: seconds_of(options, "login-seconds"),
+        full_house_seconds: seconds_of(options, "full-house-seconds"),
+        slow_guesses: options.get_flag("slow-guesses"),
+        proxy_protocol: options.get_flag("proxy-protocol"),
+        message_ids: options.get_flag("log-message-ids"),
     }
 }
 
@@ -95,6 +115,15 @@ fn listen(
     Ok((NotedWire::new(wire), port, admin_port))
 }
 
+/// Tells that the system refused to listen at an address. Gives the exit status.
+fn tell_refused<E: Write>(err: &mut E, is_verbose: bool, at: SocketAddr, error: &io::Error) -> u8 {
+    let _ = writeln!(err, "popbox: cannot listen");
+    if is_verbose {
+        let _ = writeln!(err, "why: {at}: {error}");
+    }
+    1
+}
+
 /// Listens, says so, and serves the clients and administrators that come.
 fn serve<'a, V: Vault, E: Write>(
     rt: &'a HostRuntime,
@@ -111,19 +140,22 @@ fn serve<'a, V: Vault, E: Write>(
     let admin = options.get_one::<u16>("admin-port").unwrap_or(1111);
     let (wire, port, admin_port) = match listen(rt, at, admin) {
         Ok(listening) => listening,
-        Err((at, error)) => {
-            let _ = writeln!(err, "popbox: cannot listen");
-            if is_verbose(options) {
-                let _ = writeln!(err, "why: {at}: {error}");
-            }
-            return Ok(1);
-        }
+        Err((at, error)) => return Ok(tell_refused(err, is_verbose(options), at, &error)),
     };
     let mut out = io::writer(rt);
     writeln!(out, "pop on {}:{}", at.ip(), port).map_err(|_| Fault::CannotWrite)?;
     writeln!(out, "admin on 127.0.0.1:{admin_port}").map_err(|_| Fault::CannotWrite)?;
     let pop = SocketAddr::from((at.ip(), port));
-    note_start(&journal, rt, pop, admin_port, watch.path(), totals);
+    let settings = settings_of(options);
+    note_start(
+        &journal,
+        rt,
+        pop,
+        admin_port,
+        watch.path(),
+        totals,
+        &settings,
+    );
     if is_verbose(options) && !journal.is_on() {
         Folder::new(rt, spool).tell_left(err);
     }

@@ -1,5 +1,6 @@
 //! What a store has, for a review beside it.
 
+use crate::copies::{is_copy, open_copy, tell_copy, tell_lost_log};
 use crate::resting::{Closed, adopt, look_at, tell_closed};
 use converse::{Fault, tell_fault};
 use creds::Name;
@@ -29,6 +30,13 @@ pub fn read_store<E: Write>(
     err: &mut E,
 ) -> Result<Stored, u8> {
     let _ = look_at(rt, path, is_verbose, err)?;
+    tell_lost_log(rt, err, path);
+    if is_copy(rt, path) {
+        return match open_copy(rt, path) {
+            Ok(conn) => read_connection(rt, conn, path, is_verbose, err),
+            Err(error) => Err(tell_copy(err, is_verbose, path, &error)),
+        };
+    }
     let closed = match Connection::open_from(rt, path, false, Wary) {
         Ok(conn) => return read_connection(rt, conn, path, is_verbose, err),
         Err((error, _)) => Closed::Refused(open_fault(&error)),

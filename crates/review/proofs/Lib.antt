@@ -6,3 +6,5 @@ pub mod MemberLemmas
 pub mod TableLemmas
 pub mod Pieces
 pub mod Once
+pub mod CellLemmas
+pub mod Markup

@@ -40,7 +40,7 @@ same_row p classes maildrop clerk =
     ∙ ap (λ (marks : List ℕ). record { clerk = clerk; marks = marks })
     (rw (split p clerk maildrop column.Open, same_cells p classes clerk maildrop) refl)
 
-map_same : {X Y : Type 0} (f g : X → Y) (xs : List X) → ((x : X) → f x ≡ g x) → map f xs ≡ map g xs
+pub map_same : {X Y : Type 0} (f g : X → Y) (xs : List X) → ((x : X) → f x ≡ g x) → map f xs ≡ map g xs
 map_same f g [] e = refl
 map_same f g (x ∷ xs) e = rw (e x, map_same f g xs e) refl
 

@@ -6,7 +6,7 @@ use Rattle.policy.specs.declared.rule.Rule.{Rule}
 use Rattle.policy.specs.Policy.{Policy, decision_of}
 use Rattle.review.specs.declared.label.Label.{Label}
 use Rattle.review.specs.declared.question.Column.{Column}
-use Rattle.review.specs.declared.rows.Format.{Format}
+use Rattle.review.specs.declared.rows.LineForm.{LineForm}
 use Rattle.review.specs.Differences.{answer, becomes, becoming, change_line, change_lines, questions, text_if}
 use Rattle.review.specs.Questions.{decide_for, fits_label, has_clerk, is_about}
 use Rattle.review.specs.Table.{answer_line, answers_text}
@@ -44,7 +44,7 @@ flat_of_map g h (x ∷ xs) = ap (λ (ys : List ℕ). g (h x) ++ ys) (flat_of_map
 
 -- ---- the decision of the rules that are about the clerk and the maildrop
 
-split : (p : Policy) (clerk maildrop : Label) (asked : Column) → decide_among (of_maildrop (of_clerk p.groups p.rules clerk) maildrop) asked ≡ decide_for p clerk maildrop asked
+pub split : (p : Policy) (clerk maildrop : Label) (asked : Column) → decide_among (of_maildrop (of_clerk p.groups p.rules clerk) maildrop) asked ≡ decide_for p clerk maildrop asked
 split p clerk maildrop asked =
     let at_maildrop = λ (r : Rule). fits_label r.maildrop maildrop in
     let at_clerk = λ (r : Rule). has_clerk p.groups r.clerk clerk in
@@ -85,7 +85,7 @@ all_clerks allowed old new clerks maildrops asked =
 
 -- ---- a line for each question
 
-answers_of_maildrop : (format : Format) (p : Policy) (clerk : Label) (asked : List Column) (maildrop : Label)
+answers_of_maildrop : (format : LineForm) (p : Policy) (clerk : Label) (asked : List Column) (maildrop : Label)
     → answers_maildrop format clerk asked (of_clerk p.groups p.rules clerk) maildrop
     ≡ flat_map (λ q. answer_line format q (answer p q)) (map (λ a. record { clerk = clerk; maildrop = maildrop; asked = a }) asked)
 unfolding answers_maildrop
@@ -93,7 +93,7 @@ answers_of_maildrop format p clerk asked maildrop =
     flat_same _ _ asked (λ (a : Column). ap (answer_line format (record { clerk = clerk; maildrop = maildrop; asked = a })) (split p clerk maildrop a))
     ∙ sym (flat_of_map (λ q. answer_line format q (answer p q)) (λ a. record { clerk = clerk; maildrop = maildrop; asked = a }) asked)
 
-answers_of_clerk : (format : Format) (p : Policy) (maildrops : List Label) (asked : List Column) (clerk : Label)
+answers_of_clerk : (format : LineForm) (p : Policy) (maildrops : List Label) (asked : List Column) (clerk : Label)
     → answers_clerk format p maildrops asked clerk
     ≡ flat_map (λ q. answer_line format q (answer p q)) (flat_map (λ maildrop. map (λ a. record { clerk = clerk; maildrop = maildrop; asked = a }) asked) maildrops)
 unfolding answers_clerk
@@ -102,7 +102,7 @@ answers_of_clerk format p maildrops asked clerk =
     ∙ sym (flat_flat (λ q. answer_line format q (answer p q)) (λ maildrop. map (λ a. record { clerk = clerk; maildrop = maildrop; asked = a }) asked) maildrops)
 
 -- the lines of all clerks
-pub answers_of_all : (format : Format) (p : Policy) (clerks maildrops : List Label) (asked : List Column)
+pub answers_of_all : (format : LineForm) (p : Policy) (clerks maildrops : List Label) (asked : List Column)
     → flat_map (answers_clerk format p maildrops asked) clerks ≡ answers_text format p (questions clerks maildrops asked)
 answers_of_all format p clerks maildrops asked =
     flat_same _ _ clerks (answers_of_clerk format p maildrops asked)

@@ -7,4 +7,10 @@ pub mod Names
 pub mod Notes
 pub mod Renames
 pub mod Table
+pub mod Escape
+pub mod Style
+pub mod Cells
+pub mod Page
+pub mod Json
+pub mod CellSteps
 pub mod Review

@@ -5,8 +5,13 @@ use Rattle.policy.specs.Policy.{Policy}
 use Rattle.review.specs.declared.choice.Choice.{Choice}
 use Rattle.review.specs.declared.label.Label.{Label}
 use Rattle.review.specs.declared.label.Label.TheVariants.{Named}
-use Rattle.review.specs.declared.rows.Format.{Format}
-use Rattle.review.specs.declared.rows.Format.TheVariants.{Text, Csv}
+use Rattle.review.specs.declared.choice.Format.{Format}
+use Rattle.review.specs.declared.choice.Format.TheVariants.{Text, Csv, Html, Json}
+use Rattle.review.specs.declared.report.Beside.{Beside}
+use Rattle.review.specs.declared.report.Beside.TheVariants.{Nothing, Old, Store}
+use Rattle.review.specs.declared.rows.LineForm.TheVariants as line
+use Rattle.review.specs.Json.{json_text}
+use Rattle.review.specs.Page.{page_text}
 use Rattle.review.specs.Covers.{covered_text}
 use Rattle.review.specs.Differences.{differences, differences_text, questions, text_if}
 use Rattle.review.specs.declared.question.Question.{Question}
@@ -39,13 +44,13 @@ is_narrow choice = is_some choice.clerk && is_some choice.maildrop
 
 -- who may do what for a reader: a line for each question where one clerk and one maildrop are chosen, else tables
 abbrev pub plain_text : (narrow : Bool) → Policy → (clerks maildrops classes : List Label) → List ℕ
-plain_text true p clerks maildrops classes = answers_text Text p (questions clerks maildrops (columns classes))
+plain_text true p clerks maildrops classes = answers_text line.Text p (questions clerks maildrops (columns classes))
 plain_text false p clerks maildrops classes = tables_text p clerks maildrops classes
 
--- who may do what
-abbrev pub who_text : Choice → Format → Policy → (clerks maildrops classes : List Label) → List ℕ
-who_text choice Text p clerks maildrops classes = plain_text (is_narrow choice) p clerks maildrops classes
-who_text choice Csv p clerks maildrops classes = csv_head ++ answers_text Csv p (questions clerks maildrops (columns classes))
+-- the same as CSV
+abbrev pub csv_text : Policy → (clerks maildrops classes : List Label) → List ℕ
+csv_text p clerks maildrops classes =
+    csv_head ++ answers_text line.Csv p (questions clerks maildrops (columns classes))
 
 -- the lines, or the word for none
 abbrev pub or_none : List ℕ → List ℕ
@@ -56,16 +61,6 @@ or_none (b ∷ bs) = b ∷ bs
 abbrev pub has_lines : List ℕ → Bool
 has_lines [] = false
 has_lines (b ∷ bs) = true
-
--- what a change changes, which CSV doesn't tell
-abbrev pub change_text : Format → (lines : List ℕ) → List ℕ
-change_text Text lines = or_none lines
-change_text Csv lines = []
-
--- the rules that never decide, which CSV doesn't tell
-abbrev pub rules_text : Format → Policy → List ℕ
-rules_text Text p = covered_text p
-rules_text Csv p = []
 
 -- that nothing has the name that was chosen
 unfoldable pub unknown_note : (what name : List ℕ) → List ℕ
@@ -86,16 +81,11 @@ unknown_names choice old new kept =
     chosen_note (codes "clerk") choice.clerk (labels (clerks_in old ++ clerks_in new ++ kept.clerks))
     ++ chosen_note (codes "maildrop") choice.maildrop (labels (maildrops_in old ++ maildrops_in new ++ kept.maildrops))
 
--- those that were chosen and are named nowhere, which CSV doesn't tell
-abbrev pub unknown_text : Format → Choice → (old new : Policy) → Kept → List ℕ
-unknown_text Text choice old new kept = unknown_names choice old new kept
-unknown_text Csv choice old new kept = []
-
--- the review of one policy
-abbrev pub review_text : Choice → Policy → List ℕ
-review_text choice p =
-    who_text choice choice.format p (clerks_of choice p p nobody) (maildrops_of choice p p nobody) (classes_of p p)
-    ++ rules_text choice.format p ++ unknown_text choice.format choice p p nobody
+-- what to look at: rules that never decide, those that were chosen and are named nowhere, and
+-- beside a store what the policy speaks of and the store doesn't have
+abbrev pub notes_text : (stored : Bool) → Choice → (old new : Policy) → Kept → List ℕ
+notes_text stored choice old new kept =
+    covered_text new ++ unknown_names choice old new kept ++ text_if stored (missing_lines new kept)
 
 -- the questions that a review of two policies asks
 abbrev pub asked_of : Choice → (old new : Policy) → Kept → List Question
@@ -106,21 +96,50 @@ asked_of choice old new kept =
 abbrev pub changes_of : Choice → (old new : Policy) → Kept → List ℕ
 changes_of choice old new kept = differences_text old new (asked_of choice old new kept)
 
+-- what a review of a policy is beside: no other policy; an old one; an old one and a store
+abbrev pub compares : Beside → Bool
+compares Nothing = false
+compares Old = true
+compares Store = true
+
+-- it is beside a store
+abbrev pub has_store : Beside → Bool
+has_store Nothing = false
+has_store Old = false
+has_store Store = true
+
+-- the review in each of its forms, by the labels that it speaks of, the lines of what changes, the
+-- notes, and the text that the policy was read from
+abbrev pub written : Format → (table compared narrow : Bool) → (old new : Policy)
+    → (clerks maildrops classes : List Label) → (changes notes source : List ℕ) → List ℕ
+written Text table compared narrow old new clerks maildrops classes changes notes source =
+    text_if table (plain_text narrow new clerks maildrops classes)
+    ++ text_if compared (or_none changes) ++ notes
+written Csv table compared narrow old new clerks maildrops classes changes notes source =
+    text_if table (csv_text new clerks maildrops classes)
+written Html table compared narrow old new clerks maildrops classes changes notes source =
+    page_text table compared old new clerks maildrops classes notes source
+written Json table compared narrow old new clerks maildrops classes changes notes source =
+    json_text table new clerks maildrops classes
+
+-- the review of the new policy, which was read from this text
+abbrev pub reviewed : Beside → Choice → (source : List ℕ) → (old new : Policy) → Kept → List ℕ
+reviewed beside choice source old new kept =
+    written choice.format (not choice.only_changes) (compares beside) (is_narrow choice) old new
+    (clerks_of choice old new kept) (maildrops_of choice old new kept) (classes_of old new)
+    (changes_of choice old new kept) (notes_text (has_store beside) choice old new kept) source
+
+-- the review of one policy
+abbrev pub review_text : Choice → (source : List ℕ) → Policy → List ℕ
+review_text choice source p = reviewed Nothing choice source p p nobody
+
 -- the review of a policy against the old one
-abbrev pub against_text : Choice → (old new : Policy) → Kept → List ℕ
-against_text choice old new kept =
-    who_text choice choice.format new (clerks_of choice old new kept) (maildrops_of choice old new kept) (classes_of old new)
-    ++ change_text choice.format (changes_of choice old new kept) ++ rules_text choice.format new
-    ++ unknown_text choice.format choice old new kept
+abbrev pub against_text : Choice → (source : List ℕ) → (old new : Policy) → Kept → List ℕ
+against_text choice source old new kept = reviewed Old choice source old new kept
 
--- what the policy speaks of and the store doesn't have, which CSV doesn't tell
-abbrev pub missing_text : Format → Policy → Kept → List ℕ
-missing_text Text p kept = missing_lines p kept
-missing_text Csv p kept = []
-
--- the review beside a store: against the old policy, and then what the store doesn't have
-abbrev pub stored_text : Choice → (old new : Policy) → Kept → List ℕ
-stored_text choice old new kept = against_text choice old new kept ++ missing_text choice.format new kept
+-- the review beside a store: against the old policy, and with what the store doesn't have
+abbrev pub stored_text : Choice → (source : List ℕ) → (old new : Policy) → Kept → List ℕ
+stored_text choice source old new kept = reviewed Store choice source old new kept
 
 -- ---- a law
 

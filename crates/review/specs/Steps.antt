@@ -13,7 +13,7 @@ use Rattle.review.specs.declared.question.Column.{Column}
 use Rattle.review.specs.declared.question.Column.TheVariants as column
 use Rattle.review.specs.Questions.{fits_label, has_clerk, is_about}
 use Rattle.review.specs.declared.question.Question.{Question}
-use Rattle.review.specs.declared.rows.Format.{Format}
+use Rattle.review.specs.declared.rows.LineForm.{LineForm}
 use Rattle.review.specs.Differences.{becomes, change_line, text_if}
 use Rattle.review.specs.Table.{Row, answer_line, class_cell, lines_text, mark, table_head}
 
@@ -97,15 +97,15 @@ told_clerk allowed old new maildrops asked clerk =
 -- ---- a line for each question
 
 -- the lines of a clerk and a maildrop, by the rules that are about both
-abbrev pub answers_column : Format → (clerk maildrop : Label) → List Rule → Column → List ℕ
+abbrev pub answers_column : LineForm → (clerk maildrop : Label) → List Rule → Column → List ℕ
 answers_column format clerk maildrop rules asked = answer_line format (record { clerk = clerk; maildrop = maildrop; asked = asked }) (decide_among rules asked)
 
 -- those of a maildrop, by the rules that are about the clerk
-unfoldable pub answers_maildrop : Format → (clerk : Label) → List Column → List Rule → (maildrop : Label) → List ℕ
+unfoldable pub answers_maildrop : LineForm → (clerk : Label) → List Column → List Rule → (maildrop : Label) → List ℕ
 answers_maildrop format clerk asked rules maildrop = flat_map (answers_column format clerk maildrop (of_maildrop rules maildrop)) asked
 
 -- those of a clerk
-unfoldable pub answers_clerk : Format → Policy → (maildrops : List Label) → List Column → (clerk : Label) → List ℕ
+unfoldable pub answers_clerk : LineForm → Policy → (maildrops : List Label) → List Column → (clerk : Label) → List ℕ
 answers_clerk format p maildrops asked clerk = flat_map (answers_maildrop format clerk asked (of_clerk p.groups p.rules clerk)) maildrops
 
 -- ---- tables

@@ -8,8 +8,8 @@ use Rattle.review.specs.declared.label.Label.{Label}
 use Rattle.review.specs.declared.question.Column.{Column}
 use Rattle.review.specs.declared.question.Column.TheVariants as column
 use Rattle.review.specs.declared.question.Question.{Question}
-use Rattle.review.specs.declared.rows.Format.{Format}
-use Rattle.review.specs.declared.rows.Format.TheVariants.{Text, Csv}
+use Rattle.review.specs.declared.rows.LineForm.{LineForm}
+use Rattle.review.specs.declared.rows.LineForm.TheVariants.{Text, Csv}
 use Rattle.review.specs.Differences.{answer, decision_text, effect_word, label_text, question_text, text_if}
 use Rattle.review.specs.Questions.{decide_for}
 
@@ -111,12 +111,12 @@ unfoldable pub plain_line : Question → Decision → List ℕ
 plain_line q d = question_text q ++ codes ": " ++ decision_text d ++ codes "\n"
 
 -- the line of a question
-abbrev pub answer_line : Format → Question → Decision → List ℕ
+abbrev pub answer_line : LineForm → Question → Decision → List ℕ
 answer_line Text q d = plain_line q d
 answer_line Csv q d = csv_line q d
 
 -- a line for each question
-abbrev pub answers_text : Format → Policy → List Question → List ℕ
+abbrev pub answers_text : LineForm → Policy → List Question → List ℕ
 answers_text format p qs = flat_map (λ q. answer_line format q (answer p q)) qs
 
 -- the names of the fields

@@ -31,7 +31,7 @@ struct Both {
     new: Vec<Rule>,
 }
 
-fn becomes(allowed: bool, was: &Decision, is: &Decision) -> bool
+pub(crate) fn becomes(allowed: bool, was: &Decision, is: &Decision) -> bool
     ensures { result ≡ becomes allowed was.now is.now }
 {
     if allowed {
@@ -172,10 +172,10 @@ fn put_maildrops(
 
 /// The change of a policy, and in which direction its differences are told.
 #[derive(Clone, Copy)]
-struct Change<'a> {
-    allowed: bool,
-    old: &'a Policy,
-    new: &'a Policy,
+pub(crate) struct Change<'a> {
+    pub(crate) allowed: bool,
+    pub(crate) old: &'a Policy,
+    pub(crate) new: &'a Policy,
 }
 
 /// Appends the differences of one clerk.
@@ -220,7 +220,7 @@ fn put_clerks(
 }
 
 /// Appends the differences in one direction.
-fn put_change_lines(
+pub(crate) fn put_change_lines(
     out: &mut Vec<u8>,
     change: &Change<'_>,
     names: &Names,

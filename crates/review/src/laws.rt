@@ -1,5 +1,6 @@
 //! What the questions of a review promise of every policy. A law is a function with nothing to do:
 //! its contract says it.
+ghost use Rattle.review.specs.Escape.{NoMarkup};
 ghost use Rattle.review.specs.Names.{NamesAreTold};
 ghost use Rattle.review.specs.Questions.{AsksThePolicy, OthersAreAlike};
 ghost use Rattle.review.specs.Review.{ToldOnce};
@@ -25,4 +26,10 @@ pub fn names_are_told()
 /// the store's names and the choice are.
 pub fn told_once()
     ensures { ToldOnce }
+{}
+
+/// Whatever the policy's text is, nothing of it can begin or end a tag of the page, or the value of
+/// an attribute: where it stands there is no `<`, `>`, `"` or `'`.
+pub fn text_has_no_markup()
+    ensures { NoMarkup }
 {}

@@ -15,7 +15,7 @@ use std::alloc::{AllocError, Global};
 
 /// How answers are written.
 #[derive(Clone, Copy, PartialEq, Eq)]
-pub enum Format {
+pub enum LineForm {
     /// For a reader.
     Text,
     /// As CSV.
@@ -81,7 +81,7 @@ fn put_plain(out: &mut Vec<u8>, question: &Question, is: &Decision) -> Result<()
 
 fn put_line(
     out: &mut Vec<u8>,
-    format: Format,
+    format: LineForm,
     question: &Question,
     is: &Decision,
 ) -> Result<(), AllocError>
@@ -89,14 +89,14 @@ fn put_line(
         ≡ out.old.items ++ answer_line format question.now is.now) }
 {
     match format {
-        Format::Text => put_plain(out, question, is),
-        Format::Csv => put_csv(out, question, is),
+        LineForm::Text => put_plain(out, question, is),
+        LineForm::Csv => put_csv(out, question, is),
     }
 }
 
 fn put_columns(
     out: &mut Vec<u8>,
-    format: Format,
+    format: LineForm,
     clerk: &Label,
     maildrop: &Label,
     asked: &[Column],
@@ -120,7 +120,7 @@ fn put_columns(
 #[tactic(auto, unfolding(crate::specs::Steps::answers_maildrop))]
 fn put_maildrop(
     out: &mut Vec<u8>,
-    format: Format,
+    format: LineForm,
     clerk: &Label,
     maildrop: &Label,
     asked: &[Column],
@@ -135,7 +135,7 @@ fn put_maildrop(
 
 fn put_maildrops(
     out: &mut Vec<u8>,
-    format: Format,
+    format: LineForm,
     clerk: &Label,
     maildrops: &[Label],
     asked: &[Column],
@@ -154,7 +154,7 @@ fn put_maildrops(
 #[tactic(auto, unfolding(crate::specs::Steps::answers_clerk))]
 fn put_clerk(
     out: &mut Vec<u8>,
-    format: Format,
+    format: LineForm,
     policy: &Policy,
     clerk: &Label,
     maildrops: &[Label],
@@ -169,7 +169,7 @@ fn put_clerk(
 
 fn put_clerks(
     out: &mut Vec<u8>,
-    format: Format,
+    format: LineForm,
     policy: &Policy,
     clerks: &[Label],
     maildrops: &[Label],
@@ -188,7 +188,7 @@ fn put_clerks(
 /// Appends a line for each question.
 pub(crate) fn put_answers(
     out: &mut Vec<u8>,
-    format: Format,
+    format: LineForm,
     policy: &Policy,
     names: &Names,
 ) -> Result<(), AllocError>
@@ -208,7 +208,7 @@ pub fn answers(
     alloc: Global,
     policy: &Policy,
     names: &Names,
-    format: Format,
+    format: LineForm,
 ) -> Result<Vec<u8>, AllocError>
     ensures { IfOk result (λ text. text.items
         ≡ answers_text format policy.now (questions names.now.clerks.items

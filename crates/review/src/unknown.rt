@@ -3,12 +3,10 @@ ghost use Rattle.std.specs.Prelude.{◌≡◌, ◌++◌, OnOk};
 ghost use Rattle.std.specs.List.{list_any};
 ghost use Rattle.review.specs.Names.{is_of};
 ghost use Rattle.review.specs.Review.{chosen_note, name_note, unknown_names, unknown_note};
-ghost use Rattle.review.specs.Review.{unknown_text};
 
 use crate::choice::Choice;
 use crate::label::{Label, put};
 use crate::names::{Kept, names_of};
-use crate::rows::Format;
 use creds::Name;
 use policy::Policy;
 use std::alloc::AllocError;
@@ -70,7 +68,9 @@ fn put_chosen_note(
     }
 }
 
-fn put_unknown_names(
+/// Appends a note for the clerk and for the maildrop that are chosen and that neither policy names
+/// and the store doesn't have, so that a slip of the pen is seen.
+pub(crate) fn put_unknown_names(
     out: &mut Vec<u8>,
     old: &Policy,
     new: &Policy,
@@ -83,22 +83,4 @@ fn put_unknown_names(
     let all = names_of(*out.allocator(), old, new, kept)?;
     put_chosen_note(out, b"clerk", &choice.clerk, &all.clerks)?;
     put_chosen_note(out, b"maildrop", &choice.maildrop, &all.maildrops)
-}
-
-/// Appends a note for the clerk and for the maildrop that are chosen and that neither policy names
-/// and the store doesn't have, so that a slip of the pen is seen. CSV has none.
-pub(crate) fn put_unknown(
-    out: &mut Vec<u8>,
-    old: &Policy,
-    new: &Policy,
-    kept: &Kept,
-    choice: &Choice,
-) -> Result<(), AllocError>
-    ensures { OnOk result (out.new.items
-        ≡ out.old.items ++ unknown_text choice.now.format choice.now old.now new.now kept.now) }
-{
-    match choice.format {
-        Format::Text => put_unknown_names(out, old, new, kept, choice),
-        Format::Csv => Ok(()),
-    }
 }

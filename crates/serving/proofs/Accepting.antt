@@ -12,7 +12,6 @@ use Rattle.office.specs.Taken.{trace_of, all_taken_by}
 use Rattle.office.specs.Expected.{IsOutcome, ignored, shown_at, or_ignored}
 use Rattle.office.specs.Outcomes.{Outcome, Reason, event_tag_of}
 use Rattle.serving.specs.Wires.{Told, has_accepted, has_closed, begun_at, opened_by}
-use Rattle.serving.specs.Spools.{FileAct}
 use Rattle.serving.specs.Served.{given_by, Owners, IsServed, AreServed, IsOwnEvent, AreOwnEvents, Adds, IsCommand, Beside}
 use Rattle.serving.proofs.Keeping.{stays, of_some, served_closed}
 use Rattle.serving.proofs.Staying.{frame_connect}

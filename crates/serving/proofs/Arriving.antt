@@ -1,16 +1,14 @@
 -- Links that come, one after the other, and those that are closed.
-use Rattle.std.proofs.Common.{◌≡◌, ℕ, zero, suc, ◌+◌, ◌<◌, ◌≤◌, Bool, true, false, not, ◌||◌, List, [], ◌∷◌, ◌++◌, length, take, drop, map, get_or, refl, sym, ◌∙◌, ap, arith, Some, None, Option, ⊎_elim, ◌⊎◌, inl, inr, subst, append_assoc, length-append}
-use Rattle.std.specs.Bool.{⊤, if◌then◌else◌}
-use Rattle.std.specs.List.{All, list_any, filter, filter_map, remove}
+use Rattle.std.proofs.Common.{◌≡◌, ℕ, zero, suc, ◌+◌, ◌<◌, ◌≤◌, Bool, true, false, not, ◌||◌, List, [], ◌∷◌, ◌++◌, length, take, drop, map, get_or, refl, sym, ◌∙◌, ap, arith, Some, None, ⊎_elim, inl, inr, subst, append_assoc, length-append}
+use Rattle.std.specs.Bool.{if◌then◌else◌}
+use Rattle.std.specs.List.{list_any, filter, filter_map, remove}
 use Rattle.std.proofs.lemmas.Bool.{cases_Bool}
 use Rattle.std.proofs.lemmas.List.{append-nil, map-append}
 use Rattle.std.proofs.lemmas.List.Elements.{All-nil, All-cons, All-append, filter_map-append}
-use Rattle.vault.specs.Records.{Records}
 use Rattle.vault.specs.Changes.{Contents}
 use Rattle.office.specs.History.{Done, Failed, NoMemory}
 use Rattle.office.specs.Events.{EventTag, Tagged, Ignored, Log, Trace}
 use Rattle.office.specs.Events as event
-use Rattle.office.specs.Trace.{is_open}
 use Rattle.office.specs.Outcomes.{Outcome, event_tag_of}
 use Rattle.office.specs.Outcomes as outcome
 use Rattle.office.specs.Taken.{trace_of}
@@ -21,7 +19,9 @@ use Rattle.serving.specs.declared.wire.Port.TheVariants.{Pop}
 use Rattle.serving.specs.Calls.{Call, Accepted, Closed}
 use Rattle.serving.specs.declared.links.Seat.{Seat}
 use Rattle.serving.specs.Wires.{opened_by}
-use Rattle.serving.specs.Works.{is_beside, waits, wait_of, arrivals, arrival_of, closings, closing_of, none_waited, tells_none, moments, moment_of, openings, is_opening, IsOpening, refusals, is_refusal, HasCause, AreCaused, WasGiven, Came, seat_of, unseated_of, link_of, HaveCome, HasAccepted, AreAccepted, is_open_seat, is_shut_seat, closing, IsClosed, AreClosed, has_moved}
+use Rattle.serving.specs.Works.{is_admin, wait_of, arrival_of, closing_of, none_waited, tells_none, moment_of, is_opening, refusals, is_refusal, HasCause, Came, seat_of, unseated_of, link_of, is_open_seat, is_shut_seat, has_moved}
+use Rattle.serving.specs.ClientParts.{IsOpening, HaveCome, AreAccepted, closing, IsClosed, AreClosed}
+use Rattle.serving.specs.Parts.{WasGiven}
 use Rattle.serving.proofs.Accepting.{IsRefusal}
 use Rattle.serving.proofs.Working.{none_joined, count_joined, any_right, none_of, caused_then}
 
@@ -139,7 +139,7 @@ module _ {V : Type 0} (Holds : V → Contents → Type 0) (IsClean : V → Type 
     closed = filter_map-append closing_of c1 c2 ∙ (joined _ _ _ _ a.closed b.closed ∙ sym (filter_map-append unseated_of came1 came2));
     seated = b.seated
         ∙ (ap (λ xs. xs ++ filter_map seat_of came2) a.seated ∙ (append_assoc seats (filter_map seat_of came1) (filter_map seat_of came2) ∙ ap (λ xs. seats ++ xs) (sym (filter_map-append seat_of came1 came2))));
-    apart = none_of is_beside c1 c2 a.apart b.apart;
+    apart = none_of is_admin c1 c2 a.apart b.apart;
     only = All-append IsOpening g2 g1 b.only a.only;
     caused = caused_then [] g1 g2 c1 c2 a.caused b.caused;
   }

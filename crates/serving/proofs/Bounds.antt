@@ -1,5 +1,5 @@
 -- How long a request may be that isn't whole.
-use Rattle.std.proofs.Common.{◌≡◌, ℕ, zero, suc, ◌+◌, ◌-◌, ◌<◌, ◌≤◌, nat_le, nat_lt, ◌==◌, ◌&&◌, Bool, true, false, List, [], ◌∷◌, length, take, drop, map, refl, sym, ◌∙◌, ap, arith, Some, None, Option, option_map, ⊎_elim, ◌⊎◌, inl, inr, subst, leb-true, le-leb, min}
+use Rattle.std.proofs.Common.{◌≡◌, ℕ, zero, suc, ◌+◌, ◌<◌, ◌≤◌, nat_le, nat_lt, ◌==◌, ◌&&◌, Bool, true, false, List, [], ◌∷◌, length, take, drop, refl, sym, ◌∙◌, ap, arith, Some, None, Option, option_map, ⊎_elim, inl, inr, subst, leb-true, le-leb}
 use Rattle.std.specs.Bool.{if◌then◌else◌}
 use Rattle.std.specs.Prelude.{codes, Result, Ok, Err}
 use Rattle.std.specs.Str.{bytes_eq, is_utf8}
@@ -9,14 +9,14 @@ use Rattle.std.specs.Char.{is_ascii_digit}
 use Rattle.std.proofs.lemmas.Bool.{cases_lt}
 use Rattle.std.proofs.lemmas.List.{drop_all, length-drop, length-take}
 use Rattle.office.specs.Answers.{AdminCommand}
-use Rattle.adminhttp.specs.Lines.{empty_line, through_empty_line, head_from, head_at, most_in_head, empty_lines}
-use Rattle.adminhttp.specs.Fields.{Header, is_named, values_of, only, length_text, length_of, body_length, most_in_body}
+use Rattle.adminhttp.specs.Lines.{empty_line, through_empty_line, head_from, head_at, empty_lines}
+use Rattle.adminhttp.specs.Fields.{Header, is_named, values_of, only, length_text, length_of, body_length}
 use Rattle.adminhttp.specs.Steps.{◌>>=◌, value_or}
 use Rattle.adminhttp.specs.Bodies.{body_of, first_octets, without_line_end, credential_of, policy_of, or_fault}
 use Rattle.adminhttp.specs.Targets.{target_of}
-use Rattle.adminhttp.specs.Request.{Asked, by_get, clerk_put, policy_put, maildrop_asked, clerk_asked, policy_asked, session_asked, asked_of, asked_by, unended, HeadComesTo, ComesTo as RequestComesTo, IsRequest}
+use Rattle.adminhttp.specs.Request.{Asked, clerk_put, policy_put, maildrop_asked, clerk_asked, policy_asked, session_asked, asked_of, asked_by, HeadComesTo, ComesTo as RequestComesTo, IsRequest}
 use Rattle.std.specs.List.{All}
-use Rattle.std.specs.Prelude.{IfNone, ⊤}
+use Rattle.std.specs.Prelude.{IfNone}
 use Rattle.std.proofs.Common.{◌++◌, ◌||◌, true≢false}
 use Rattle.std.proofs.lemmas.List.Elements.{All-nil, All-cons, All-head, All-tail, All-append}
 use Rattle.vault.specs.Records.{Records}
@@ -27,7 +27,7 @@ use Rattle.serving.specs.declared.requests.Response.{Response}
 use Rattle.serving.specs.declared.requests.Exchange.{Exchange}
 use Rattle.serving.specs.declared.links.Links.{Links}
 use Rattle.serving.specs.Requests.{octets_of, HasOneMore, IsGiven, NotYet, NoCommand, GivenOne}
-use Rattle.serving.specs.HttpWorks.{IsShort, AreShort, HaveComeBeside, NoMore, IsKept, IsTurnedAway, WantsMemory, ComesTo, HasHeard, IsOver, HasResponse, GaveNothing, GaveItsEnd, GaveAPiece, HasHttpTurn, IsLate, IsServed, HadHttpTurns, NoneHeld, IsHeldOn, IsClosed, HttpWorks}
+use Rattle.serving.specs.HttpWorks.{IsShort, AreShort, HaveComeForAdmin, NoMore, IsKept, IsTurnedAway, WantsMemory, ComesTo, HasHeard, IsOver, HasResponse, GaveNothing, GaveItsEnd, GaveAPiece, HasHttpTurn, IsLate, IsServed, HadHttpTurns, NoneHeld, IsHeldOn, IsClosed, HttpWorks}
 use Rattle.adminhttp.specs.Head.{behind_head, head_text}
 use Rattle.adminhttp.specs.declared.target.Target.{Target}
 use Rattle.adminhttp.specs.declared.target.Target.TheVariants as target
@@ -266,7 +266,7 @@ module _ (now : ℕ) (B : Records) where
       short_by None read h = h
       short_by (Some r) read h = tt
 
-  pub short_come : (held held_then : List Exchange) (n : ℕ) (calls : List Call) → HaveComeBeside now held held_then n calls → All IsShort held → All IsShort held_then
+  pub short_come : (held held_then : List Exchange) (n : ℕ) (calls : List Call) → HaveComeForAdmin now held held_then n calls → All IsShort held → All IsShort held_then
   short_come _ _ _ _ (NoMore held) a = a
   short_come _ _ _ _ (IsKept link held more held_then came calls one rest) a = short_come more held_then came calls rest (short_new link held more one a)
   short_come _ _ _ _ (IsTurnedAway link held held_then came calls full rest) a = short_come held held_then came calls rest a

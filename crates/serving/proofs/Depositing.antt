@@ -18,7 +18,7 @@ use Rattle.serving.specs.Wires.{Told, ToldOfPorts}
 use Rattle.serving.specs.Requests.{Exchanges, AreHeld, Asks, AsksNone, AsksMore, IsAnswering, IsAsked}
 use Rattle.serving.specs.declared.requests.Exchange.{Exchange}
 use Rattle.serving.specs.Spools.{FileAct, WasRead, disposal_of, disposed, IsFiled}
-use Rattle.office.specs.Taken.{trace_of, IsAdmitted, AreAdmittedBy, IsSentExactly}
+use Rattle.office.specs.Taken.{trace_of, IsAdmitted}
 use Rattle.serving.specs.Deposits.{IsOneFile, NoFile, OneFile, IsTried, named}
 use Rattle.serving.specs.Served.{Owners, AreServed, AreSeated, Adds, IsServing, Serves, Beside, AddsEvents}
 use Rattle.serving.specs.declared.links.Seat.{Seat}

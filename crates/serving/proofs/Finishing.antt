@@ -1,6 +1,5 @@
 -- What the parts of a turn do together.
-use Rattle.std.proofs.Common.{◌≡◌, ◌||◌, ◌==◌, ℕ, zero, suc, ◌+◌, ◌<◌, ◌≤◌, Bool, true, false, not, List, [], ◌∷◌, ◌++◌, length, get_or, map, refl, sym, ◌∙◌, ap, arith, Some, None, Option, ⊎_elim, ◌⊎◌, inl, inr, subst, append_assoc, true≢false}
-use Rattle.std.specs.Bool.{⊤}
+use Rattle.std.proofs.Common.{◌≡◌, ◌||◌, ◌==◌, ℕ, ◌≤◌, Bool, true, false, not, List, [], ◌∷◌, ◌++◌, length, get_or, map, refl, sym, ◌∙◌, ap, arith, Some, Option, ⊎_elim, ◌⊎◌, inl, inr, subst, append_assoc, true≢false}
 use Rattle.std.specs.List.{All, Contains, list_any, filter, filter_map}
 use Rattle.std.proofs.lemmas.List.{append-nil}
 use Rattle.std.proofs.lemmas.List.Elements.{All-nil, All-cons, All-head, All-tail, All-append, All-weaker, filter_map-append, filter_agree}
@@ -13,18 +12,21 @@ use Rattle.office.specs.Taken.{trace_of}
 use Rattle.office.specs.Stands.{StandsFor, vault_of}
 use Rattle.office.specs.declared.office.Office.{Office}
 use Rattle.serving.specs.declared.wire.Link.{Link}
-use Rattle.serving.specs.Calls.{Call, Waited}
+use Rattle.serving.specs.Calls.{Call}
 use Rattle.serving.specs.declared.links.Seat.{Seat}
 use Rattle.serving.specs.declared.links.Links.{Links}
 use Rattle.serving.specs.declared.newcomers.Newcomer.{Newcomer}
-use Rattle.serving.specs.Works.{is_beside, waits, wait_of, arrivals, arrival_of, closings, closing_of, none_waited, tells_none, is_cut_of, is_cut, moments, moment_of, openings, is_opening, refusals, is_refusal, HasCause, AreCaused, WasGiven, WasAsked, Part, Asking, Giving, IsQuiet, IsQuietFor, IsPassed, Came, seat_of, unseated_of, link_of, HasAccepted, AreAccepted, most_links, HadTurn, IsNotedSo, WereServed, AreDeposits, is_open_seat, is_shut_seat, closing, AreClosed, link_of_seat, IsLateGone, AreLateGone, Also, HurriesBy, Releases, way_by, has_moved, is_moving}
+use Rattle.serving.specs.Works.{is_admin, waits, wait_of, arrivals, arrival_of, closings, closing_of, none_waited, tells_none, is_cut_of, is_cut, moments, moment_of, openings, is_opening, refusals, is_refusal, HasCause, AreCaused, seat_of, unseated_of, HasAccepted, most_links, HadTurn, AreDeposits, is_open_seat, is_shut_seat, link_of_seat, IsLateGone, AreLateGone, way_by, has_moved, is_moving}
+use Rattle.serving.specs.Parts.{Part, Asking, Giving, IsQuiet, IsQuietFor, Also, PollsBy, Releases}
+use Rattle.serving.specs.ClientParts.{IsPassed, AreAccepted, IsNotedSo, WereServed, closing, AreClosed}
 use Rattle.serving.specs.Spools.{FileCall}
-use Rattle.serving.specs.HttpWorks.{AskedApart, DidApart, HasAcceptedBeside, HadHttpTurns}
+use Rattle.serving.specs.HttpParts.{AskedApart, DidApart}
+use Rattle.serving.specs.HttpWorks.{HasAcceptedForAdmin, HadHttpTurns}
 use Rattle.serving.specs.declared.requests.Exchange.{Exchange}
 use Rattle.serving.specs.Settings.{settings, last_tried}
 use Rattle.serving.specs.SpoolTurns.{IsSpoolTurn, has_dealt, SpoolPart}
 use Rattle.serving.specs.Hearing.{Hearing, WasTold, WithHeard, HeardApart, idle_ends, heard_of_all, late_ends}
-use Rattle.serving.specs.Turns.{way_of, millis_of, HasCauseInTurn, IsTurn, Works}
+use Rattle.serving.specs.Turns.{way_of, millis_of, HasCauseInTurn, Works}
 use Rattle.serving.proofs.Staying.{Fewer, deposit_same}
 use Rattle.serving.proofs.Resting.{rests_so, waits_then, not_true, is_left}
 use Rattle.serving.proofs.Arriving.{shut_moved}
@@ -109,7 +111,7 @@ arrivals_of : (seats : List Seat) → arrivals (map closing seats) ≡ []
 arrivals_of [] = refl
 arrivals_of (s ∷ seats) = arrivals_of seats
 
-apart_of : (seats : List Seat) → list_any is_beside (map closing seats) ≡ false
+apart_of : (seats : List Seat) → list_any is_admin (map closing seats) ≡ false
 apart_of [] = refl
 apart_of (s ∷ seats) = apart_of seats
 
@@ -145,31 +147,31 @@ accepted_so Holds IsClean Faults o o1 seats seats1 false g c all more a =
     (λ (full : length seats1 ≡ 128). inl (inr full))
     (a.all refl)
 
--- where the clients' links hurry, the next turn doesn't wait
-no_wait : (links : Links) → links.clients.hurries ≡ true → millis_of links ≡ 0
+-- where the clients' links have more, the next turn doesn't wait
+no_wait : (links : Links) → links.clients.poll_now ≡ true → millis_of links ≡ 0
 no_wait links e = rw e refl
 
 -- ---- the turn
 
 module _ {V W S H : Type 0} (Holds : V → Contents → Type 0) (IsClean : V → Type 0) (Faults : V → ℕ) (Asked : W → List Call → Type 0) (AskedFiles : S → List FileCall → Type 0) (Heard : H → List Hearing → Type 0) where
-  pub turn_done : (T : Trace) (now : ℕ) (links links_then : Links) (o o1 o2 o3 o4 o5 o6 : Office V) (w w1 w2 w3 w4 w5 w6 : W) (f f1 : S) (l l1 l2 l3 l4 l5 : H) (seats2 : List Seat) (goes : Bool) (held : List Exchange) (more freed hurrying hurried : Bool) (n0 n1 n2 : List Newcomer)
+  pub turn_done : (T : Trace) (now : ℕ) (links links_then : Links) (o o1 o2 o3 o4 o5 o6 : Office V) (w w1 w2 w3 w4 w5 w6 : W) (f f1 : S) (l l1 l2 l3 l4 l5 : H) (seats2 : List Seat) (goes : Bool) (held : List Exchange) (more freed polling polled : Bool) (n0 n1 n2 : List Newcomer)
       → Part Holds IsClean Faults Asked o w o1 w1 (IsPassed (millis_of links) now)
       → ((U : Trace) → StandsFor Holds o1 U → WasTold Heard l l1 (idle_ends U links.clients.seats.items))
       → (acc : Part Holds IsClean Faults Asked o1 w1 o2 w2 (AreAccepted Holds IsClean o1 o2 links.clients.seats.items seats2 64 goes))
-      → Asking Asked w2 w3 (AskedApart (HasAcceptedBeside now 64 more links.requests.exchanges.items held))
+      → Asking Asked w2 w3 (AskedApart (HasAcceptedForAdmin now 64 more links.requests.exchanges.items held))
       → WasTold Heard l1 l2 []
-      → Part Holds IsClean Faults Asked o2 w3 o3 w4 (WithHeard Holds IsClean Heard o2 l2 o3 l3 (Also (WereServed Holds IsClean o2 o3 (settings links) now n0 freed hurrying n1 seats2 seats2) (HurriesBy freed hurrying)))
-      → (freed ≡ true → hurrying ≡ true) → (hurrying ≡ true → hurried ≡ true)
-      → Part Holds IsClean Faults Asked o3 w4 o4 w5 (Also (DidApart Holds IsClean o3 o4 (HeardApart Heard l3 l4 (λ B L. HadHttpTurns now B L held links_then.requests.exchanges.items))) (HurriesBy false links_then.requests.hurries))
+      → Part Holds IsClean Faults Asked o2 w3 o3 w4 (WithHeard Holds IsClean Heard o2 l2 o3 l3 (Also (WereServed Holds IsClean o2 o3 (settings links) now n0 freed polling n1 seats2 seats2) (PollsBy freed polling)))
+      → (freed ≡ true → polling ≡ true) → (polling ≡ true → polled ≡ true)
+      → Part Holds IsClean Faults Asked o3 w4 o4 w5 (Also (DidApart Holds IsClean o3 o4 (HeardApart Heard l3 l4 (λ B L. HadHttpTurns now B L held links_then.requests.exchanges.items))) (PollsBy false links_then.requests.poll_now))
       → ((c : ℕ) → waited_of now (newcomer c n0) ≡ waited_of now (newcomer c links.clients.newcomers.newcomers.items))
       → ((c : ℕ) (n : Newcomer) → newcomer c links.clients.newcomers.newcomers.items ≡ Some n → IsSettled now (Some n) (newcomer c n1))
       → (AllHaveSeats links → All (IsComer now links.clients.newcomers.newcomers.items n1) (filter_map seat_of acc.facts.came))
       → Giving Holds IsClean Faults o4 o5 (λ g. AreLateGone now (limit links (length seats2)) links.clients.newcomers.newcomers.items g × HasEndedLate Holds IsClean o4 o5 now (limit links (length seats2)) n1 n2 seats2 g × WasTold Heard l4 l5 (late_ends g))
       → ((U : Trace) → StandsFor Holds o5 U → (c : ℕ) → is_open U c ≡ true → newcomer c links_then.clients.newcomers.newcomers.items ≡ newcomer c n2)
-      → ((U : Trace) → StandsFor Holds o5 U → Asking Asked w5 w6 (λ calls. AreClosed U seats2 links_then.clients.seats.items calls × HurriesBy hurrying hurried calls × Releases links.clients.wait hurried calls))
-      → SpoolPart Holds IsClean Faults AskedFiles o5 f o6 f1 (λ U given calls. IsSpoolTurn (last_tried links) (last_tried links_then) U given calls × (links_then.clients.hurries ≡ (hurried || has_dealt calls)))
+      → ((U : Trace) → StandsFor Holds o5 U → Asking Asked w5 w6 (λ calls. AreClosed U seats2 links_then.clients.seats.items calls × PollsBy polling polled calls × Releases links.clients.wait polled calls))
+      → SpoolPart Holds IsClean Faults AskedFiles o5 f o6 f1 (λ U given calls. IsSpoolTurn (last_tried links) (last_tried links_then) U given calls × (links_then.clients.poll_now ≡ (polled || has_dealt calls)))
       → StandsFor Holds o T → IsClean (vault_of o6) → Works Holds Faults Asked AskedFiles Heard T now links o w f l o6 links_then w6 f1 l5
-  turn_done T now links links_then o o1 o2 o3 o4 o5 o6 w w1 w2 w3 w4 w5 w6 f f1 l l1 l2 l3 l4 l5 seats2 goes held more freed hurrying hurried n0 n1 n2 pass idle acc asked unheard served freeing still reqs waited keeps comers late forgets close spool s k6 =
+  turn_done T now links links_then o o1 o2 o3 o4 o5 o6 w w1 w2 w3 w4 w5 w6 f f1 l l1 l2 l3 l4 l5 seats2 goes held more freed polling polled n0 n1 n2 pass idle acc asked unheard served freeing still reqs waited keeps comers late forgets close spool s k6 =
       let B = T.base in
       let L = T.log in
       let seconds = limit links (length seats2) in
@@ -213,8 +215,8 @@ module _ {V W S H : Type 0} (Holds : V → Contents → Type 0) (IsClean : V →
       let cx = x.calls in
       let C5 : List Call = ((((cp ++ ca) ++ cq) ++ cl) ++ cr) ++ cx in
       let filed = spool.facts (trace_of B ((gz ++ G3) ++ L)) (subst (λ l. StandsFor Holds o5 (trace_of B l)) (sym (append_assoc gz G3 L)) s5) k6 in
-      let sleeps_not : hurried ≡ true → millis_of links_then ≡ 0 = λ e. no_wait links_then (filed.1 ∙ is_left hurried (has_dealt spool.calls) e) in
-      let had = served_so Holds IsClean Faults o2 o3 (way_by (settings links) now n0 seats2 freed hurrying) way n1 seats2 seats2 gl cl refl refl (λ e. e)
+      let sleeps_not : polled ≡ true → millis_of links_then ≡ 0 = λ e. no_wait links_then (filed.1 ∙ is_left polled (has_dealt spool.calls) e) in
+      let had = served_so Holds IsClean Faults o2 o3 (way_by (settings links) now n0 seats2 freed polling) way n1 seats2 seats2 gl cl refl refl (λ e. e)
       (λ i d within. may_same (settings links).slow_guesses now n0 newcomers seats2 freed (get_or seats2 i d).connection (waited (get_or seats2 i d).connection)) (λ e. ap (λ n. n == 0) (sleeps_not (still e))) served.facts.1.0.turns in
       let unread : All (IsNotedSo n1 B L G4 C5 way.wait way.may seats2) seats2 =
       All-weaker (IsNotedSo n1 B (G1 ++ L) gl cl way.wait way.may seats2) (IsNotedSo n1 B L G4 C5 way.wait way.may seats2)
@@ -304,12 +306,12 @@ module _ {V W S H : Type 0} (Holds : V → Contents → Type 0) (IsClean : V →
           is = append_assoc gs gz G3;
           tries = filed.0;
         };
-        rests = λ m f d. waits_then links_then (filed.1 ∙ rests_so hurrying freed hurried (has_dealt spool.calls) (has_moved cl) (has_moved cx) (has_moved C5) served.facts.1.1 x.facts.1
+        rests = λ m f d. waits_then links_then (filed.1 ∙ rests_so polling freed polled (has_dealt spool.calls) (has_moved cl) (has_moved cx) (has_moved C5) served.facts.1.1 x.facts.1
             (λ q. seen_fourth cp ca cq cl cr cx is_moving q) (λ q. any_right is_moving ((((cp ++ ca) ++ cq) ++ cl) ++ cr) cx q) m f d)
-            (not_true links_then.requests.hurries (λ e. true≢false (sym (seen_fifth cp ca cq cl cr cx is_moving (reqs.facts.1 e)) ∙ m)));
+            (not_true links_then.requests.poll_now (λ e. true≢false (sym (seen_fifth cp ca cq cl cr cx is_moving (reqs.facts.1 e)) ∙ m)));
         frees = λ e. sleeps_not (still (freeing e));
         releases = λ on e. sleeps_not (x.facts.2 on (ap has_moved (x.facts.0.calls_are ∙ ap (map closing) shut_same) ∙ shut_moved after seats2 e));
-        dealt = λ e. no_wait links_then (filed.1 ∙ (ap (λ b. hurried || b) e ∙ or_true hurried));
+        dealt = λ e. no_wait links_then (filed.1 ∙ (ap (λ b. polled || b) e ∙ or_true polled));
         http = record {
           held = held;
           before = cp ++ ca;
@@ -319,8 +321,8 @@ module _ {V W S H : Type 0} (Holds : V → Contents → Type 0) (IsClean : V →
           behind = cx;
           goes = more;
           calls_are = append_assoc (((cp ++ ca) ++ cq) ++ cl) cr cx ∙ (append_assoc ((cp ++ ca) ++ cq) cl (cr ++ cx) ∙ append_assoc (cp ++ ca) cq (cl ++ (cr ++ cx)));
-          apart = none_of is_beside (cp ++ ca) (cl ++ cx) (none_of is_beside cp ca (ap (list_any is_beside) pass.facts.calls_are) come.apart)
-              (none_of is_beside cl cx served.facts.1.0.turns.of_seats.apart (ap (list_any is_beside) x.facts.0.calls_are ∙ apart_of (filter (is_shut_seat trace4) seats2)));
+          apart = none_of is_admin (cp ++ ca) (cl ++ cx) (none_of is_admin cp ca (ap (list_any is_admin) pass.facts.calls_are) come.apart)
+              (none_of is_admin cl cx served.facts.1.0.turns.of_seats.apart (ap (list_any is_admin) x.facts.0.calls_are ∙ apart_of (filter (is_shut_seat trace4) seats2)));
           earlier = G2;
           commands = gr;
           later = gx;

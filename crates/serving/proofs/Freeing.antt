@@ -1,5 +1,5 @@
 -- Sessions that end while links are served, behind which logins are kept back.
-use Rattle.std.proofs.Common.{◌≡◌, ℕ, ◌+◌, ◌<◌, ◌≤◌, ◌==◌, ◌||◌, ◌&&◌, not, Bool, true, false, List, [], ◌∷◌, ◌++◌, length, take, get_or, refl, sym, ◌∙◌, ap, ⊎_elim, ◌⊎◌, inl, inr, subst, append_assoc}
+use Rattle.std.proofs.Common.{◌≡◌, ℕ, ◌+◌, ◌<◌, ◌≤◌, ◌==◌, ◌||◌, ◌&&◌, not, Bool, true, false, List, [], ◌∷◌, ◌++◌, length, take, get_or, refl, sym, ◌∙◌, ap, ⊎_elim, ◌⊎◌, subst, append_assoc}
 use Rattle.std.specs.List.{Contains}
 use Rattle.std.proofs.lemmas.Bool.{or_cases}
 use Rattle.std.proofs.lemmas.List.{append-nil}
@@ -9,14 +9,16 @@ use Rattle.office.specs.Events.{Log, Trace}
 use Rattle.office.specs.Trace.{history}
 use Rattle.office.specs.Sessions.{live}
 use Rattle.office.specs.Taken.{trace_of}
-use Rattle.office.specs.Stands.{StandsFor, vault_of}
+use Rattle.office.specs.Stands.{StandsFor}
 use Rattle.office.specs.declared.office.Office.{Office}
 use Rattle.serving.specs.Calls.{Call}
 use Rattle.serving.specs.declared.links.Seat.{Seat}
 use Rattle.serving.specs.declared.links.Clients.{Clients}
 use Rattle.serving.specs.Paces.{has_freed}
 use Rattle.serving.specs.Settings.{Settings, settings_of}
-use Rattle.serving.specs.Works.{WasGiven, HadTurns, HasEnded, HasFreed, IsFreedBy, WereServed, share_by, may_at, way_at, way_by}
+use Rattle.serving.specs.Parts.{WasGiven}
+use Rattle.serving.specs.ClientParts.{HadTurns, IsFreedBy, WereServed, may_at, way_at}
+use Rattle.serving.specs.Works.{HasEnded, HasFreed, share_by, way_by}
 use Rattle.serving.specs.Newcomers.{newcomer, lies_unread}
 use Rattle.serving.specs.declared.newcomers.Newcomer.{Newcomer}
 use Rattle.serving.proofs.Seating.{any_default, contained}
@@ -104,46 +106,46 @@ module _ {V : Type 0} (Holds : V → Contents → Type 0) (IsClean : V → Type 
 
   -- ---- all links
 
-  pub were_none : (o : Office V) (set : Settings) (m : ℕ) (ns : List Newcomer) (hurries : Bool) (noted : List Newcomer) (seats : List Seat) → WereServed Holds IsClean o o set m ns false hurries noted seats [] [] []
-  were_none o set m ns hurries noted seats = record { turns = served_none Holds IsClean Faults o (way_by set m ns seats false hurries) noted seats; freed_by = λ e. cc }
+  pub were_none : (o : Office V) (set : Settings) (m : ℕ) (ns : List Newcomer) (poll_now : Bool) (noted : List Newcomer) (seats : List Seat) → WereServed Holds IsClean o o set m ns false poll_now noted seats [] [] []
+  were_none o set m ns poll_now noted seats = record { turns = served_none Holds IsClean Faults o (way_by set m ns seats false poll_now) noted seats; freed_by = λ e. cc }
 
-  pub were_next : (o o1 o2 : Office V) (set : Settings) (m : ℕ) (ns noted : List Newcomer) (seats : List Seat) (now : Clients) (freed hurries : Bool) (i : ℕ) (d : Seat) (g1 g2 : Log) (c1 c2 : List Call)
+  pub were_next : (o o1 o2 : Office V) (set : Settings) (m : ℕ) (ns noted : List Newcomer) (seats : List Seat) (now : Clients) (freed poll_now : Bool) (i : ℕ) (d : Seat) (g1 g2 : Log) (c1 c2 : List Call)
       → settings_of now ≡ set → now.seats.items ≡ seats → i < length now.seats.items
-      → (now.is_freed ≡ true → freed ≡ true) → (now.hurries ≡ true → hurries ≡ true)
+      → (now.lock_released ≡ true → freed ≡ true) → (now.poll_now ≡ true → poll_now ≡ true)
       → ((T U : Trace) → StandsFor Holds o1 T → StandsFor Holds o2 U
-      → freed ≡ (now.is_freed || has_freed now.wait (live (history T) (get_or now.seats.items i d).connection) (live (history U) (get_or now.seats.items i d).connection)))
-      → (freed ≡ true → (now.is_freed ≡ true) ⊎ ((now.wait == 0) ≡ false))
+      → freed ≡ (now.lock_released || has_freed now.wait (live (history T) (get_or now.seats.items i d).connection) (live (history U) (get_or now.seats.items i d).connection)))
+      → (freed ≡ true → (now.lock_released ≡ true) ⊎ ((now.wait == 0) ≡ false))
       → ((c : ℕ) → lies_unread (newcomer c noted) ≡ true → (lies_unread (newcomer c now.newcomers.newcomers.items) ≡ true) ⊎ (c ≡ (get_or now.seats.items i d).connection))
       → AreTouched ns now.newcomers.newcomers.items (take i seats)
       → WasGiven Holds IsClean Faults o o1 g1 → WasGiven Holds IsClean Faults o1 o2 g2
-      → WereServed Holds IsClean o o1 set m ns now.is_freed now.hurries now.newcomers.newcomers.items seats (take i seats) g1 c1
-      → HadTurns Holds IsClean o1 o2 (way_at m now hurries) noted now.seats.items (get_or now.seats.items i d ∷ []) g2 c2
-      → WereServed Holds IsClean o o2 set m ns freed hurries noted seats (take (i + 1) seats) (g2 ++ g1) (c1 ++ c2)
-  were_next o o1 o2 set m ns noted seats now freed hurries i d g1 g2 c1 c2 same is within still hurried law waits unread touched wa wb a b =
+      → WereServed Holds IsClean o o1 set m ns now.lock_released now.poll_now now.newcomers.newcomers.items seats (take i seats) g1 c1
+      → HadTurns Holds IsClean o1 o2 (way_at m now poll_now) noted now.seats.items (get_or now.seats.items i d ∷ []) g2 c2
+      → WereServed Holds IsClean o o2 set m ns freed poll_now noted seats (take (i + 1) seats) (g2 ++ g1) (c1 ++ c2)
+  were_next o o1 o2 set m ns noted seats now freed poll_now i d g1 g2 c1 c2 same is within still polled law waits unread touched wa wb a b =
       let wait : now.wait ≡ set.wait = ap (λ (s : Settings). s.wait) same in
       let slow : now.guesses.are_slow ≡ set.slow_guesses = ap (λ (s : Settings). s.slow_guesses) same in
       let q = get_or now.seats.items i d in
-      let way = way_by set m ns seats freed hurries in
+      let way = way_by set m ns seats freed poll_now in
       let within_seats : i < length seats = subst (λ xs. i < length xs) is within in
-      let first = served_so Holds IsClean Faults o o1 (way_by set m ns seats now.is_freed now.hurries) way now.newcomers.newcomers.items seats (take i seats) g1 c1 refl refl
-      (line_more set.wait set.wait (set.slow_guesses || now.is_freed) (set.slow_guesses || freed) refl (or_more set.slow_guesses now.is_freed freed still))
-      (λ j e inside. may_more set.slow_guesses m ns seats now.is_freed freed (get_or (take i seats) j e).connection still) hurried a.turns in
-      let next = served_so Holds IsClean Faults o1 o2 (way_at m now hurries) way noted now.seats.items (q ∷ []) g2 c2 (ap (λ xs. share_by (length xs)) (sym is)) (sym wait)
-      (line_more now.wait set.wait (now.guesses.are_slow || now.is_freed) (set.slow_guesses || freed) (sym wait) (λ e. or_more set.slow_guesses now.is_freed freed still (subst (λ b. (b || now.is_freed) ≡ true) slow e)))
+      let first = served_so Holds IsClean Faults o o1 (way_by set m ns seats now.lock_released now.poll_now) way now.newcomers.newcomers.items seats (take i seats) g1 c1 refl refl
+      (line_more set.wait set.wait (set.slow_guesses || now.lock_released) (set.slow_guesses || freed) refl (or_more set.slow_guesses now.lock_released freed still))
+      (λ j e inside. may_more set.slow_guesses m ns seats now.lock_released freed (get_or (take i seats) j e).connection still) polled a.turns in
+      let next = served_so Holds IsClean Faults o1 o2 (way_at m now poll_now) way noted now.seats.items (q ∷ []) g2 c2 (ap (λ xs. share_by (length xs)) (sym is)) (sym wait)
+      (line_more now.wait set.wait (now.guesses.are_slow || now.lock_released) (set.slow_guesses || freed) (sym wait) (λ e. or_more set.slow_guesses now.lock_released freed still (subst (λ b. (b || now.lock_released) ≡ true) slow e)))
       (All-cons (λ r. may_at m now r.connection ≡ true → way.may r.connection ≡ true) q []
       (subst (λ xs. may_at m now (get_or xs i d).connection ≡ true → way.may (get_or xs i d).connection ≡ true) (sym is)
-      (may_then set.slow_guesses now.guesses.are_slow now.is_freed freed m ns now.newcomers.newcomers.items seats i d slow still within_seats touched))
+      (may_then set.slow_guesses now.guesses.are_slow now.lock_released freed m ns now.newcomers.newcomers.items seats i d slow still within_seats touched))
       (All-nil (λ r. may_at m now r.connection ≡ true → way.may r.connection ≡ true))) (λ e. e) b in
       record {
         turns = served_more Holds IsClean Faults o o1 o2 way now.newcomers.newcomers.items noted seats now.seats.items i d g1 g2 c1 c2 is within unread wa wb first next;
-        freed_by = freed_next o o1 o2 set.wait now.is_freed freed seats q g1 g2 (contained seats now.seats.items i d is within_seats)
-            (subst (λ n. (T U : Trace) → StandsFor Holds o1 T → StandsFor Holds o2 U → freed ≡ (now.is_freed || has_freed n (live (history T) q.connection) (live (history U) q.connection))) wait law)
-            (subst (λ n. freed ≡ true → (now.is_freed ≡ true) ⊎ ((n == 0) ≡ false)) wait waits) wa wb a.freed_by;
+        freed_by = freed_next o o1 o2 set.wait now.lock_released freed seats q g1 g2 (contained seats now.seats.items i d is within_seats)
+            (subst (λ n. (T U : Trace) → StandsFor Holds o1 T → StandsFor Holds o2 U → freed ≡ (now.lock_released || has_freed n (live (history T) q.connection) (live (history U) q.connection))) wait law)
+            (subst (λ n. freed ≡ true → (now.lock_released ≡ true) ⊎ ((n == 0) ≡ false)) wait waits) wa wb a.freed_by;
       }
 
-  pub were_whole : (o o1 : Office V) (set : Settings) (m : ℕ) (ns : List Newcomer) (freed hurries : Bool) (noted : List Newcomer) (seats now : List Seat) (n : ℕ) (g : Log) (c : List Call) → now ≡ seats → length now ≤ n → WereServed Holds IsClean o o1 set m ns freed hurries noted seats (take n seats) g c
-      → WereServed Holds IsClean o o1 set m ns freed hurries noted seats seats g c
-  were_whole o o1 set m ns freed hurries noted seats now n g c is h a = record {
-    turns = served_whole Holds IsClean Faults o o1 (way_by set m ns seats freed hurries) noted seats now n g c is h a.turns;
+  pub were_whole : (o o1 : Office V) (set : Settings) (m : ℕ) (ns : List Newcomer) (freed poll_now : Bool) (noted : List Newcomer) (seats now : List Seat) (n : ℕ) (g : Log) (c : List Call) → now ≡ seats → length now ≤ n → WereServed Holds IsClean o o1 set m ns freed poll_now noted seats (take n seats) g c
+      → WereServed Holds IsClean o o1 set m ns freed poll_now noted seats seats g c
+  were_whole o o1 set m ns freed poll_now noted seats now n g c is h a = record {
+    turns = served_whole Holds IsClean Faults o o1 (way_by set m ns seats freed poll_now) noted seats now n g c is h a.turns;
     freed_by = a.freed_by;
   }

@@ -1,12 +1,11 @@
 -- That turns, one after the other, go on from any trace.
-use Rattle.std.proofs.Common.{◌≡◌, ℕ, ◌≤◌, ◌||◌, Bool, true, false, List, [], ◌∷◌, ◌++◌, map, refl, sym, ◌∙◌, ap, arith, Some, None, Option, ⊎_elim, subst, append_assoc, length, ◌+◌, length-append}
+use Rattle.std.proofs.Common.{◌≡◌, ℕ, true, false, List, [], ◌∷◌, ◌++◌, map, sym, ◌∙◌, ap, arith, Some, None, Option, ⊎_elim, subst, append_assoc, length, ◌+◌, length-append}
 use Rattle.std.specs.List.{list_any}
 use Rattle.std.proofs.lemmas.Bool.{or_cases}
 use Rattle.std.proofs.lemmas.List.{append-nil, map-append}
 use Rattle.std.proofs.lemmas.List.Folds.{list_any-append}
-use Rattle.vault.specs.Calls.{has_grown}
 use Rattle.vault.specs.Changes.{Contents}
-use Rattle.office.specs.Events.{Log, Trace}
+use Rattle.office.specs.Events.{Trace}
 use Rattle.office.specs.Taken.{trace_of}
 use Rattle.office.specs.Stands.{StandsFor, vault_of}
 use Rattle.office.specs.declared.office.Office.{Office}
@@ -15,7 +14,7 @@ use Rattle.serving.specs.Spools.{FileCall}
 use Rattle.serving.specs.Hearing.{Hearing}
 use Rattle.serving.specs.Works.{is_failed}
 use Rattle.serving.specs.Turns.{Works}
-use Rattle.serving.specs.Running.{AreTurns, NoTurn, OneMore, HasGoneOn, LeavesAsFound, answers, HasTurned}
+use Rattle.serving.specs.Running.{NoTurn, OneMore, HasGoneOn, LeavesAsFound, answers, HasTurned}
 use Rattle.serving.specs.declared.links.Links.{Links}
 use Rattle.serving.proofs.Working.{newly_then, grown_more}
 

@@ -1,5 +1,5 @@
 -- What a listener was told of parts of a turn, one after the other, is what is heard of them all.
-use Rattle.std.proofs.Common.{◌≡◌, ℕ, zero, suc, ◌+◌, ◌<◌, ◌≤◌, true, false, List, [], ◌∷◌, ◌++◌, length, take, get_or, map, refl, sym, ◌∙◌, ap, arith, subst, append_assoc}
+use Rattle.std.proofs.Common.{◌≡◌, ℕ, suc, ◌+◌, ◌<◌, ◌≤◌, true, false, List, [], ◌∷◌, ◌++◌, length, take, get_or, map, refl, sym, ◌∙◌, ap, arith, subst, append_assoc}
 use Rattle.std.specs.List.{All, filter}
 use Rattle.std.proofs.lemmas.List.{append-nil, map-append}
 use Rattle.std.proofs.lemmas.List.Elements.{All-head, All-tail, filter-append}
@@ -14,8 +14,10 @@ use Rattle.office.specs.Stands.{StandsFor, vault_of}
 use Rattle.office.specs.declared.office.Office.{Office}
 use Rattle.office.specs.declared.account.Account.{Account}
 use Rattle.serving.specs.declared.links.Seat.{Seat}
-use Rattle.serving.specs.Works.{is_open_seat, is_shut_seat, WasGiven, IsOpening, AreDeposits}
-use Rattle.serving.specs.Hearing.{Hearing, heard_by, heard_of, heard_of_all, late_end, late_ends, idle_end, idle_ends, WasTold, WasHeard, HeardApart}
+use Rattle.serving.specs.Works.{is_open_seat, is_shut_seat}
+use Rattle.serving.specs.Parts.{WasGiven}
+use Rattle.serving.specs.ClientParts.{IsOpening}
+use Rattle.serving.specs.Hearing.{Hearing, heard_by, heard_of, heard_of_all, late_end, late_ends, idle_end, idle_ends, WasTold, WasHeard}
 use Rattle.serving.proofs.Seating.{whole_front}
 use Rattle.serving.proofs.Arriving.{take_next}
 

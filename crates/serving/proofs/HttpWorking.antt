@@ -1,5 +1,5 @@
 -- What is done for the links of the administration, one after the other.
-use Rattle.std.proofs.Common.{◌≡◌, ℕ, zero, suc, ◌+◌, ◌<◌, ◌≤◌, nat_le, Bool, true, false, not, ◌||◌, ◌==◌, List, [], ◌∷◌, ◌++◌, length, take, drop, set, get_or, refl, sym, ◌∙◌, ap, arith, Some, None, Option, option_map, IfNone, ⊎_elim, ◌⊎◌, inl, inr, subst, true≢false, append_assoc, length-append, le-leb, leb-true}
+use Rattle.std.proofs.Common.{◌≡◌, ℕ, zero, suc, ◌+◌, ◌<◌, ◌≤◌, nat_le, Bool, true, false, not, ◌||◌, ◌==◌, List, [], ◌∷◌, ◌++◌, length, take, drop, set, get_or, refl, sym, ◌∙◌, ap, arith, Some, None, Option, IfNone, ⊎_elim, ◌⊎◌, inl, inr, subst, true≢false, append_assoc, length-append, le-leb, leb-true}
 use Rattle.std.specs.Bool.{if◌then◌else◌}
 use Rattle.std.specs.List.{list_any, remove}
 use Rattle.std.proofs.lemmas.Bool.{cases_Bool}
@@ -21,7 +21,8 @@ use Rattle.serving.specs.HttpTurns.{is_late_at}
 use Rattle.serving.specs.Works.{most_at_once}
 use Rattle.serving.proofs.Turns.{not_zero}
 use Rattle.serving.proofs.Working.{any_right}
-use Rattle.serving.specs.HttpWorks.{HaveComeBeside, NoMore, IsKept, IsTurnedAway, WantsMemory, HasAcceptedBeside, response_of, ComesTo, HasHeard, GaveAPiece, AreWrites, AreWritesOf, told_its_end, took_nothing, is_whole, IsToldOf, HasToldAll, HasTold, Tells, HasHttpTurn, IsServed, HadHttpTurns, NoneHeld, IsHeldOn, IsClosed}
+use Rattle.serving.specs.HttpWorks.{HaveComeForAdmin, NoMore, IsKept, IsTurnedAway, WantsMemory, HasAcceptedForAdmin, response_of, ComesTo, HasHeard, GaveAPiece, AreWrites, AreWritesOf, told_its_end, took_nothing, is_whole, IsToldOf, HasToldAll, HasTold, HasHttpTurn, IsServed, HadHttpTurns, NoneHeld, IsHeldOn, IsClosed}
+use Rattle.serving.specs.HttpParts.{Tells}
 
 or_true : (b : Bool) → (b || true) ≡ true
 or_true true = refl
@@ -30,22 +31,22 @@ or_true false = refl
 -- ---- links that come
 
 module _ (now : ℕ) where
-  pub come_then : (h1 h2 h3 : List Exchange) (n m : ℕ) (c1 c2 : List Call) → HaveComeBeside now h1 h2 n c1 → HaveComeBeside now h2 h3 m c2 → HaveComeBeside now h1 h3 (n + m) (c1 ++ c2)
-  come_then _ _ h3 _ m _ c2 (NoMore held) b = let e : m ≡ 0 + m = omega arith in subst (λ k. HaveComeBeside now held h3 k c2) e b
+  pub come_then : (h1 h2 h3 : List Exchange) (n m : ℕ) (c1 c2 : List Call) → HaveComeForAdmin now h1 h2 n c1 → HaveComeForAdmin now h2 h3 m c2 → HaveComeForAdmin now h1 h3 (n + m) (c1 ++ c2)
+  come_then _ _ h3 _ m _ c2 (NoMore held) b = let e : m ≡ 0 + m = omega arith in subst (λ k. HaveComeForAdmin now held h3 k c2) e b
   come_then _ _ h3 _ m _ c2 (IsKept link held more held_then came calls one rest) b =
       let e : suc (came + m) ≡ suc came + m = omega arith in
-      subst (λ k. HaveComeBeside now held h3 k (Accepted Admin (Some link) ∷ (calls ++ c2))) e (IsKept link held more h3 (came + m) (calls ++ c2) one (come_then more held_then h3 came m calls c2 rest b))
+      subst (λ k. HaveComeForAdmin now held h3 k (Accepted Admin (Some link) ∷ (calls ++ c2))) e (IsKept link held more h3 (came + m) (calls ++ c2) one (come_then more held_then h3 came m calls c2 rest b))
   come_then _ _ h3 _ m _ c2 (IsTurnedAway link held held_then came calls full rest) b =
       let e : suc (came + m) ≡ suc came + m = omega arith in
-      subst (λ k. HaveComeBeside now held h3 k (Accepted Admin (Some link) ∷ Closed Admin link ∷ (calls ++ c2))) e (IsTurnedAway link held h3 (came + m) (calls ++ c2) full (come_then held held_then h3 came m calls c2 rest b))
+      subst (λ k. HaveComeForAdmin now held h3 k (Accepted Admin (Some link) ∷ Closed Admin link ∷ (calls ++ c2))) e (IsTurnedAway link held h3 (came + m) (calls ++ c2) full (come_then held held_then h3 came m calls c2 rest b))
   come_then _ _ h3 _ m _ c2 (WantsMemory link held held_then came calls rest) b =
       let e : suc (came + m) ≡ suc came + m = omega arith in
-      subst (λ k. HaveComeBeside now held h3 k (Accepted Admin (Some link) ∷ Closed Admin link ∷ (calls ++ c2))) e (WantsMemory link held h3 (came + m) (calls ++ c2) (come_then held held_then h3 came m calls c2 rest b))
+      subst (λ k. HaveComeForAdmin now held h3 k (Accepted Admin (Some link) ∷ Closed Admin link ∷ (calls ++ c2))) e (WantsMemory link held h3 (came + m) (calls ++ c2) (come_then held held_then h3 came m calls c2 rest b))
 
-  pub accepted_none : (held : List Exchange) → HasAcceptedBeside now 0 true held held []
+  pub accepted_none : (held : List Exchange) → HasAcceptedForAdmin now 0 true held held []
   accepted_none held = record { came = 0; arrivals = []; come = NoMore held; calls_are = refl; enough = λ e. omega arith }
 
-  pub accepted_then : (h1 h2 h3 : List Exchange) (n m : ℕ) (goes : Bool) (c1 c2 : List Call) → HasAcceptedBeside now n true h1 h2 c1 → HasAcceptedBeside now m goes h2 h3 c2 → HasAcceptedBeside now (n + m) goes h1 h3 (c1 ++ c2)
+  pub accepted_then : (h1 h2 h3 : List Exchange) (n m : ℕ) (goes : Bool) (c1 c2 : List Call) → HasAcceptedForAdmin now n true h1 h2 c1 → HasAcceptedForAdmin now m goes h2 h3 c2 → HasAcceptedForAdmin now (n + m) goes h1 h3 (c1 ++ c2)
   accepted_then h1 h2 h3 n m goes c1 c2 a b =
       let last : List Call = if goes then [] else Accepted Admin None ∷ [] in
       record {
@@ -57,7 +58,7 @@ module _ (now : ℕ) where
       }
 
   -- fewer
-  pub accepted_less : (h1 h2 : List Exchange) (n m : ℕ) (goes : Bool) (c : List Call) → (goes ≡ true → m ≤ n) → HasAcceptedBeside now n goes h1 h2 c → HasAcceptedBeside now m goes h1 h2 c
+  pub accepted_less : (h1 h2 : List Exchange) (n m : ℕ) (goes : Bool) (c : List Call) → (goes ≡ true → m ≤ n) → HasAcceptedForAdmin now n goes h1 h2 c → HasAcceptedForAdmin now m goes h1 h2 c
   accepted_less h1 h2 n m goes c less a = record { came = a.came; arrivals = a.arrivals; come = a.come; calls_are = a.calls_are; enough = λ e. (let p = a.enough e in let q = less e in omega (arith, p, q)) }
 
 -- ---- what is read of a request

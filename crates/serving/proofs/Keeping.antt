@@ -1,5 +1,5 @@
 -- What happens to one link leaves each link served.
-use Rattle.std.proofs.Common.{◌≡◌, ℕ, ◌<◌, ◌+◌, Bool, true, false, not, ◌&&◌, ◌||◌, ◌==◌, nat_lt, lt-ltb, List, [], ◌∷◌, ◌++◌, take, refl, sym, ◌∙◌, ap, arith, None, Some, Option, eq-eqb, ne_eqb, ⊎_elim, subst, append-nil, true≢false, inl, inr, length}
+use Rattle.std.proofs.Common.{◌≡◌, ℕ, ◌+◌, Bool, true, false, not, ◌&&◌, ◌||◌, ◌==◌, nat_lt, lt-ltb, List, [], ◌∷◌, ◌++◌, take, refl, sym, ◌∙◌, ap, None, Some, Option, eq-eqb, ne_eqb, ⊎_elim, subst, append-nil, true≢false, inl, inr, length}
 use Rattle.std.specs.Bool.{if◌then◌else◌}
 use Rattle.std.proofs.lemmas.Bool.{cases_eq}
 use Rattle.vault.specs.Records.{Records}
@@ -17,7 +17,7 @@ use Rattle.serving.specs.Deposits.{named, IsFiledBy, AreFiled}
 use Rattle.serving.specs.Served.{given_by, Owners, IsServed, AreServed, IsOwnEvent, Adds, connects, IsCommand, Beside, AddsEvents}
 use Rattle.office.specs.Answers.{AdminCommand}
 use Rattle.serving.proofs.Requesting.{exchanged_more}
-use Rattle.serving.proofs.Staying.{Fewer, Frame, fewer_framed, frame_read, frame_took, frame_gone, gone_so, fewer_tick, deposit_same, fewer_command}
+use Rattle.serving.proofs.Staying.{Fewer, fewer_framed, frame_read, frame_took, frame_gone, gone_so, fewer_tick, deposit_same, fewer_command}
 
 -- ---- octets more at one number
 

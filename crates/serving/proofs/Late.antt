@@ -1,10 +1,10 @@
 -- Clients that are late, of those that haven't logged in.
-use Rattle.std.proofs.Common.{◌≡◌, ◌≤◌, ℕ, zero, suc, ◌-◌, ◌==◌, nat_le, Bool, true, false, not, ◌&&◌, List, [], ◌∷◌, ◌++◌, refl, sym, ◌∙◌, ap, arith, Some, None, Option, ⊎_elim, ◌⊎◌, inl, inr, subst, true≢false, eqb-true, eq-eqb, leb-true}
-use Rattle.std.specs.Bool.{if◌then◌else◌}
+use Rattle.std.proofs.Common.{◌≡◌, ◌≤◌, ℕ, ◌-◌, ◌==◌, nat_le, Bool, true, false, not, ◌&&◌, List, [], ◌∷◌, ◌++◌, refl, sym, ◌∙◌, ap, arith, Some, None, Option, ⊎_elim, ◌⊎◌, inl, inr, subst, true≢false, eqb-true, eq-eqb, leb-true}
 use Rattle.std.proofs.lemmas.Bool.{cases_Bool}
 use Rattle.serving.specs.declared.newcomers.Newcomer.{Newcomer}
-use Rattle.serving.specs.Newcomers.{newcomer, others, spent, is_late_by, noted}
-use Rattle.serving.specs.Works.{is_late, AreNoMoreLate, IsLateGone}
+use Rattle.serving.specs.Newcomers.{newcomer, others, is_late_by, AreNotedNow}
+use Rattle.serving.specs.Works.{is_late, IsLateGone}
+use Rattle.serving.specs.Parts.{AreNoMoreLate}
 use Rattle.office.specs.Events.{Event, EventTag}
 use Rattle.office.specs.Events as event
 
@@ -110,20 +110,16 @@ late_others now seconds d xs = λ c h.
     (λ (e : (c == d) ≡ false). sym (ap (late_if now seconds) (others_of c d xs (λ f. apart c d e f))) ∙ h)
     (cases_Bool (c == d))
 
-pub late_noted : (now seconds connection : ℕ) (is_noted : Bool) (xs : List Newcomer) → AreNoMoreLate now seconds xs (noted is_noted connection now xs)
-late_noted now seconds connection false xs = λ c h. h
-late_noted now seconds connection true xs = λ c h.
-    (let n : Newcomer = record { connection = connection; since = now; held = None } in
+-- nobody is late by being noted at this moment
+pub late_comers : (now seconds : ℕ) (xs ys : List Newcomer) → AreNotedNow now xs ys → AreNoMoreLate now seconds xs ys
+late_comers now seconds xs ys each = λ c h.
     ⊎_elim
-    (λ (e : newcomer c (xs ++ n ∷ []) ≡ newcomer c xs). sym (ap (late_if now seconds) e) ∙ h)
-    (λ (e : newcomer c (xs ++ n ∷ []) ≡ Some n). absurd (not_yet now seconds connection (sym (ap (late_if now seconds) e) ∙ h)))
-    (one_more c n xs))
+    (λ (e : newcomer c ys ≡ newcomer c xs). sym (ap (late_if now seconds) e) ∙ h)
+    (λ (e : newcomer c ys ≡ Some (record { connection = c; since = now; held = None })). absurd (not_yet now seconds c (sym (ap (late_if now seconds) e) ∙ h)))
+    (each c)
 
 pub late_forgotten : (now seconds d : ℕ) (xs ys : List Newcomer) → ys ≡ others d xs → AreNoMoreLate now seconds xs ys
 late_forgotten now seconds d xs ys is = subst (AreNoMoreLate now seconds xs) (sym is) (late_others now seconds d xs)
-
-pub late_noted_so : (now seconds connection : ℕ) (is_noted : Bool) (xs ys : List Newcomer) → ys ≡ noted is_noted connection now xs → AreNoMoreLate now seconds xs ys
-late_noted_so now seconds connection is_noted xs ys is = subst (AreNoMoreLate now seconds xs) (sym is) (late_noted now seconds connection is_noted xs)
 
 pub late_so : (now seconds : ℕ) (xs : List Newcomer) (c : ℕ) → (seconds == 0) ≡ false → is_late_by now seconds (newcomer c xs) ≡ true → is_late now seconds xs c ≡ true
 late_so now seconds xs c on h = ap (λ b. not b && is_late_by now seconds (newcomer c xs)) on ∙ h

@@ -27,5 +27,7 @@ pub mod Going
 pub mod Freeing
 pub mod Timely
 pub mod Newly
+pub mod Composing
+mod TurnRows
 pub mod Resting
 pub mod Settling

@@ -1,5 +1,5 @@
 -- What was only looked at on a link is served still.
-use Rattle.std.proofs.Common.{List, ◌≡◌, Bool, true, false, ◌||◌}
+use Rattle.std.proofs.Common.{List, ◌≡◌, Bool, false, ◌||◌}
 use Rattle.vault.specs.Changes.{Contents}
 use Rattle.office.specs.Events.{Trace}
 use Rattle.office.specs.declared.office.Office.{Office}

@@ -1,6 +1,6 @@
 -- Newcomers, each with its seat, and those that are noted anew.
-use Rattle.std.proofs.Common.{◌≡◌, ◌≤◌, ◌<◌, ℕ, zero, suc, ◌==◌, Bool, true, false, List, [], ◌∷◌, ◌++◌, length, drop, get_or, refl, sym, ◌∙◌, ap, arith, Some, None, ⊎_elim, ◌⊎◌, inl, inr, subst, eq-eqb, eqb-true, append_assoc}
-use Rattle.std.specs.List.{All, remove}
+use Rattle.std.proofs.Common.{◌≡◌, ◌≤◌, ◌<◌, ℕ, zero, suc, ◌==◌, Bool, true, false, List, [], ◌∷◌, ◌++◌, length, drop, get_or, refl, sym, ◌∙◌, ap, arith, Some, None, ⊎_elim, inl, inr, subst, eq-eqb, eqb-true, append_assoc}
+use Rattle.std.specs.List.{remove}
 use Rattle.std.proofs.lemmas.Bool.{cases_Bool}
 use Rattle.std.proofs.lemmas.List.{append-nil}
 use Rattle.std.proofs.Math.Seq.{drop-append_seam}
@@ -8,9 +8,12 @@ use Rattle.std.proofs.lemmas.List.Elements.{All-nil, All-cons, All-append, All-w
 use Rattle.serving.specs.declared.links.Seat.{Seat}
 use Rattle.serving.specs.declared.newcomers.Newcomer.{Newcomer}
 use Rattle.serving.specs.declared.wire.Link.{Link}
-use Rattle.serving.specs.Newcomers.{newcomer, others, noted, HaveSeats, NoSeat, IsNewcomers, IsAnothers, IsNewlyNoted, AreNotedNow, AreNoted}
+use Rattle.serving.specs.Newcomers.{newcomer, others, noted, HaveSeats, NoSeat, IsNewcomers, IsAnothers, IsNewlyNoted, AreNotedNow}
+use Rattle.serving.specs.Parts.{Keeps, AreNoted}
+use Rattle.serving.proofs.Composing.{keeps_none, keeps_then}
 use Rattle.serving.specs.declared.links.Clients.{Clients}
 use Rattle.serving.proofs.Late.{found_here, found_later, others_gone, others_kept, one_more}
+use Rattle.serving.proofs.Timely.{found_noted}
 
 -- ---- seats
 
@@ -105,43 +108,48 @@ newly_one false link c now xs ys e is = cc
 newly_one true link c now xs ys e is = λ none. ap (newcomer c) is ∙ found_last c (record { connection = c; since = now; held = None }) xs (eq-eqb c c refl) none
 
 module _ (now : ℕ) where
-  pub noted_none : (a : Clients) → AreNoted now a a
+  pub noted_none : (a : Clients) → AreNoted a a now
   noted_none a = record {
+    keeps = keeps_none a;
+    poll_now = refl;
     more = [];
     is = sym (append-nil a.seats.items);
-    seconds = refl;
     seated = λ h. h;
     each = λ c. inl refl;
     newly = λ h. All-nil (IsNewlyNoted now a.newcomers.newcomers.items a.newcomers.newcomers.items);
+    noted = λ c n h. h;
   }
 
-  pub noted_one : (a b : Clients) (link : Link) (c : ℕ) (room : Bool) → b.seats.items ≡ a.seats.items ++ record { link = link; connection = c } ∷ [] → b.newcomers.seconds ≡ a.newcomers.seconds
-      → b.newcomers.newcomers.items ≡ noted room c now a.newcomers.newcomers.items → (length a.newcomers.newcomers.items < 128 → room ≡ true) → length a.seats.items < 128 → AreNoted now a b
-  noted_one a b link c room at seconds is enough free =
+  pub noted_one : (a b : Clients) (link : Link) (c : ℕ) (room : Bool) → Keeps a b → b.poll_now ≡ a.poll_now → b.seats.items ≡ a.seats.items ++ record { link = link; connection = c } ∷ []
+      → b.newcomers.newcomers.items ≡ noted room c now a.newcomers.newcomers.items → (length a.newcomers.newcomers.items < 128 → room ≡ true) → length a.seats.items < 128 → AreNoted a b now
+  noted_one a b link c room keeps poll_now at is enough free =
       let s : Seat = record { link = link; connection = c } in
       let P = IsNewlyNoted now a.newcomers.newcomers.items b.newcomers.newcomers.items in
       record {
+        keeps = keeps;
+        poll_now = poll_now;
         more = s ∷ [];
         is = at;
-        seconds = seconds;
         seated = seated_noted room link c now a.newcomers.newcomers.items b.newcomers.newcomers.items a.seats.items b.seats.items is at;
         each = each_noted room c now a.newcomers.newcomers.items b.newcomers.newcomers.items is;
         newly = λ h.
             (let k = seats_enough a.newcomers.newcomers.items a.seats.items h in
             let yes : room ≡ true = enough (omega (arith, k, free)) in
             All-cons P s [] (newly_one room link c now a.newcomers.newcomers.items b.newcomers.newcomers.items yes is) (All-nil P));
+        noted = found_noted room c now a.newcomers.newcomers.items b.newcomers.newcomers.items is;
       }
 
-  pub noted_then : (a b c : Clients) → AreNoted now a b → AreNoted now b c → AreNoted now a c
+  pub noted_then : (a b c : Clients) → AreNoted a b now → AreNoted b c now → AreNoted a c now
   noted_then a b c p q =
       let olds = a.newcomers.newcomers.items in
       let mids = b.newcomers.newcomers.items in
       let news = c.newcomers.newcomers.items in
       let P = IsNewlyNoted now olds news in
       record {
+        keeps = keeps_then a b c p.keeps q.keeps;
+        poll_now = q.poll_now ∙ p.poll_now;
         more = p.more ++ q.more;
         is = q.is ∙ (ap (λ l. l ++ q.more) p.is ∙ append_assoc a.seats.items p.more q.more);
-        seconds = q.seconds ∙ p.seconds;
         seated = λ h. q.seated (p.seated h);
         each = λ n.
             ⊎_elim
@@ -167,6 +175,7 @@ module _ (now : ℕ) where
             (λ (e : newcomer s.connection mids ≡ Some (record { connection = s.connection; since = now; held = None })). still s e)
             (p.each s.connection))
             q.more (q.newly (p.seated h))));
+        noted = λ n m h. q.noted n m (p.noted n m h);
       }
 
 -- those that came are those behind the first seats

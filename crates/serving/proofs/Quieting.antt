@@ -1,6 +1,5 @@
 -- Parts of a turn that leave the clients' links and openings alone.
 use Rattle.std.proofs.Common.{◌≡◌, ℕ, List, [], ◌∷◌, ◌++◌, refl, Option}
-use Rattle.std.specs.Bool.{⊤}
 use Rattle.std.proofs.lemmas.List.Elements.{All-nil, All-cons}
 use Rattle.vault.specs.Records.{Records}
 use Rattle.vault.specs.Changes.{Contents}
@@ -14,8 +13,9 @@ use Rattle.serving.specs.declared.wire.Link.{Link}
 use Rattle.serving.specs.declared.wire.Port.TheVariants.{Admin}
 use Rattle.serving.specs.declared.wire.Io.{Io}
 use Rattle.serving.specs.Calls.{Call, Accepted, Read, Wrote, Closed}
-use Rattle.serving.specs.Works.{HasCause, WasGiven, Part, Asking, Giving, IsQuiet, Also}
-use Rattle.serving.specs.HttpWorks.{DidApart, AskedApart}
+use Rattle.serving.specs.Works.{HasCause}
+use Rattle.serving.specs.Parts.{WasGiven, Part, Asking, Giving, IsQuiet, Also}
+use Rattle.serving.specs.HttpParts.{DidApart, AskedApart}
 use Rattle.serving.proofs.Working.{given_none, asked_none, asked_one, asked_then, asking_then, part_then, quiet_then, quiet_none, caused_then}
 
 -- ---- one call

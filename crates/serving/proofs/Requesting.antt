@@ -1,7 +1,7 @@
 -- What is read and written on a link of the administration leaves each exchange right.
 use Rattle.std.proofs.Common.{◌≡◌, ℕ, zero, suc, ◌+◌, ◌<◌, ◌≤◌, Bool, true, false, ◌==◌, ◌||◌, List, [], ◌∷◌, ◌++◌, length, take, drop, refl, sym, ◌∙◌, ap, arith, None, Some, Option, eq-eqb, ne_eqb, ⊎_elim, ◌⊎◌, inl, inr, subst, length-append, append-nil, not, ◌&&◌, nat_lt, lt-ltb, option_map, IfNone, set, get_or}
-use Rattle.std.specs.List.{All, AllPairs, remove}
-use Rattle.std.proofs.lemmas.List.{length-set, get_or-set_same, get_or-set_other, get_or_push}
+use Rattle.std.specs.List.{AllPairs, remove}
+use Rattle.std.proofs.lemmas.List.{length-set, get_or-set_same, get_or-set_other}
 use Rattle.std.proofs.lemmas.List.Edits.{length-remove, get_or-remove_below, get_or-remove_above}
 use Rattle.std.proofs.lemmas.List.Elements.{All-push}
 use Rattle.std.proofs.lemmas.List.Quantifiers.{all_pairs_push, all_pairs_remove}
@@ -20,7 +20,7 @@ use Rattle.office.specs.Events as event
 use Rattle.office.specs.Trace.{history}
 use Rattle.office.specs.Outcomes.{Outcome, event_tag_of}
 use Rattle.office.specs.Expected.{IsOutcome, shown_at}
-use Rattle.office.specs.Taken.{trace_of, AreAdmittedBy, IsAdmitted}
+use Rattle.office.specs.Taken.{trace_of, IsAdmitted}
 use Rattle.office.specs.Stands.{StandsFor}
 use Rattle.office.specs.declared.office.Office.{Office}
 use Rattle.adminhttp.specs.Request.{IsRequest}
@@ -29,12 +29,11 @@ use Rattle.adminhttp.specs.declared.refusal.Refusal.TheVariants.{OutOfMemory}
 use Rattle.adminhttp.specs.declared.no_command.NoCommand.TheVariants.{BadPolicy}
 use Rattle.serving.specs.declared.requests.Response.{Response}
 use Rattle.serving.specs.declared.requests.Exchange.{Exchange}
-use Rattle.serving.specs.declared.wire.Io.{Io}
-use Rattle.serving.specs.declared.wire.Io.TheVariants.{Count, Later}
-use Rattle.serving.specs.Wires.{Told, ToldOfPorts, more_at, over_at, is_fault, is_live, has_read, has_written, has_closed, has_accepted, begun_at}
+use Rattle.serving.specs.declared.wire.Io.TheVariants.{Count}
+use Rattle.serving.specs.Wires.{Told, ToldOfPorts, more_at, over_at, is_live, has_read, has_written, has_closed, has_accepted, begun_at}
 use Rattle.serving.specs.Served.{IsCommand}
 use Rattle.serving.specs.HttpWorks.{ComesTo}
-use Rattle.serving.specs.Requests.{IsAnswer, IsResponse, ToRefusal, ToFault, ForMemory, ToCommand, Exchanges, IsExchange, AreExchanged, octets_of, IsKept, IsHeld, put_at, IsToldBy, IsGiven, NotYet, NoCommand, GivenOne, HasAsked, Asks, AsksNone, AsksMore, IsAnswering, IsAsked, AreOthersHeld, AreKeptBeside, AreHeld, Precedes}
+use Rattle.serving.specs.Requests.{IsAnswer, IsResponse, ToRefusal, ToFault, ForMemory, ToCommand, Exchanges, IsExchange, AreExchanged, octets_of, IsKept, IsHeld, put_at, IsToldBy, IsGiven, NotYet, NoCommand, GivenOne, HasAsked, Asks, AsksMore, IsAnswering, IsAsked, AreOthersHeld, AreKeptBeside, AreHeld, Precedes}
 
 -- ---- one value more
 

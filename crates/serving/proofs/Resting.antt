@@ -1,4 +1,4 @@
--- Why the next turn doesn't wait: what hurried before, or what moved.
+-- Why the next turn doesn't wait: what was asked for before, or what moved.
 use Rattle.std.proofs.Common.{◌≡◌, ◌≤◌, ◌<◌, ℕ, zero, suc, Bool, true, false, ◌||◌, List, [], ◌∷◌, ◌++◌, length, refl, sym, ◌∙◌, ap, arith, Some, None, Option, ◌==◌, ◌⊎◌, ⊎_elim, true≢false, nat_lt}
 use Rattle.std.specs.Bool.{if◌then◌else◌}
 use Rattle.std.specs.List.{filter}
@@ -15,7 +15,8 @@ use Rattle.serving.specs.HttpWorks.{AreWrites, AreWritesOf, IsToldOf}
 use Rattle.serving.specs.Turns.{millis_of}
 use Rattle.serving.proofs.HttpWorking.{ToldSoFar}
 use Rattle.serving.specs.Calls.{Call, Waited, Accepted, Looked, Read, Wrote, Closed}
-use Rattle.serving.specs.Works.{is_moving, has_moved, HurriesBy, Releases, is_taking_of, octets_taken, share_by}
+use Rattle.serving.specs.Works.{is_moving, has_moved, is_taking_of, octets_taken, share_by}
+use Rattle.serving.specs.Parts.{PollsBy, Releases}
 use Rattle.serving.proofs.Working.{or_true, any_left, any_right}
 
 pub is_left : (a b : Bool) → a ≡ true → (a || b) ≡ true
@@ -32,27 +33,27 @@ pub not_true : (b : Bool) → (b ≡ true → ⊥) → b ≡ false
 not_true true h = absurd (h refl)
 not_true false h = refl
 
--- ---- what hurried before
+-- ---- what was asked for before
 
-pub hurried_same : (p : Bool) (calls : List Call) → HurriesBy p p calls
-hurried_same p calls e = is_left p (has_moved calls) e
+pub polled_same : (p : Bool) (calls : List Call) → PollsBy p p calls
+polled_same p calls e = is_left p (has_moved calls) e
 
-pub hurried_quiet : (p : Bool) (calls : List Call) → HurriesBy p (p || false) calls
-hurried_quiet p calls e = either p false (p || has_moved calls) (λ x. is_left p (has_moved calls) x) (λ x. absurd (true≢false (sym x))) e
+pub polled_quiet : (p : Bool) (calls : List Call) → PollsBy p (p || false) calls
+polled_quiet p calls e = either p false (p || has_moved calls) (λ x. is_left p (has_moved calls) x) (λ x. absurd (true≢false (sym x))) e
 
-pub hurried_moved : (p q : Bool) (calls : List Call) → has_moved calls ≡ true → HurriesBy p q calls
-hurried_moved p q calls h e = is_right p (has_moved calls) h
+pub polled_moved : (p q : Bool) (calls : List Call) → has_moved calls ≡ true → PollsBy p q calls
+polled_moved p q calls h e = is_right p (has_moved calls) h
 
-pub hurried_then : (p q r : Bool) (c1 c2 : List Call) → HurriesBy p q c1 → HurriesBy q r c2 → HurriesBy p r (c1 ++ c2)
-hurried_then p q r c1 c2 a b e =
+pub polled_then : (p q r : Bool) (c1 c2 : List Call) → PollsBy p q c1 → PollsBy q r c2 → PollsBy p r (c1 ++ c2)
+polled_then p q r c1 c2 a b e =
     let m = has_moved (c1 ++ c2) in
     either q (has_moved c2) (p || m)
     (λ x. either p (has_moved c1) (p || m) (λ y. is_left p m y) (λ y. is_right p m (any_left is_moving c1 c2 y)) (a x))
     (λ x. is_right p m (any_right is_moving c1 c2 x))
     (b e)
 
-pub hurried_behind : (p q r : Bool) (c1 c2 : List Call) → (r ≡ true → q ≡ true) → HurriesBy p q c2 → HurriesBy p r (c1 ++ c2)
-hurried_behind p q r c1 c2 h b e = hurried_then p p q c1 c2 (hurried_same p c1) b (h e)
+pub polled_behind : (p q r : Bool) (c1 c2 : List Call) → (r ≡ true → q ≡ true) → PollsBy p q c2 → PollsBy p r (c1 ++ c2)
+polled_behind p q r c1 c2 h b e = polled_then p p q c1 c2 (polled_same p c1) b (h e)
 
 -- ---- where logins wait for locks
 
@@ -69,17 +70,17 @@ some_wait (suc n) h = lt-ltb 0 (suc n) (omega arith)
 
 -- ---- a session that ended
 
--- a client hurried, or its session ended
-pub client_hurried : (p q f r : Bool) (calls : List Call) → HurriesBy p q calls → (r ≡ true → (q || f) ≡ true) → HurriesBy (p || f) r calls
-client_hurried p q f r calls a h e =
+-- a client has more, or its session ended
+pub client_polled : (p q f r : Bool) (calls : List Call) → PollsBy p q calls → (r ≡ true → (q || f) ≡ true) → PollsBy (p || f) r calls
+client_polled p q f r calls a h e =
     let m = has_moved calls in
     either q f ((p || f) || m)
     (λ x. either p m ((p || f) || m) (λ y. is_left (p || f) m (is_left p f y)) (λ y. is_right (p || f) m y) (a x))
     (λ x. is_left (p || f) m (is_right p f x))
     (h e)
 
-pub clients_hurried : (p q r f1 f2 : Bool) (c1 c2 : List Call) → (f1 ≡ true → f2 ≡ true) → HurriesBy (p || f1) q c1 → HurriesBy (q || f2) r c2 → HurriesBy (p || f2) r (c1 ++ c2)
-clients_hurried p q r f1 f2 c1 c2 still a b e =
+pub clients_polled : (p q r f1 f2 : Bool) (c1 c2 : List Call) → (f1 ≡ true → f2 ≡ true) → PollsBy (p || f1) q c1 → PollsBy (q || f2) r c2 → PollsBy (p || f2) r (c1 ++ c2)
+clients_polled p q r f1 f2 c1 c2 still a b e =
     let m = has_moved (c1 ++ c2) in
     let t = (p || f2) || m in
     either (q || f2) (has_moved c2) t
@@ -180,26 +181,26 @@ told_moved e e1 times octets calls some a =
 abbrev pub TellsSoFar : (e e1 : Exchange) (times octets : ℕ) (calls : List Call) → Type 0
 TellsSoFar e e1 times octets calls = ToldSoFar e e1 times octets calls × (0 < times → has_moved calls ≡ true)
 
--- a link of the administration hurried, or one before it did
-pub beside_hurried : (p q : Bool) (calls : List Call) → HurriesBy false q calls → HurriesBy p (p || q) calls
-beside_hurried p q calls a e = either p q (p || has_moved calls) (λ x. is_left p (has_moved calls) x) (λ x. is_right p (has_moved calls) (a x)) e
+-- a link of the administration has more, or one before it does
+pub admin_polled : (p q : Bool) (calls : List Call) → PollsBy false q calls → PollsBy p (p || q) calls
+admin_polled p q calls a e = either p q (p || has_moved calls) (λ x. is_left p (has_moved calls) x) (λ x. is_right p (has_moved calls) (a x)) e
 
-pub closed_hurried : (p q : Bool) (c1 c2 : List Call) → HurriesBy false q c1 → HurriesBy p (p || q) (c1 ++ c2)
-closed_hurried p q c1 c2 a e = either p q (p || has_moved (c1 ++ c2)) (λ x. is_left p (has_moved (c1 ++ c2)) x) (λ x. is_right p (has_moved (c1 ++ c2)) (any_left is_moving c1 c2 (a x))) e
+pub closed_polled : (p q : Bool) (c1 c2 : List Call) → PollsBy false q c1 → PollsBy p (p || q) (c1 ++ c2)
+closed_polled p q c1 c2 a e = either p q (p || has_moved (c1 ++ c2)) (λ x. is_left p (has_moved (c1 ++ c2)) x) (λ x. is_right p (has_moved (c1 ++ c2)) (any_left is_moving c1 c2 (a x))) e
 
 -- ---- the whole turn
 
--- where the links of neither port hurry, the next turn waits
-pub waits_then : (links : Links) → links.clients.hurries ≡ false → links.requests.hurries ≡ false → millis_of links ≡ 1000
+-- where the links of neither port have more, the next turn waits
+pub waits_then : (links : Links) → links.clients.poll_now ≡ false → links.requests.poll_now ≡ false → millis_of links ≡ 1000
 waits_then links a b = rw a (rw b refl)
 
--- it hurries for one of these
-pub rests_so : (pl freed hurried dealt ml mx m : Bool) → (pl ≡ true → (freed || ml) ≡ true) → (hurried ≡ true → (pl || mx) ≡ true) → (ml ≡ true → m ≡ true) → (mx ≡ true → m ≡ true)
-    → m ≡ false → freed ≡ false → dealt ≡ false → (hurried || dealt) ≡ false
-rests_so pl freed hurried dealt ml mx m hl hx tl tx none_m none_f none_d =
-    not_true (hurried || dealt) (λ e.
+-- it doesn't wait for one of these
+pub rests_so : (pl freed polled dealt ml mx m : Bool) → (pl ≡ true → (freed || ml) ≡ true) → (polled ≡ true → (pl || mx) ≡ true) → (ml ≡ true → m ≡ true) → (mx ≡ true → m ≡ true)
+    → m ≡ false → freed ≡ false → dealt ≡ false → (polled || dealt) ≡ false
+rests_so pl freed polled dealt ml mx m hl hx tl tx none_m none_f none_d =
+    not_true (polled || dealt) (λ e.
     (let moved : m ≡ true → m ≡ true = λ q. q in
-    true≢false (sym (either hurried dealt m
+    true≢false (sym (either polled dealt m
     (λ x. either pl mx m (λ y. either freed ml m (λ z. absurd (true≢false (sym z ∙ none_f))) tl (hl y)) tx (hx x))
     (λ x. absurd (true≢false (sym x ∙ none_d)))
     e) ∙ none_m)))

@@ -9,7 +9,7 @@ use Rattle.std.proofs.lemmas.List.{length-set, length-take, take-take, take-appe
 use Rattle.serving.specs.declared.script_links.ScriptLink.{ScriptLink}
 use Rattle.serving.specs.declared.wire.Io.{Io}
 use Rattle.serving.specs.declared.wire.Io.TheVariants.{Broken}
-use Rattle.serving.specs.Wires.{Told, more_at, over_at, begun_at, is_fault, is_live, has_read, has_written, has_accepted, has_closed, ToldOfPorts, IsAccepted}
+use Rattle.serving.specs.Wires.{Told, more_at, over_at, is_fault, is_live, has_read, has_written, has_accepted, has_closed, ToldOfPorts, IsAccepted}
 use Rattle.serving.specs.declared.wire.Link.{Link}
 use Rattle.serving.specs.declared.wire.Port.TheVariants.{Pop, Admin}
 use Rattle.std.specs.Prelude.{MatchOption}

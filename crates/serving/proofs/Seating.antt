@@ -6,7 +6,6 @@ use Rattle.std.proofs.lemmas.List.Elements.{All-nil, All-push, All-append, All-t
 use Rattle.std.proofs.lemmas.List.Quantifiers.{all_pairs_push, all_pairs_remove}
 use Rattle.vault.specs.Records.{Records}
 use Rattle.office.specs.Events.{Log, Trace}
-use Rattle.office.specs.Log.{opened}
 use Rattle.office.specs.Trace.{is_open}
 use Rattle.office.specs.Taken.{trace_of}
 use Rattle.serving.specs.declared.links.Seat.{Seat}

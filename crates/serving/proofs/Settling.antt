@@ -1,12 +1,12 @@
 -- Newcomers whose login is noted as lying unread, or not, while links are served.
-use Rattle.std.proofs.Common.{◌≡◌, ℕ, zero, suc, ◌+◌, ◌-◌, ◌<◌, ◌≤◌, ◌==◌, min, Bool, true, false, not, ◌&&◌, List, [], ◌∷◌, ◌++◌, length, take, drop, set, get_or, map, refl, sym, ◌∙◌, ap, arith, Some, None, Option, is_some, ⊎_elim, ◌⊎◌, inl, inr, subst, true≢false, eqb-true, eq-eqb, le-leb, nat_le, nat_lt, ◌||◌, add-one}
-use Rattle.std.specs.Bool.{if◌then◌else◌}
+use Rattle.std.proofs.Common.{◌≡◌, ℕ, zero, suc, ◌+◌, ◌-◌, ◌<◌, ◌≤◌, ◌==◌, min, Bool, true, false, not, ◌&&◌, List, [], ◌∷◌, ◌++◌, length, take, drop, set, get_or, map, refl, sym, ◌∙◌, ap, arith, Some, None, Option, ⊎_elim, ◌⊎◌, inl, inr, subst, true≢false, eqb-true, eq-eqb, le-leb, nat_le, nat_lt, ◌||◌, add-one}
 use Rattle.std.proofs.lemmas.Bool.{cases_Bool}
-use Rattle.std.proofs.Math.Nat.{min-le_left, min-le_right, min-eq_left}
+use Rattle.std.proofs.Math.Nat.{min-le_right, min-eq_left}
 use Rattle.serving.specs.declared.links.Seat.{Seat}
 use Rattle.serving.specs.declared.newcomers.Newcomer.{Newcomer}
 use Rattle.serving.specs.Newcomers.{newcomer, until, spent, is_late_by, lies_unread, since_at, held_at, settled, settled_if, settled_in, HaveSeats, NoSeat, IsNewcomers, IsAnothers, IsSettled, connection_of, AreSettled, CountsFrom, IsNewlyNoted, IsComer, AreNotedNow, waited_of}
-use Rattle.serving.specs.Works.{is_late, AreNoMoreLate, is_shared, may_by}
+use Rattle.serving.specs.Works.{is_late, is_shared, may_by}
+use Rattle.serving.specs.Parts.{AreNoMoreLate}
 use Rattle.serving.specs.Paces.{most_paced}
 use Rattle.std.specs.List.{list_any, filter}
 use Rattle.std.proofs.lemmas.Bool.{or_cases}

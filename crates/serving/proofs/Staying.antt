@@ -1,5 +1,5 @@
 -- Which connections stay open where something happens on one of them.
-use Rattle.std.proofs.Common.{◌≡◌, ℕ, ◌≤◌, Bool, true, false, not, ◌&&◌, ◌==◌, List, [], ◌∷◌, ◌++◌, drop, refl, sym, ◌∙◌, ap, arith, None, Some, Option, max, ne_eqb, eq-eqb, ⊎_elim, append_assoc}
+use Rattle.std.proofs.Common.{◌≡◌, ℕ, Bool, true, false, ◌==◌, List, [], ◌∷◌, ◌++◌, drop, refl, sym, ◌∙◌, ap, None, Some, Option, max, ne_eqb, eq-eqb, ⊎_elim}
 use Rattle.std.specs.Bool.{⊤, if◌then◌else◌}
 use Rattle.std.proofs.lemmas.Bool.{cases_eq}
 use Rattle.popline.specs.Cutting.{Cut, has_newline}
@@ -13,7 +13,7 @@ use Rattle.office.specs.Answers.{AdminCommand, ListMaildrops, ShowMaildrop, AddM
 use Rattle.office.specs.Events.{Event, EventTag, Tagged, Ignored, Log}
 use Rattle.office.specs.Events as event
 use Rattle.office.specs.Log.{next_number, taken, moment}
-use Rattle.office.specs.Trace.{acts_from, acts_at, acts_of_piece, acts_of_took, act_of_part, act_of_all, line_act, idle_acts, idle_numbers, history, is_open, is_open_by, is_left, untaken, next_line}
+use Rattle.office.specs.Trace.{acts_from, acts_at, acts_of_piece, acts_of_took, act_of_part, act_of_all, line_act, idle_acts, idle_numbers, history, is_open, is_open_by, is_left, next_line}
 use Rattle.office.specs.Taken.{trace_of}
 
 -- ---- what an event may do to the open connections

@@ -1,8 +1,6 @@
 -- Clients that took too long for their login are ended, and nobody is forgotten early.
 use Rattle.std.proofs.Common.{◌≡◌, ℕ, ◌+◌, ◌<◌, ◌≤◌, ◌==◌, ◌&&◌, not, Bool, true, false, List, [], ◌∷◌, ◌++◌, length, take, get_or, refl, sym, ◌∙◌, ap, Some, None, Option, ⊎_elim, ◌⊎◌, inl, inr, subst, true≢false, append_assoc, eqb-true}
-use Rattle.std.specs.List.{All}
 use Rattle.std.proofs.lemmas.Bool.{cases_Bool}
-use Rattle.std.proofs.lemmas.List.{append-nil}
 use Rattle.std.proofs.lemmas.List.Elements.{All-nil, All-cons, All-head, All-append, All-weaker, All-more}
 use Rattle.vault.specs.Records.{Records}
 use Rattle.vault.specs.Changes.{Contents}
@@ -10,12 +8,13 @@ use Rattle.office.specs.Events.{Log, Trace}
 use Rattle.office.specs.Trace.{history, is_open}
 use Rattle.office.specs.Sessions.{live}
 use Rattle.office.specs.Taken.{trace_of}
-use Rattle.office.specs.Stands.{StandsFor, vault_of}
+use Rattle.office.specs.Stands.{StandsFor}
 use Rattle.office.specs.declared.office.Office.{Office}
 use Rattle.serving.specs.declared.links.Seat.{Seat}
 use Rattle.serving.specs.declared.newcomers.Newcomer.{Newcomer}
 use Rattle.serving.specs.Newcomers.{newcomer, others, is_late_by, noted, lies_unread}
-use Rattle.serving.specs.Works.{is_late, AreNoMoreLate, IsLateGone, AreLateGone, WasGiven, Giving}
+use Rattle.serving.specs.Works.{is_late, IsLateGone, AreLateGone}
+use Rattle.serving.specs.Parts.{AreNoMoreLate, WasGiven, Giving}
 use Rattle.serving.specs.Late.{HasLived, IsEndedInTime, IsShutBy, HasEndedLate}
 use Rattle.serving.proofs.Staying.{Fewer}
 use Rattle.serving.proofs.Working.{given_then, fewer_gone}

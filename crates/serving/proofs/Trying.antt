@@ -1,8 +1,7 @@
 -- One file of a spool is tried.
 use Rattle.std.proofs.Common.{◌≡◌, ◌||◌, ℕ, Bool, true, false, List, [], ◌∷◌, ◌++◌, Option, Some, None, append_assoc, refl, sym, ◌∙◌, ap, subst}
 use Rattle.vault.specs.Changes.{Contents}
-use Rattle.office.specs.Events.{EventTag, Tagged, Log, Trace}
-use Rattle.office.specs.Events as event
+use Rattle.office.specs.Events.{Tagged, Trace}
 use Rattle.office.specs.Trace.{history}
 use Rattle.office.specs.Expected.{IsOutcome, shown_at}
 use Rattle.office.specs.Outcomes.{Outcome, event_tag_of}
@@ -10,8 +9,8 @@ use Rattle.office.specs.Stands.{StandsFor, vault_of}
 use Rattle.office.specs.declared.office.Office.{Office}
 use Rattle.serving.specs.declared.file_name.FileName.{FileName}
 use Rattle.serving.specs.declared.files.Disposal.{Disposal}
-use Rattle.serving.specs.Spools.{FileCall, Next, Read, Removed, Renamed, disposal_of}
-use Rattle.serving.specs.Works.{WasGiven}
+use Rattle.serving.specs.Spools.{FileCall, Next, Read, disposal_of}
+use Rattle.serving.specs.Parts.{WasGiven}
 use Rattle.serving.specs.SpoolTurns.{disposing, deposit_of, IsTrying, CouldNotRead, WasTried, IsSpoolTurn, NoFileThere, TriesOne, has_dealt, SpoolPart}
 use Rattle.serving.proofs.Depositing.{deposit_mark}
 use Rattle.serving.proofs.Working.{given_none}

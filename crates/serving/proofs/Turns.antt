@@ -1,42 +1,38 @@
 -- What each part of a turn does, and what they do together.
-use Rattle.std.proofs.Common.{◌≡◌, ℕ, zero, suc, ◌+◌, ◌<◌, ◌≤◌, Bool, true, false, not, ◌&&◌, ◌||◌, ◌==◌, List, [], ◌∷◌, ◌++◌, length, take, drop, map, get_or, refl, sym, ◌∙◌, ap, arith, Some, None, Option, ⊎_elim, ◌⊎◌, inl, inr, subst, true≢false, append_assoc, length-append, eq-eqb, eqb-true}
-use Rattle.std.specs.Bool.{⊤, if◌then◌else◌}
-use Rattle.std.specs.List.{All, Contains, list_any, filter, filter_map, remove}
+use Rattle.std.proofs.Common.{◌≡◌, ℕ, zero, suc, ◌+◌, ◌<◌, ◌≤◌, Bool, true, false, not, ◌&&◌, ◌||◌, ◌==◌, List, [], ◌∷◌, ◌++◌, length, take, get_or, refl, sym, ◌∙◌, ap, arith, Option, ⊎_elim, ◌⊎◌, inl, inr, subst, true≢false, append_assoc, eq-eqb, eqb-true}
+use Rattle.std.specs.Bool.{if◌then◌else◌}
+use Rattle.std.specs.List.{All, Contains, list_any, filter}
 use Rattle.std.proofs.lemmas.Bool.{cases_Bool}
-use Rattle.std.proofs.lemmas.List.{append-nil, map-append, length-take}
-use Rattle.std.proofs.lemmas.List.Elements.{All-nil, All-cons, All-head, All-append, All-weaker, All-more, filter_map-append, filter-append, Contains-append_left, Contains-append_right}
+use Rattle.std.proofs.lemmas.List.{append-nil, length-take}
+use Rattle.std.proofs.lemmas.List.Elements.{All-nil, All-cons, All-head, All-weaker, All-more, Contains-append_right}
 use Rattle.vault.specs.Records.{Records}
 use Rattle.vault.specs.Changes.{Contents}
-use Rattle.office.specs.History.{Tag, Done}
 use Rattle.office.specs.Events.{Event, EventTag, Tagged, Ignored, Log, Trace}
 use Rattle.office.specs.Events as event
-use Rattle.office.specs.Trace.{history, is_open, is_ready, rest, rest_if, untaken}
-use Rattle.office.specs.Outcomes.{Outcome, event_tag_of}
-use Rattle.office.specs.Outcomes as outcome
-use Rattle.office.specs.Taken.{trace_of, IsAdmitted}
+use Rattle.office.specs.Trace.{history, is_open, rest, rest_if, untaken}
+use Rattle.office.specs.Taken.{trace_of}
 use Rattle.office.specs.Stands.{StandsFor, vault_of}
 use Rattle.office.specs.declared.office.Office.{Office}
-use Rattle.serving.specs.declared.wire.Link.{Link}
-use Rattle.serving.specs.declared.wire.Port.TheVariants.{Pop, Admin}
+use Rattle.serving.specs.declared.wire.Port.TheVariants.{Pop}
 use Rattle.serving.specs.declared.wire.Io.{Io}
 use Rattle.serving.specs.declared.wire.Io.TheVariants.{Count, Later}
-use Rattle.serving.specs.Calls.{Call, Waited, Looked, Accepted, Read, Wrote, Closed}
+use Rattle.serving.specs.Calls.{Call, Looked, Read, Wrote}
 use Rattle.serving.specs.declared.links.Seat.{Seat}
-use Rattle.serving.specs.Wires.{is_fault, opened_by}
+use Rattle.serving.specs.Wires.{is_fault}
 use Rattle.serving.specs.Hearing.{Hearing, WithHeard}
 use Rattle.serving.proofs.Hearing.{unheard}
-use Rattle.serving.specs.Works.{Also, waits, arrivals, arrival_of, closings, closing_of, none_waited, tells_none, is_read_of, is_later_of, is_taking_of, is_cut_of, is_cut, most_writes, octets_taken, had_its_turn, moments, openings, is_opening, refusals, is_refusal, AreNewlyAdmitted, HasCause, AreCaused, WasGiven, WasAsked, Part, Asking, Giving, IsQuiet, IsQuietFor, Came, seat_of, unseated_of, link_of, HaveCome, HasAccepted, AreAccepted, OwesNothing, IsWritten, IsWrittenOut, IsNotReady, IsUnread, IsHeard, IsReadOnce, NotReady, WasRead, HasLooked, Unlooked, NothingCame, PieceCame, IsReadByLine, IsHeldBack, reads_by_line, most_at_once, IsKeptBack, Way, HadTurn, HadTurns, StaysUnread, LiesUnread, IsNotedSo}
-use Rattle.serving.specs.Paces.{first_line}
+use Rattle.serving.specs.Parts.{Also, WasGiven, Part, IsQuietFor}
+use Rattle.serving.specs.Works.{is_read_of, is_later_of, is_taking_of, most_writes, octets_taken, had_its_turn, refusals, HasCause, WasAsked, IsReadByLine, IsHeldBack, reads_by_line, most_at_once, IsKeptBack, Way, HadTurn, StaysUnread, LiesUnread}
+use Rattle.serving.specs.ClientParts.{OwesNothing, IsWritten, IsWrittenOut, IsNotReady, IsUnread, IsHeard, IsReadOnce, NotReady, WasRead, HasLooked, Unlooked, NothingCame, PieceCame, HadTurns, IsNotedSo}
 use Rattle.serving.specs.declared.guesses.Refusal.{Refusal}
 use Rattle.creds.specs.declared.login_name.LoginName.{LoginName}
 use Rattle.serving.specs.declared.pace.Pace.{Pace}
 use Rattle.office.specs.Waiting as waiting
 use Rattle.office.specs.Logins.{brings_login}
-use Rattle.serving.proofs.Staying.{Fewer}
 use Rattle.serving.proofs.Seating.{any_default, contained, whole_front}
 use Rattle.serving.specs.Newcomers.{newcomer, lies_unread}
 use Rattle.serving.specs.declared.newcomers.Newcomer.{Newcomer}
-use Rattle.serving.proofs.Working.{lies_left, lies_right, given_none, asked_then, given_then, count_joined, any_left, any_right, quiet_then, quiet_none, caused_more, caused_then, of_then, of_more, of_none, turn_read, turn_later, turn_full, turn_shared, turn_left, turn_right, turn_hurried, line_right, taken_joined, turned_right, fewer_quiet, turns_later, shut_by}
+use Rattle.serving.proofs.Working.{lies_left, lies_right, given_none, asked_then, count_joined, any_right, of_then, of_more, of_none, turn_read, turn_later, turn_full, turn_shared, turn_left, turn_right, turn_polled, line_right, taken_joined, turned_right, fewer_quiet, turns_later, shut_by}
 
 -- ---- one call
 
@@ -247,14 +243,14 @@ module _ {V : Type 0} (Holds : V → Contents → Type 0) (IsClean : V → Type 
   written_all o o1 seat n k share goes g c h a = record { of_seat = a.of_seat; goes_on = λ e. inl (let p = a.taken in omega (arith, p, h)); ends = λ e. cc }
 
   -- a link that was written its share had its turn
-  turn_written : (o o1 : Office V) (way : Way) (seat : Seat) (g : Log) (c : List Call) → way.hurries ≡ true → IsWrittenOut Holds IsClean o o1 seat way.share true g c → had_its_turn way.share way.hurries seat.link c ≡ true
+  turn_written : (o o1 : Office V) (way : Way) (seat : Seat) (g : Log) (c : List Call) → way.poll_now ≡ true → IsWrittenOut Holds IsClean o o1 seat way.share true g c → had_its_turn way.share way.poll_now seat.link c ≡ true
   turn_written o o1 way seat g c e a =
       ⊎_elim
-      (λ (full : most_writes ≤ length (filter (is_taking_of seat.link) c)). turn_full way.share way.hurries seat.link c e full)
-      (λ (taken : way.share ≤ octets_taken seat.link c). turn_shared way.share way.hurries seat.link c e taken)
+      (λ (full : most_writes ≤ length (filter (is_taking_of seat.link) c)). turn_full way.share way.poll_now seat.link c e full)
+      (λ (taken : way.share ≤ octets_taken seat.link c). turn_shared way.share way.poll_now seat.link c e taken)
       (a.goes_on refl)
 
-  pub served_written : (o o1 : Office V) (way : Way) (noted : List Newcomer) (seat : Seat) (g : Log) (c : List Call) → way.hurries ≡ true → (lies_unread (newcomer seat.connection noted) ≡ true → ⊥) → IsWrittenOut Holds IsClean o o1 seat way.share true g c
+  pub served_written : (o o1 : Office V) (way : Way) (noted : List Newcomer) (seat : Seat) (g : Log) (c : List Call) → way.poll_now ≡ true → (lies_unread (newcomer seat.connection noted) ≡ true → ⊥) → IsWrittenOut Holds IsClean o o1 seat way.share true g c
       → HadTurns Holds IsClean o o1 way noted (seat ∷ []) (seat ∷ []) g c
   served_written o o1 way noted seat g c e calm a = record {
     of_seats = a.of_seat;
@@ -266,10 +262,10 @@ module _ {V : Type 0} (Holds : V → Contents → Type 0) (IsClean : V → Type 
 
   served_unless : (o o1 o2 : Office V) (way : Way) (seat : Seat) (g1 : Log) (c1 c2 : List Call) → WasGiven Holds IsClean Faults o o1 g1 → (IsClean (vault_of o2) → IsClean (vault_of o1))
       → IsWrittenOut Holds IsClean o o1 seat way.share false g1 c1 → IsNotReady Holds o1 seat.connection
-      → (B : Records) (L : Log) → StandsFor Holds o (trace_of B L) → IsClean (vault_of o2) → is_open (trace_of B (g1 ++ L)) seat.connection ≡ true → had_its_turn way.share way.hurries seat.link (c1 ++ c2) ≡ true
+      → (B : Records) (L : Log) → StandsFor Holds o (trace_of B L) → IsClean (vault_of o2) → is_open (trace_of B (g1 ++ L)) seat.connection ≡ true → had_its_turn way.share way.poll_now seat.link (c1 ++ c2) ≡ true
   served_unless o o1 o2 way seat g1 c1 c2 wa clean a idle B L s k here =
       ⊎_elim
-      (λ (later : list_any (is_later_of seat.link) c1 ≡ true). turn_left way.share way.hurries seat.link c1 c2 (turn_later way.share way.hurries seat.link c1 later))
+      (λ (later : list_any (is_later_of seat.link) c1 ≡ true). turn_left way.share way.poll_now seat.link c1 c2 (turn_later way.share way.poll_now seat.link c1 later))
       (λ (owes : OwesNothing Holds IsClean o o1 seat.connection g1).
       (let T = trace_of B (g1 ++ L) in
       absurd (shut_by (is_open T seat.connection) (untaken T.log (history T) seat.connection) (owes B L s (clean k)) (idle B (g1 ++ L) (wa.stands B L s (clean k))) here)))
@@ -299,7 +295,7 @@ module _ {V : Type 0} (Holds : V → Contents → Type 0) (IsClean : V → Type 
     by : (B : Records) (L : Log) → StandsFor Holds o (trace_of B L) → IsClean (vault_of o2)
         → (list_any (is_read_of seat.link) c2 ≡ true) ⊎ (IsReadByLine c2 way.by_line seat ⊎ ((g2 ≡ []) × (IsNotReady Holds o1 seat.connection ⊎ IsUnread Holds o1 seat way.wait (way.may seat.connection) c2)))
         → HadTurn way B L (g2 ++ g1) (trace_of B ((g2 ++ g1) ++ L)) (c1 ++ c2) seat
-    by B L s k (inl r) here = inl (turn_right way.share way.hurries seat.link c1 c2 (turn_read way.share way.hurries seat.link c2 r))
+    by B L s k (inl r) here = inl (turn_right way.share way.poll_now seat.link c1 c2 (turn_read way.share way.poll_now seat.link c2 r))
     by B L s k (inr (inl u)) here = inr (inl (line_right way.by_line seat c1 c2 u))
     by B L s k (inr (inr (none, inl idle))) here =
         inl (served_unless o o1 o2 way seat g1 c1 c2 wa wb.clean a idle B L s k (subst (λ g. is_open (trace_of B ((g ++ g1) ++ L)) seat.connection ≡ true) none here))
@@ -323,7 +319,7 @@ module _ {V : Type 0} (Holds : V → Contents → Type 0) (IsClean : V → Type 
 
   -- served in another way: the same share, the same wait, more logins may be kept back, and the next turn doesn't wait for another cause
   pub served_so : (o o1 : Office V) (way way2 : Way) (noted : List Newcomer) (seats these : List Seat) (g : Log) (c : List Call) → way2.share ≡ way.share → way2.wait ≡ way.wait → (way.by_line ≡ true → way2.by_line ≡ true)
-      → All (λ q. way.may q.connection ≡ true → way2.may q.connection ≡ true) these → (way.hurries ≡ true → way2.hurries ≡ true)
+      → All (λ q. way.may q.connection ≡ true → way2.may q.connection ≡ true) these → (way.poll_now ≡ true → way2.poll_now ≡ true)
       → HadTurns Holds IsClean o o1 way noted seats these g c → HadTurns Holds IsClean o o1 way2 noted seats these g c
   served_so o o1 way way2 noted seats these g c share wait lines may still a = record {
     of_seats = a.of_seats;
@@ -343,9 +339,9 @@ module _ {V : Type 0} (Holds : V → Contents → Type 0) (IsClean : V → Type 
       kept = subst (λ n. IsKeptBack (trace_of B (u.front ++ L)) q.connection u.piece n m2) (sym wait) (kept_more (trace_of B (u.front ++ L)) q.connection u.piece way.wait m m2 more u.kept);
     }
 
-    by : (B : Records) (L : Log) (q : Seat) → (way.may q.connection ≡ true → way2.may q.connection ≡ true) → (had_its_turn way.share way.hurries q.link c ≡ true) ⊎ IsHeldBack B L g c way.wait way.by_line (way.may q.connection) q
-        → (had_its_turn way2.share way2.hurries q.link c ≡ true) ⊎ IsHeldBack B L g c way2.wait way2.by_line (way2.may q.connection) q
-    by B L q more (inl t) = inl (subst (λ n. had_its_turn n way2.hurries q.link c ≡ true) (sym share) (turn_hurried way.share way.hurries way2.hurries q.link c still t))
+    by : (B : Records) (L : Log) (q : Seat) → (way.may q.connection ≡ true → way2.may q.connection ≡ true) → (had_its_turn way.share way.poll_now q.link c ≡ true) ⊎ IsHeldBack B L g c way.wait way.by_line (way.may q.connection) q
+        → (had_its_turn way2.share way2.poll_now q.link c ≡ true) ⊎ IsHeldBack B L g c way2.wait way2.by_line (way2.may q.connection) q
+    by B L q more (inl t) = inl (subst (λ n. had_its_turn n way2.poll_now q.link c ≡ true) (sym share) (turn_polled way.share way.poll_now way2.poll_now q.link c still t))
     by B L q more (inr (inl u)) = inr (inl (record { piece = u.piece; io = u.io; io_then = u.io_then; octets = u.octets; held = lines u.held; shown = u.shown; read = u.read }))
     by B L q more (inr (inr u)) = inr (inr (unread_in B L q (way.may q.connection) (way2.may q.connection) more u))
 

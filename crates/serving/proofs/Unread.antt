@@ -1,16 +1,13 @@
 -- What was looked at on a link, and stays unread.
-use Rattle.std.proofs.Common.{◌≡◌, ℕ, zero, suc, ◌<◌, Bool, true, false, not, ◌&&◌, ◌||◌, ◌==◌, List, [], ◌∷◌, length, position, is_some, nat_lt, refl, sym, ◌∙◌, ap, arith, Some, None, Option, ⊎_elim, ◌⊎◌, inl, inr, true≢false}
-use Rattle.std.specs.Bool.{if◌then◌else◌}
-use Rattle.std.specs.List.{Contains}
+use Rattle.std.proofs.Common.{◌≡◌, ℕ, ◌<◌, Bool, true, false, not, ◌&&◌, ◌||◌, ◌==◌, List, [], ◌∷◌, length, position, is_some, nat_lt, refl, sym, ◌∙◌, arith, Some, None, Option, ⊎_elim, ◌⊎◌, inl, inr}
 use Rattle.std.proofs.lemmas.Bool.{or_cases}
 use Rattle.std.proofs.lemmas.List.Elements.{All-nil}
 use Rattle.vault.specs.Changes.{Contents}
 use Rattle.office.specs.Events.{Trace}
 use Rattle.office.specs.Waiting as waiting
-use Rattle.office.specs.Logins.{login_brought, brings_login}
+use Rattle.office.specs.Logins.{login_brought}
 use Rattle.creds.specs.declared.login_name.LoginName.{LoginName}
 use Rattle.office.specs.Taken.{trace_of}
-use Rattle.office.specs.Stands.{StandsFor}
 use Rattle.office.specs.declared.office.Office.{Office}
 use Rattle.serving.specs.Calls.{Call, Looked}
 use Rattle.serving.specs.declared.wire.Port.TheVariants.{Pop}
@@ -18,8 +15,10 @@ use Rattle.serving.specs.declared.wire.Io.TheVariants.{Count}
 use Rattle.serving.specs.declared.links.Seat.{Seat}
 use Rattle.serving.specs.declared.pace.Pace.{Pace}
 use Rattle.serving.specs.declared.guesses.Refusal.{Refusal}
-use Rattle.serving.specs.Paces.{reads_lines, most_paced, is_paced, keeps, is_held, first_line, line_by, part_by}
-use Rattle.serving.specs.Works.{HasCause, IsQuietFor, IsKeptBack, IsUnread, reads_by_line, HasLooked, Unlooked, NothingCame, PieceCame}
+use Rattle.serving.specs.Paces.{reads_lines, most_paced, is_paced, keeps, is_held, line_by, part_by}
+use Rattle.serving.specs.Works.{HasCause, IsKeptBack, reads_by_line}
+use Rattle.serving.specs.Parts.{IsQuietFor}
+use Rattle.serving.specs.ClientParts.{IsUnread, HasLooked, Unlooked, NothingCame, PieceCame}
 
 line_some : (newline : Option ℕ) (all : ℕ) → 0 < all → line_by newline all ≡ 0 → ⊥
 line_some None all h e = omega (arith, h, e)

@@ -1,20 +1,20 @@
 -- That parts of a turn, one after the other, do what they do all together.
-use Rattle.std.proofs.Common.{◌≡◌, ℕ, zero, suc, ◌+◌, ◌<◌, ◌≤◌, Bool, true, false, not, ◌&&◌, ◌||◌, ◌==◌, List, [], ◌∷◌, ◌++◌, length, take, drop, map, min, get_or, refl, sym, ◌∙◌, ap, arith, Some, None, Option, ⊎_elim, ◌⊎◌, inl, inr, subst, true≢false, append_assoc, length-append, le-leb, leb-true, nat_le, nat_lt, eqb-true}
-use Rattle.std.specs.Bool.{⊤, if◌then◌else◌}
-use Rattle.std.specs.List.{All, Contains, list_any, filter, filter_map, remove}
+use Rattle.std.proofs.Common.{◌≡◌, ℕ, ◌+◌, ◌<◌, ◌≤◌, Bool, true, false, not, ◌&&◌, ◌||◌, ◌==◌, List, [], ◌∷◌, ◌++◌, length, min, refl, sym, ◌∙◌, ap, arith, Some, Option, ⊎_elim, ◌⊎◌, inl, inr, subst, true≢false, append_assoc, length-append, le-leb, leb-true, nat_le, nat_lt, eqb-true}
+use Rattle.std.specs.Bool.{if◌then◌else◌}
+use Rattle.std.specs.List.{All, Contains, list_any, filter, filter_map}
 use Rattle.std.proofs.lemmas.Bool.{or_cases, ltb-true, lt-ltb}
-use Rattle.std.proofs.lemmas.List.{append-nil, map-append}
-use Rattle.std.proofs.lemmas.List.Elements.{All-nil, All-cons, All-head, All-tail, All-append, All-weaker, All-take, All-more, filter_map-append, filter-append, filter_more, Contains-append_left, Contains-append_right}
+use Rattle.std.proofs.lemmas.List.{append-nil}
+use Rattle.std.proofs.lemmas.List.Elements.{All-nil, All-head, All-tail, All-append, All-weaker, filter_map-append, filter-append, Contains-append_left, Contains-append_right}
 use Rattle.std.proofs.lemmas.List.Folds.{list_any-append}
 use Rattle.vault.specs.Records.{Records}
 use Rattle.vault.specs.Calls.{greatest_count, has_grown}
 use Rattle.vault.specs.Changes.{Contents}
-use Rattle.office.specs.History.{Tag, Done, Failed, NoMemory}
+use Rattle.office.specs.History.{Tag, Done, NoMemory}
 use Rattle.office.specs.Replying.{is_empty}
 use Rattle.office.specs.Events.{Event, EventTag, Tagged, Ignored, Log, Trace}
 use Rattle.office.specs.Events as event
-use Rattle.office.specs.Trace.{history, is_open, is_ready, rest, rest_if, untaken}
-use Rattle.office.specs.Expected.{or_ignored, reason_if, shown_at, most_in_a_piece}
+use Rattle.office.specs.Trace.{is_open, rest_if}
+use Rattle.office.specs.Expected.{or_ignored, reason_if}
 use Rattle.office.specs.Outcomes.{Outcome, Reason, NoSuchConnection, NotReady, PieceTooLong, event_tag_of, HasCause as HasItsCause}
 use Rattle.office.specs.Outcomes as outcome
 use Rattle.office.specs.Taken.{trace_of, IsAdmitted}
@@ -26,7 +26,8 @@ use Rattle.serving.specs.Calls.{Call, Looked, Read}
 use Rattle.serving.specs.declared.wire.Port.TheVariants.{Pop}
 use Rattle.serving.specs.declared.links.Seat.{Seat}
 use Rattle.serving.specs.declared.newcomers.Newcomer.{Newcomer}
-use Rattle.serving.specs.Works.{waits, arrivals, closings, is_beside, is_read_of, is_later_of, is_taking_of, is_cut_of, is_cut, most_writes, octets_taken, is_written_out, had_its_turn, moments, moment_of, openings, is_opening, refusals, is_refusal, AreNewlyAdmitted, is_failed, IsLateGone, AreLateGone, HasCause, AreCaused, WasGiven, WasAsked, Part, Asking, Giving, IsQuiet, IsQuietFor, IsKeptBack, StaysUnread, IsReadByLine, IsHeldBack, LiesUnread, Way, HadTurn}
+use Rattle.serving.specs.Works.{is_admin, is_read_of, is_later_of, is_taking_of, is_cut_of, is_cut, most_writes, octets_taken, is_written_out, had_its_turn, openings, is_opening, AreNewlyAdmitted, is_failed, IsLateGone, AreLateGone, HasCause, AreCaused, WasAsked, IsKeptBack, StaysUnread, IsReadByLine, IsHeldBack, LiesUnread, Way, HadTurn}
+use Rattle.serving.specs.Parts.{WasGiven, Part, Asking, Giving, IsQuiet, IsQuietFor}
 use Rattle.serving.proofs.Staying.{Fewer, fewer_framed, frame_read, frame_took, frame_gone, fewer_tick, deposit_same, fewer_command}
 
 -- ---- one after the other
@@ -204,7 +205,7 @@ pub none_of : {A : Type 0} (p : A → Bool) (xs ys : List A) → list_any p xs �
 none_of p xs ys a b = list_any-append p xs ys ∙ (ap (λ u. u || list_any p ys) a ∙ b)
 
 pub of_then : (seats : List Seat) (g1 g2 : Log) (c1 c2 : List Call) → IsQuietFor seats g1 c1 → IsQuietFor seats g2 c2 → IsQuietFor seats (g2 ++ g1) (c1 ++ c2)
-of_then seats g1 g2 c1 c2 a b = record { quiet = quiet_then g1 g2 c1 c2 a.quiet b.quiet; apart = none_of is_beside c1 c2 a.apart b.apart; caused = caused_then seats g1 g2 c1 c2 a.caused b.caused }
+of_then seats g1 g2 c1 c2 a b = record { quiet = quiet_then g1 g2 c1 c2 a.quiet b.quiet; apart = none_of is_admin c1 c2 a.apart b.apart; caused = caused_then seats g1 g2 c1 c2 a.caused b.caused }
 
 pub of_more : (seats more : List Seat) (given : Log) (calls : List Call) → ((s : Seat) → Contains seats s → Contains more s) → IsQuietFor seats given calls → IsQuietFor more given calls
 of_more seats more given calls has a = record { quiet = a.quiet; apart = a.apart; caused = caused_more seats more calls calls given has (λ l h. h) a.caused }
@@ -218,31 +219,31 @@ pub taken_joined : (link : Link) (c1 c2 : List Call) → octets_taken link (c1 +
 taken_joined link [] c2 = let e : 0 + octets_taken link c2 ≡ octets_taken link c2 = omega arith in sym e
 taken_joined link (x ∷ c1) c2 = let e = taken_joined link c1 c2 in omega (arith, e)
 
-pub turn_read : (share : ℕ) (hurries : Bool) (link : Link) (calls : List Call) → list_any (is_read_of link) calls ≡ true → had_its_turn share hurries link calls ≡ true
-turn_read share hurries link calls h = rw h refl
+pub turn_read : (share : ℕ) (poll_now : Bool) (link : Link) (calls : List Call) → list_any (is_read_of link) calls ≡ true → had_its_turn share poll_now link calls ≡ true
+turn_read share poll_now link calls h = rw h refl
 
-pub turn_later : (share : ℕ) (hurries : Bool) (link : Link) (calls : List Call) → list_any (is_later_of link) calls ≡ true → had_its_turn share hurries link calls ≡ true
-turn_later share hurries link calls h =
+pub turn_later : (share : ℕ) (poll_now : Bool) (link : Link) (calls : List Call) → list_any (is_later_of link) calls ≡ true → had_its_turn share poll_now link calls ≡ true
+turn_later share poll_now link calls h =
     let r = list_any (is_read_of link) calls in
-    let x = hurries && is_written_out share link calls in
+    let x = poll_now && is_written_out share link calls in
     ap (λ b. (r || b) || x) h ∙ ap (λ b. b || x) (or_true r)
 
-turn_out : (share : ℕ) (hurries : Bool) (link : Link) (calls : List Call) → hurries ≡ true → is_written_out share link calls ≡ true → had_its_turn share hurries link calls ≡ true
-turn_out share hurries link calls e h =
+turn_out : (share : ℕ) (poll_now : Bool) (link : Link) (calls : List Call) → poll_now ≡ true → is_written_out share link calls ≡ true → had_its_turn share poll_now link calls ≡ true
+turn_out share poll_now link calls e h =
     let x = list_any (is_read_of link) calls || list_any (is_later_of link) calls in
     ap (λ b. x || (b && is_written_out share link calls)) e ∙ (ap (λ b. x || b) h ∙ or_true x)
 
-pub turn_full : (share : ℕ) (hurries : Bool) (link : Link) (calls : List Call) → hurries ≡ true → most_writes ≤ length (filter (is_taking_of link) calls) → had_its_turn share hurries link calls ≡ true
-turn_full share hurries link calls e h =
+pub turn_full : (share : ℕ) (poll_now : Bool) (link : Link) (calls : List Call) → poll_now ≡ true → most_writes ≤ length (filter (is_taking_of link) calls) → had_its_turn share poll_now link calls ≡ true
+turn_full share poll_now link calls e h =
     let k = le-leb most_writes (length (filter (is_taking_of link) calls)) h in
     let s = nat_le share (octets_taken link calls) in
-    turn_out share hurries link calls e (ap (λ b. b || s) k)
+    turn_out share poll_now link calls e (ap (λ b. b || s) k)
 
-pub turn_shared : (share : ℕ) (hurries : Bool) (link : Link) (calls : List Call) → hurries ≡ true → share ≤ octets_taken link calls → had_its_turn share hurries link calls ≡ true
-turn_shared share hurries link calls e h =
+pub turn_shared : (share : ℕ) (poll_now : Bool) (link : Link) (calls : List Call) → poll_now ≡ true → share ≤ octets_taken link calls → had_its_turn share poll_now link calls ≡ true
+turn_shared share poll_now link calls e h =
     let k = le-leb share (octets_taken link calls) h in
     let n = nat_le most_writes (length (filter (is_taking_of link) calls)) in
-    turn_out share hurries link calls e (ap (λ b. n || b) k ∙ or_true n)
+    turn_out share poll_now link calls e (ap (λ b. n || b) k ∙ or_true n)
 
 both_first : (a b : Bool) → (a && b) ≡ true → a ≡ true
 both_first true b e = refl
@@ -252,10 +253,10 @@ both_second : (a b : Bool) → (a && b) ≡ true → b ≡ true
 both_second true b e = e
 both_second false b e = cc
 
-turn_joined : (share : ℕ) (hurries hurries2 : Bool) (link : Link) (c c' : List Call) → (hurries ≡ true → hurries2 ≡ true) → (list_any (is_read_of link) c ≡ true → list_any (is_read_of link) c' ≡ true)
+turn_joined : (share : ℕ) (poll_now poll_now2 : Bool) (link : Link) (c c' : List Call) → (poll_now ≡ true → poll_now2 ≡ true) → (list_any (is_read_of link) c ≡ true → list_any (is_read_of link) c' ≡ true)
     → (list_any (is_later_of link) c ≡ true → list_any (is_later_of link) c' ≡ true)
-    → length (filter (is_taking_of link) c) ≤ length (filter (is_taking_of link) c') → octets_taken link c ≤ octets_taken link c' → had_its_turn share hurries link c ≡ true → had_its_turn share hurries2 link c' ≡ true
-turn_joined share hurries hurries2 link c c' still read later full taken h =
+    → length (filter (is_taking_of link) c) ≤ length (filter (is_taking_of link) c') → octets_taken link c ≤ octets_taken link c' → had_its_turn share poll_now link c ≡ true → had_its_turn share poll_now2 link c' ≡ true
+turn_joined share poll_now poll_now2 link c c' still read later full taken h =
     let r = list_any (is_read_of link) c in
     let l = list_any (is_later_of link) c in
     let n = nat_le most_writes (length (filter (is_taking_of link) c)) in
@@ -263,36 +264,36 @@ turn_joined share hurries hurries2 link c c' still read later full taken h =
     ⊎_elim
     (λ (k : (r || l) ≡ true).
     ⊎_elim
-    (λ (a : r ≡ true). turn_read share hurries2 link c' (read a))
-    (λ (b : l ≡ true). turn_later share hurries2 link c' (later b))
+    (λ (a : r ≡ true). turn_read share poll_now2 link c' (read a))
+    (λ (b : l ≡ true). turn_later share poll_now2 link c' (later b))
     (or_cases r l k))
-    (λ (k : (hurries && (n || s)) ≡ true).
-    (let e : hurries2 ≡ true = still (both_first hurries (n || s) k) in
+    (λ (k : (poll_now && (n || s)) ≡ true).
+    (let e : poll_now2 ≡ true = still (both_first poll_now (n || s) k) in
     ⊎_elim
     (λ (k2 : n ≡ true).
     (let m : most_writes ≤ length (filter (is_taking_of link) c) = leb-true most_writes (length (filter (is_taking_of link) c)) k2 in
-    turn_full share hurries2 link c' e (omega (arith, m, full))))
+    turn_full share poll_now2 link c' e (omega (arith, m, full))))
     (λ (k2 : s ≡ true).
     (let m : share ≤ octets_taken link c = leb-true share (octets_taken link c) k2 in
-    turn_shared share hurries2 link c' e (omega (arith, m, taken))))
-    (or_cases n s (both_second hurries (n || s) k))))
-    (or_cases (r || l) (hurries && (n || s)) h)
+    turn_shared share poll_now2 link c' e (omega (arith, m, taken))))
+    (or_cases n s (both_second poll_now (n || s) k))))
+    (or_cases (r || l) (poll_now && (n || s)) h)
 
-pub turn_left : (share : ℕ) (hurries : Bool) (link : Link) (c1 c2 : List Call) → had_its_turn share hurries link c1 ≡ true → had_its_turn share hurries link (c1 ++ c2) ≡ true
-turn_left share hurries link c1 c2 h =
+pub turn_left : (share : ℕ) (poll_now : Bool) (link : Link) (c1 c2 : List Call) → had_its_turn share poll_now link c1 ≡ true → had_its_turn share poll_now link (c1 ++ c2) ≡ true
+turn_left share poll_now link c1 c2 h =
     let e = count_joined (is_taking_of link) c1 c2 in
     let t = taken_joined link c1 c2 in
-    turn_joined share hurries hurries link c1 (c1 ++ c2) (λ k. k) (any_left (is_read_of link) c1 c2) (any_left (is_later_of link) c1 c2) (omega (arith, e)) (omega (arith, t)) h
+    turn_joined share poll_now poll_now link c1 (c1 ++ c2) (λ k. k) (any_left (is_read_of link) c1 c2) (any_left (is_later_of link) c1 c2) (omega (arith, e)) (omega (arith, t)) h
 
-pub turn_right : (share : ℕ) (hurries : Bool) (link : Link) (c1 c2 : List Call) → had_its_turn share hurries link c2 ≡ true → had_its_turn share hurries link (c1 ++ c2) ≡ true
-turn_right share hurries link c1 c2 h =
+pub turn_right : (share : ℕ) (poll_now : Bool) (link : Link) (c1 c2 : List Call) → had_its_turn share poll_now link c2 ≡ true → had_its_turn share poll_now link (c1 ++ c2) ≡ true
+turn_right share poll_now link c1 c2 h =
     let e = count_joined (is_taking_of link) c1 c2 in
     let t = taken_joined link c1 c2 in
-    turn_joined share hurries hurries link c2 (c1 ++ c2) (λ k. k) (any_right (is_read_of link) c1 c2) (any_right (is_later_of link) c1 c2) (omega (arith, e)) (omega (arith, t)) h
+    turn_joined share poll_now poll_now link c2 (c1 ++ c2) (λ k. k) (any_right (is_read_of link) c1 c2) (any_right (is_later_of link) c1 c2) (omega (arith, e)) (omega (arith, t)) h
 
 -- the next turn doesn't wait for another cause
-pub turn_hurried : (share : ℕ) (hurries hurries2 : Bool) (link : Link) (c : List Call) → (hurries ≡ true → hurries2 ≡ true) → had_its_turn share hurries link c ≡ true → had_its_turn share hurries2 link c ≡ true
-turn_hurried share hurries hurries2 link c still h = turn_joined share hurries hurries2 link c c still (λ k. k) (λ k. k) (omega arith) (omega arith) h
+pub turn_polled : (share : ℕ) (poll_now poll_now2 : Bool) (link : Link) (c : List Call) → (poll_now ≡ true → poll_now2 ≡ true) → had_its_turn share poll_now link c ≡ true → had_its_turn share poll_now2 link c ≡ true
+turn_polled share poll_now poll_now2 link c still h = turn_joined share poll_now poll_now2 link c c still (λ k. k) (λ k. k) (omega arith) (omega arith) h
 
 -- ---- links that stay unread
 
@@ -351,14 +352,14 @@ line_right may s c1 c2 u = record {
 
 -- in a turn that goes on
 pub turned_left : (way : Way) (B : Records) (L g1 g2 : Log) (c1 c2 : List Call) (s : Seat)
-    → (had_its_turn way.share way.hurries s.link c1 ≡ true) ⊎ IsHeldBack B L g1 c1 way.wait way.by_line (way.may s.connection) s → (had_its_turn way.share way.hurries s.link (c1 ++ c2) ≡ true) ⊎ IsHeldBack B L (g2 ++ g1) (c1 ++ c2) way.wait way.by_line (way.may s.connection) s
-turned_left way B L g1 g2 c1 c2 s (inl t) = inl (turn_left way.share way.hurries s.link c1 c2 t)
+    → (had_its_turn way.share way.poll_now s.link c1 ≡ true) ⊎ IsHeldBack B L g1 c1 way.wait way.by_line (way.may s.connection) s → (had_its_turn way.share way.poll_now s.link (c1 ++ c2) ≡ true) ⊎ IsHeldBack B L (g2 ++ g1) (c1 ++ c2) way.wait way.by_line (way.may s.connection) s
+turned_left way B L g1 g2 c1 c2 s (inl t) = inl (turn_left way.share way.poll_now s.link c1 c2 t)
 turned_left way B L g1 g2 c1 c2 s (inr (inl u)) = inr (inl (line_left way.by_line s c1 c2 u))
 turned_left way B L g1 g2 c1 c2 s (inr (inr u)) = inr (inr (unread_left B L way.wait (way.may s.connection) s g1 g2 c1 c2 u))
 
 pub turned_right : (way : Way) (B : Records) (L g1 g2 : Log) (c1 c2 : List Call) (s : Seat)
-    → (had_its_turn way.share way.hurries s.link c2 ≡ true) ⊎ IsHeldBack B (g1 ++ L) g2 c2 way.wait way.by_line (way.may s.connection) s → (had_its_turn way.share way.hurries s.link (c1 ++ c2) ≡ true) ⊎ IsHeldBack B L (g2 ++ g1) (c1 ++ c2) way.wait way.by_line (way.may s.connection) s
-turned_right way B L g1 g2 c1 c2 s (inl t) = inl (turn_right way.share way.hurries s.link c1 c2 t)
+    → (had_its_turn way.share way.poll_now s.link c2 ≡ true) ⊎ IsHeldBack B (g1 ++ L) g2 c2 way.wait way.by_line (way.may s.connection) s → (had_its_turn way.share way.poll_now s.link (c1 ++ c2) ≡ true) ⊎ IsHeldBack B L (g2 ++ g1) (c1 ++ c2) way.wait way.by_line (way.may s.connection) s
+turned_right way B L g1 g2 c1 c2 s (inl t) = inl (turn_right way.share way.poll_now s.link c1 c2 t)
 turned_right way B L g1 g2 c1 c2 s (inr (inl u)) = inr (inl (line_right way.by_line s c1 c2 u))
 turned_right way B L g1 g2 c1 c2 s (inr (inr u)) = inr (inr (unread_right B L way.wait (way.may s.connection) s g1 g2 c1 c2 u))
 

@@ -1,5 +1,5 @@
 -- Which links of the administration stay when a turn has served them.
-use Rattle.std.specs.Prelude.{◌≡◌, ◌≤◌, ◌-◌, ◌<◌, ℕ, Bool, true, false, nat_le, List, length, slice_index_or}
+use Rattle.std.specs.Prelude.{◌≡◌, ◌≤◌, ◌-◌, ◌<◌, ℕ, Bool, false, nat_le, List, length, slice_index_or}
 use Rattle.std.specs.List.{All}
 use Rattle.serving.specs.declared.requests.Exchange.{Exchange}
 use Rattle.serving.specs.declared.links.Links.{Links}

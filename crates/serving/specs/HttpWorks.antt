@@ -1,23 +1,19 @@
 -- What a turn does for the links of the administration: each that was open as the turn began, or
 -- that came in it, has its turn, and is closed
 -- exactly for a cause.
-use Rattle.std.specs.Prelude.{◌≡◌, ◌⊎◌, ◌≤◌, ◌<◌, ⊤, ℕ, Bool, true, false, ◌+◌, ◌||◌, suc, nat_le}
+use Rattle.std.specs.Prelude.{◌≡◌, ◌⊎◌, ◌≤◌, ◌<◌, ℕ, Bool, true, false, ◌+◌, ◌||◌, suc, nat_le}
 use Rattle.std.specs.Prelude.{if◌then◌else◌, List, [], ◌∷◌, ◌++◌, length, take, drop, Option, Some}
 use Rattle.std.specs.Prelude.{None, option_map, is_some, IfNone}
 use Rattle.std.specs.List.{All, list_any}
 use Rattle.vault.specs.Records.{Records}
-use Rattle.vault.specs.Changes.{Contents}
 use Rattle.office.specs.Events.{Log, Trace}
-use Rattle.office.specs.Taken.{trace_of}
-use Rattle.office.specs.Stands.{StandsFor, vault_of}
-use Rattle.office.specs.declared.office.Office.{Office}
 use Rattle.serving.specs.Wires.{is_fault}
 use Rattle.serving.specs.Calls.{Call, Accepted, Read, Wrote, Closed}
 use Rattle.serving.specs.Requests.{octets_of, HasOneMore, IsGiven}
-use Rattle.serving.specs.Works.{IsQuiet, AreCaused, is_beside, Part, Giving, Asking, most_at_once}
+use Rattle.serving.specs.Works.{is_admin, most_at_once}
 use Rattle.serving.specs.HttpTurns.{is_late_at, most_exchanges}
 use Rattle.serving.specs.declared.wire.Link.{Link}
-use Rattle.serving.specs.declared.wire.Port.TheVariants.{Pop, Admin}
+use Rattle.serving.specs.declared.wire.Port.TheVariants.{Admin}
 use Rattle.serving.specs.declared.wire.Io.{Io}
 use Rattle.serving.specs.declared.wire.Io.TheVariants.{Count, Later}
 use Rattle.serving.specs.declared.requests.Response.{Response}
@@ -28,27 +24,27 @@ use Rattle.serving.specs.declared.links.Links.{Links}
 
 -- So many links came, one after the other: each is held behind the others, or closed at once, where
 -- as many are held as may be, or memory for it was refused.
-pub data HaveComeBeside (now : ℕ) : (held held_then : List Exchange) → (came : ℕ) → List Call
+pub data HaveComeForAdmin (now : ℕ) : (held held_then : List Exchange) → (came : ℕ) → List Call
     → Type 0 where
-  NoMore : (held : List Exchange) → HaveComeBeside now held held 0 []
+  NoMore : (held : List Exchange) → HaveComeForAdmin now held held 0 []
   IsKept : (link : Link) (held more held_then : List Exchange) (came : ℕ) (calls : List Call)
-      → HasOneMore now link held more → HaveComeBeside now more held_then came calls
-      → HaveComeBeside now held held_then (suc came) (Accepted Admin (Some link) ∷ calls)
+      → HasOneMore now link held more → HaveComeForAdmin now more held_then came calls
+      → HaveComeForAdmin now held held_then (suc came) (Accepted Admin (Some link) ∷ calls)
   IsTurnedAway : (link : Link) (held held_then : List Exchange) (came : ℕ) (calls : List Call)
-      → most_exchanges ≤ length held → HaveComeBeside now held held_then came calls
-      → HaveComeBeside now held held_then (suc came)
+      → most_exchanges ≤ length held → HaveComeForAdmin now held held_then came calls
+      → HaveComeForAdmin now held held_then (suc came)
       (Accepted Admin (Some link) ∷ Closed Admin link ∷ calls)
   WantsMemory : (link : Link) (held held_then : List Exchange) (came : ℕ) (calls : List Call)
-      → HaveComeBeside now held held_then came calls
-      → HaveComeBeside now held held_then (suc came)
+      → HaveComeForAdmin now held held_then came calls
+      → HaveComeForAdmin now held held_then (suc came)
       (Accepted Admin (Some link) ∷ Closed Admin link ∷ calls)
 
 -- They came until none waited, or, where it goes on, so many or more had come.
-pub record HasAcceptedBeside (now most : ℕ) (goes : Bool) (held held_then : List Exchange)
+pub record HasAcceptedForAdmin (now most : ℕ) (goes : Bool) (held held_then : List Exchange)
     (calls : List Call) : Type 0 where
   pub came : ℕ
   pub arrivals : List Call
-  pub come : HaveComeBeside now held held_then came arrivals
+  pub come : HaveComeForAdmin now held held_then came arrivals
   pub calls_are : calls ≡ arrivals ++ (if goes then [] else Accepted Admin None ∷ [])
   pub enough : goes ≡ true → most ≤ came
 
@@ -117,8 +113,8 @@ is_whole None written = false
 is_whole (Some response) written = nat_le (length (octets_of response)) written
 
 -- how many octets are written of a response in one turn, and how many writes it has at most
-abbrev pub share_beside : ℕ
-share_beside = 16384
+abbrev pub admin_share : ℕ
+admin_share = 16384
 
 abbrev pub most_writes : ℕ
 most_writes = 64
@@ -148,7 +144,7 @@ pub record HasTold (e e_then : Exchange) (calls : List Call) : Type 0 where
   pub times : ℕ
   pub octets : ℕ
   pub is : IsToldOf e e_then times octets calls
-  pub enough : (most_writes ≤ times) ⊎ ((share_beside ≤ octets) ⊎ HasToldAll e_then calls)
+  pub enough : (most_writes ≤ times) ⊎ ((admin_share ≤ octets) ⊎ HasToldAll e_then calls)
 
 -- ---- a link's turn
 
@@ -187,12 +183,12 @@ pub record HttpWorks (T : Trace) (now : ℕ) (links links_then : Links) (given :
   pub behind : List Call
   pub goes : Bool
   pub calls_are : calls ≡ before ++ (arrivals ++ (between ++ (services ++ behind)))
-  pub apart : list_any is_beside (before ++ (between ++ behind)) ≡ false
+  pub apart : list_any is_admin (before ++ (between ++ behind)) ≡ false
   pub earlier : Log
   pub commands : Log
   pub later : Log
   pub given_are : given ≡ later ++ (commands ++ earlier)
-  pub accepted : HasAcceptedBeside now 64 goes links.requests.exchanges.items held arrivals
+  pub accepted : HasAcceptedForAdmin now 64 goes links.requests.exchanges.items held arrivals
   pub served : HadHttpTurns now T.base
       (earlier ++ T.log) held links_then.requests.exchanges.items commands services
 
@@ -209,60 +205,3 @@ IsShort e = IfNone e.response (length e.read.items < most_asked)
 -- of each link that is held
 abbrev pub AreShort : Links → Type 0
 AreShort links = All IsShort links.requests.exchanges.items
-
--- ---- the parts
-
--- This was done behind any log for which the office stands, and the clients' links and openings
--- were left alone.
-pub record DidApart {V : Type 0} (Holds : V → Contents → Type 0) (IsClean : V → Type 0)
-    (office office_then : Office V) (Did : Records → Log → Log → List Call → Type 0)
-    (given : Log) (calls : List Call) : Type 0 where
-  pub quiet : IsQuiet given calls
-  pub caused : AreCaused [] calls given
-  pub did : (B : Records) (L : Log) → StandsFor Holds office (trace_of B L)
-      → IsClean (vault_of office_then) → Did B L given calls
-
--- what octets that were read come to, with no call
-abbrev pub ComeTo : (read : List ℕ) (response : Option (List ℕ)) → Records → Log → Log → List Call
-    → Type 0
-ComeTo read response B L given calls = ComesTo B L read given response
-
--- calls of the administration's links alone, of which this holds
-abbrev pub AskedApart : (List Call → Type 0) → List Call → Type 0
-AskedApart Facts calls = IsQuiet [] calls × Facts calls
-
--- A part of a turn that does this, and nothing for the clients' links.
-abbrev pub DoesApart : {V W : Type 0} (Holds : V → Contents → Type 0) (IsClean : V → Type 0)
-    (Faults : V → ℕ) (Asked : W → List Call → Type 0) (office : Office V) (wire : W)
-    (office_then : Office V) (wire_then : W) (Did : Records → Log → Log → List Call → Type 0)
-    → Type 0
-DoesApart Holds IsClean Faults Asked office wire office_then wire_then Did =
-    Part Holds IsClean Faults Asked office wire office_then wire_then
-    (DidApart Holds IsClean office office_then Did)
-
--- One that asks the wire nothing.
-abbrev pub GivesApart : {V : Type 0} (Holds : V → Contents → Type 0) (IsClean : V → Type 0)
-    (Faults : V → ℕ) (office office_then : Office V)
-    (Did : Records → Log → Log → List Call → Type 0) → Type 0
-GivesApart Holds IsClean Faults office office_then Did =
-    Giving Holds IsClean Faults office office_then
-    (λ given. DidApart Holds IsClean office office_then Did given [])
-
--- One that gives the office nothing.
-abbrev pub AsksApart : {W : Type 0} (Asked : W → List Call → Type 0) (wire wire_then : W)
-    (Facts : List Call → Type 0) → Type 0
-AsksApart Asked wire wire_then Facts = Asking Asked wire wire_then (AskedApart Facts)
-
--- the link at a place had its turn, and whether it is held on
-abbrev pub HadTurnAt : (now place : ℕ) (stays : Bool) (held held_then : List Exchange)
-    → Records → Log → Log → List Call → Type 0
-HadTurnAt now place stays held held_then B L given calls =
-    HadHttpTurns now B L (take 1 (drop place held))
-    (take (if stays then 1 else 0) (drop place held_then)) given calls
-
--- What follows of a response was written once or more, and where that doesn't go on nothing more
--- can be written for now.
-pub record Tells (e e_then : Exchange) (times octets : ℕ) (goes : Bool) (calls : List Call)
-    : Type 0 where
-  pub is : IsToldOf e e_then times octets calls
-  pub ends : goes ≡ false → HasToldAll e_then calls

@@ -1,6 +1,6 @@
 -- Clients that took too long for their login: each is ended, and nobody is forgotten but who logged
 -- in or is gone.
-use Rattle.std.specs.Prelude.{◌≡◌, ◌⊎◌, ℕ, Bool, true, false, List, ◌++◌, Some, None}
+use Rattle.std.specs.Prelude.{◌≡◌, ◌⊎◌, ℕ, Bool, true, false, List, ◌++◌, None}
 use Rattle.std.specs.List.{All}
 use Rattle.vault.specs.Records.{Records}
 use Rattle.vault.specs.Changes.{Contents}

@@ -24,3 +24,6 @@ pub mod ScriptSpools
 pub mod Guesses
 pub mod Newcomers
 pub mod Paces
+pub mod Parts
+pub mod ClientParts
+pub mod HttpParts

@@ -1,7 +1,6 @@
 -- Clients that haven't logged in since they were accepted.
 use Rattle.std.specs.Prelude.{◌≡◌, ◌⊎◌, ℕ, Bool, true, false, not, ◌-◌, ◌==◌, min, nat_le, List}
 use Rattle.std.specs.Prelude.{[], ◌∷◌, ◌++◌, filter, find, map, Option, Some, None, is_some, if◌then◌else◌}
-use Rattle.std.specs.List.{All}
 use Rattle.serving.specs.declared.newcomers.Newcomer.{Newcomer}
 use Rattle.serving.specs.declared.links.Seat.{Seat}
 use Rattle.serving.specs.declared.links.Clients.{Clients}
@@ -123,17 +122,6 @@ abbrev pub AreNotedNow : (now : ℕ) → (newcomers newcomers_then : List Newcom
 AreNotedNow now newcomers newcomers_then = (c : ℕ)
     → (newcomer c newcomers_then ≡ newcomer c newcomers)
     ⊎ (newcomer c newcomers_then ≡ Some (record { connection = c; since = now; held = None }))
-
--- More seats were taken, and their connections were noted.
-pub record AreNoted (now : ℕ) (links links_then : Clients) : Type 0 where
-  pub more : List Seat
-  pub is : links_then.seats.items ≡ links.seats.items ++ more
-  pub seconds : links_then.newcomers.seconds ≡ links.newcomers.seconds
-  pub seated : AreSeatedAt links → AreSeatedAt links_then
-  pub each : AreNotedNow now links.newcomers.newcomers.items links_then.newcomers.newcomers.items
-  pub newly : AreSeatedAt links
-      → All (IsNewlyNoted now links.newcomers.newcomers.items
-      links_then.newcomers.newcomers.items) more
 
 -- ---- while links are served
 

@@ -2,8 +2,8 @@
 use Rattle.std.specs.Prelude.{ℕ, false, List, [], ◌∷◌, Some}
 use Rattle.serving.specs.Wires.{Told, ToldOfPorts, at_port, counted, has_accepted, has_read, has_written, has_closed}
 use Rattle.serving.specs.Calls.{Call, Waited, Accepted, Looked, Read, Wrote, Closed}
-use Rattle.serving.specs.declared.notes.Asked.{Asked}
-use Rattle.serving.specs.declared.notes.Asked.TheVariants as asked
+use Rattle.serving.specs.declared.notes.WireCall.{WireCall}
+use Rattle.serving.specs.declared.notes.WireCall.TheVariants as asked
 
 -- of a port, where nothing was asked
 abbrev pub nothing : Told
@@ -28,7 +28,7 @@ abbrev pub told_of : List Call → ToldOfPorts
 told_of calls = told_since (record { pop = nothing; admin = nothing }) calls
 
 -- a call, as it is noted with the octets of its buffer
-abbrev pub call_of : Asked → List ℕ → Call
+abbrev pub call_of : WireCall → List ℕ → Call
 call_of (asked.Wait millis) octets = Waited millis
 call_of (asked.Accept port link) octets = Accepted port link
 call_of (asked.Look port link io) octets = Looked port link io (counted io octets)

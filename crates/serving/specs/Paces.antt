@@ -1,5 +1,5 @@
 -- Logins that are kept back: what comes on a link stays unread, or is read a line at a time.
-use Rattle.std.specs.Prelude.{◌≡◌, ℕ, Bool, true, false, not, ◌&&◌, ◌||◌, ◌==◌, nat_lt, List, length}
+use Rattle.std.specs.Prelude.{ℕ, Bool, true, false, not, ◌&&◌, ◌||◌, ◌==◌, nat_lt, List, length}
 use Rattle.std.specs.Prelude.{position, suc, Option, Some, None, is_some}
 use Rattle.creds.specs.declared.login_name.LoginName.{LoginName}
 use Rattle.office.specs.Events.{Trace}
@@ -7,14 +7,12 @@ use Rattle.office.specs.Waiting.{waits}
 use Rattle.office.specs.Logins.{login_brought}
 use Rattle.serving.specs.Guesses.{holds_back, refusal_of}
 use Rattle.serving.specs.declared.guesses.Refusal.{Refusal}
-use Rattle.serving.specs.declared.links.Clients.{Clients}
-use Rattle.serving.specs.Settings.{settings_of}
 use Rattle.serving.specs.declared.pace.Pace.{Pace}
 
 -- lines are read one at a time before a login: logins wait for locks, a session ended in this turn,
 -- or the client counts by an origin, since guesses are slow
-abbrev pub reads_lines : (wait : ℕ) (is_freed : Bool) (origin : Option ℕ) → Bool
-reads_lines wait is_freed origin = (not (wait == 0) || is_freed) || is_some origin
+abbrev pub reads_lines : (wait : ℕ) (lock_released : Bool) (origin : Option ℕ) → Bool
+reads_lines wait lock_released origin = (not (wait == 0) || lock_released) || is_some origin
 
 -- a login of an origin is kept back behind a refusal of the same name; none where no origin counts
 abbrev pub is_paced : (now : ℕ) → (origin : Option ℕ) → LoginName → List Refusal → Bool
@@ -53,13 +51,3 @@ first_line piece = line_by (position (λ b. b == 10) piece) (length piece)
 abbrev pub part_by : (is_held : Bool) → (piece : List ℕ) → ℕ
 part_by true piece = 0
 part_by false piece = first_line piece
-
--- While a link is served, these stay: the settings, and which spool file was tried last.
-pub record LeavesSettings (links links_then : Clients) : Type 0 where
-  pub set : settings_of links_then ≡ settings_of links
-  pub last : links_then.last ≡ links.last
-
--- and while it is read from, whether a session ended in this turn
-pub record KeepsAside (links links_then : Clients) : Type 0 where
-  pub leaves : LeavesSettings links links_then
-  pub freed : links_then.is_freed ≡ links.is_freed

@@ -1,5 +1,5 @@
 -- That a turn tries one file of its spool: the next one behind that which was tried last.
-use Rattle.std.specs.Prelude.{ℕ, Bool, false, List, [], ◌∷◌, ◌++◌, Option, Some, None}
+use Rattle.std.specs.Prelude.{◌≡◌, ℕ, Bool, false, List, [], ◌∷◌, ◌++◌, Option, Some, None}
 use Rattle.std.specs.List.{list_any}
 use Rattle.vault.specs.Changes.{Contents}
 use Rattle.office.specs.History.{Tag}
@@ -10,10 +10,13 @@ use Rattle.office.specs.Expected.{shown_at}
 use Rattle.office.specs.Stands.{StandsFor, vault_of}
 use Rattle.office.specs.declared.office.Office.{Office}
 use Rattle.serving.specs.declared.file_name.FileName.{FileName}
+use Rattle.serving.specs.declared.links.Clients.{Clients}
+use Rattle.serving.specs.Settings.{settings_of}
 use Rattle.serving.specs.declared.files.Disposal.{Disposal}
 use Rattle.serving.specs.declared.files.Disposal.TheVariants as disposal
 use Rattle.serving.specs.Spools.{FileCall, Next, Read, Removed, Renamed, disposal_of}
-use Rattle.serving.specs.Works.{WasGiven, AreDeposits}
+use Rattle.serving.specs.Parts.{WasGiven}
+use Rattle.serving.specs.Works.{AreDeposits}
 
 -- a file is removed, renamed or left, and whether that was done
 abbrev pub disposing : FileName → (is_done : Bool) → Disposal → List FileCall
@@ -56,3 +59,9 @@ pub record SpoolPart {V S : Type 0} (Holds : V → Contents → Type 0) (IsClean
   pub was_asked : (before : List FileCall) → Asked spool before → Asked spool_then (before ++ calls)
   pub deposits : AreDeposits given
   pub facts : (T : Trace) → StandsFor Holds office T → IsClean (vault_of office_then) → Facts T given calls
+
+-- it keeps how the loop was set, the seats, and who hasn't logged in
+pub record KeepsClients (links links_then : Clients) : Type 0 where
+  pub set : settings_of links_then ≡ settings_of links
+  pub seats : links_then.seats ≡ links.seats
+  pub newcomers : links_then.newcomers ≡ links.newcomers

@@ -1,6 +1,8 @@
--- What a turn does all together.
+-- What a turn does all together: `IsTurn` for its clients and `HttpWorks` for its administration,
+-- `IsFileTurn` for its spool, and `IsTurnHeard` for its listener; `Works` has them all. The numbers
+-- are those of docs/ARCHITECTURE.md, "One turn of the loop"; proofs/TurnRows works one turn out.
 use Rattle.std.specs.Prelude.{◌≡◌, ◌⊎◌, ◌≤◌, ℕ, Bool, true, false, ◌==◌, ◌||◌, List, [], ◌∷◌, ◌++◌}
-use Rattle.std.specs.Prelude.{length, map, filter, filter_map, Option, Some, if◌then◌else◌}
+use Rattle.std.specs.Prelude.{length, map, filter, filter_map, Some, if◌then◌else◌}
 use Rattle.std.specs.List.{All, list_any}
 use Rattle.vault.specs.Calls.{has_grown}
 use Rattle.vault.specs.Changes.{Contents}
@@ -12,7 +14,6 @@ use Rattle.office.specs.declared.office.Office.{Office}
 use Rattle.serving.specs.Calls.{Call, Waited}
 use Rattle.serving.specs.Spools.{FileCall}
 use Rattle.serving.specs.Settings.{settings, last_tried}
-use Rattle.serving.specs.declared.wire.Link.{Link}
 use Rattle.serving.specs.declared.links.Seat.{Seat}
 use Rattle.serving.specs.declared.links.Links.{Links}
 use Rattle.serving.specs.Works.{waits, arrivals, closings, moments, openings, refusals}
@@ -31,7 +32,7 @@ use Rattle.office.specs.Trace.{is_open}
 
 -- how long a turn waits: not at all where more can be done at once
 abbrev pub millis_of : Links → ℕ
-millis_of links = if links.clients.hurries || links.requests.hurries then 0 else 1000
+millis_of links = if links.clients.poll_now || links.requests.poll_now then 0 else 1000
 
 -- of which connections logins may be kept back, as it serves these seats
 abbrev pub may_of : (now : ℕ) → Links → (seats : List Seat) → (freed : Bool) → (c : ℕ) → Bool
@@ -52,57 +53,58 @@ HasCauseInTurn now links seats calls x =
     HasCause seats calls x
     ⊎ IsLateGone now (limit links (length seats)) links.clients.newcomers.newcomers.items x
 
--- What a turn did since a trace, by the events that it gave to the office and the calls that it made of the wire; these seats had links then.
+-- What a turn did since a trace, by the events that it gave to the office and the calls that it made
+-- of the wire; these seats had links then.
 pub record IsTurn (T after : Trace) (now : ℕ) (links links_then : Links) (came : List Came) (seats : List Seat) (given : Log) (calls : List Call) : Type 0 where
   -- the seats at the start, and those of the links that came
   pub seats_are : seats ≡ links.clients.seats.items ++ filter_map seat_of came
   -- each event has a tag that it may have
   pub admitted : AreNewlyAdmitted T.base T.log given
-  -- it waited once, before all else
+  -- 1. It waited once, before all else.
   pub waited : waits calls ≡ millis_of links ∷ []
   pub waited_first : (later : List Call) × (calls ≡ Waited (millis_of links) ∷ later)
-  -- the office was told this moment and no other, before all else
+  -- 2. The office was told this moment and no other, before all else.
   pub told : moments given ≡ now ∷ []
   pub told_first : (later : Log) × (m : EventTag) × (given ≡ later ++ (event.Tick now, m) ∷ [])
-  -- links were accepted until none waited, 64 came, or all places were taken
+  -- 3. Links were accepted until none waited, 64 came, or all places were taken.
   pub accepted : HasAccepted (length seats) calls ⊎ (most_links ≤ length came)
   pub arrived : arrivals calls ≡ map link_of came
-  -- for each an opening was asked for, and so many were refused as links got no seat
+  -- For each an opening was asked for, and so many were refused as links got no seat.
   pub opened : openings given ≡ length came
   pub refused : refusals given ≡ length (filter_map unseated_of came)
-  -- logins are kept back behind refusals, where guesses are slow, and behind a session that ended
-  -- in this turn, where they wait for a lock
+  -- 4. Each link whose connection is open had its turn, or stays unread for a cause. Logins are kept
+  -- back after refusals, if guesses are slow, and after a session ended in this turn (`freed`), if
+  -- they wait for a lock.
   pub freed : Bool
   pub ended : freed ≡ true → ((links.clients.wait == 0) ≡ false) × HasFreed T.base T.log given seats
-  -- each link whose connection is open had its turn, or stays unread for a cause
   pub turns : All (HadTurn (way_of now links links_then seats freed) T.base T.log given after
       calls) seats
-  -- no connection went but by its link's end, or because its client is late
+  -- 5. No connection went but by its link's end, or because its client is late.
   pub caused : All (HasCauseInTurn now links seats calls) given
-  -- exactly those links were closed that got no seat, and those whose connections aren't open
+  -- Exactly those links were closed that got no seat, and those whose connections aren't open.
   pub closed : closings calls ≡ filter_map unseated_of came ++ map link_of_seat (filter (is_shut_seat after) seats)
-  -- whoever was late isn't open, or logged in meanwhile, or has a login that lies unread
+  -- Whoever was late isn't open, or logged in meanwhile, or has a login that lies unread.
   pub timely : All (IsInTime now (limit links (length seats))
       links.clients.newcomers.newcomers.items T.base T.log given after calls
       links.clients.wait (may_of now links seats freed) seats) seats
-  -- nobody is forgotten whose connection is open and who didn't log in meanwhile, and so many of
-  -- its seconds are over as before
+  -- Nobody is forgotten whose connection is open and who didn't log in meanwhile, and so many of
+  -- its seconds are over as before.
   pub noted : (c : ℕ) (n : Newcomer) → newcomer c links.clients.newcomers.newcomers.items ≡ Some n
       → is_open after c ≡ true
       → IsSettled now (Some n) (newcomer c links_then.clients.newcomers.newcomers.items)
       ⊎ HasLived T.base T.log given c
-  -- each that came and got a seat is noted, and its seconds count from this moment
+  -- Each that came and got a seat is noted, and its seconds count from this moment.
   pub newly : AllHaveSeats links
       → All (IsNotedSince now links.clients.newcomers.newcomers.items
       links_then.clients.newcomers.newcomers.items T.base T.log given after)
       (filter_map seat_of came)
-  -- nobody's seconds stand still but while its login lies unread
+  -- Nobody's seconds stand still but while its login lies unread.
   pub counts : All (IsCountedOn links_then.clients.newcomers.newcomers.items T.base T.log given
       after calls links.clients.wait (may_of now links seats freed) seats) seats
-  -- the others stay
+  -- The other seats stay.
   pub left : links_then.clients.seats.items ≡ filter (is_open_seat after) seats
 
--- A turn tries one spool file behind its other events.
+-- 6. A turn tries one spool file after its other events.
 pub record IsFileTurn (T : Trace) (links links_then : Links) (given : Log) (file_calls : List FileCall) : Type 0 where
   pub deposits : Log
   pub earlier : Log

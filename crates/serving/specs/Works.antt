@@ -1,36 +1,29 @@
--- That a turn does its work: what it asks of its wire, which events it gives its office, and what becomes of each link.
-use Rattle.std.specs.Prelude.{◌≡◌, ◌⊎◌, ◌≤◌, ◌<◌, ⊤, ℕ, Bool, true, false, not, ◌+◌, ◌&&◌, ◌||◌, ◌==◌, nat_le, List, [], ◌∷◌, ◌++◌, length, map, filter, filter_map, Option, Some, None, if◌then◌else◌}
-use Rattle.std.specs.List.{All, Contains, list_any, remove}
+-- That a turn does its work: what it asks of its wire, which events it gives its office, and what
+-- becomes of each link. `IsTurn` of specs/Turns puts these words together.
+use Rattle.std.specs.Prelude.{◌≡◌, ◌⊎◌, ⊤, ℕ, Bool, true, false, not, ◌+◌, ◌&&◌, ◌||◌, ◌==◌, nat_le}
+use Rattle.std.specs.Prelude.{List, [], ◌∷◌, ◌++◌, length, filter, filter_map, Option, Some, None}
+use Rattle.std.specs.Prelude.{if◌then◌else◌, nat_lt}
+use Rattle.std.specs.List.{All, Contains, list_any}
 use Rattle.vault.specs.Records.{Records}
-use Rattle.vault.specs.Calls.{has_grown}
-use Rattle.vault.specs.Changes.{Contents}
 use Rattle.office.specs.History.{Done, Failed}
-use Rattle.office.specs.Events.{Event, EventTag, Ignored, Tagged, Log, Trace}
+use Rattle.office.specs.Events.{Event, EventTag, Tagged, Log, Trace}
 use Rattle.office.specs.Events as event
-use Rattle.office.specs.Trace.{history, is_open, is_ready, rest}
+use Rattle.office.specs.Trace.{history, is_open}
 use Rattle.office.specs.Sessions.{live}
 use Rattle.office.specs.Taken.{trace_of, IsAdmitted}
-use Rattle.office.specs.Stands.{StandsFor, vault_of}
-use Rattle.office.specs.declared.office.Office.{Office}
 use Rattle.serving.specs.Wires.{is_fault}
 use Rattle.serving.specs.declared.wire.Link.{Link}
-use Rattle.serving.specs.declared.wire.Port.{Port}
 use Rattle.serving.specs.declared.wire.Port.TheVariants.{Pop, Admin}
 use Rattle.serving.specs.declared.wire.Io.{Io}
 use Rattle.serving.specs.declared.wire.Io.TheVariants.{Count, Later}
 use Rattle.serving.specs.Calls.{Call, Waited, Accepted, Looked, Read, Wrote, Closed}
 use Rattle.serving.specs.declared.links.Seat.{Seat}
-use Rattle.serving.specs.declared.links.Clients.{Clients}
 use Rattle.serving.specs.declared.newcomers.Newcomer.{Newcomer}
 use Rattle.serving.specs.Settings.{Settings}
-use Rattle.serving.specs.Newcomers.{newcomer, is_late_by, lies_unread, waited_of}
-use Rattle.serving.specs.Paces.{is_held, first_line, part_by, most_paced}
-use Rattle.std.specs.Prelude.{nat_lt}
-use Rattle.serving.specs.declared.guesses.Refusal.{Refusal}
-use Rattle.creds.specs.declared.login_name.LoginName.{LoginName}
-use Rattle.serving.specs.declared.pace.Pace.{Pace}
+use Rattle.serving.specs.Newcomers.{newcomer, is_late_by, waited_of}
+use Rattle.serving.specs.Paces.{first_line, most_paced}
 use Rattle.office.specs.Waiting as waiting
-use Rattle.office.specs.Logins.{brings_login, login_brought}
+use Rattle.office.specs.Logins.{brings_login}
 
 -- ---- what is seen of the calls of a wire, the newest last
 
@@ -67,13 +60,13 @@ abbrev pub closings : List Call → List Link
 closings calls = filter_map closing_of calls
 
 -- it is of the administration's port
-abbrev pub is_beside : Call → Bool
-is_beside (Accepted Admin link) = true
-is_beside (Looked Admin link io octets) = true
-is_beside (Read Admin link room io octets) = true
-is_beside (Wrote Admin link io octets) = true
-is_beside (Closed Admin link) = true
-is_beside _ = false
+abbrev pub is_admin : Call → Bool
+is_admin (Accepted Admin link) = true
+is_admin (Looked Admin link io octets) = true
+is_admin (Read Admin link room io octets) = true
+is_admin (Wrote Admin link io octets) = true
+is_admin (Closed Admin link) = true
+is_admin _ = false
 
 -- how many octets are asked for at once at most
 abbrev pub most_at_once : ℕ
@@ -117,7 +110,8 @@ octets_taken link (call ∷ calls) = count_taken link call + octets_taken link c
 abbrev pub most_writes : ℕ
 most_writes = 64
 
--- how many octets are written on a link in one turn, and then no more: many where it is alone, and one full write where others are open
+-- how many octets are written on a link in one turn, and then no more: many if it is alone, and one
+-- full write if others are open
 abbrev pub share_by : (links : ℕ) → ℕ
 share_by links = if nat_le links 1 then 1048576 else 16384
 
@@ -128,10 +122,10 @@ is_written_out share link calls = nat_le most_writes (length (filter (is_taking_
 
 -- it had its turn: it was read from, or it took nothing more for now, or it was written out, and then
 -- the next turn doesn't wait
-abbrev pub had_its_turn : (share : ℕ) (hurries : Bool) → Link → List Call → Bool
-had_its_turn share hurries link calls =
+abbrev pub had_its_turn : (share : ℕ) (poll_now : Bool) → Link → List Call → Bool
+had_its_turn share poll_now link calls =
     (list_any (is_read_of link) calls || list_any (is_later_of link) calls)
-    || (hurries && is_written_out share link calls)
+    || (poll_now && is_written_out share link calls)
 
 -- a link came or was closed, or octets were read from it or taken by it
 abbrev pub is_moving : Call → Bool
@@ -143,20 +137,6 @@ is_moving _ = false
 
 abbrev pub has_moved : List Call → Bool
 has_moved calls = list_any is_moving calls
-
--- where the next turn doesn't wait by these calls, it didn't before, or something moved
-abbrev pub HurriesBy : (hurried hurried_then : Bool) → List Call → Type 0
-HurriesBy hurried hurried_then calls =
-    hurried_then ≡ true → (hurried || has_moved calls) ≡ true
-
--- it doesn't wait where these calls moved something, if logins wait for locks
-abbrev pub Releases : (wait : ℕ) (hurries : Bool) → List Call → Type 0
-Releases wait hurries calls = (wait == 0) ≡ false → has_moved calls ≡ true → hurries ≡ true
-
--- of the calls of a part this holds too
-abbrev pub Also : (Log → List Call → Type 0) → (List Call → Type 0) → Log → List Call
-    → Type 0
-Also Facts More given calls = Facts given calls × More calls
 
 -- ---- what is seen of the events of an office, the newest first
 
@@ -172,11 +152,6 @@ moments given = filter_map moment_of given
 abbrev pub is_opening : Event × EventTag → Bool
 is_opening (event.Connect, m) = true
 is_opening _ = false
-
--- an event is one
-abbrev pub IsOpening : Event × EventTag → Type 0
-IsOpening (event.Connect, m) = ⊤
-IsOpening _ = ⊥
 
 abbrev pub openings : Log → ℕ
 openings given = length (filter is_opening given)
@@ -198,10 +173,6 @@ is_failed _ = false
 -- a client took so many seconds or more, and hasn't logged in: of those who are noted with the moment at which they came
 abbrev pub is_late : (now seconds : ℕ) → List Newcomer → (c : ℕ) → Bool
 is_late now seconds newcomers c = not (seconds == 0) && is_late_by now seconds (newcomer c newcomers)
-
--- nobody is late who wasn't
-abbrev pub AreNoMoreLate : (now seconds : ℕ) → (newcomers newcomers_then : List Newcomer) → Type 0
-AreNoMoreLate now seconds newcomers newcomers_then = (c : ℕ) → is_late now seconds newcomers_then c ≡ true → is_late now seconds newcomers c ≡ true
 
 -- each event behind an older log has a tag that it may have there
 abbrev pub AreNewlyAdmitted : Records → (older given : Log) → Type 0
@@ -273,70 +244,12 @@ pub record LiesUnread (B : Records) (older given : Log) (calls : List Call) (wai
   pub is : seat.connection ≡ c
   pub unread : StaysUnread B older given calls wait may seat
 
--- where a seat's login is noted as lying unread, it does
-abbrev pub IsNotedSo : (noted : List Newcomer) (B : Records) (older given : Log)
-    (calls : List Call) (wait : ℕ) (may : ℕ → Bool) (seats : List Seat) → Seat → Type 0
-IsNotedSo noted B older given calls wait may seats s =
-    lies_unread (newcomer s.connection noted) ≡ true
-    → LiesUnread B older given calls wait (may s.connection) seats s.connection
-
--- ---- what an office was given and a wire was asked, and nothing else
-
-pub record WasGiven {V : Type 0} (Holds : V → Contents → Type 0) (IsClean : V → Type 0) (Faults : V → ℕ) (office office_then : Office V) (given : Log) : Type 0 where
-  pub clean : IsClean (vault_of office_then) → IsClean (vault_of office)
-  pub stands : (B : Records) (L : Log) → StandsFor Holds office (trace_of B L) → IsClean (vault_of office_then) → StandsFor Holds office_then (trace_of B (given ++ L))
-  pub admitted : (B : Records) (L : Log) → StandsFor Holds office (trace_of B L) → IsClean (vault_of office_then) → AreNewlyAdmitted B L given
-  -- the count of faults never falls, and an event failed only where it grew
-  pub counted : Faults (vault_of office) ≤ Faults (vault_of office_then)
-  pub failed : (B : Records) (L : Log) → StandsFor Holds office (trace_of B L) → IsClean (vault_of office_then) → list_any is_failed given ≡ true
-      → has_grown (Faults (vault_of office)) (Faults (vault_of office_then)) ≡ true
+-- ---- what a wire was asked, and nothing else
 
 pub record WasAsked {W : Type 0} (Asked : W → List Call → Type 0) (wire wire_then : W) (calls : List Call) : Type 0 where
   pub is : (before : List Call) → Asked wire before → Asked wire_then (before ++ calls)
 
--- a part of a turn, of whose events and calls this holds
-pub record Part {V W : Type 0} (Holds : V → Contents → Type 0) (IsClean : V → Type 0) (Faults : V → ℕ) (Asked : W → List Call → Type 0)
-    (office : Office V) (wire : W) (office_then : Office V) (wire_then : W) (Facts : Log → List Call → Type 0) : Type 0 where
-  pub given : Log
-  pub calls : List Call
-  pub was_given : WasGiven Holds IsClean Faults office office_then given
-  pub was_asked : WasAsked Asked wire wire_then calls
-  pub facts : Facts given calls
-
--- a part that asks the wire alone
-pub record Asking {W : Type 0} (Asked : W → List Call → Type 0) (wire wire_then : W) (Facts : List Call → Type 0) : Type 0 where
-  pub calls : List Call
-  pub was_asked : WasAsked Asked wire wire_then calls
-  pub facts : Facts calls
-
--- a part that gives events to the office alone
-pub record Giving {V : Type 0} (Holds : V → Contents → Type 0) (IsClean : V → Type 0) (Faults : V → ℕ) (office office_then : Office V) (Facts : Log → Type 0) : Type 0 where
-  pub given : Log
-  pub was_given : WasGiven Holds IsClean Faults office office_then given
-  pub facts : Facts given
-
--- no wait, no link that comes, none that is closed, no tick and no opening
-pub record IsQuiet (given : Log) (calls : List Call) : Type 0 where
-  pub no_moments : moments given ≡ []
-  pub no_openings : openings given ≡ 0
-  pub no_refusals : refusals given ≡ 0
-  pub no_waits : waits calls ≡ []
-  pub no_arrivals : arrivals calls ≡ []
-  pub no_closings : closings calls ≡ []
-
--- a quiet part of the clients' port, whose events have their causes among these seats
-pub record IsQuietFor (seats : List Seat) (given : Log) (calls : List Call) : Type 0 where
-  pub quiet : IsQuiet given calls
-  pub apart : list_any is_beside calls ≡ false
-  pub caused : AreCaused seats calls given
-
--- ---- the parts
-
--- the moment
-pub record IsPassed (millis now : ℕ) (given : Log) (calls : List Call) : Type 0 where
-  pub event_tag : EventTag
-  pub given_is : given ≡ (event.Tick now, event_tag) ∷ []
-  pub calls_are : calls ≡ Waited millis ∷ []
+-- ---- links that come
 
 -- a link that came, and the connection that was opened for it, if one was
 pub record Came : Type 0 where
@@ -362,20 +275,6 @@ unseated_of k = left_out k.link k.connection
 abbrev pub link_of : Came → Link
 link_of k = k.link
 
--- So many links came, each with an opening: those whose opening was done got the next seats, and the others were closed.
-pub record HaveCome {V : Type 0} (Holds : V → Contents → Type 0) (IsClean : V → Type 0) (office office_then : Office V) (seats seats_then : List Seat) (came : List Came)
-    (given : Log) (calls : List Call) : Type 0 where
-  pub no_moments : moments given ≡ []
-  pub no_waits : waits calls ≡ []
-  pub arrived : arrivals calls ≡ map link_of came
-  pub opened : openings given ≡ length came
-  pub refused : (T : Trace) → StandsFor Holds office T → IsClean (vault_of office_then) → refusals given ≡ length (filter_map unseated_of came)
-  pub closed : closings calls ≡ filter_map unseated_of came
-  pub seated : seats_then ≡ seats ++ filter_map seat_of came
-  pub apart : list_any is_beside calls ≡ false
-  pub only : All IsOpening given
-  pub caused : AreCaused [] calls given
-
 -- how many links are accepted in one turn at most, and how many may be held
 abbrev pub most_links : ℕ
 most_links = 64
@@ -387,85 +286,7 @@ places = 128
 abbrev pub HasAccepted : (places_taken : ℕ) → List Call → Type 0
 HasAccepted taken calls = (none_waited calls ≡ true) ⊎ (taken ≡ places)
 
-pub record AreAccepted {V : Type 0} (Holds : V → Contents → Type 0) (IsClean : V → Type 0) (office office_then : Office V) (seats seats_then : List Seat) (most : ℕ) (goes : Bool)
-    (given : Log) (calls : List Call) : Type 0 where
-  pub came : List Came
-  pub come : HaveCome Holds IsClean office office_then seats seats_then came given calls
-  pub enough : goes ≡ true → most ≤ length came
-  pub all : goes ≡ false → HasAccepted (length seats_then) calls
-
--- nothing is owed to a connection by then
-abbrev pub OwesNothing : {V : Type 0} (Holds : V → Contents → Type 0) (IsClean : V → Type 0) (office office_then : Office V) (c : ℕ) (given : Log) → Type 0
-OwesNothing Holds IsClean office office_then c given =
-    (B : Records) (L : Log) → StandsFor Holds office (trace_of B L) → IsClean (vault_of office_then) → rest (trace_of B (given ++ L)) c ≡ []
-
--- A link was written on so many times, so many octets; and it takes no more for now, or nothing more is owed, where that is over.
-pub record IsWritten {V : Type 0} (Holds : V → Contents → Type 0) (IsClean : V → Type 0) (office office_then : Office V) (seat : Seat) (times octets : ℕ) (goes : Bool)
-    (given : Log) (calls : List Call) : Type 0 where
-  pub of_seat : IsQuietFor (seat ∷ []) given calls
-  pub taken : times ≤ length (filter (is_taking_of seat.link) calls)
-  pub octets_are : octets ≤ octets_taken seat.link calls
-  pub ends : goes ≡ false → (list_any (is_later_of seat.link) calls ≡ true) ⊎ OwesNothing Holds IsClean office office_then seat.connection given
-
--- A link was written its share, or as often as it may be, where it goes on; or it takes no more for now, or nothing more is owed.
-pub record IsWrittenOut {V : Type 0} (Holds : V → Contents → Type 0) (IsClean : V → Type 0) (office office_then : Office V) (seat : Seat) (share : ℕ) (goes : Bool)
-    (given : Log) (calls : List Call) : Type 0 where
-  pub of_seat : IsQuietFor (seat ∷ []) given calls
-  pub goes_on : goes ≡ true → (most_writes ≤ length (filter (is_taking_of seat.link) calls)) ⊎ (share ≤ octets_taken seat.link calls)
-  pub ends : goes ≡ false → (list_any (is_later_of seat.link) calls ≡ true) ⊎ OwesNothing Holds IsClean office office_then seat.connection given
-
--- no octets may come on a connection
-abbrev pub IsNotReady : {V : Type 0} (Holds : V → Contents → Type 0) (office : Office V) (c : ℕ) → Type 0
-IsNotReady Holds office c = (B : Records) (L : Log) → StandsFor Holds office (trace_of B L) → is_ready (trace_of B L) c ≡ false
-
--- a link showed a piece that is kept back
-pub record IsUnread {V : Type 0} (Holds : V → Contents → Type 0) (office : Office V) (seat : Seat) (wait : ℕ) (may : Bool) (calls : List Call) : Type 0 where
-  pub piece : List ℕ
-  pub io : Io
-  pub shown : Contains calls (Looked Pop seat.link io piece)
-  pub kept : (B : Records) (L : Log) → StandsFor Holds office (trace_of B L) → IsKeptBack (trace_of B L) seat.connection piece wait may
-
--- octets came
-abbrev pub is_count : Io → Bool
-is_count (Count n) = true
-is_count _ = false
-
--- What comes next on a link was looked at, where lines are read one at a time, and so many octets
--- are to be read: as many as there is room for, or a part of the piece that was shown, whose next
--- line would log in somebody.
-pub data HasLooked {V : Type 0} (Holds : V → Contents → Type 0) (office : Office V) (seat : Seat)
-    (pace : Pace) (refusals : List Refusal)
-    : (count : ℕ) → (login : Option LoginName) → List Call → Type 0 where
-  Unlooked : pace.by_line ≡ false → HasLooked Holds office seat pace refusals 4096 None []
-  NothingCame : (io : Io) → is_count io ≡ false
-      → HasLooked Holds office seat pace refusals 4096 None (Looked Pop seat.link io [] ∷ [])
-  PieceCame : (n : ℕ) (piece : List ℕ) (count : ℕ) (login : Option LoginName)
-      → pace.by_line ≡ true → 0 < length piece
-      → ((T : Trace) → StandsFor Holds office T
-      → count ≡ part_by (is_held T seat.connection piece pace refusals) piece)
-      → ((T : Trace) → StandsFor Holds office T
-      → login ≡ login_brought T seat.connection piece)
-      → ((count == 0) ≡ false → count ≡ first_line piece)
-      → HasLooked Holds office seat pace refusals count login
-      (Looked Pop seat.link (Count n) piece ∷ [])
-
--- A link was read from once, so many octets at most, where its connection waits for them.
-pub data IsReadOnce {V : Type 0} (Holds : V → Contents → Type 0) (office : Office V) (seat : Seat)
-    (room : ℕ) : Log → List Call → Type 0 where
-  NotReady : IsNotReady Holds office seat.connection → IsReadOnce Holds office seat room [] []
-  WasRead : (io : Io) (octets : List ℕ) (given : Log)
-      → IsQuietFor (seat ∷ []) given (Read Pop seat.link room io octets ∷ [])
-      → IsReadOnce Holds office seat room given (Read Pop seat.link room io octets ∷ [])
-
--- A link was read from, where its connection waits for octets and nothing is kept back. Where its
--- login is noted as lying unread, it does.
-pub record IsHeard {V : Type 0} (Holds : V → Contents → Type 0) (office : Office V) (seat : Seat)
-    (wait : ℕ) (by_line may is_noted : Bool) (given : Log) (calls : List Call) : Type 0 where
-  pub of_seat : IsQuietFor (seat ∷ []) given calls
-  pub heard : (list_any (is_read_of seat.link) calls ≡ true)
-      ⊎ (IsReadByLine calls by_line seat ⊎ ((given ≡ [])
-      × (IsNotReady Holds office seat.connection ⊎ IsUnread Holds office seat wait may calls)))
-  pub noted : is_noted ≡ true → IsUnread Holds office seat wait may calls
+-- ---- how a link is served
 
 -- how links are served in a turn: the share of each, for how many seconds a login waits for a lock,
 -- whether lines are read one at a time before a login, of which connections logins may be kept back,
@@ -475,32 +296,14 @@ pub record Way : Type 0 where
   pub wait : ℕ
   pub by_line : Bool
   pub may : ℕ → Bool
-  pub hurries : Bool
-
--- logins may be kept back: behind refusals, where guesses are slow, or behind a session that ended
--- in this turn
-abbrev pub may_keep : Clients → Bool
-may_keep links = links.guesses.are_slow || links.is_freed
-
--- that of a connection may: behind refusals only while it has lain unread for less than 15 seconds
-abbrev pub may_at : (now : ℕ) → Clients → (c : ℕ) → Bool
-may_at now links c = links.is_freed || (links.guesses.are_slow
-    && nat_lt (waited_of now (newcomer c links.newcomers.newcomers.items)) most_paced)
-
-abbrev pub way_at : (now : ℕ) → Clients → (hurries : Bool) → Way
-way_at now links hurries = record {
-  share = share_by (length links.seats.items);
-  wait = links.wait;
-  by_line = reads_by_line links.wait (may_keep links);
-  may = may_at now links;
-  hurries = hurries;
-}
+  pub poll_now : Bool
 
 -- two of these seats have one number, as none do between turns
 abbrev pub is_shared : List Seat → (c : ℕ) → Bool
 is_shared seats c = nat_le 2 (length (filter (λ s. s.connection == c) seats))
 
--- so it is in a turn of these seats, by who was noted as it began, and by whether a session ended
+-- Logins of a connection may be kept back: after a session ended in this turn; or if guesses are
+-- slow, while one has lain unread for less than 15 seconds, by who was noted as the turn began.
 abbrev pub may_by : (slow : Bool) (now : ℕ) → List Newcomer → List Seat → (freed : Bool) → (c : ℕ)
     → Bool
 may_by slow now newcomers seats freed c = freed || (slow
@@ -508,32 +311,20 @@ may_by slow now newcomers seats freed c = freed || (slow
 
 -- these links are served, by these settings, and whether a session ended meanwhile
 abbrev pub way_by : Settings → (now : ℕ) → List Newcomer → (seats : List Seat)
-    → (freed hurries : Bool) → Way
-way_by set now newcomers seats freed hurries = record {
+    → (freed poll_now : Bool) → Way
+way_by set now newcomers seats freed poll_now = record {
   share = share_by (length seats);
   wait = set.wait;
   by_line = reads_by_line set.wait (set.slow_guesses || freed);
   may = may_by set.slow_guesses now newcomers seats freed;
-  hurries = hurries;
+  poll_now = poll_now;
 }
 
 -- a seat's link had its turn, or stays unread for a cause, where its connection is open by then
 abbrev pub HadTurn : Way → (B : Records) (older given : Log) → (after : Trace) → List Call → Seat → Type 0
 HadTurn way B older given after calls s = is_open after s.connection ≡ true
-    → (had_its_turn way.share way.hurries s.link calls ≡ true)
+    → (had_its_turn way.share way.poll_now s.link calls ≡ true)
     ⊎ IsHeldBack B older given calls way.wait way.by_line (way.may s.connection) s
-
--- the links of these seats had their turns, and whose login is noted as lying unread has it so
-pub record HadTurns {V : Type 0} (Holds : V → Contents → Type 0) (IsClean : V → Type 0)
-    (office office_then : Office V) (way : Way) (noted : List Newcomer) (seats these : List Seat)
-    (given : Log) (calls : List Call) : Type 0 where
-  pub of_seats : IsQuietFor seats given calls
-  pub turns : (B : Records) (L : Log) → StandsFor Holds office (trace_of B L)
-      → IsClean (vault_of office_then)
-      → All (HadTurn way B L given (trace_of B (given ++ L)) calls) these
-  pub noted_so : (B : Records) (L : Log) → StandsFor Holds office (trace_of B L)
-      → IsClean (vault_of office_then)
-      → All (IsNotedSo noted B L given calls way.wait way.may seats) these
 
 -- ---- sessions that end
 
@@ -553,53 +344,19 @@ pub record HasFreed (B : Records) (older given : Log) (seats : List Seat) : Type
   pub among : Contains seats seat
   pub session : HasEnded B older given seat.connection
 
--- logins are kept back behind sessions that ended, where they wait for a lock, and behind nothing
--- else
-abbrev pub IsFreedBy : {V : Type 0} (Holds : V → Contents → Type 0) (IsClean : V → Type 0)
-    (office office_then : Office V) (wait : ℕ) (freed : Bool) (seats : List Seat) (given : Log)
-    → Type 0
-IsFreedBy Holds IsClean office office_then wait freed seats given =
-    freed ≡ true → ((wait == 0) ≡ false) × ((B : Records) (L : Log)
-    → StandsFor Holds office (trace_of B L) → IsClean (vault_of office_then)
-    → HasFreed B L given seats)
-
--- the links of these seats had their turns, by these settings, and what was kept back behind a
--- session that ended was so for that
-pub record WereServed {V : Type 0} (Holds : V → Contents → Type 0) (IsClean : V → Type 0)
-    (office office_then : Office V) (set : Settings) (now : ℕ) (newcomers : List Newcomer)
-    (freed hurries : Bool) (noted : List Newcomer) (seats these : List Seat) (given : Log) (calls : List Call)
-    : Type 0 where
-  pub turns : HadTurns Holds IsClean office office_then
-      (way_by set now newcomers seats freed hurries) noted seats these given calls
-  pub freed_by : IsFreedBy Holds IsClean office office_then set.wait freed seats given
-
 -- deposits, and no other event
 abbrev pub AreDeposits : Log → Type 0
 AreDeposits [] = ⊤
 AreDeposits ((event.Deposit d class id text, m) ∷ given) = AreDeposits given
 AreDeposits (x ∷ given) = ⊥
 
--- ---- closing
+-- ---- seats
 
 abbrev pub is_open_seat : Trace → Seat → Bool
 is_open_seat T s = is_open T s.connection
 
 abbrev pub is_shut_seat : Trace → Seat → Bool
 is_shut_seat T s = not (is_open T s.connection)
-
-abbrev pub closing : Seat → Call
-closing s = Closed Pop s.link
-
--- exactly the links of those seats are closed whose connections aren't open
-pub record AreClosed (T : Trace) (seats seats_then : List Seat) (calls : List Call) : Type 0 where
-  pub calls_are : calls ≡ map closing (filter (is_shut_seat T) seats)
-  pub left : seats_then ≡ filter (is_open_seat T) seats
-
--- exactly this seat's link is closed, where its connection isn't open
-pub record IsClosed (T : Trace) (seats seats_then : List Seat) (place : ℕ) (seat : Seat) (stays : Bool) (calls : List Call) : Type 0 where
-  pub stays_if : stays ≡ is_open_seat T seat
-  pub left : seats_then ≡ (if stays then seats else remove seats place)
-  pub calls_are : calls ≡ (if stays then [] else closing seat ∷ [])
 
 abbrev pub link_of_seat : Seat → Link
 link_of_seat s = s.link

@@ -5,8 +5,8 @@ ghost use Rattle.office.specs.Seen.{outcome_seen};
 ghost use Rattle.office.specs.Stands.{StandsFor, vault_of};
 ghost use Rattle.serving.specs.Spools.{FileAct, disposal_of};
 ghost use Rattle.serving.specs.Deposits.{IsTried};
-ghost use Rattle.serving.specs.Settings.{settings_of};
-ghost use Rattle.serving.specs.SpoolTurns.{SpoolPart, IsTrying, IsSpoolTurn, has_dealt};
+ghost use Rattle.serving.specs.SpoolTurns.{SpoolPart, KeepsClients, IsTrying, IsSpoolTurn};
+ghost use Rattle.serving.specs.SpoolTurns.{has_dealt};
 
 use crate::file_name::FileName;
 use crate::links::Clients;
@@ -46,7 +46,6 @@ fn try_file<V: Vault, S: Spool>(office: &mut Office<V>, spool: &mut S, name: &Fi
     ensures tried { (T : Trace) (acts : List FileAct) → StandsFor V.holds office.old T
         → S.tells spool.old acts → V.is_clean (vault_of office.new)
         → IsTried V.holds S.tells T acts office.new spool.new }
-    ensures clean { V.is_clean (vault_of office.new) → V.is_clean (vault_of office.old) }
 {
     let Some(text) = spool.read(name) else {
         return false;
@@ -68,19 +67,16 @@ pub(crate) fn serve_spool<V: Vault, S: Spool>(
 )
     ensures works { SpoolPart V.holds V.is_clean V.faults S.asked office.old spool.old office.new
         spool.new (λ T given calls. IsSpoolTurn links.old.last links.new.last T given calls ×
-        (links.new.hurries ≡ (links.old.hurries || has_dealt calls))) }
+        (links.new.poll_now ≡ (links.old.poll_now || has_dealt calls))) }
     ensures tried { (T : Trace) (acts : List FileAct) → StandsFor V.holds office.old T
         → S.tells spool.old acts → V.is_clean (vault_of office.new)
         → IsTried V.holds S.tells T acts office.new spool.new }
-    ensures clean { V.is_clean (vault_of office.new) → V.is_clean (vault_of office.old) }
-    ensures seats { links.new.seats ≡ links.old.seats }
-    ensures newcomers { links.new.newcomers ≡ links.old.newcomers }
-    ensures set { settings_of links.new ≡ settings_of links.old }
+    ensures keeps { KeepsClients links.old links.new }
 {
     let Some(name) = spool.next_name(&links.last) else {
         return;
     };
     let is_dealt = try_file(office, spool, &name);
-    links.hurries |= is_dealt;
+    links.poll_now |= is_dealt;
     links.last = Some(name);
 }

@@ -6,7 +6,10 @@
 #![tactic(auto)]
 
 mod ahead;
+mod arrivals;
+mod clients;
 mod counts;
+mod ends;
 mod file_name;
 mod file_notes;
 mod files;

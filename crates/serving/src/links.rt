@@ -148,10 +148,10 @@ impl Links {
     }
 
     /// Whether more can be done at once.
-    pub(crate) fn hurries(&self) -> bool
-        ensures { result ≡ (self.now.clients.hurries || self.now.requests.hurries) }
+    pub(crate) fn poll_now(&self) -> bool
+        ensures { result ≡ (self.now.clients.poll_now || self.now.requests.poll_now) }
     {
-        self.clients.hurries || self.requests.hurries
+        self.clients.poll_now || self.requests.poll_now
     }
 
     /// How many links of the administration are open.
@@ -168,12 +168,12 @@ pub(crate) struct Clients {
     /// The spool file that was tried last.
     pub(crate) last: Option<FileName>,
     /// More can be done at once: the next turn doesn't wait.
-    pub(crate) hurries: bool,
+    pub(crate) poll_now: bool,
     /// For how many seconds a login waits for its maildrop's lock.
     pub(crate) wait: u64,
     /// Where logins wait: a session ended while this turn served the links. No further login is
     /// read in it, so that in the next turn those who wait are tried by number.
-    pub(crate) is_freed: bool,
+    pub(crate) lock_released: bool,
     /// Who hasn't logged in, and how long each may take.
     pub(crate) newcomers: Newcomers,
     /// Which logins were refused.
@@ -190,9 +190,9 @@ impl Clients {
         Clients {
             seats: ArrayVec::new(),
             last: None,
-            hurries: false,
+            poll_now: false,
             wait: 0,
-            is_freed: false,
+            lock_released: false,
             newcomers: Newcomers::new(),
             guesses: Guesses::new(),
         }

@@ -8,7 +8,7 @@ ghost use Rattle.serving.specs.Counting.{count_at, counted_with};
 ghost use Rattle.serving.specs.NotedWires.{tells_once, AreTold, TellNothing, WasAsked, WasAskedFor};
 
 use crate::counts::Counts;
-use crate::notes::{Asked, Notes};
+use crate::notes::{Notes, WireCall};
 use crate::wire::{Io, Link, Port, Wire};
 use std::net::IpAddr;
 
@@ -72,7 +72,7 @@ impl<W: Wire> Wire for NotedWire<W> {
         ensures inside { WasAsked W.tells W.asked self.old.wire self.new.wire (call.Waited millis) }
     {
         self.wire.wait(millis);
-        self.notes.note(&Asked::Wait(millis), &[]);
+        self.notes.note(&WireCall::Wait(millis), &[]);
     }
 
     fn accept(&mut self, port: Port) -> Option<Link>
@@ -84,7 +84,7 @@ impl<W: Wire> Wire for NotedWire<W> {
             self.new.wire (call.Accepted port result) }
     {
         let link = self.accept_next(port);
-        self.notes.note(&Asked::Accept(port, link), &[]);
+        self.notes.note(&WireCall::Accept(port, link), &[]);
         link
     }
 
@@ -99,7 +99,7 @@ impl<W: Wire> Wire for NotedWire<W> {
             (call.Looked port link result (counted result buffer.new)) }
     {
         let io = self.wire.look(port, link, buffer);
-        self.notes.note(&Asked::Look(port, link, io), buffer);
+        self.notes.note(&WireCall::Look(port, link, io), buffer);
         io
     }
 
@@ -116,7 +116,8 @@ impl<W: Wire> Wire for NotedWire<W> {
     {
         let room = buffer.len();
         let io = self.wire.read(port, link, buffer);
-        self.notes.note(&Asked::Read(port, link, room, io), buffer);
+        self.notes
+            .note(&WireCall::Read(port, link, room, io), buffer);
         io
     }
 
@@ -132,7 +133,7 @@ impl<W: Wire> Wire for NotedWire<W> {
             (call.Wrote port link result (counted result octets.now)) }
     {
         let io = self.wire.write(port, link, octets);
-        self.notes.note(&Asked::Write(port, link, io), octets);
+        self.notes.note(&WireCall::Write(port, link, io), octets);
         io
     }
 
@@ -150,6 +151,6 @@ impl<W: Wire> Wire for NotedWire<W> {
             (call.Closed port link) }
     {
         self.wire.close(port, link);
-        self.notes.note(&Asked::Close(port, link), &[]);
+        self.notes.note(&WireCall::Close(port, link), &[]);
     }
 }

@@ -9,7 +9,7 @@ use std::marker::{Model, PhantomData};
 
 /// What a wire was asked, and what it answered. The octets stand beside it.
 #[derive(Clone, Copy, PartialEq, Eq, Debug)]
-pub(crate) enum Asked {
+pub(crate) enum WireCall {
     Wait(u32),
     Accept(Port, Option<Link>),
     Look(Port, Link, Io),
@@ -43,7 +43,7 @@ impl Notes {
 
     /// Notes a call, and the buffer that was read or written.
     #[inline(always)]
-    pub(crate) fn note(&mut self, _asked: &Asked, _octets: &[u8])
+    pub(crate) fn note(&mut self, _asked: &WireCall, _octets: &[u8])
         ensures { self.new.calls ≡ self.old.calls ++ call_of _asked.now _octets.now ∷ [] }
     {}
 }

@@ -9,11 +9,12 @@ ghost use Rattle.office.specs.Logins.{login_brought as login_brought_at, refusal
 ghost use Rattle.serving.specs.Guesses.{AreNotedSo};
 ghost use Rattle.office.specs.Stands.{StandsFor};
 ghost use Rattle.serving.specs.Wires.{ToldOfPorts};
-ghost use Rattle.serving.specs.Works.{Asking, HasLooked};
+ghost use Rattle.serving.specs.Parts.{Asking};
+ghost use Rattle.serving.specs.ClientParts.{HasLooked, IsPaceAt};
 ghost use Rattle.serving.specs.Paces.{reads_lines as reads_lines_by, is_paced as is_paced_by};
-ghost use Rattle.serving.specs.Paces.{keeps as keeps_by, is_held, KeepsAside};
+ghost use Rattle.serving.specs.Paces.{keeps as keeps_by, is_held};
+ghost use Rattle.serving.specs.Parts.{NotesGuesses};
 ghost use Rattle.serving.specs.Paces.{first_line as first_line_of, part_by};
-ghost use Rattle.serving.specs.Newcomers.{newcomer, waited_of};
 
 use crate::guesses::{Guesses, MOST_SECONDS, origin_of};
 use crate::links::{Clients, Seat};
@@ -74,10 +75,10 @@ fn origin_at<V: Vault, W: Wire>(
 }
 
 /// Whether lines are read one at a time before a login: where one may be kept back.
-fn reads_lines(wait: u64, is_freed: bool, origin: Option<u64>) -> bool
-    ensures { result ≡ reads_lines_by wait is_freed origin }
+fn reads_lines(wait: u64, lock_released: bool, origin: Option<u64>) -> bool
+    ensures { result ≡ reads_lines_by wait lock_released origin }
 {
-    if wait > 0 || is_freed {
+    if wait > 0 || lock_released {
         return true;
     }
     origin.is_some()
@@ -92,11 +93,7 @@ pub(crate) fn pace_at<V: Vault, W: Wire>(
     now: u64,
 ) -> Pace
     ensures fast { links.now.guesses.are_slow ≡ false → result.origin ≡ None }
-    ensures wait { result.wait ≡ links.now.wait }
-    ensures shut { result.is_shut ≡ links.now.is_freed }
-    ensures now { result.now ≡ now }
-    ensures waited { result.waited
-        ≡ waited_of now (newcomer seat.connection links.now.newcomers.newcomers.items) }
+    ensures pace { IsPaceAt links.now seat.connection now result }
     ensures lines { result.by_line ≡ true
         → reads_lines_by result.wait result.is_shut result.origin ≡ true }
     ensures line { (T : Trace) → StandsFor V.holds office.now T
@@ -106,8 +103,8 @@ pub(crate) fn pace_at<V: Vault, W: Wire>(
     let origin = origin_at(office, wire, seat, &links.guesses);
     let is_logged_in = office.is_logged_in(seat.connection);
     Pace {
-        by_line: reads_lines(links.wait, links.is_freed, origin) && !is_logged_in,
-        is_shut: links.is_freed,
+        by_line: reads_lines(links.wait, links.lock_released, origin) && !is_logged_in,
+        is_shut: links.lock_released,
         wait: links.wait,
         origin,
         waited: links.newcomers.waited(seat.connection, now),
@@ -248,10 +245,7 @@ pub(crate) fn note_guess<V: Vault>(
     login: &Option<LoginName>,
     before: u8,
 )
-    ensures seats { links.new.seats ≡ links.old.seats }
-    ensures aside { KeepsAside links.old links.new }
-    ensures newcomers { links.new.newcomers ≡ links.old.newcomers }
-    ensures hurries { links.new.hurries ≡ links.old.hurries }
+    ensures keeps { NotesGuesses links.old links.new }
     ensures noted { (T : Trace) → StandsFor V.holds office.now T
         → AreNotedSo pace.now pace.origin login.now (nat_lt before (refusals T connection))
         (live (history T) connection) links.old.guesses.refusals.items

@@ -1,6 +1,6 @@
 //! The links of the administration: one request over HTTP each, and its response.
 ghost use Rattle.std.specs.Prelude.{◌≡◌, ◌+◌, ◌<◌, ◌≤◌, ◌==◌, ◌++◌, ℕ, Bool, List, [], Some, Ok};
-ghost use Rattle.std.specs.Prelude.{length, take, drop, option_map, IfNone, IfOk, ◌⊎◌, true, false};
+ghost use Rattle.std.specs.Prelude.{length, option_map, IfNone, IfOk, ◌⊎◌, true, false};
 ghost use Rattle.std.specs.Prelude.{not, if◌then◌else◌, OnErr};
 ghost use Rattle.vault.specs.Records.{Records};
 ghost use Rattle.office.specs.Events.{Log};
@@ -11,11 +11,13 @@ ghost use Rattle.adminhttp.specs.Request.{IsRequest};
 ghost use Rattle.adminhttp.specs.Responses.{answer_response, refusal_response, fault_response};
 ghost use Rattle.adminhttp.specs.Contents.{response_of as response_of_content};
 ghost use Rattle.adminhttp.specs.declared.refusal.Refusal.TheVariants.{OutOfMemory};
-ghost use Rattle.serving.specs.HttpTurns.{is_late_at, most_exchanges, GoesOnAt, TheseGoOn};
-ghost use Rattle.serving.specs.HttpWorks.{ComeTo, GivesApart, DoesApart, AsksApart, HadTurnAt};
-ghost use Rattle.serving.specs.HttpWorks.{HasAcceptedBeside, HasHeard, Tells, HasTold, HasHttpTurn};
-ghost use Rattle.serving.specs.HttpWorks.{HadHttpTurns, DidApart, response_of};
-ghost use Rattle.serving.specs.Works.{Part, Also, HurriesBy};
+ghost use Rattle.serving.specs.HttpTurns.{is_late_at, most_exchanges, TheseGoOn};
+ghost use Rattle.serving.specs.HttpParts.{ComeTo, GivesApart, DoesApart, AsksApart, HadTurnAt};
+ghost use Rattle.serving.specs.HttpWorks.{HasAcceptedForAdmin, HasHeard, HasTold, HasHttpTurn};
+ghost use Rattle.serving.specs.HttpParts.{Tells, KeepsLink, KeepsWritten};
+ghost use Rattle.serving.specs.HttpWorks.{HadHttpTurns, response_of};
+ghost use Rattle.serving.specs.HttpParts.{DidApart, ServesPlace};
+ghost use Rattle.serving.specs.Parts.{Part, Also, PollsBy};
 ghost use Rattle.serving.specs.Hearing.{Hearing, WasTold, HeardApart, heard_by};
 ghost use Rattle.serving.specs.Requests.{octets_of, IsToldBy, HasAsked, HasOneMore, StillAnswers};
 ghost use Rattle.serving.specs.Requests.{StillAsked, AllStillAnswer, AllStillAsked};
@@ -99,7 +101,7 @@ pub(crate) struct Requests {
     alloc: Global,
     pub(crate) exchanges: Vec<Exchange>,
     /// More can be written at once: the next turn doesn't wait.
-    pub(crate) hurries: bool,
+    pub(crate) poll_now: bool,
 }
 
 impl Requests {
@@ -110,7 +112,7 @@ impl Requests {
         Requests {
             alloc,
             exchanges: Vec::new(alloc),
-            hurries: false,
+            poll_now: false,
         }
     }
 
@@ -267,7 +269,7 @@ fn refuse_policy<L: Listener>(
 
 /// The response to what was read of a request; `None` while the request isn't whole. A command is
 /// given to the office.
-fn ask<V: Vault, L: Listener>(
+fn respond_to<V: Vault, L: Listener>(
     alloc: Global,
     office: &mut Office<V>,
     listener: &mut L,
@@ -280,7 +282,6 @@ fn ask<V: Vault, L: Listener>(
     ensures asked { (B : Records) (L : Log) → StandsFor V.holds office.old (trace_of B L)
         → V.is_clean (vault_of office.new) → HasAsked V.holds B L read.now office.new
         (option_map octets_of result) }
-    ensures clean { V.is_clean (vault_of office.new) → V.is_clean (vault_of office.old) }
 {
     match Request::read(alloc, read) {
         Got::More => None,
@@ -306,13 +307,9 @@ fn take_piece<V: Vault, L: Listener>(
         → V.is_clean (vault_of office.new) → HasAsked V.holds B L
         (exchange.old.read.items ++ piece.now) office.new
         (option_map octets_of exchange.new.response) }
-    ensures clean { V.is_clean (vault_of office.new) → V.is_clean (vault_of office.old) }
     ensures read { IfNone exchange.new.response
         (exchange.new.read.items ≡ exchange.old.read.items ++ piece.now) }
-    ensures link { exchange.new.link ≡ exchange.old.link }
-    ensures since { exchange.new.since ≡ exchange.old.since }
-    ensures written { exchange.new.written ≡ exchange.old.written }
-    ensures over { exchange.new.is_over ≡ exchange.old.is_over }
+    ensures keeps { KeepsWritten exchange.old exchange.new }
 {
     let link = exchange.link;
     if exchange.read.extend_from_slice(piece).is_err() {
@@ -321,12 +318,12 @@ fn take_piece<V: Vault, L: Listener>(
         exchange.response = Some(response);
         return;
     }
-    exchange.response = ask(alloc, office, listener, link, exchange.read.as_slice());
+    exchange.response = respond_to(alloc, office, listener, link, exchange.read.as_slice());
 }
 
 /// Reads a piece of a request that isn't whole. The exchange is over where the link is at its end
 /// or broken.
-fn hear<V: Vault, W: Wire, L: Listener>(
+fn read_request<V: Vault, W: Wire, L: Listener>(
     alloc: Global,
     office: &mut Office<V>,
     wire: &mut W,
@@ -338,9 +335,7 @@ fn hear<V: Vault, W: Wire, L: Listener>(
         (λ B L. HasHeard B L exchange.old exchange.new)) }
     ensures asked { StillAsked V.holds V.is_clean W.tells office.old wire.old exchange.old
         office.new wire.new exchange.new }
-    ensures clean { V.is_clean (vault_of office.new) → V.is_clean (vault_of office.old) }
-    ensures link { exchange.new.link ≡ exchange.old.link }
-    ensures since { exchange.new.since ≡ exchange.old.since }
+    ensures keeps { KeepsLink exchange.old exchange.new }
 {
     if exchange.is_over {
         return;
@@ -358,13 +353,12 @@ fn hear<V: Vault, W: Wire, L: Listener>(
 
 /// Writes once of a response. How many octets were taken. The exchange is over where nothing is
 /// left, or the link is broken.
-fn tell_once<W: Wire>(wire: &mut W, exchange: &mut Exchange) -> usize
+fn write_some<W: Wire>(wire: &mut W, exchange: &mut Exchange) -> usize
     ensures works { AsksApart W.asked wire.old wire.new
         (Tells exchange.old exchange.new (if result == 0 then 0 else 1) result
         (not (result == 0))) }
-    ensures since { exchange.new.since ≡ exchange.old.since }
+    ensures keeps { KeepsLink exchange.old exchange.new }
     ensures answers { StillAnswers W.tells wire.old exchange.old wire.new exchange.new }
-    ensures link { exchange.new.link ≡ exchange.old.link }
 {
     if exchange.is_over {
         return 0;
@@ -395,16 +389,15 @@ fn tell_once<W: Wire>(wire: &mut W, exchange: &mut Exchange) -> usize
 
 /// Writes a response as long as the link takes it, up to its share. Whether more can be written at
 /// once.
-fn tell<W: Wire>(wire: &mut W, exchange: &mut Exchange) -> bool
+fn write_response<W: Wire>(wire: &mut W, exchange: &mut Exchange) -> bool
     ensures works { AsksApart W.asked wire.old wire.new
-        (λ calls. HasTold exchange.old exchange.new calls × HurriesBy false result calls) }
-    ensures since { exchange.new.since ≡ exchange.old.since }
+        (λ calls. HasTold exchange.old exchange.new calls × PollsBy false result calls) }
+    ensures keeps { KeepsLink exchange.old exchange.new }
     ensures answers { StillAnswers W.tells wire.old exchange.old wire.new exchange.new }
-    ensures link { exchange.new.link ≡ exchange.old.link }
 {
     let mut written: usize = 0;
     for _times in 0..MOST_WRITES {
-        let count = tell_once(wire, exchange);
+        let count = write_some(wire, exchange);
         if count == 0 {
             return false;
         }
@@ -430,20 +423,18 @@ fn serve_exchange<V: Vault, W: Wire, L: Listener>(
         office.old wire.old office.new wire.new
         (Also (DidApart V.holds V.is_clean office.old office.new
         (HeardApart L.heard listener.old listener.new
-        (λ B L. HasHttpTurn now B L exchange.old exchange.new))) (HurriesBy false result)) }
+        (λ B L. HasHttpTurn now B L exchange.old exchange.new))) (PollsBy false result)) }
     ensures asked { StillAsked V.holds V.is_clean W.tells office.old wire.old exchange.old
         office.new wire.new exchange.new }
-    ensures clean { V.is_clean (vault_of office.new) → V.is_clean (vault_of office.old) }
-    ensures link { exchange.new.link ≡ exchange.old.link }
-    ensures since { exchange.new.since ≡ exchange.old.since }
+    ensures keeps { KeepsLink exchange.old exchange.new }
     ensures timely { exchange.new.is_over ≡ false → is_late_at now exchange.new ≡ false }
 {
     if exchange.is_late(now) {
         exchange.is_over = true;
         return false;
     }
-    hear(alloc, office, wire, listener, exchange);
-    tell(wire, exchange)
+    read_request(alloc, office, wire, listener, exchange);
+    write_response(wire, exchange)
 }
 
 /// Serves the link at one place, and closes it where its exchange is over. Whether it stays.
@@ -461,20 +452,16 @@ fn serve_place<V: Vault, W: Wire, L: Listener>(
         (Also (DidApart V.holds V.is_clean office.old office.new
         (HeardApart L.heard listener.old listener.new
         (HadTurnAt now place result requests.old.exchanges.items requests.new.exchanges.items)))
-        (HurriesBy requests.old.hurries requests.new.hurries)) }
+        (PollsBy requests.old.poll_now requests.new.poll_now)) }
     ensures asked { AllStillAsked V.holds V.is_clean W.tells office.old wire.old
         requests.old.exchanges.items office.new wire.new requests.new.exchanges.items }
-    ensures clean { V.is_clean (vault_of office.new) → V.is_clean (vault_of office.old) }
     ensures left { length requests.new.exchanges.items + (if result then 0 else 1)
         ≡ length requests.old.exchanges.items }
-    ensures before { take place requests.new.exchanges.items
-        ≡ take place requests.old.exchanges.items }
-    ensures behind { drop (if result then place + 1 else place) requests.new.exchanges.items
-        ≡ drop (place + 1) requests.old.exchanges.items }
-    ensures stays { result ≡ true → GoesOnAt now requests.new.exchanges.items place }
+    ensures held { ServesPlace now place result requests.old.exchanges.items
+        requests.new.exchanges.items }
 {
     let exchange = &mut requests.exchanges[place];
-    requests.hurries |= serve_exchange(requests.alloc, office, wire, listener, exchange, now);
+    requests.poll_now |= serve_exchange(requests.alloc, office, wire, listener, exchange, now);
     if !exchange.is_over {
         return true;
     }
@@ -497,14 +484,13 @@ pub(crate) fn serve_requests<V: Vault, W: Wire, L: Listener>(
         (Also (DidApart V.holds V.is_clean office.old office.new
         (HeardApart L.heard listener.old listener.new
         (λ B L. HadHttpTurns now B L requests.old.exchanges.items requests.new.exchanges.items)))
-        (HurriesBy false requests.new.hurries)) }
+        (PollsBy false requests.new.poll_now)) }
     ensures asked { AllStillAsked V.holds V.is_clean W.tells office.old wire.old
         requests.old.exchanges.items office.new wire.new requests.new.exchanges.items }
-    ensures clean { V.is_clean (vault_of office.new) → V.is_clean (vault_of office.old) }
     ensures stay { TheseGoOn now requests.new.exchanges.items }
     ensures no_more { length requests.new.exchanges.items ≤ length requests.old.exchanges.items }
 {
-    requests.hurries = false;
+    requests.poll_now = false;
     let mut place = 0;
     while place < requests.exchanges.len() {
         if serve_place(office, wire, listener, requests, place, now) {
@@ -520,7 +506,8 @@ fn accept_request<W: Wire>(wire: &mut W, requests: &mut Requests, now: u64) -> b
     ensures few { length requests.old.exchanges.items ≤ most_exchanges
         → length requests.new.exchanges.items ≤ most_exchanges }
     ensures works { AsksApart W.asked wire.old wire.new
-        (HasAcceptedBeside now 1 result requests.old.exchanges.items requests.new.exchanges.items) }
+        (HasAcceptedForAdmin now 1 result requests.old.exchanges.items
+        requests.new.exchanges.items) }
     ensures answers { AllStillAnswer W.tells wire.old requests.old.exchanges.items wire.new
         requests.new.exchanges.items }
 {
@@ -540,7 +527,7 @@ pub(crate) fn accept_requests<W: Wire>(wire: &mut W, requests: &mut Requests, mo
     ensures few { length requests.old.exchanges.items ≤ most_exchanges
         → length requests.new.exchanges.items ≤ most_exchanges }
     ensures works { (goes : Bool) × AsksApart W.asked wire.old wire.new
-        (HasAcceptedBeside now most goes requests.old.exchanges.items
+        (HasAcceptedForAdmin now most goes requests.old.exchanges.items
         requests.new.exchanges.items) }
     ensures answers { AllStillAnswer W.tells wire.old requests.old.exchanges.items wire.new
         requests.new.exchanges.items }

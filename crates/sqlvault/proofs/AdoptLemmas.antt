@@ -1,16 +1,11 @@
 -- Queries one behind the other, and what a store that is made and a store that is judged come to.
-use Rattle.std.proofs.Common.{◌≡◌, ◌⊎◌, inl, inr, Bool, true, false, IsTrue, List, [], ◌∷◌, length, Result, Ok, Err, refl, sym, ap, subst, ◌∙◌, true≢false}
+use Rattle.std.proofs.Common.{◌≡◌, ◌⊎◌, inl, inr, Bool, true, false, IsTrue, Result, Ok, Err, refl, sym, ap, subst, ◌∙◌, true≢false}
 use Rattle.mailsql.specs.Tables.{no_schema}
 use Rattle.sqlite.specs.declared.error.Error.{Error}
 use Rattle.sqlite.specs.Effect.{Database}
 use Rattle.sqlite.specs.State.{State, Shows, IsUnchanged}
-use Rattle.mailsql.specs.Rows.{Rows, rows_in, IsOurs, IsKept, HasTables, IsUndone, IsHalted, IsGone, GoesOn}
-use Rattle.std.proofs.Common.{arith, cond, not}
-use Rattle.std.specs.Prelude.{codes, find, Some, None}
-use Rattle.vault.proofs.ListLemmas.{bytes_are}
-use Rattle.mailsql.specs.declared.rows.MetaRow.{MetaRow}
-use Rattle.mailsql.specs.Rows.{is_meta_row}
-use Rattle.sqlvault.specs.Keeps.{our_meta_row, version}
+use Rattle.mailsql.specs.Rows.{rows_in, IsOurs, IsKept, HasTables, IsUndone, IsGone}
+use Rattle.std.proofs.Common.{cond, not}
 use Rattle.vault.specs.declared.fault.VaultFault.{VaultFault}
 use Rattle.vault.specs.declared.fault.VaultFault.TheVariants as fault
 use Rattle.mailsql.specs.Names.{is_taken, has_meta_rows}
@@ -19,7 +14,7 @@ use Rattle.mailsql.proofs.ResultLemmas.{on_err_then}
 use Rattle.std.specs.Prelude.{OnErr}
 use Rattle.sqlvault.specs.declared.refusal.Refusal.{Refusal}
 use Rattle.sqlvault.specs.declared.refusal.Refusal.TheVariants.{Answered}
-use Rattle.sqlvault.specs.Adopts.{StaysAs, IsBlank, IsKnown, IsRefused, IsAdoptFault, JudgesVersion}
+use Rattle.sqlvault.specs.Adopts.{StaysAs, IsBlank, IsKnown, IsRefused, IsAdoptFault}
 use Rattle.sqlvault.specs.Adopts.{Adopts, IsForeign, Settles}
 use Rattle.sqlvault.specs.Refusals.{is_memory, fault_of, answer_of, told}
 use Rattle.sqlvault.specs.Stands.{LeavesNoMore}
@@ -101,13 +96,6 @@ kinds_met e = at (is_memory e)
     at true = tt
     at false = tt
 
-pub meta_rows_met : (rows : Rows) (e : Error) → JudgesVersion rows (fault_of e)
-meta_rows_met rows e = at (is_memory e)
-  where
-    at : (b : Bool) → JudgesVersion rows (cond b fault.NoMemory fault.Store)
-    at true = tt
-    at false = tt
-
 pub refused_met : (s : State) (e : Error) → IsRefused s (fault_of e)
 refused_met s e = at (is_memory e)
   where
@@ -141,7 +129,8 @@ own_marked s out meta_rows (inl inside) = true≢false (sym inside ∙ out)
 own_marked s out meta_rows (inr it) = true≢false (sym meta_rows ∙ it.2)
 
 -- it is given back
-pub given_back : {A C : Type 0} {now conn : C} (refusal : Refusal) (f : VaultFault) → (let r : Result (Unit {0}) Refusal = Err refusal in r ≡ Err (Answered fault.NotOurs)) → f ≡ told refusal → now ≡ conn
+pub given_back : {A C : Type 0} {now conn : C} (refusal : Refusal) (f : VaultFault)
+    → (let r : Result (Unit {0}) Refusal = Err refusal in r ≡ Err (Answered fault.NotOurs)) → f ≡ told refusal → now ≡ conn
     → (let r : Result A (VaultFault × C) = Err (f, now) in r ≡ Err (fault.NotOurs, conn))
 given_back refusal f e is same =
     let answered : refusal ≡ Answered fault.NotOurs = cc in
@@ -169,18 +158,3 @@ settled_so s0 s1 r out settled kept adopts err stop = record {
   stays = on_err_then r {Q = StaysAs s0 s1} (stays_undone s0 s1 out settled) err;
   stop = λ up db may. inl (stop (up, kept) db may);
 }
-
--- an error behind a step of the transaction
-pub halted_after : (first mid new : State) → GoesOn first mid → IsUndone mid new → IsHalted first new
-halted_after first mid new on (inl same) = inl (record {
-  was_open = on.was_open;
-  is_open = same.0.is_open;
-  now_is = refl;
-  committed_is = same.0.committed_is ∙ on.committed_is;
-  mode = same.0.mode ∙ on.mode;
-})
-halted_after first mid new on (inr back) = inr (record {
-  was_open = λ _. on.was_open;
-  undone = λ up. ((back.undone up).0 ∙ on.committed_is, (back.undone up).1 ∙ on.committed_is);
-  autocommit = back.autocommit;
-})

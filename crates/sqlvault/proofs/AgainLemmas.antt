@@ -45,7 +45,8 @@ marked_otherwise rows c (meta_row, found, other) k =
 none_kept : (stopped first : State) → FindsLeft stopped first → RulesOut stopped → ((c : Contents) → Keeps (rows_in first.now.trees) c → ⊥) → ⊥
 none_kept stopped first f out none = out.1 (first.committed.trees, f.left, λ c k. absurd (none c (seen_as_left stopped first c f k)))
 
-refused_again : (stopped first : State) (it : VaultFault) → FindsLeft stopped first → (((c : Contents) → Keeps (rows_in first.now.trees) c → ⊥) → ⊥) → IsRefused first it → (it ≡ fault.Store) ⊎ (it ≡ fault.NoMemory)
+refused_again : (stopped first : State) (it : VaultFault) → FindsLeft stopped first → (((c : Contents) → Keeps (rows_in first.now.trees) c → ⊥) → ⊥)
+    → IsRefused first it → (it ≡ fault.Store) ⊎ (it ≡ fault.NoMemory)
 refused_again stopped first fault.Store f some r = inl refl
 refused_again stopped first fault.NoMemory f some r = inr refl
 refused_again stopped first fault.NotOurs f some r = absurd (some (λ c k. (r.outside f.opened.autocommit).1 c (f.tables, k)))
@@ -78,6 +79,8 @@ refused_told g stopped first (Ok vault) adopts = tt
 refused_told g stopped first (Err refused) adopts = λ clean f out. refused_again stopped (state g first) refused.0 f (none_kept stopped (state g first) f out) (adopts clean (inr f.tables))
 
 pub refused_between : {S : Type 0} (g : Ghosts S) (stopped : State) (first : Held S) (r : Result (Opened S) (VaultFault × Held S)) → LeavesLast stopped → IsTold g first r
-    → IfErr r (λ refused. (c : Contents) → HasCleanDisk (state g refused.1) → FindsLeft stopped (state g first) → IsTrue stopped.is_open → Holds stopped c → (refused.0 ≡ fault.Store) ⊎ (refused.0 ≡ fault.NoMemory))
+    → IfErr r (λ refused. (c : Contents) → HasCleanDisk (state g refused.1) → FindsLeft stopped (state g first) → IsTrue stopped.is_open
+    → Holds stopped c → (refused.0 ≡ fault.Store) ⊎ (refused.0 ≡ fault.NoMemory))
 refused_between g stopped first (Ok vault) law adopts = tt
-refused_between g stopped first (Err refused) law adopts = λ c clean f up h. refused_again stopped (state g first) refused.0 f (λ none. none c (seen_as_left stopped (state g first) c f (leaves_last stopped c law up h (state g first).committed.trees f.left))) (adopts clean (inr f.tables))
+refused_between g stopped first (Err refused) law adopts = λ c clean f up h. refused_again stopped (state g first) refused.0 f
+    (λ none. none c (seen_as_left stopped (state g first) c f (leaves_last stopped c law up h (state g first).committed.trees f.left))) (adopts clean (inr f.tables))

@@ -1,5 +1,6 @@
 -- Two contents that the same rows describe say the same: rows tell all but the order of the clerks.
-use Rattle.std.proofs.Common.{◌≡◌, inl, inr, ℕ, zero, suc, ◌+◌, ◌*◌, ◌<◌, ◌≤◌, ◌^◌, ℤ, pos, negsuc, Bool, true, false, cond, List, [], ◌∷◌, ◌++◌, length, take, drop, map, Option, Some, None, refl, sym, ap, ◌∙◌, arith, true≢false, w64, length-drop}
+use Rattle.std.proofs.Common.{◌≡◌, inl, inr, ℕ, zero, suc, ◌+◌, ◌*◌, ◌<◌, ◌≤◌, ◌^◌, ℤ, pos, negsuc, Bool, true, false, cond, List, [], ◌∷◌, ◌++◌, length, take, drop, map, Option}
+use Rattle.std.proofs.Common.{Some, None, refl, sym, ap, ◌∙◌, arith, true≢false, w64, length-drop}
 use Rattle.std.specs.Prelude.{nat_lt, codes, find, bytes_eq}
 use Rattle.std.specs.Option.{option_map}
 use Rattle.std.specs.List.{list_all}
@@ -43,10 +44,10 @@ use Rattle.sqlite_trees.specs.Tree.{Trees}
 use Rattle.sqlite.specs.State.{State}
 use Rattle.sqlvault.specs.Stops.{MayHold}
 use Rattle.sqlvault.specs.Keeps.{Keeps, kind_of, secret_of, clerk_row, deposit_row, row_key, message_row, effect_number, clerks_text, pattern_text, actions_number, rule_row}
-use Rattle.sqlvault.proofs.RemoveLemmas.{low}
 use Rattle.sqlvault.proofs.ClerkLemmas.{found_rows}
 use Rattle.sqlvault.proofs.PageLemmas.{text_is, sheet_read, no_sheet}
 use Rattle.sqlvault.proofs.RuleLemmas.{parts, sound_rules, at_no_name}
+use Rattle.sqlvault.proofs.SmallLemmas.{nat_lt-true}
 
 -- ---- clerks
 
@@ -60,7 +61,8 @@ names_are (x ∷ xs) = ap (λ l. x.name ∷ l) (names_are xs)
 pub names_told : (rows : Rows) (c : Contents) → Keeps rows c → by_name (map (λ (x : vault.Clerk). x.name) c.clerks) ≡ by_name (map (λ (r : Clerk). r.name) rows.clerks)
 names_told rows c k =
     ap by_name (names_are c.clerks)
-    ∙ by_name_permuted (map (λ (r : Clerk). r.name) (map clerk_row c.clerks)) (map (λ (r : Clerk). r.name) rows.clerks) (IsPermutation-map (λ (r : Clerk). r.name) (map clerk_row c.clerks) rows.clerks k.clerks)
+    ∙ by_name_permuted (map (λ (r : Clerk). r.name) (map clerk_row c.clerks)) (map (λ (r : Clerk). r.name) rows.clerks)
+    (IsPermutation-map (λ (r : Clerk). r.name) (map clerk_row c.clerks) rows.clerks k.clerks)
 
 credential_back : Clerk → Credential
 credential_back r = cond (same_int r.kind (pos 1)) (kept.Apop r.secret) (kept.Pass r.secret)
@@ -188,7 +190,8 @@ rules_back (r ∷ rs) sound =
 policy_same : (rows : Rows) (a b : Contents) → Keeps rows a → Keeps rows b → a.policy ≡ b.policy
 policy_same rows a b j k =
     let groups = sym j.groups ∙ k.groups in
-    let rules = sym (rules_back a.policy.rules (sound_rules a.policy j.sound.records.policy)) ∙ ap (map rule_back) (sym j.rules ∙ k.rules) ∙ rules_back b.policy.rules (sound_rules b.policy k.sound.records.policy) in
+    let rules = sym (rules_back a.policy.rules (sound_rules a.policy j.sound.records.policy)) ∙ ap (map rule_back) (sym j.rules ∙ k.rules)
+    ∙ rules_back b.policy.rules (sound_rules b.policy k.sound.records.policy) in
     λ i. let p : Policy = record { groups = groups i; rules = rules i } in p
 
 -- ---- texts
@@ -247,7 +250,7 @@ mail_same T (x ∷ xs) (y ∷ ys) e p q f g =
     cc
 
 low_key : (rows : Rows) (c : Contents) → Keeps rows c → (x : Keyed) → In x c.messages → x.key < 2 ^ 64
-low_key rows c k x i = low x.key (2 ^ 64) (all_in (λ (y : Keyed). nat_lt y.key (2 ^ 64)) c.messages x k.keys i)
+low_key rows c k x i = nat_lt-true x.key (2 ^ 64) (all_in (λ (y : Keyed). nat_lt y.key (2 ^ 64)) c.messages x k.keys i)
 
 messages_same : (rows : Rows) (a b : Contents) → Keeps rows a → Keeps rows b → a.messages ≡ b.messages
 messages_same rows a b j k =

@@ -1,11 +1,11 @@
 -- The rows of deposits and of counts tell of sound deposits just where the numbers of the deposits are those that the counts ask for.
-use Rattle.std.proofs.Common.{◌≡◌, inl, inr, ℕ, zero, suc, ℤ, pos, negsuc, ◌+◌, ◌<◌, ◌≤◌, Bool, true, false, not, cond, ◌&&◌, ◌||◌, ◌⊎◌, List, [], ◌∷◌, ◌++◌, length, map, Option, Some, None, refl, sym, ap, subst, ◌∙◌, arith, ⊎_elim, true≢false}
+use Rattle.std.proofs.Common.{◌≡◌, inl, inr, ℕ, zero, suc, ℤ, pos, negsuc, ◌+◌, ◌<◌, ◌≤◌, Bool, true, false, not, cond, ◌&&◌, ◌||◌, ◌⊎◌, List, [], ◌∷◌, ◌++◌, length, map, Option}
+use Rattle.std.proofs.Common.{Some, None, refl, sym, ap, subst, ◌∙◌, arith, ⊎_elim, true≢false}
 use Rattle.std.specs.Prelude.{◌==◌, nat_le, nat_lt, filter, flat_map, find, sum_by}
 use Rattle.std.specs.Str.{bytes_eq}
 use Rattle.std.specs.List.{list_any, list_all, range_with_len}
 use Rattle.std.specs.List.Sorted.{IsPermutation}
 use Rattle.std.proofs.lemmas.Bool.{cases_Bool, and_parts, or_parts}
-use Rattle.std.proofs.lemmas.Bool.Decides.{nat_tests}
 use Rattle.std.proofs.lemmas.List.{length-append}
 use Rattle.std.proofs.lemmas.List.Elements.{filter-append}
 use Rattle.std.proofs.lemmas.List.FromFn.{length-range_with_len}
@@ -26,23 +26,12 @@ use Rattle.sqlvault.specs.Keeps.{deposit_row, number_in, count_in}
 use Rattle.sqlvault.specs.Numbers.{Number, has_number, natural, number_of, is_deposit_row, is_within, numbers_to, has_all, is_filled, asked, are_sound_rows}
 use Rattle.sqlvault.specs.Parts.{Finds, DepositsAre, records_with}
 use Rattle.sqlvault.proofs.PermutationLemmas.{filter_permuted}
-use Rattle.sqlvault.proofs.RemoveLemmas.{num_same, num_itself, low}
+use Rattle.sqlvault.proofs.RemoveLemmas.{num_same, num_itself}
 use Rattle.sqlvault.proofs.NumberLemmas.{Differ, in_permuted, no_more, as_many, range_differs, Parts, parts, count_is_length, same_uid_of, number_of_class}
 use Rattle.sqlvault.proofs.HasNumberLemmas.{number_is, has_of, of_has, in_numbers, IsNumberOf, numbers_in}
+use Rattle.sqlvault.proofs.SmallLemmas.{both_hold, in_either, nat_le-true, in_left, le-nat_le, lt-nat_lt, apart_distinct, in_right, filter_twice, nat_lt-true}
 
 -- ---- tests
-
-nat_at_most : (m n : ℕ) → nat_le m n ≡ true → m ≤ n
-nat_at_most m n h = grind (arith, nat_tests)
-
-nat_within : (m n : ℕ) → m ≤ n → nat_le m n ≡ true
-nat_within m n h = grind (arith, nat_tests)
-
-nat_above : (m n : ℕ) → m < n → nat_lt m n ≡ true
-nat_above m n h = grind (arith, nat_tests)
-
-both : (a b : Bool) → a ≡ true → b ≡ true → (a && b) ≡ true
-both a b e f = rw (e, f) refl
 
 -- ---- names that are equal
 
@@ -54,18 +43,13 @@ abbrev same_count : Count → Count → Bool
 same_count a b = bytes_eq a.maildrop b.maildrop && bytes_eq a.class b.class
 
 same_count_of : (a b : Count) → a.maildrop ≡ b.maildrop → a.class ≡ b.class → same_count a b ≡ true
-same_count_of a b e f = both (bytes_eq a.maildrop b.maildrop) (bytes_eq a.class b.class) (names_same a.maildrop b.maildrop e) (names_same a.class b.class f)
+same_count_of a b e f = both_hold (bytes_eq a.maildrop b.maildrop) (bytes_eq a.class b.class) (names_same a.maildrop b.maildrop e) (names_same a.class b.class f)
 
 count_names : (d class : Name) (c : Count) → is_count d class c ≡ true → (c.maildrop ≡ d) × (c.class ≡ class)
 count_names d class c h = let p = and_parts (bytes_eq c.maildrop d) (bytes_eq c.class class) h in (bytes_are c.maildrop d p.0, bytes_are c.class class p.1)
 
 is_its_count : (d class : Name) (c : Count) → c.maildrop ≡ d → c.class ≡ class → is_count d class c ≡ true
-is_its_count d class c e f = both (bytes_eq c.maildrop d) (bytes_eq c.class class) (names_same c.maildrop d e) (names_same c.class class f)
-
--- the tables and the records speak of the same
-apart_is : {X : Type 0} (same : X → X → Bool) (xs : List X) → are_apart same xs ≡ are_distinct same xs
-apart_is same [] = refl
-apart_is same (x ∷ xs) = ap (λ b. not (list_any (same x) xs) && b) (apart_is same xs)
+is_its_count d class c e f = both_hold (bytes_eq c.maildrop d) (bytes_eq c.class class) (names_same c.maildrop d e) (names_same c.class class f)
 
 -- ---- the count of a class
 
@@ -105,7 +89,8 @@ found_count (x ∷ cs) c apart i =
     let p = and_parts (not (list_any (same_count x) cs)) (are_apart same_count cs) apart in
     let none = not_true (list_any (same_count x) cs) p.0 in
     ⊎_elim
-    (λ (e : c ≡ x). find_first (is_count c.maildrop c.class) x cs (subst (λ (z : Count). is_count c.maildrop c.class z ≡ true) e (is_its_count c.maildrop c.class c refl refl)) ∙ ap (λ (z : Count). Some z) (sym e))
+    (λ (e : c ≡ x). find_first (is_count c.maildrop c.class) x cs (subst (λ (z : Count). is_count c.maildrop c.class z ≡ true) e (is_its_count c.maildrop c.class c refl refl))
+    ∙ ap (λ (z : Count). Some z) (sym e))
     (λ k. find_later (is_count c.maildrop c.class) x cs (other c k (any_in (same_count x) cs c none k) (is_count c.maildrop c.class x) refl) ∙ found_count cs c p.1 k)
     i
   where
@@ -124,10 +109,6 @@ asks c = numbers_to c.maildrop c.class (natural c.k)
 abbrev all_asked : List Count → List Number
 all_asked cs = flat_map asks cs
 
-in_either : {A : Type 0} (xs ys : List A) (z : A) → In z (xs ++ ys) → In z xs ⊎ In z ys
-in_either [] ys z i = inr i
-in_either (x ∷ xs) ys z i = ⊎_elim (λ e. inl (inl e)) (λ k. ⊎_elim (λ l. inl (inr l)) (λ r. inr r) (in_either xs ys z k)) i
-
 asked_in : (cs : List Count) (z : Number) → In z (all_asked cs) → (c : Count) × In c cs × IsNumberOf c.maildrop c.class (natural c.k) z
 asked_in [] z i = absurd i
 asked_in (c ∷ cs) z i = ⊎_elim
@@ -135,19 +116,12 @@ asked_in (c ∷ cs) z i = ⊎_elim
     (λ (k : In z (all_asked cs)). let r = asked_in cs z k in (r.0, inr r.1, r.2))
     (in_either (asks c) (all_asked cs) z i)
 
-in_front : {A : Type 0} (xs ys : List A) (z : A) → In z xs → In z (xs ++ ys)
-in_front [] ys z i = absurd i
-in_front (x ∷ xs) ys z i = ⊎_elim (λ e. inl e) (λ k. inr (in_front xs ys z k)) i
-
-in_back : {A : Type 0} (xs ys : List A) (z : A) → In z ys → In z (xs ++ ys)
-in_back [] ys z i = i
-in_back (x ∷ xs) ys z i = inr (in_back xs ys z i)
-
 in_asked : (cs : List Count) (c : Count) (k : ℕ) → In c cs → 0 < k → k ≤ natural c.k → In {A = Number} (c.maildrop, c.class, k) (all_asked cs)
 in_asked [] c k i above within = absurd i
 in_asked (x ∷ cs) c k i above within = ⊎_elim
-    (λ (e : c ≡ x). in_front (asks x) (all_asked cs) (c.maildrop, c.class, k) (subst (λ (y : Count). In {A = Number} (c.maildrop, c.class, k) (asks y)) e (in_numbers c.maildrop c.class (natural c.k) k above within)))
-    (λ j. in_back (asks x) (all_asked cs) (c.maildrop, c.class, k) (in_asked cs c k j above within))
+    (λ (e : c ≡ x). in_left (asks x) (all_asked cs) (c.maildrop, c.class, k)
+    (subst (λ (y : Count). In {A = Number} (c.maildrop, c.class, k) (asks y)) e (in_numbers c.maildrop c.class (natural c.k) k above within)))
+    (λ j. in_right (asks x) (all_asked cs) (c.maildrop, c.class, k) (in_asked cs c k j above within))
     i
 
 length_asks : (c : Count) → length (asks c) ≡ asked c
@@ -256,7 +230,7 @@ uid_number r s h =
 uids_apart : (rs : List Receipt) → Differ (map receipt_number rs) → are_distinct same_uid rs ≡ true
 uids_apart [] d = refl
 uids_apart (r ∷ rs) d =
-    both (not (list_any (same_uid r) rs)) (are_distinct same_uid rs)
+    both_hold (not (list_any (same_uid r) rs)) (are_distinct same_uid rs)
     (not_false (list_any (same_uid r) rs) (none_any (same_uid r) rs (λ s i. ⊎_elim
     (λ (t : same_uid r s ≡ true). absurd (d.0 (subst (λ (z : Number). In z (map receipt_number rs)) (sym (uid_number r s t)) (map_in receipt_number rs s i))))
     (λ (f : same_uid r s ≡ false). f)
@@ -268,17 +242,10 @@ numbers_apart [] apart = tt
 numbers_apart (r ∷ rs) apart =
     let p = and_parts (not (list_any (same_uid r) rs)) (are_distinct same_uid rs) apart in (
       λ i. let s = in_map receipt_number rs (receipt_number r) i in
-          true≢false (sym (same_uid_of r s.0 (ap (λ (z : Number). z.0) s.2) (ap (λ (z : Number). z.1) s.2) (ap (λ (z : Number). z.2) s.2)) ∙ any_in (same_uid r) rs s.0 (not_true (list_any (same_uid r) rs) p.0) s.1),
+          true≢false (sym (same_uid_of r s.0 (ap (λ (z : Number). z.0) s.2) (ap (λ (z : Number). z.1) s.2) (ap (λ (z : Number). z.2) s.2))
+          ∙ any_in (same_uid r) rs s.0 (not_true (list_any (same_uid r) rs) p.0) s.1),
       numbers_apart rs p.1,
     )
-
-filter_twice : {X : Type 0} (p q : X → Bool) (xs : List X) → filter q (filter p xs) ≡ filter (λ x. p x && q x) xs
-filter_twice p q [] = refl
-filter_twice p q (x ∷ xs) = at (p x) (filter_twice p q xs)
-  where
-    at : (b : Bool) → filter q (filter p xs) ≡ filter (λ y. p y && q y) xs → filter q (cond b (x ∷ filter p xs) (filter p xs)) ≡ cond (b && q x) (x ∷ filter (λ y. p y && q y) xs) (filter (λ y. p y && q y) xs)
-    at true e = ap (λ l. cond (q x) (x ∷ l) l) e
-    at false e = e
 
 count_numbers : (d class : Name) (rs : List Receipt) → class_count class (receipts_of d rs) ≡ length (filter (is_of d class) (map receipt_number rs))
 count_numbers d class rs =
@@ -314,7 +281,7 @@ row_parts d h =
     let p3 = and_parts (is_name d.maildrop && is_deposit_id d.id && is_name d.class) (nat_lt 0 (natural d.k)) p4.0 in
     let p2 = and_parts (is_name d.maildrop && is_deposit_id d.id) (is_name d.class) p3.0 in
     let p1 = and_parts (is_name d.maildrop) (is_deposit_id d.id) p2.0 in
-    record { maildrop = p1.0; id = p1.1; class = p2.1; above = low 0 (natural d.k) p3.1; sized = num_same (length d.digest) 32 p4.1 }
+    record { maildrop = p1.0; id = p1.1; class = p2.1; above = nat_lt-true 0 (natural d.k) p3.1; sized = num_same (length d.digest) 32 p4.1 }
 
 above_is : (k : ℤ) → 0 < natural k → pos (natural k) ≡ k
 above_is (pos n) h = refl
@@ -333,12 +300,12 @@ is_32 n e = subst (λ m. (n == m) ≡ true) e (num_itself n)
 sound_from : (rs : List Receipt) (r : Receipt) → Parts rs r → is_sound_receipt (records_with [] rs) r ≡ true
 sound_from rs r p =
     let n = class_count r.class (receipts_of r.maildrop rs) in
-    let counted = both (nat_lt 0 r.k) (nat_le r.k n) (nat_above 0 r.k p.above) (nat_within r.k n p.within) in
-    let a = both (is_name r.maildrop) (is_deposit_id r.id) p.maildrop p.id in
-    let b = both (is_name r.maildrop && is_deposit_id r.id) (is_name r.class) a p.class in
-    let c = both (is_name r.maildrop && is_deposit_id r.id && is_name r.class) (is_counted rs r) b counted in
-    let d = both (is_name r.maildrop && is_deposit_id r.id && is_name r.class && is_counted rs r) (nat_le n most_deposits) c (nat_within n most_deposits p.few) in
-    both (is_name r.maildrop && is_deposit_id r.id && is_name r.class && is_counted rs r && nat_le n most_deposits) (length r.digest == 32) d (is_32 (length r.digest) p.sized)
+    let counted = both_hold (nat_lt 0 r.k) (nat_le r.k n) (lt-nat_lt 0 r.k p.above) (le-nat_le r.k n p.within) in
+    let a = both_hold (is_name r.maildrop) (is_deposit_id r.id) p.maildrop p.id in
+    let b = both_hold (is_name r.maildrop && is_deposit_id r.id) (is_name r.class) a p.class in
+    let c = both_hold (is_name r.maildrop && is_deposit_id r.id && is_name r.class) (is_counted rs r) b counted in
+    let d = both_hold (is_name r.maildrop && is_deposit_id r.id && is_name r.class && is_counted rs r) (nat_le n most_deposits) c (le-nat_le n most_deposits p.few) in
+    both_hold (is_name r.maildrop && is_deposit_id r.id && is_name r.class && is_counted rs r && nat_le n most_deposits) (length r.digest == 32) d (is_32 (length r.digest) p.sized)
 
 -- ---- rows that pass the test are those of deposits
 
@@ -362,7 +329,7 @@ filled_has ns c z h is =
     (either (n == 0) (is_name c.maildrop && is_name c.class && has_all ns c.maildrop c.class n) p.1)
 
 within_most : (k : ℤ) → is_within k ≡ true → natural k ≤ most_deposits
-within_most (pos n) h = nat_at_most n most_deposits h
+within_most (pos n) h = nat_le-true n most_deposits h
 within_most (negsuc n) h = absurd (true≢false (sym h))
 
 -- the numbers are those asked for
@@ -405,7 +372,8 @@ receipt_parts ds cs d a i =
     let c = e.0 in
     let total : pos (class_count c.class (receipts_of c.maildrop rs)) ≡ c.k = sym (counts_agree ds cs c.maildrop c.class a) ∙ counted_as cs c a.apart e.1 in
     let counted : class_count c.class (receipts_of c.maildrop rs) ≡ natural c.k = ap natural total in
-    let here : class_count d.class (receipts_of d.maildrop rs) ≡ natural c.k = ap (λ n. class_count n (receipts_of d.maildrop rs)) e.2.class_is ∙ ap (λ n. class_count c.class (receipts_of n rs)) e.2.maildrop ∙ counted in
+    let here : class_count d.class (receipts_of d.maildrop rs) ≡ natural c.k = ap (λ n. class_count n (receipts_of d.maildrop rs)) e.2.class_is
+    ∙ ap (λ n. class_count c.class (receipts_of n rs)) e.2.maildrop ∙ counted in
     record {
       maildrop = row.maildrop;
       id = row.id;
@@ -428,7 +396,7 @@ accepted rows apart ok =
         counts = λ d class. counts_agree ds cs d class a;
         sound = all_of (is_sound_receipt (records_with [] rs)) rs (λ r i. let m = in_map receipt_in ds r i in
             subst (λ (x : Receipt). is_sound_receipt (records_with [] rs) x ≡ true) (sym m.2) (sound_from rs (receipt_in m.0) (receipt_parts ds cs m.0 a m.1)));
-        ids_apart = distinct-map receipt_in same_id ds ∙ sym (apart_is (λ (x y : Deposit). bytes_eq x.maildrop y.maildrop && bytes_eq x.id y.id) ds) ∙ apart.deposits;
+        ids_apart = distinct-map receipt_in same_id ds ∙ sym (apart_distinct (λ (x y : Deposit). bytes_eq x.maildrop y.maildrop && bytes_eq x.id y.id) ds) ∙ apart.deposits;
         uids_apart = uids_apart rs (subst (λ (l : List Number). Differ l) (sym (same_numbers ds)) (differ_permuted (all_asked cs) (map number_of ds) a.same (asked_differ cs apart.counts)));
       },
     )
@@ -437,10 +405,10 @@ accepted rows apart ok =
 
 row_passes : (rs : List Receipt) (r : Receipt) → Parts rs r → is_deposit_row (deposit_row r) ≡ true
 row_passes rs r p =
-    let a = both (is_name r.maildrop) (is_deposit_id r.id) p.maildrop p.id in
-    let b = both (is_name r.maildrop && is_deposit_id r.id) (is_name r.class) a p.class in
-    let c = both (is_name r.maildrop && is_deposit_id r.id && is_name r.class) (nat_lt 0 r.k) b (nat_above 0 r.k p.above) in
-    both (is_name r.maildrop && is_deposit_id r.id && is_name r.class && nat_lt 0 r.k) (length r.digest == 32) c (is_32 (length r.digest) p.sized)
+    let a = both_hold (is_name r.maildrop) (is_deposit_id r.id) p.maildrop p.id in
+    let b = both_hold (is_name r.maildrop && is_deposit_id r.id) (is_name r.class) a p.class in
+    let c = both_hold (is_name r.maildrop && is_deposit_id r.id && is_name r.class) (nat_lt 0 r.k) b (lt-nat_lt 0 r.k p.above) in
+    both_hold (is_name r.maildrop && is_deposit_id r.id && is_name r.class && nat_lt 0 r.k) (length r.digest == 32) c (is_32 (length r.digest) p.sized)
 
 parts_in : (rows : Rows) (rs : List Receipt) (r : Receipt) → DepositsAre rows rs → In r rs → Parts rs r
 parts_in rows rs r h i = parts rs r (all_in (is_sound_receipt (records_with [] rs)) rs r h.sound i)
@@ -465,7 +433,7 @@ count_fits : (rows : Rows) (rs : List Receipt) (d class : Name) → DepositsAre 
 count_fits rows rs d class h =
     let n = class_count class (receipts_of d rs) in
     ⊎_elim
-    (λ (e : n ≡ 0). subst (λ m. m ≤ most_deposits) (sym e) (nat_at_most 0 most_deposits refl))
+    (λ (e : n ≡ 0). subst (λ m. m ≤ most_deposits) (sym e) (nat_le-true 0 most_deposits refl))
     (λ (l : 1 ≤ n). let r = there_is rows rs d class 1 h (omega arith) l in
     subst (λ m. class_count m (receipts_of d rs) ≤ most_deposits) r.3 (subst (λ m. class_count r.0.class (receipts_of m rs) ≤ most_deposits) r.2 (parts_in rows rs r.0 h r.1).few))
     (none_or_more n)
@@ -486,16 +454,17 @@ count_passes rows rs c apart h i =
     let n = class_count c.class (receipts_of c.maildrop rs) in
     let k : c.k ≡ pos n = sym (counted_as rows.counts c apart.counts i) ∙ h.counts c.maildrop c.class in
     let is : natural c.k ≡ n = ap natural k in
-    let within : is_within c.k ≡ true = subst (λ m. is_within m ≡ true) (sym k) (nat_within n most_deposits (count_fits rows rs c.maildrop c.class h)) in
-    both (is_within c.k) (natural c.k == 0 || (is_name c.maildrop && is_name c.class && has_all ns c.maildrop c.class (natural c.k))) within
+    let within : is_within c.k ≡ true = subst (λ m. is_within m ≡ true) (sym k) (le-nat_le n most_deposits (count_fits rows rs c.maildrop c.class h)) in
+    both_hold (is_within c.k) (natural c.k == 0 || (is_name c.maildrop && is_name c.class && has_all ns c.maildrop c.class (natural c.k))) within
     (⊎_elim
-    (λ (e : n ≡ 0). first_or (natural c.k == 0) (is_name c.maildrop && is_name c.class && has_all ns c.maildrop c.class (natural c.k)) (subst (λ m. (natural c.k == m) ≡ true) (is ∙ e) (num_itself (natural c.k))))
+    (λ (e : n ≡ 0). first_or (natural c.k == 0) (is_name c.maildrop && is_name c.class && has_all ns c.maildrop c.class (natural c.k))
+    (subst (λ m. (natural c.k == m) ≡ true) (is ∙ e) (num_itself (natural c.k))))
     (λ (l : 1 ≤ n).
     let r = there_is rows rs c.maildrop c.class 1 h (omega arith) l in
     let p = parts_in rows rs r.0 h r.1 in
     second_or (natural c.k == 0) (is_name c.maildrop && is_name c.class && has_all ns c.maildrop c.class (natural c.k))
-    (both (is_name c.maildrop && is_name c.class) (has_all ns c.maildrop c.class (natural c.k))
-    (both (is_name c.maildrop) (is_name c.class) (subst (λ m. is_name m ≡ true) r.2 p.maildrop) (subst (λ m. is_name m ≡ true) r.3 p.class))
+    (both_hold (is_name c.maildrop && is_name c.class) (has_all ns c.maildrop c.class (natural c.k))
+    (both_hold (is_name c.maildrop) (is_name c.class) (subst (λ m. is_name m ≡ true) r.2 p.maildrop) (subst (λ m. is_name m ≡ true) r.3 p.class))
     (all_there rows rs c.maildrop c.class (natural c.k) h is)))
     (none_or_more n))
 
@@ -526,7 +495,13 @@ as_many_asked rows rs apart h =
     let back = λ (z : Number) (i : In z ns).
     let m = in_map receipt_number rs z i in
     subst (λ (y : Number). In y (all_asked rows.counts)) (sym m.2) (receipt_asked rows rs m.0 h m.1) in
-    omega (arith, no_more (all_asked rows.counts) ns (asked_differ rows.counts apart.counts) there, no_more ns (all_asked rows.counts) (numbers_apart rs h.uids_apart) back, length_asked rows.counts, length-map receipt_number rs)
+    omega (
+      arith,
+      no_more (all_asked rows.counts) ns (asked_differ rows.counts apart.counts) there,
+      no_more ns (all_asked rows.counts) (numbers_apart rs h.uids_apart) back,
+      length_asked rows.counts,
+      length-map receipt_number rs,
+    )
 
 refused : (rows : Rows) (rs : List Receipt) → AreApart rows → DepositsAre rows rs → are_sound_rows rows.deposits rows.counts ≡ true
 refused rows rs apart h =
@@ -540,8 +515,8 @@ refused rows rs apart h =
     let many : sum_by asked cs ≡ length ds = as_many_asked rows rs apart h ∙ sym (length-map deposit_row rs) in
     let c : (sum_by asked cs == length ds) ≡ true = subst (λ n. (sum_by asked cs == n) ≡ true) many (num_itself (sum_by asked cs)) in
     subst (λ (l : List Deposit). are_sound_rows l cs ≡ true) (sym h.same)
-    (both (list_all is_deposit_row ds) (list_all (is_filled (map number_of ds)) cs && sum_by asked cs == length ds) a
-    (both (list_all (is_filled (map number_of ds)) cs) (sum_by asked cs == length ds) b c))
+    (both_hold (list_all is_deposit_row ds) (list_all (is_filled (map number_of ds)) cs && sum_by asked cs == length ds) a
+    (both_hold (list_all (is_filled (map number_of ds)) cs) (sum_by asked cs == length ds) b c))
 
 pub judged : (rows : Rows) (b : Bool) → AreApart rows → b ≡ are_sound_rows rows.deposits rows.counts → Finds (DepositsAre rows) b
 judged rows true apart e = accepted rows apart (sym e)

@@ -1,6 +1,6 @@
 -- Statements of one transaction that carries a store over, and what is left where one is refused.
-use Rattle.std.proofs.Common.{◌≡◌, ◌≢◌, ◌⊎◌, inl, inr, IsTrue, Bool, true, false, cond, not, ℤ, List, [], ◌∷◌, ◌++◌, map, filter, refl, sym, ap, subst, ◌∙◌, true≢false, arith}
-use Rattle.std.specs.Prelude.{codes, flat_map, find, Some, None, pos, length, Result, Ok, Err, OnErr}
+use Rattle.std.proofs.Common.{◌≡◌, ◌⊎◌, inl, inr, IsTrue, Bool, true, false, cond, not, [], ◌∷◌, ◌++◌, map, filter, refl, sym, ap, subst, ◌∙◌, true≢false}
+use Rattle.std.specs.Prelude.{codes, flat_map, find, Some, pos, Result, Ok, Err, OnErr}
 use Rattle.sqlite_trees.specs.Tree.{Trees}
 use Rattle.sqlite.specs.declared.error.Error.{Error}
 use Rattle.sqlite.specs.Effect.{Database, IsDatabase}
@@ -11,14 +11,13 @@ use Rattle.mailsql.specs.Changes.{PutsMetaRow}
 use Rattle.mailsql.specs.Uses.{marked}
 use Rattle.mailsql.specs.Rows.{Rows, IsOld, IsOldSchema, HasOldTables, rows_in, is_carried, completed, is_meta_row, IsKept, IsReady, IsBegunOn, IsHalted, GoesOn, Changes, MayLeave}
 use Rattle.sqlvault.specs.Keeps.{Keeps, our_meta_row, version}
-use Rattle.sqlvault.specs.Carries.{HasOlder, IsOfNoVersion, JudgesOlder, IsOfRows, IsOlder, IsCarried, IsUncarried, KeepsOlder, IsStoreOf, LeavesEither, brought, brought_in, old_meta_row, old_version}
+use Rattle.sqlvault.specs.Carries.{HasOlder, IsOfNoVersion, JudgesOlder, IsOfRows, IsOlder, IsCarried, IsUncarried, KeepsOlder, IsStoreOf, LeavesEither, brought, brought_in, old_meta_row}
 use Rattle.sqlvault.specs.Moves.{MovesOld, body_head, body_sheets}
 use Rattle.sqlvault.specs.Refusals.{is_memory, fault_of}
 use Rattle.sqlvault.specs.Adopts.{StaysAs, IsAdoptFault, IsBlank, LeavesEmptyToo}
 use Rattle.sqlvault.specs.declared.refusal.Refusal.{Refusal}
 use Rattle.mailsql.specs.declared.rows.MetaRow.{MetaRow}
 use Rattle.vault.specs.declared.fault.VaultFault.{VaultFault}
-use Rattle.vault.proofs.ListLemmas.{bytes_are}
 use Rattle.sqlvault.specs.Stands.{LeavesNoMore}
 
 -- ---- one statement behind another
@@ -52,7 +51,8 @@ looked_on a b c p same = record { was_open = p.was_open; is_open = same.0.is_ope
 pub no_more_in : (P : Rows → Rows → Type 0) (a b : State) → a.in_transaction ≡ true → IsReady a → HasCleanDisk b → Survives a b (MayLeave P a) → LeavesNoMore a b
 no_more_in P a b inside ready clean s db may = elim (s.crash clean db may) [ inl was ↦ was | inr more ↦ absurd (true≢false (sym inside ∙ (more ready).0)) ]
 
-pub completes_no_more : (carried : Bool) (a b : State) → IsBegunOn a → is_carried a.now.trees ≡ carried → HasCleanDisk b → Survives a b (λ _. IsBegunOn a → is_carried a.now.trees ≡ carried → ⊥) → LeavesNoMore a b
+pub completes_no_more : (carried : Bool) (a b : State) → IsBegunOn a → is_carried a.now.trees ≡ carried → HasCleanDisk b
+    → Survives a b (λ _. IsBegunOn a → is_carried a.now.trees ≡ carried → ⊥) → LeavesNoMore a b
 completes_no_more carried a b begun un clean s db may = elim (s.crash clean db may) [ inl was ↦ was | inr none ↦ absurd (none begun un) ]
 
 pub nothing_more : (a b : State) → HasCleanDisk b → Survives a b (λ _. ⊥) → LeavesNoMore a b
@@ -66,10 +66,12 @@ more_then a b c p q db may = p db (q db may)
 meta_rows_put : (carried : Bool) (old : Rows) → old.meta_rows ≡ old_meta_row carried ∷ [] → filter (λ m. not (is_meta_row (codes "popbox") m)) old.meta_rows ++ our_meta_row ∷ [] ≡ our_meta_row ∷ []
 meta_rows_put carried old is = ap (λ ms. filter (λ m. not (is_meta_row (codes "popbox") m)) ms ++ our_meta_row ∷ []) is
 
-marked_so : (carried : Bool) (old moved new : Rows) → moved.meta_rows ≡ old.meta_rows → old.meta_rows ≡ old_meta_row carried ∷ [] → PutsMetaRow our_meta_row moved new → new ≡ record moved { meta_rows = our_meta_row ∷ [] }
+marked_so : (carried : Bool) (old moved new : Rows) → moved.meta_rows ≡ old.meta_rows → old.meta_rows ≡ old_meta_row carried ∷ []
+    → PutsMetaRow our_meta_row moved new → new ≡ record moved { meta_rows = our_meta_row ∷ [] }
 marked_so carried old moved new same is put = put ∙ ap (λ ms. let w : Rows = record moved { meta_rows = ms } in w) (meta_rows_put carried moved (same ∙ is))
 
-pub brought_is : (carried : Bool) (old made moved new : Rows) → made ≡ completed carried old → MovesOld carried made moved → old.meta_rows ≡ old_meta_row carried ∷ [] → PutsMetaRow our_meta_row moved new → new ≡ brought carried old
+pub brought_is : (carried : Bool) (old made moved new : Rows) → made ≡ completed carried old → MovesOld carried made moved
+    → old.meta_rows ≡ old_meta_row carried ∷ [] → PutsMetaRow our_meta_row moved new → new ≡ brought carried old
 brought_is false old made moved new is moves meta_row put =
     marked_so false old moved new (ap (λ (r : Rows). r.meta_rows) (moves ∙ is)) meta_row put
     ∙ ap (λ (r : Rows). let w : Rows = record r { meta_rows = our_meta_row ∷ [] } in w) (moves ∙ is)
@@ -107,7 +109,8 @@ pub own_meta_row : (carried : Bool) (s : State) → IsOlder carried s → (rows_
 own_meta_row carried s older = older.meta_row ∙ ap (λ c. old_meta_row c ∷ []) (sym older.order)
 
 -- it is committed
-pub carried_at : (carried : Bool) (s0 s3 s4 : State) → IsOlder carried s0 → IsKept s3.now → rows_in s3.now.trees ≡ brought_in s0.now.trees → Shows s3 s4 s3.now s3.now false → (c : Contents) × Keeps (rows_in s3.now.trees) c → IsCarried s0 s4
+pub carried_at : (carried : Bool) (s0 s3 s4 : State) → IsOlder carried s0 → IsKept s3.now → rows_in s3.now.trees ≡ brought_in s0.now.trees
+    → Shows s3 s4 s3.now s3.now false → (c : Contents) × Keeps (rows_in s3.now.trees) c → IsCarried s0 s4
 carried_at carried s0 s3 s4 older kept is shows found = record {
   is_open = shows.is_open;
   meta_row = own_meta_row carried s0 older;
@@ -151,13 +154,6 @@ pub met_of_rows : (e : Error) → IsOfRows (fault_of e)
 met_of_rows e = at (is_memory e)
   where
     at : (b : Bool) → IsOfRows (cond b fault.NoMemory fault.Store)
-    at true = tt
-    at false = tt
-
-pub met_judged : (rows : Rows) (e : Error) → JudgesOlder rows (fault_of e)
-met_judged rows e = at (is_memory e)
-  where
-    at : (b : Bool) → JudgesOlder rows (cond b fault.NoMemory fault.Store)
     at true = tt
     at false = tt
 
@@ -215,7 +211,8 @@ order_uncarried carried s is other = (of_version carried (rows_in s.now.trees) i
 
 -- ---- behind queries that changed nothing
 
-pub older_on : (carried : Bool) (s0 s1 : State) → IsUnchanged s0 s1 → HasOlder s0 → is_carried s1.now.trees ≡ carried → s0.in_transaction ≡ false → (IsTrue s0.is_open → s0.now ≡ s0.committed) → (rows_in s0.now.trees).meta_rows ≡ old_meta_row carried ∷ [] → IsOlder carried s1
+pub older_on : (carried : Bool) (s0 s1 : State) → IsUnchanged s0 s1 → HasOlder s0 → is_carried s1.now.trees ≡ carried → s0.in_transaction ≡ false
+    → (IsTrue s0.is_open → s0.now ≡ s0.committed) → (rows_in s0.now.trees).meta_rows ≡ old_meta_row carried ∷ [] → IsOlder carried s1
 older_on carried s0 s1 same older order out settled meta_row = record {
   old = subst (λ (d : Database). IsOld d) (sym same.0.now_is) older;
   order = order;
@@ -237,7 +234,9 @@ carried_on s0 s1 s2 same it =
 pub uncarried_from : (s0 s1 : State) (f : VaultFault) → IsUnchanged s0 s1 → IsUncarried s1 f → IsUncarried s0 f
 uncarried_from s0 s1 fault.Store same is = tt
 uncarried_from s0 s1 fault.NoMemory same is = tt
-uncarried_from s0 s1 fault.NotOurs same is = subst (λ (d : Database). (IsOfNoVersion (rows_in d.trees) → ⊥) × ((rows_in d.trees).meta_rows ≡ old_meta_row (is_carried d.trees) ∷ [] → (c : Contents) → Keeps (brought_in d.trees) c → ⊥)) same.0.now_is is
+uncarried_from s0 s1 fault.NotOurs same is = subst
+    (λ (d : Database). (IsOfNoVersion (rows_in d.trees) → ⊥)
+    × ((rows_in d.trees).meta_rows ≡ old_meta_row (is_carried d.trees) ∷ [] → (c : Contents) → Keeps (brought_in d.trees) c → ⊥)) same.0.now_is is
 uncarried_from s0 s1 fault.OldVersion same is = subst (λ (d : Database). IsOfNoVersion (rows_in d.trees)) same.0.now_is is
 uncarried_from s0 s1 fault.NoMaildrop same is = absurd is
 uncarried_from s0 s1 fault.Conflict same is = absurd is
@@ -251,7 +250,8 @@ stays_on s0 s1 s2 same stays up =
     (same.0.was_open, (it.1.0 ∙ same.0.now_is, it.1.1 ∙ same.0.committed_is), it.2 ∙ same.0.mode)
 
 pub either_on : (s0 s1 s2 : State) → IsUnchanged s0 s1 → LeavesNoMore s0 s1 → LeavesEither s1 s2 → LeavesEither s0 s2
-either_on s0 s1 s2 same first then db may = elim (then db may) [ inl was ↦ inl (first db was) | inr now ↦ inr (subst (λ (d : Database). IsStoreOf (brought_in d.trees) db × ((c : Contents) × Keeps (brought_in d.trees) c)) same.0.now_is now) ]
+either_on s0 s1 s2 same first then db may = elim
+    (then db may) [ inl was ↦ inl (first db was) | inr now ↦ inr (subst (λ (d : Database). IsStoreOf (brought_in d.trees) db × ((c : Contents) × Keeps (brought_in d.trees) c)) same.0.now_is now) ]
 
 -- a query of an older store commits nothing
 pub asked_old : (a b : State) → IsOldSchema a.now → HasCleanDisk b → Survives a b (λ _. IsOldSchema a.now → ⊥) → LeavesNoMore a b

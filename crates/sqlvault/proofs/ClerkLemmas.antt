@@ -1,11 +1,10 @@
 -- What each statement leaves of the clerks, and what the rows tell of them.
 use Rattle.std.proofs.Common.{◌≡◌, ℕ, ℤ, ◌<◌, ◌≤◌, Bool, true, false, List, [], ◌∷◌, ◌++◌, length, Result, Ok, Err, refl, sym, ◌∙◌, ap, subst, cond, arith, true≢false, ⊎_elim}
-use Rattle.std.specs.Prelude.{map, filter, min, nat_le, not, bytes_eq, find, Option, Some, None, is_some, is_ok}
+use Rattle.std.specs.Prelude.{map, filter, min, not, bytes_eq, find, Option, Some, None, is_some, is_ok}
 use Rattle.std.specs.Option.{option_map}
 use Rattle.std.specs.List.{list_any, list_all}
 use Rattle.std.specs.List.Sorted.{IsPermutation}
 use Rattle.std.proofs.lemmas.Bool.{cases_Bool, and_parts, or_parts}
-use Rattle.std.proofs.lemmas.Bool.Decides.{nat_tests}
 use Rattle.std.proofs.lemmas.List.Sorted.{IsPermutation-refl, IsPermutation-cons, IsPermutation-trans, IsPermutation-map, IsPermutation-append_comm, IsPermutation-append_left, length_permutation}
 use Rattle.creds.specs.Names.{is_name}
 use Rattle.creds.specs.declared.credential.Credential.{Credential}
@@ -24,6 +23,7 @@ use Rattle.mailsql.specs.Rows.{Rows, is_clerk}
 use Rattle.mailsql.specs.Changes.{PutsClerk, DropsClerk}
 use Rattle.sqlvault.specs.Keeps.{Keeps, kind_of, secret_of, clerk_row}
 use Rattle.sqlvault.proofs.PermutationLemmas.{find_apart, find-map, filter_permuted}
+use Rattle.sqlvault.proofs.SmallLemmas.{lt-nat_le, le-nat_le}
 
 -- ---- what the rows tell
 
@@ -91,7 +91,7 @@ count_is rows c n most k e = e ∙ ap (λ (m : ℕ). min m most) (length_permuta
 -- ---- sound contents with other clerks
 
 -- which messages lie in a store is no matter to its clerks
-without_messages : (c : Contents) → AreSound c → IsKept (with_messages [] c)
+pub without_messages : (c : Contents) → AreSound c → IsKept (with_messages [] c)
 without_messages c s =
     let b = s.records in
     record {
@@ -264,18 +264,12 @@ answered Held c name o e h = record { answer = ap (λ (x : Option Credential). O
 pub full : (c : Contents) (name : List ℕ) → is_some (credential_in name c.clerks) ≡ false
     → most_clerks ≤ length c.clerks
     → IsAnswer (put_result (put_clerk_answer name c.clerks)) (Err fault.Full)
-full c name e most = let f = no_room most_clerks (length c.clerks) most in rw (e, f) refl
-  where
-    no_room : (most count : ℕ) → most ≤ count → nat_le most count ≡ true
-    no_room most count h = grind (arith, nat_tests)
+full c name e most = let f = le-nat_le most_clerks (length c.clerks) most in rw (e, f) refl
 
 pub new : (c : Contents) (name : List ℕ) → is_some (credential_in name c.clerks) ≡ false
     → length c.clerks < most_clerks
     → IsAnswer (put_result (put_clerk_answer name c.clerks)) (Ok true)
-new c name e fits = let f = room most_clerks (length c.clerks) fits in rw (e, f) refl
-  where
-    room : (most count : ℕ) → count < most → nat_le most count ≡ false
-    room most count h = grind (arith, nat_tests)
+new c name e fits = let f = lt-nat_le most_clerks (length c.clerks) fits in rw (e, f) refl
 
 -- a clerk who is there can be dropped, by the name's text
 pub may_drop : (c : Contents) (text name : List ℕ) → text ≡ name

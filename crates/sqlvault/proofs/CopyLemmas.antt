@@ -1,11 +1,13 @@
 -- The octets of consecutive sheets, copied into the front of a buffer.
-use Rattle.std.proofs.Common.{◌≡◌, ℕ, zero, suc, ◌+◌, ◌-◌, ◌*◌, ◌<◌, ◌≤◌, min, pos, List, [], ◌∷◌, ◌++◌, length, take, drop, Option, Some, None, refl, sym, ap, ap₂, ◌∙◌, arith, append_assoc, append-nil}
+use Rattle.std.proofs.Common.{◌≡◌, ℕ, zero, suc, ◌+◌, ◌-◌, ◌*◌, ◌<◌, ◌≤◌, min, pos, List, [], ◌∷◌, ◌++◌, length, take, drop, Option, Some, None, refl, sym, ap, ap₂, ◌∙◌, arith}
+use Rattle.std.proofs.Common.{append_assoc, append-nil}
 use Rattle.std.specs.List.{find}
 use Rattle.std.proofs.Math.Seq.{take-add}
 use Rattle.std.proofs.lemmas.List.{drop_all, drop-drop, take-append-drop, take_at, take_min, take_rest, length-append, length-drop, length-take, length-take-le}
 use borrow.Rule.Slice.PartMut.{put_mid}
 use Rattle.mailsql.specs.declared.rows.Sheet.{Sheet}
 use Rattle.sqlvault.specs.Pages.{is_at, with_behind, octets_from}
+use Rattle.mailtext.proofs.StreamLemmas.{length-written_end}
 
 -- ---- lists
 
@@ -42,11 +44,6 @@ written_end a xs ys h =
     let past : length (drop a xs) ≤ length xs - a = omega (arith, length-drop a xs) in
     rw (drop_all (length xs - a) (drop a xs) past) (ap (λ zs. take a xs ++ zs) (append-nil ys))
 
-pub length_written : (a : ℕ) (xs ys : List ℕ) → a ≤ length xs → length ys ≡ length (take (length xs - a) (drop a xs)) → length (put_mid a (length xs - a) xs ys) ≡ length xs
-length_written a xs ys h e =
-    ap length (written_end a xs ys h)
-    ∙ omega (arith, e, ap length (take_rest xs a), length-append (take a xs) ys, length-take-le a xs h, length-drop a xs)
-
 -- what was copied of the first part, and what is still to be copied, are the front of both parts
 one_more : (octets behind new : List ℕ) (skip room c : ℕ) → c ≡ min (length octets - skip) room → take c new ≡ take c (drop skip octets)
     → take c new ++ take (room - c) (drop (skip - length octets) behind) ≡ take room (drop skip (octets ++ behind))
@@ -62,13 +59,14 @@ one_more octets behind new skip room c count copied =
 pub copied_more : (b ys octets behind whole : List ℕ) (put left c : ℕ) → put ≤ length b → length ys ≡ length (take (length b - put) (drop put b))
     → c ≡ min (length octets - left) (length ys) → take c ys ≡ take c (drop left octets)
     → take put b ++ take (length b - put) (drop left (octets ++ behind)) ≡ take (length b) whole
-    → take (put + c) (put_mid put (length b - put) b ys) ++ take (length (put_mid put (length b - put) b ys) - (put + c)) (drop (left - length octets) behind) ≡ take (length (put_mid put (length b - put) b ys)) whole
+    → take (put + c) (put_mid put (length b - put) b ys)
+    ++ take (length (put_mid put (length b - put) b ys) - (put + c)) (drop (left - length octets) behind) ≡ take (length (put_mid put (length b - put) b ys)) whole
 copied_more b ys octets behind whole put left c room e count copied before =
     let after = put_mid put (length b - put) b ys in
     let B = drop (left - length octets) behind in
     let long : length ys ≡ length b - put = e ∙ ap length (take_rest b put) ∙ length-drop put b in
     let fits : c ≤ length ys = omega (arith, count) in
-    let same : length after ≡ length b = length_written put b ys room e in
+    let same : length after ≡ length b = length-written_end put b ys room e in
     let written : take (put + c) after ≡ take put b ++ take c ys =
     ap (take (put + c)) (written_end put b ys room) ∙ take_behind (take put b) ys put c (length-take-le put b room) fits in
     let step = one_more octets behind ys left (length b - put) c (count ∙ ap (min (length octets - left)) long) copied in
@@ -80,7 +78,8 @@ copied_more b ys octets behind whole put left c room e count copied before =
 pub copied_all : (buffer whole rest : List ℕ) (n left : ℕ) → n ≤ length buffer → rest ≡ [] → take n buffer ++ take (length buffer - n) (drop left rest) ≡ take (length buffer) whole
     → (n ≡ min (length whole) (length buffer)) × (take n buffer ≡ take n whole)
 copied_all buffer whole rest n left fits none h =
-    let nothing : take (length buffer - n) (drop left rest) ≡ [] = ap (λ l. take (length buffer - n) (drop left l)) none ∙ ap (take (length buffer - n)) (drop_nil left) ∙ take_nil (length buffer - n) in
+    let nothing : take (length buffer - n) (drop left rest) ≡ [] = ap (λ l. take (length buffer - n) (drop left l)) none
+    ∙ ap (take (length buffer - n)) (drop_nil left) ∙ take_nil (length buffer - n) in
     let read : take n buffer ≡ take (length buffer) whole = sym (append-nil (take n buffer)) ∙ ap (λ l. take n buffer ++ l) (sym nothing) ∙ h in
     let long : n ≡ min (length buffer) (length whole) = sym (length-take-le n buffer fits) ∙ ap length read ∙ length-take (length buffer) whole in
     (omega (arith, long), read ∙ sym (ap (λ k. take k whole) long ∙ take_min (length buffer) whole))

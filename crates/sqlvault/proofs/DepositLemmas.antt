@@ -1,11 +1,10 @@
 -- What a deposit is answered of the rows, and what it leaves of them.
-use Rattle.std.proofs.Common.{◌≡◌, ℕ, ℤ, pos, SFits, w64, to_z, of_z, to_z-of_z, subst, ◌+◌, ◌<◌, ◌≤◌, Bool, ◌||◌, true, false, cond, List, [], ◌∷◌, length, min, Option, Some, None, Ok, Err, Result, refl, sym, ap, ◌∙◌, arith}
-use Rattle.std.specs.Prelude.{IfOk, map, nat_le, nat_lt}
+use Rattle.std.proofs.Common.{◌≡◌, ℕ, ℤ, pos, SFits, w64, to_z, of_z, to_z-of_z, subst, ◌+◌, ◌<◌, ◌≤◌, Bool, ◌||◌, true, false, List, length, min, Option, Some}
+use Rattle.std.proofs.Common.{None, Ok, Err, Result, refl, sym, ap, ◌∙◌, arith}
+use Rattle.std.specs.Prelude.{IfOk, nat_le}
 use Rattle.std.specs.List.{find}
 use Rattle.std.specs.Option.{option_map}
 use Rattle.std.specs.Str.{bytes_eq}
-use Rattle.std.proofs.lemmas.Bool.Decides.{nat_tests}
-use Rattle.std.proofs.lemmas.Int.{ints}
 use Rattle.vault.specs.declared.answer.Deposited.{Deposited}
 use Rattle.vault.specs.declared.answer.Deposited.TheVariants as stored
 use Rattle.vault.specs.declared.fault.VaultFault.{VaultFault}
@@ -25,6 +24,8 @@ use Rattle.creds.specs.declared.uid.Uid.{Uid}
 use Rattle.sqlvault.specs.declared.refusal.Refusal.{Refusal}
 use Rattle.sqlvault.specs.Keeps.{Keeps, number_in, deposit_row}
 use Rattle.sqlvault.specs.Deposits.{PutsMessage, PutsReceipt, count_row, message_of}
+use Rattle.sqlvault.proofs.SmallLemmas.{lt-nat_le, le-nat_le, lt-nat_lt, below_64}
+use Rattle.sqlvault.proofs.PermutationLemmas.{find-map}
 
 -- the count of a class is how many deposits it had
 pub count_seen : (rows : Rows) (c : Contents) (asked d named class : List ℕ) (found : Option Count) → Keeps rows c → asked ≡ d → named ≡ class → found ≡ find (is_count asked named) rows.counts
@@ -35,17 +36,11 @@ count_seen rows c asked d named class found k e f is =
 pub ok_known : (r : Result ℕ Error) (n : ℕ) → r ≡ Ok n → IfOk r (λ m. m ≡ n)
 ok_known r n e = rw e refl
 
-le_test : (m n : ℕ) → m ≤ n → nat_le m n ≡ true
-le_test m n h = grind (arith, nat_tests)
-
-above_test : (m n : ℕ) → n < m → nat_le m n ≡ false
-above_test m n h = grind (arith, nat_tests)
-
 -- a maildrop that has all the messages that it may have
 pub full_of_messages : (class text : List ℕ) (next present seen there cap most : ℕ) (other : Bool) → seen ≡ min there cap → there ≡ present → most ≤ seen
     → deposit_result (deposit_answered None class text (nat_le most present || other) next) ≡ Err fault.Full
 full_of_messages class text next present seen there cap most other s t h =
-    let e : nat_le most present ≡ true = le_test most present (omega arith) in
+    let e : nat_le most present ≡ true = le-nat_le most present (omega arith) in
     rw e refl
 
 -- else the class has one deposit more
@@ -53,20 +48,11 @@ pub accepted_next : (class text : List ℕ) (present seen there cap before count
     → before ≡ count → before < most_deposits
     → deposit_result (deposit_answered None class text (nat_le most_messages present || nat_le most_deposits count) (count + 1)) ≡ Ok (stored.New (record { class = class; k = before + 1 }))
 accepted_next class text present seen there cap before count most_messages most_deposits s t room fits counted few =
-    let a : nat_le most_messages present ≡ false = above_test most_messages present (omega arith) in
-    let b : nat_le most_deposits count ≡ false = above_test most_deposits count (omega arith) in
+    let a : nat_le most_messages present ≡ false = lt-nat_le most_messages present (omega arith) in
+    let b : nat_le most_deposits count ≡ false = lt-nat_le most_deposits count (omega arith) in
     rw (a, b, counted) refl
 
 -- ---- an id that was used, or not
-
--- the maildrop has a row
-find-map : {A B : Type 0} (f : A → B) (p : B → Bool) (xs : List A) → find p (map f xs) ≡ option_map f (find (λ x. p (f x)) xs)
-find-map f p [] = refl
-find-map f p (x ∷ xs) = at f x (p (f x)) (find p (map f xs)) (find (λ x. p (f x)) xs) (find-map f p xs)
-  where
-    at : {A B : Type 0} (f : A → B) (x : A) (b : Bool) (o : Option B) (r : Option A) → o ≡ option_map f r → cond b (Some (f x)) o ≡ option_map f (cond b (Some x) r)
-    at f x true o r h = refl
-    at f x false o r h = h
 
 receipt_in_rows : (rows : Rows) (c : Contents) (d id : List ℕ) → Keeps rows c → find (is_deposit d id) rows.deposits ≡ option_map deposit_row (receipt_of id (receipts_of d c.deposits))
 receipt_in_rows rows c d id k =
@@ -112,7 +98,8 @@ pub judged_known : (c : Contents) (d class id text : List ℕ) (r : Receipt) (a 
     → receipt_of id (receipts_of d c.deposits) ≡ Some r → a ≡ deposit_result (known_or_conflict class text r) → IsAnswer (deposit_result (deposit_answer_in c d class id text)) a
 judged_known c d class id text r a there found e = rw (there, found, ← e) (same_answer a)
 
-pub judged_missing : (c : Contents) (d class id text : List ℕ) → is_one_of d c.maildrops ≡ false → (let r : Result Deposited VaultFault = Err fault.NoMaildrop in IsAnswer (deposit_result (deposit_answer_in c d class id text)) r)
+pub judged_missing : (c : Contents) (d class id text : List ℕ) → is_one_of d c.maildrops ≡ false
+    → (let r : Result Deposited VaultFault = Err fault.NoMaildrop in IsAnswer (deposit_result (deposit_answer_in c d class id text)) r)
 judged_missing c d class id text none = rw none refl
 
 pub judged_unknown : (c : Contents) (d class id text : List ℕ) (a : Result Deposited VaultFault) → is_one_of d c.maildrops ≡ true → receipt_of id (receipts_of d c.deposits) ≡ None
@@ -122,22 +109,17 @@ judged_unknown c d class id text a there none h = rw (there, none) h
 
 -- ---- a message that is put under a key
 
-below_64 : (key : ℤ) (most : ℕ) → SFits w64 key → most ≡ 18446744073709551616 → of_z w64 key < most
-below_64 key most fits is = omega (arith, ints)
-
-lt_test : (m n : ℕ) → m < n → nat_lt m n ≡ true
-lt_test m n h = grind (arith, nat_tests)
-
 row_is : (key key' : ℤ) (d d' class class' : List ℕ) (k k' octets octets' : ℤ) → key ≡ key' → d ≡ d' → class ≡ class' → k ≡ k' → octets ≡ octets'
     → (let row : Message = record { key = key; maildrop = d; class = class; k = k; octets = octets } in row) ≡ record { key = key'; maildrop = d'; class = class'; k = k'; octets = octets' }
 row_is key key' d d' class class' k k' octets octets' a b e f h i = let row : Message = record { key = a i; maildrop = b i; class = e i; k = f i; octets = h i } in row
 
-pub message_put : (r : Receipt) (text d class bytes : List ℕ) (key k octets : ℤ) (rows mid after : Rows) → SFits w64 key → d ≡ r.maildrop → class ≡ r.class → k ≡ pos r.k → octets ≡ pos (length text) → bytes ≡ text
+pub message_put : (r : Receipt) (text d class bytes : List ℕ) (key k octets : ℤ) (rows mid after : Rows) → SFits w64 key → d ≡ r.maildrop
+    → class ≡ r.class → k ≡ pos r.k → octets ≡ pos (length text) → bytes ≡ text
     → AddsMessage (record { key = key; maildrop = d; class = class; k = k; octets = octets }) rows mid → AddsSheets (to_z w64 (of_z w64 key)) bytes mid after
     → PutsMessage (message_of r text) rows after
 message_put r text d class bytes key k octets rows mid after fits a b e f h one all = (
   of_z w64 key,
-  lt_test (of_z w64 key) 18446744073709551616 (below_64 key 18446744073709551616 fits refl),
+  lt-nat_lt (of_z w64 key) 18446744073709551616 (below_64 key 18446744073709551616 fits refl),
   (
     mid,
     subst (λ (m : Message). AddsMessage m rows mid) (row_is key (to_z w64 (of_z w64 key)) d r.maildrop class r.class k (pos r.k) octets (pos (length text)) (sym (to_z-of_z fits)) a b e f) one,
@@ -147,11 +129,13 @@ message_put r text d class bytes key k octets rows mid after fits a b e f h one 
 
 -- ---- the rows of a receipt
 
-pub receipt_put : (r : Receipt) (d class e id named digest : List ℕ) (k : ℤ) (rows mid after : Rows) → d ≡ r.maildrop → class ≡ r.class → e ≡ r.maildrop → id ≡ r.id → named ≡ r.class → digest ≡ r.digest → k ≡ pos r.k
+pub receipt_put : (r : Receipt) (d class e id named digest : List ℕ) (k : ℤ) (rows mid after : Rows) → d ≡ r.maildrop → class ≡ r.class
+    → e ≡ r.maildrop → id ≡ r.id → named ≡ r.class → digest ≡ r.digest → k ≡ pos r.k
     → SetsCount (record { maildrop = d; class = class; k = k }) rows mid → AddsDeposit (record { maildrop = e; id = id; class = named; k = k; digest = digest }) mid after → PutsReceipt r rows after
 receipt_put r d class e id named digest k rows mid after d_is class_is e_is id_is named_is digest_is k_is set add =
     let count : record { maildrop = d; class = class; k = k } ≡ count_row r = λ i. let t : Count = record { maildrop = d_is i; class = class_is i; k = k_is i } in t in
-    let row : record { maildrop = e; id = id; class = named; k = k; digest = digest } ≡ deposit_row r = λ i. let t : Deposit = record { maildrop = e_is i; id = id_is i; class = named_is i; k = k_is i; digest = digest_is i } in t in
+    let row : record { maildrop = e; id = id; class = named; k = k; digest = digest }
+    ≡ deposit_row r = λ i. let t : Deposit = record { maildrop = e_is i; id = id_is i; class = named_is i; k = k_is i; digest = digest_is i } in t in
     (mid, subst (λ (x : Count). SetsCount x rows mid) count set, subst (λ (x : Deposit). AddsDeposit x mid after) row add)
 
 -- a refusal is no new deposit

@@ -1,7 +1,6 @@
 -- A test of each element of a list, one after the other.
 use Rattle.std.specs.List.{list_all}
 use Rattle.std.proofs.lemmas.List.Folds.{list_all_at}
-use Rattle.sqlvault.proofs.RuleLemmas.{take_next}
 use Rattle.vault.proofs.ListLemmas.{all_last}
 use Rattle.std.proofs.Common.{◌≡◌, Bool, true, false, ℕ, ◌+◌, ◌<◌, ◌≤◌, min, List, length, take, get_or, sym, ap, subst, ◌∙◌, arith}
 use Rattle.std.specs.Prelude.{All, filter, sum_by}
@@ -13,6 +12,7 @@ use Rattle.mailsql.specs.declared.rows.Message.{Message}
 use Rattle.mailsql.specs.Columns.{Rows}
 use Rattle.mailsql.specs.Rows.{is_in}
 use Rattle.sqlvault.specs.Stored.{HasMessage, IsSoundIn}
+use Rattle.sqlvault.proofs.SmallLemmas.{take_next}
 
 -- the next passes too
 pub next_passes : {X : Type 0} (P : X → Type 0) (xs : List X) (i : ℕ) (x : X) → i < length xs → x ≡ get_or xs i x → All P (take i xs) → P x → All P (take (i + 1) xs)
@@ -30,7 +30,8 @@ each_passes P xs i end all = subst (All P) (take_all i xs end) all
 capped : (sum more next most : ℕ) (was added : ℕ) → was ≡ min sum most → added ≡ min more most → next ≡ min (was + added) most → next ≡ min (sum + more) most
 capped sum more next most was added a b c = omega (arith, a, b, c)
 
-pub sum_next : {X : Type 0} (f : X → ℕ) (xs : List X) (i : ℕ) (x : X) (was added next most : ℕ) → i < length xs → x ≡ get_or xs i x → was ≡ min (sum_by f (take i xs)) most → added ≡ min (f x) most → next ≡ min (was + added) most
+pub sum_next : {X : Type 0} (f : X → ℕ) (xs : List X) (i : ℕ) (x : X) (was added next most : ℕ) → i < length xs → x ≡ get_or xs i x
+    → was ≡ min (sum_by f (take i xs)) most → added ≡ min (f x) most → next ≡ min (was + added) most
     → next ≡ min (sum_by f (take (i + 1) xs)) most
 sum_next f xs i x was added next most low is a b c =
     capped (sum_by f (take i xs)) (f x) next most was added a b c
@@ -42,10 +43,12 @@ sum_whole f xs i most n end is = is ∙ ap (λ l. min (sum_by f l) most) (take_a
 
 -- ---- a maildrop
 
-pub maildrop_sound : (rows : Rows) (deposits : List Receipt) (d : List ℕ) (shown : List Message) → shown ≡ filter (is_in d) rows.messages → length shown ≤ 10000 → All (HasMessage rows deposits) shown → IsSoundIn rows deposits d
+pub maildrop_sound : (rows : Rows) (deposits : List Receipt) (d : List ℕ) (shown : List Message) → shown ≡ filter (is_in d) rows.messages
+    → length shown ≤ 10000 → All (HasMessage rows deposits) shown → IsSoundIn rows deposits d
 maildrop_sound rows deposits d shown is few all = (subst (λ (l : List Message). length l ≤ 10000) is few, subst (All (HasMessage rows deposits)) is all)
 
-pub maildrop_unsound : (rows : Rows) (deposits : List Receipt) (d : List ℕ) (shown : List Message) → shown ≡ filter (is_in d) rows.messages → (All (HasMessage rows deposits) shown → ⊥) → IsSoundIn rows deposits d → ⊥
+pub maildrop_unsound : (rows : Rows) (deposits : List Receipt) (d : List ℕ) (shown : List Message) → shown ≡ filter (is_in d) rows.messages
+    → (All (HasMessage rows deposits) shown → ⊥) → IsSoundIn rows deposits d → ⊥
 maildrop_unsound rows deposits d shown is fails s = fails (subst (All (HasMessage rows deposits)) (sym is) s.1)
 
 -- ---- tests that answer a Bool

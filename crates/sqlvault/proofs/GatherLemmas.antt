@@ -1,5 +1,6 @@
 -- Lists that have the same elements, and sums over parts of a list.
-use Rattle.std.proofs.Common.{◌≡◌, ◌⊎◌, inl, inr, ℕ, zero, suc, ◌+◌, ◌<◌, ◌≤◌, Bool, true, false, not, cond, List, [], ◌∷◌, ◌++◌, length, map, Some, refl, sym, ap, subst, ◌∙◌, arith, ⊎_elim, true≢false, length-append}
+use Rattle.std.proofs.Common.{◌≡◌, inl, inr, ℕ, zero, suc, ◌+◌, ◌<◌, ◌≤◌, Bool, true, false, not, cond, List, [], ◌∷◌, ◌++◌, length, map, Some, refl, sym, ap, subst, ◌∙◌}
+use Rattle.std.proofs.Common.{arith, ⊎_elim, true≢false, length-append}
 use Rattle.std.specs.Prelude.{◌&&◌, filter, flat_map, sum_by, unwrap_or, All}
 use Rattle.std.specs.List.{find, list_any, range_with_len, AllByRecursion}
 use Rattle.std.specs.List.Sorted.{IsPermutation}
@@ -13,6 +14,7 @@ use Rattle.policy.specs.Policy.{are_distinct}
 use Rattle.mailsql.specs.Apart.{are_apart}
 use Rattle.vault.specs.Records.{is_one_of}
 use Rattle.vault.proofs.ListLemmas.{In, any_in, none_any, not_true, bytes_are, bytes_same}
+use Rattle.sqlvault.proofs.SmallLemmas.{in_either, in_left, in_right, never_true}
 
 -- ---- each element
 
@@ -40,7 +42,8 @@ found_there p (y ∷ ys) x e = ⊎_elim
     (cases_Bool (p y))
 
 -- of elements that are apart, the one that passes is found
-pub finds_it : {X : Type 0} (same : X → X → Bool) (p : X → Bool) (xs : List X) (x : X) → ((y z : X) → p y ≡ true → p z ≡ true → same y z ≡ true) → are_apart same xs ≡ true → In x xs → p x ≡ true → find p xs ≡ Some x
+pub finds_it : {X : Type 0} (same : X → X → Bool) (p : X → Bool) (xs : List X) (x : X) → ((y z : X) → p y ≡ true → p z ≡ true → same y z ≡ true)
+    → are_apart same xs ≡ true → In x xs → p x ≡ true → find p xs ≡ Some x
 finds_it same p [] x key apart i h = absurd i
 finds_it same p (y ∷ ys) x key apart i h =
     let r = and_parts (not (list_any (same y) ys)) (are_apart same ys) apart in
@@ -51,41 +54,21 @@ finds_it same p (y ∷ ys) x key apart i h =
 
 -- ---- elements that are apart
 
-pub apart_distinct : {X : Type 0} (same : X → X → Bool) (xs : List X) → are_apart same xs ≡ are_distinct same xs
-apart_distinct same [] = refl
-apart_distinct same (x ∷ xs) = ap (λ b. not (list_any (same x) xs) && b) (apart_distinct same xs)
-
 pub distinct_weaker : {X : Type 0} (same like : X → X → Bool) (xs : List X) → ((x y : X) → like x y ≡ true → same x y ≡ true) → are_distinct same xs ≡ true → are_distinct like xs ≡ true
 distinct_weaker same like [] h d = refl
 distinct_weaker same like (x ∷ xs) h d =
     let r = and_parts (not (list_any (same x) xs)) (are_distinct same xs) d in
     both (list_any (like x) xs) (are_distinct like xs)
-    (none_any (like x) xs (λ y i. no (like x y) (λ e. true≢false (sym (h x y e) ∙ any_in (same x) xs y (not_true (list_any (same x) xs) r.0) i))))
+    (none_any (like x) xs (λ y i. never_true (like x y) (λ e. true≢false (sym (h x y e) ∙ any_in (same x) xs y (not_true (list_any (same x) xs) r.0) i))))
     (distinct_weaker same like xs h r.1)
   where
     both : (a b : Bool) → a ≡ false → b ≡ true → (not a && b) ≡ true
     both a b e f = rw (e, f) refl
 
-    no : (b : Bool) → (b ≡ true → ⊥) → b ≡ false
-    no true f = absurd (f refl)
-    no false f = refl
-
 -- no element stands twice
 abbrev pub Once : {X : Type 0} → List X → Type 0
 Once [] = Unit {0}
 Once (x ∷ xs) = (In x xs → ⊥) × Once xs
-
-in_either : {X : Type 0} (xs ys : List X) (x : X) → In x (xs ++ ys) → In x xs ⊎ In x ys
-in_either [] ys x i = inr i
-in_either (z ∷ zs) ys x i = ⊎_elim (λ (e : x ≡ z). inl (inl e)) (λ k. ⊎_elim (λ l. inl (inr l)) (λ r. inr r) (in_either zs ys x k)) i
-
-in_left : {X : Type 0} (xs ys : List X) (x : X) → In x xs → In x (xs ++ ys)
-in_left [] ys x i = absurd i
-in_left (z ∷ zs) ys x i = ⊎_elim (λ (e : x ≡ z). inl e) (λ k. inr (in_left zs ys x k)) i
-
-in_right : {X : Type 0} (xs ys : List X) (x : X) → In x ys → In x (xs ++ ys)
-in_right [] ys x i = i
-in_right (z ∷ zs) ys x i = inr (in_right zs ys x i)
 
 pub in_flat : {X Y : Type 0} (f : X → List Y) (xs : List X) (y : Y) → In y (flat_map f xs) → (x : X) × In x xs × In y (f x)
 in_flat f [] y i = absurd i
@@ -102,7 +85,8 @@ once_joined (x ∷ xs) ys a b h = (
   once_joined xs ys a.1 b (λ y i k. h y (inr i) k),
 )
 
-pub once_flat : {X Y : Type 0} (f : X → List Y) (same : X → X → Bool) (xs : List X) → ((x : X) → Once (f x)) → ((x z : X) (y : Y) → In y (f x) → In y (f z) → same x z ≡ true) → are_distinct same xs ≡ true → Once (flat_map f xs)
+pub once_flat : {X Y : Type 0} (f : X → List Y) (same : X → X → Bool) (xs : List X) → ((x : X) → Once (f x))
+    → ((x z : X) (y : Y) → In y (f x) → In y (f z) → same x z ≡ true) → are_distinct same xs ≡ true → Once (flat_map f xs)
 once_flat f same [] each key d = tt
 once_flat f same (x ∷ xs) each key d =
     let r = and_parts (not (list_any (same x) xs)) (are_distinct same xs) d in
@@ -194,7 +178,8 @@ pub parts_sum : {X : Type 0} (f : X → ℕ) (name : X → List ℕ) (names : Li
     → sum_by (λ d. sum_by f (filter (λ x. bytes_eq (name x) d) xs)) names ≡ sum_by f xs
 parts_sum f name names [] d there = sum_none (λ e. 0) names (λ e i. refl)
 parts_sum {X} f name names (x ∷ xs) d there =
-    sum_both (λ e. sum_by f (filter (λ y. bytes_eq (name y) e) (x ∷ xs))) (λ e. cond (bytes_eq (name x) e) (f x) 0) (λ e. sum_by f (filter (λ y. bytes_eq (name y) e) xs)) names (λ e. first (bytes_eq (name x) e) (filter (λ y. bytes_eq (name y) e) xs))
+    sum_both (λ e. sum_by f (filter (λ y. bytes_eq (name y) e) (x ∷ xs))) (λ e. cond (bytes_eq (name x) e) (f x) 0)
+    (λ e. sum_by f (filter (λ y. bytes_eq (name y) e) xs)) names (λ e. first (bytes_eq (name x) e) (filter (λ y. bytes_eq (name y) e) xs))
     ∙ (let a = one_name (name x) (f x) names d (there x (inl refl)) in let b = parts_sum f name names xs d (λ y i. there y (inr i)) in λ i. a i + b i)
     ∙ sym (sum_by-cons f x xs)
   where

@@ -1,8 +1,9 @@
 -- Groups as rows.
-use Rattle.std.proofs.Common.{◌≡◌, ℕ, zero, suc, ◌+◌, ◌<◌, ◌≤◌, ℤ, pos, negsuc, Bool, true, false, cond, List, [], ◌∷◌, ◌++◌, length, map, take, get_or, refl, sym, ap, ◌∙◌, arith, inl, inr, append_assoc, append-nil, SFits, w64, to_z, of_z, to_z-of_z}
+use Rattle.std.proofs.Common.{◌≡◌, ℕ, zero, suc, ◌+◌, ◌<◌, ◌≤◌, ℤ, pos, negsuc, Bool, true, false, cond, List, [], ◌∷◌, ◌++◌, length, map, take, get_or, refl, sym, ap, ◌∙◌, arith}
+use Rattle.std.proofs.Common.{inl, inr, append_assoc, append-nil, SFits, w64, to_z, of_z, to_z-of_z}
 use Rattle.std.specs.Prelude.{Some, None, filter, ◌+ℤ◌, fold}
 use Rattle.std.specs.List.{list_all}
-use Rattle.std.proofs.lemmas.List.{map-append, take_more}
+use Rattle.std.proofs.lemmas.List.{map-append}
 use Rattle.creds.specs.Names.{is_name, name_of}
 use Rattle.policy.specs.Policy.{Group}
 use Rattle.vault.proofs.ListLemmas.{In, all_in, filter_in, map_in}
@@ -15,7 +16,7 @@ use Rattle.mailsql.proofs.EqualLemmas.{same_itself}
 use Rattle.sqlvault.specs.Keeps.{member_names, group_in}
 use Rattle.sqlvault.specs.Parts.{is_named_group}
 use Rattle.sqlvault.specs.Rules.{member_rows, group_row, group_rows, all_member_rows, AddsMembers, AddsGroup, AddsGroups, SetsGroups}
-use Rattle.sqlvault.proofs.RemoveLemmas.{int_same}
+use Rattle.sqlvault.proofs.SmallLemmas.{never_true, take_next, int_same}
 
 -- ---- lists
 
@@ -27,14 +28,10 @@ filter-append {A} p (x ∷ xs) ys = go (p x) (filter p (xs ++ ys)) (filter p xs)
     go true u v w e = ap (λ l. x ∷ l) e
     go false u v w e = e
 
-pub not_same : (b : Bool) → (b ≡ true → ⊥) → b ≡ false
-not_same true h = absurd (h refl)
-not_same false h = refl
-
 -- ---- the rows that are written are the groups
 
 differ : (p q : ℕ) → (q ≡ p → ⊥) → same_int (pos q) (pos p) ≡ false
-differ p q apart = not_same (same_int (pos q) (pos p)) (λ e. absurd (apart (ap number (int_same (pos q) (pos p) e))))
+differ p q apart = never_true (same_int (pos q) (pos p)) (λ e. absurd (apart (ap number (int_same (pos q) (pos p) e))))
   where
     number : ℤ → ℕ
     number (pos n) = n
@@ -42,12 +39,15 @@ differ p q apart = not_same (same_int (pos q) (pos p)) (λ e. absurd (apart (ap 
 
 own : (group : ℤ) (n : ℕ) (names : List (List ℕ)) → filter (is_member_of group) (member_rows group n names) ≡ member_rows group n names
 own group n [] = refl
-own group n (x ∷ xs) = ap (λ b. let m : Member = record { group = group; place = pos n; clerk = x } in cond b (m ∷ filter (is_member_of group) (member_rows group (n + 1) xs)) (filter (is_member_of group) (member_rows group (n + 1) xs))) (same_itself group)
+own group n (x ∷ xs) = ap (λ b. let m : Member = record { group = group; place = pos n; clerk = x } in
+    cond b (m ∷ filter (is_member_of group) (member_rows group (n + 1) xs)) (filter (is_member_of group) (member_rows group (n + 1) xs))) (same_itself group)
     ∙ ap (λ l. let m : Member = record { group = group; place = pos n; clerk = x } in m ∷ l) (own group (n + 1) xs)
 
 other : (group : ℤ) (of : ℤ) (n : ℕ) (names : List (List ℕ)) → same_int of group ≡ false → filter (is_member_of group) (member_rows of n names) ≡ []
 other group of n [] e = refl
-other group of n (x ∷ xs) e = ap (λ b. let m : Member = record { group = of; place = pos n; clerk = x } in cond b (m ∷ filter (is_member_of group) (member_rows of (n + 1) xs)) (filter (is_member_of group) (member_rows of (n + 1) xs))) e
+other group of n (x ∷ xs) e = ap
+    (λ b. let m : Member = record { group = of; place = pos n; clerk = x } in
+    cond b (m ∷ filter (is_member_of group) (member_rows of (n + 1) xs)) (filter (is_member_of group) (member_rows of (n + 1) xs))) e
     ∙ other group of (n + 1) xs e
 
 later : (p q : ℕ) (gs : List Group) → p < q → filter (is_member_of (pos p)) (all_member_rows q gs) ≡ []
@@ -100,11 +100,13 @@ place_at xs i lt = let e = length_taken xs i (omega (arith, lt)) in ap pos (omeg
 
 -- ---- members that come
 
-members_more : (group : ℤ) (n : ℕ) (xs : List (List ℕ)) (x : List ℕ) → member_rows group n (xs ++ x ∷ []) ≡ member_rows group n xs ++ record { group = group; place = pos (n + length xs); clerk = x } ∷ []
+members_more : (group : ℤ) (n : ℕ) (xs : List (List ℕ)) (x : List ℕ)
+    → member_rows group n (xs ++ x ∷ []) ≡ member_rows group n xs ++ record { group = group; place = pos (n + length xs); clerk = x } ∷ []
 members_more group n [] x = ap (λ m. record { group = group; place = pos m; clerk = x } ∷ []) (let e : n ≡ n + 0 = omega arith in e)
 members_more group n (y ∷ ys) x =
     ap (λ l. let m : Member = record { group = group; place = pos n; clerk = y } in m ∷ l)
-    (members_more group (n + 1) ys x ∙ ap (λ m. member_rows group (n + 1) ys ++ record { group = group; place = pos m; clerk = x } ∷ []) (let e : (n + 1) + length ys ≡ n + suc (length ys) = omega arith in e))
+    (members_more group (n + 1) ys x
+    ∙ ap (λ m. member_rows group (n + 1) ys ++ record { group = group; place = pos m; clerk = x } ∷ []) (let e : (n + 1) + length ys ≡ n + suc (length ys) = omega arith in e))
 
 pub no_members : (group : ℤ) (rows : Rows) → AddsMembers group [] rows rows
 no_members group rows = ap (λ (l : List Member). let x : Rows = record rows { members = l } in x) (sym (append-nil rows.members))
@@ -153,7 +155,11 @@ group_more gs g place old mid new at a b none =
     let next : changes.next_group mid.groups ≡ place = ap (λ (r : Rows). changes.next_group r.groups) was ∙ next_is gs ∙ sym at in
     b next ∙ ap (λ (r : Rows). let y : Rows = record r { groups = r.groups ++ group_row place g ∷ []; members = r.members ++ member_rows place 1 g.members } in y) was
     ∙ ap (λ (p : ℤ). let y : Rows = record old { groups = group_rows 1 gs ++ group_row p g ∷ []; members = (old.members ++ all_member_rows 1 gs) ++ member_rows p 1 g.members } in y) at
-    ∙ (λ i. let y : Rows = record old { groups = sym (groups_more 1 gs g) i; members = (append_assoc old.members (all_member_rows 1 gs) (member_rows (pos (1 + length gs)) 1 g.members) ∙ ap (λ l. old.members ++ l) (sym (all_more 1 gs g))) i } in y)
+    ∙ (λ i. let y : Rows = record old {
+      groups = sym
+          (groups_more 1 gs g) i;
+      members = (append_assoc old.members (all_member_rows 1 gs) (member_rows (pos (1 + length gs)) 1 g.members) ∙ ap (λ l. old.members ++ l) (sym (all_more 1 gs g))) i;
+    } in y)
 
 pub groups_set : (gs : List Group) (old mid new : Rows) → changes.ClearsGroups old mid → AddsGroups gs mid new → SetsGroups gs old new
 groups_set gs old mid new cleared a =
@@ -161,10 +167,8 @@ groups_set gs old mid new cleared a =
 
 -- ---- reading
 
-pub take_next : {A : Type 0} (xs : List A) (i : ℕ) (x : A) → i < length xs → x ≡ get_or xs i x → take (i + 1) xs ≡ take i xs ++ x ∷ []
-take_next xs i x lt is = take_more xs i x lt ∙ ap (λ y. take i xs ++ y ∷ []) (sym is)
-
-taken : (group : ℤ) (rows : List Member) (i : ℕ) (row : Member) → i < length rows → row ≡ get_or rows i row → member_names group (take (i + 1) rows) ≡ member_names group (take i rows) ++ member_names group (row ∷ [])
+taken : (group : ℤ) (rows : List Member) (i : ℕ) (row : Member) → i < length rows → row ≡ get_or rows i row
+    → member_names group (take (i + 1) rows) ≡ member_names group (take i rows) ++ member_names group (row ∷ [])
 taken group rows i row lt is =
     ap (member_names group) (take_next rows i row lt is) ∙ ap (map (λ (m : Member). m.clerk)) (filter-append (is_member_of group) (take i rows) (row ∷ []))
     ∙ map-append (λ (m : Member). m.clerk) (filter (is_member_of group) (take i rows)) (filter (is_member_of group) (row ∷ []))
@@ -175,7 +179,8 @@ name_taken group rows i row lt is e = taken group rows i row lt is ∙ ap (λ b.
 
 pub name_passed : (group : ℤ) (rows : List Member) (i : ℕ) (row : Member) → i < length rows → row ≡ get_or rows i row → same_int row.group group ≡ false
     → member_names group (take (i + 1) rows) ≡ member_names group (take i rows)
-name_passed group rows i row lt is e = taken group rows i row lt is ∙ ap (λ b. member_names group (take i rows) ++ map (λ (m : Member). m.clerk) (cond b (row ∷ []) [])) e ∙ append-nil (member_names group (take i rows))
+name_passed group rows i row lt is e = taken group rows i row lt is
+    ∙ ap (λ b. member_names group (take i rows) ++ map (λ (m : Member). m.clerk) (cond b (row ∷ []) [])) e ∙ append-nil (member_names group (take i rows))
 
 -- an element at a place is in the list
 at_in : {A : Type 0} (xs : List A) (i : ℕ) (x d : A) → i < length xs → x ≡ get_or xs i d → In x xs
@@ -186,7 +191,8 @@ at_in (y ∷ ys) (suc i) x d lt is = inr (at_in ys i x d (omega (arith, lt)) is)
 pub name_at : (group : ℤ) (rows : List Member) (i : ℕ) (row : Member) → i < length rows → row ≡ get_or rows i row → same_int row.group group ≡ true
     → list_all is_name (member_names group rows) ≡ true → is_name row.clerk ≡ true
 name_at group rows i row lt is e all =
-    all_in is_name (member_names group rows) row.clerk all (map_in (λ (m : Member). m.clerk) (filter (is_member_of group) rows) row (filter_in (is_member_of group) rows row (at_in rows i row row lt is) e))
+    all_in is_name (member_names group rows) row.clerk all
+    (map_in (λ (m : Member). m.clerk) (filter (is_member_of group) rows) row (filter_in (is_member_of group) rows row (at_in rows i row row lt is) e))
 
 pub group_at : (members : List Member) (rows : List row.Group) (i : ℕ) (r : row.Group) → i < length rows → r ≡ get_or rows i r → list_all is_named_group (map (group_in members) rows) ≡ true
     → is_named_group (group_in members r) ≡ true
@@ -201,6 +207,3 @@ name_form text name e = at (is_name text) refl e
     at : (b : Bool) → is_name text ≡ b → cond b (Some text) None ≡ Some name → is_name name ≡ true
     at true f e = let is : text ≡ name = cc in ap is_name (sym is) ∙ f
     at false f e = absurd (cc)
-
-pub named_group : (name : List ℕ) (members : List (List ℕ)) → is_name name ≡ true → list_all is_name members ≡ true → is_named_group (record { name = name; members = members }) ≡ true
-named_group name members e f = rw (e, f) refl

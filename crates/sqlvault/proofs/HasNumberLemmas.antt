@@ -1,5 +1,6 @@
 -- What the set of numbers has, and what the loops over rows and counts keep.
-use Rattle.std.proofs.Common.{◌≡◌, ℕ, ◌+◌, ◌-◌, ◌<◌, ◌≤◌, Bool, true, false, cond, ◌||◌, List, [], ◌∷◌, ◌++◌, length, map, take, get_or, Some, None, refl, sym, ap, subst, ◌∙◌, arith, ⊎_elim, true≢false, Ordering}
+use Rattle.std.proofs.Common.{◌≡◌, ℕ, ◌+◌, ◌-◌, ◌<◌, ◌≤◌, Bool, true, false, cond, ◌||◌, List, [], ◌∷◌, ◌++◌, length, map, take, get_or, Some, None, refl, sym, ap, subst, ◌∙◌}
+use Rattle.std.proofs.Common.{arith, ⊎_elim, true≢false, Ordering}
 use Rattle.std.specs.Prelude.{sum_by}
 use Rattle.std.specs.declared.cmp.Ordering.TheVariants.{Less, Equal, Greater}
 use Rattle.std.specs.Ordering.{nat_cmp, is_eq, ordering_then}
@@ -20,7 +21,8 @@ use Rattle.mailsql.specs.Columns.{Name}
 use Rattle.vault.proofs.ListLemmas.{In, any_of, found, all_in, all_last, map_in, in_map, map-append}
 use Rattle.sqlvault.specs.Numbers.{Number, number_cmp, has_number, IsSetOf, number_of, is_deposit_row, numbers_to, has_all, is_filled, asked}
 use Rattle.sqlvault.proofs.NumberLemmas.{in_range, range_in}
-use Rattle.sqlvault.proofs.RuleLemmas.{take_next}
+use Rattle.mailsql.proofs.WithoutLemmas.{tie}
+use Rattle.sqlvault.proofs.SmallLemmas.{take_next}
 
 -- ---- numbers that compare equal are the same
 
@@ -29,17 +31,12 @@ equal_parts Less b e = cc
 equal_parts Equal b e = (refl, e)
 equal_parts Greater b e = cc
 
-told_equal : (a : Ordering) → is_eq a ≡ true → a ≡ Equal
-told_equal Less e = absurd (true≢false (sym e))
-told_equal Equal e = refl
-told_equal Greater e = absurd (true≢false (sym e))
-
 pub number_is : (x y : Number) → x.0 ≡ y.0 → x.1 ≡ y.1 → x.2 ≡ y.2 → x ≡ y
 number_is x y p q r = λ i. (p i, q i, r i)
 
 same_number : (x y : Number) → is_eq (number_cmp x y) ≡ true → x ≡ y
 same_number x y h =
-    let p = equal_parts (ordering_then (slice_cmp nat_cmp x.0 y.0) (slice_cmp nat_cmp x.1 y.1)) (nat_cmp x.2 y.2) (told_equal (number_cmp x y) h) in
+    let p = equal_parts (ordering_then (slice_cmp nat_cmp x.0 y.0) (slice_cmp nat_cmp x.1 y.1)) (nat_cmp x.2 y.2) (tie (number_cmp x y) h) in
     let q = equal_parts (slice_cmp nat_cmp x.0 y.0) (slice_cmp nat_cmp x.1 y.1) p.0 in
     number_is x y (exact_bytes x.0 y.0 q.0) (exact_bytes x.1 y.1 q.1) (exact_unsigned x.2 y.2 p.1)
 
@@ -85,7 +82,8 @@ has_more ns d class n before here =
 
 pub has_not : (ns : List Number) (d class : Name) (n count : ℕ) → n < count → has_number ns (d, class, n + 1) ≡ false → has_all ns d class count ≡ false
 has_not ns d class n count lt none = ⊎_elim
-    (λ (e : has_all ns d class count ≡ true). absurd (true≢false (sym (all_in (has_number ns) (numbers_to d class count) (d, class, n + 1) e (in_numbers d class count (n + 1) (omega arith) (omega arith))) ∙ none)))
+    (λ (e : has_all ns d class count ≡ true). absurd
+    (true≢false (sym (all_in (has_number ns) (numbers_to d class count) (d, class, n + 1) e (in_numbers d class count (n + 1) (omega arith) (omega arith))) ∙ none)))
     (λ (e : has_all ns d class count ≡ false). e)
     (cases_Bool (has_all ns d class count))
 
@@ -113,7 +111,8 @@ read_more rows i row k s n lt at read before updates =
     let r = some_if (is_deposit_row row) k (number_of row) read in
     let t = take_next rows i row lt at in
     let ns = map number_of (take i rows) in
-    let mapped : map number_of (take (i + 1) rows) ≡ ns ++ k ∷ [] = ap (λ (l : List Deposit). map number_of l) t ∙ map-append number_of (take i rows) (row ∷ []) ∙ ap (λ (x : Number). ns ++ x ∷ []) (sym r.1) in (
+    let mapped : map number_of (take (i + 1) rows) ≡ ns ++ k ∷ [] = ap (λ (l : List Deposit). map number_of l) t
+    ∙ map-append number_of (take i rows) (row ∷ []) ∙ ap (λ (x : Number). ns ++ x ∷ []) (sym r.1) in (
       subst (λ (l : List Deposit). list_all is_deposit_row l ≡ true) (sym t) (all_last is_deposit_row (take i rows) row before.0 r.0),
       λ q. updates q ∙ ap (λ b. cond (is_eq (number_cmp k q)) true b) (before.1 q) ∙ sym (has_one_more ns k q) ∙ ap (λ (l : List Number). has_number l q) (sym mapped),
     )
@@ -123,7 +122,8 @@ read_more rows i row k s n lt at read before updates =
 pub filled_more : (ns : List Number) (rows : List Count) (i : ℕ) (row : Count) (count : ℕ) → i < length rows → row ≡ get_or rows i row
     → Some count ≡ cond (is_filled ns row) (Some (asked row)) None → list_all (is_filled ns) (take i rows) ≡ true → list_all (is_filled ns) (take (i + 1) rows) ≡ true
 filled_more ns rows i row count lt at read before =
-    subst (λ (l : List Count). list_all (is_filled ns) l ≡ true) (sym (take_next rows i row lt at)) (all_last (is_filled ns) (take i rows) row before (some_if (is_filled ns row) count (asked row) read).0)
+    subst (λ (l : List Count). list_all (is_filled ns) l ≡ true) (sym (take_next rows i row lt at))
+    (all_last (is_filled ns) (take i rows) row before (some_if (is_filled ns row) count (asked row) read).0)
 
 pub asked_more : (rows : List Count) (i : ℕ) (row : Count) (left count deposits : ℕ) → i < length rows → row ≡ get_or rows i row → count ≡ asked row → count ≤ left
     → left + sum_by asked (take i rows) ≡ deposits → left - count + sum_by asked (take (i + 1) rows) ≡ deposits

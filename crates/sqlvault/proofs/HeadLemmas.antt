@@ -1,15 +1,13 @@
 -- Heads as the rows tell them.
-use Rattle.std.proofs.Common.{◌≡◌, ℕ, ◌+◌, ◌<◌, ◌^◌, Bool, true, false, cond, List, [], ◌∷◌, ◌++◌, length, map, take, Some, Result, Ok, Err, ⊎_elim, sym, ap, subst, ◌∙◌, arith, get_or, true≢false}
+use Rattle.std.proofs.Common.{◌≡◌, ℕ, ◌+◌, ◌<◌, ◌^◌, true, false, cond, List, [], ◌∷◌, ◌++◌, length, map, take, Some, Result, Ok, Err, sym, ap, subst, ◌∙◌, arith, get_or}
 use Rattle.std.specs.Prelude.{◌&&◌, ◌==◌, nat_lt, nat_le, filter, unwrap_or}
 use Rattle.std.specs.List.{list_all, list_any}
 use Rattle.std.specs.Str.{bytes_eq}
 use Rattle.std.specs.Result.{IsErrAnd}
 use Rattle.sqlite.specs.declared.error.Error.{Error}
-use Rattle.std.proofs.lemmas.Bool.{cases_Bool, and_parts}
-use Rattle.std.proofs.lemmas.Bool.Decides.{nat_tests}
+use Rattle.std.proofs.lemmas.Bool.{and_parts}
 use Rattle.std.proofs.lemmas.List as list
 use Rattle.std.proofs.lemmas.List.{take_more}
-use Rattle.std.proofs.lemmas.List.Folds.{list_all_at}
 use Rattle.creds.specs.Names.{is_name}
 use Rattle.vault.specs.declared.answer.Head.{Head}
 use Rattle.vault.specs.declared.fault.VaultFault.TheVariants as fault
@@ -29,16 +27,11 @@ use Rattle.sqlvault.specs.declared.refusal.Refusal.TheVariants.{Met}
 use Rattle.sqlvault.specs.Refusals.{told, answer_of}
 use Rattle.sqlvault.proofs.HoldsLemmas.{met}
 use Rattle.sqlvault.specs.Keeps.{Keeps, message_row}
+use Rattle.sqlvault.proofs.SmallLemmas.{nat_lt-true, all_at}
 
 -- a message that stands where there is none
 nobody : Keyed
 nobody = record { key = 0; message = record { maildrop = []; class = []; k = 0; text = [] } }
-
-all_at : {X : Type 0} (p : X → Bool) (xs : List X) (i : ℕ) (d : X) → i < length xs → list_all p xs ≡ true → p (get_or xs i d) ≡ true
-all_at p xs i d low all = ⊎_elim (λ e. e) (λ (e : p (get_or xs i d) ≡ false). absurd (true≢false (sym all ∙ list_all_at p xs i d low e))) (cases_Bool (p (get_or xs i d)))
-
-below : (m n : ℕ) → nat_lt m n ≡ true → m < n
-below m n h = grind (arith, nat_tests)
 
 -- the row is that of a message, which can be read back
 pub record IsRowOf (i : ℕ) (ms : List Keyed) (row : Message) (x : Keyed) : Type 0 where
@@ -58,11 +51,12 @@ row_at ms rows i row is classes keys low item =
         place = take_more ms i nobody low2;
         row_is = item ∙ ap (λ l. get_or l i row) is ∙ list.get_or-map message_row ms i nobody row low2;
         class = all_at (λ (y : Keyed). is_name y.message.class) ms i nobody low2 classes;
-        key = below x.key (2 ^ 64) fits;
+        key = nat_lt-true x.key (2 ^ 64) fits;
       },
     )
 
-pub next_head : (ms : List Keyed) (i : ℕ) (row : Message) (x : Keyed) (heads : List Head) (head : Head) → IsRowOf i ms row x → heads ≡ map head_of (take i ms) → Some head ≡ Some (head_of x) → heads ++ head ∷ [] ≡ map head_of (take (i + 1) ms)
+pub next_head : (ms : List Keyed) (i : ℕ) (row : Message) (x : Keyed) (heads : List Head) (head : Head) → IsRowOf i ms row x
+    → heads ≡ map head_of (take i ms) → Some head ≡ Some (head_of x) → heads ++ head ∷ [] ≡ map head_of (take (i + 1) ms)
 next_head ms i row x heads head r before is = rw (r.place, before, ap (λ o. unwrap_or o head) is) (sym (map-append head_of (take i ms) (x ∷ [])))
 
 -- ---- what the rows of a store tell
@@ -71,13 +65,15 @@ next_head ms i row x heads head r before is = rw (r.place, before, ap (λ o. unw
 class_kept : (c : Contents) → AreSound c → (m : vault.Message) → In m (records_of c).messages → is_name m.class ≡ true
 class_kept c s m i =
     let a = all_in (is_sound_message (records_of c)) (records_of c).messages m s.records.messages i in
-    let q = and_parts (bytes_eq (kept_form m.text) m.text && nat_lt 0 (octets_of m) && nat_le (octets_of m) most_octets && is_one_of m.maildrop c.maildrops) (list_any (is_receipt_for m) c.deposits) a in
+    let q = and_parts (bytes_eq (kept_form m.text) m.text && nat_lt 0 (octets_of m) && nat_le (octets_of m) most_octets && is_one_of m.maildrop c.maildrops)
+    (list_any (is_receipt_for m) c.deposits) a in
     let f = found (is_receipt_for m) c.deposits q.1 in
     let r : Receipt = f.0 in
     let u = and_parts (bytes_eq m.maildrop r.maildrop && bytes_eq m.class r.class) (m.k == r.k) f.2 in
     let e = bytes_are m.class r.class (and_parts (bytes_eq m.maildrop r.maildrop) (bytes_eq m.class r.class) u.0).1 in
     let b = all_in (is_sound_receipt (records_of c)) c.deposits r s.records.deposits f.1 in
-    let p = and_parts (is_name r.maildrop && is_deposit_id r.id && is_name r.class && is_counted c.deposits r && nat_le (class_count r.class (receipts_of r.maildrop c.deposits)) most_deposits) (length r.digest == 32) b in
+    let p = and_parts (is_name r.maildrop && is_deposit_id r.id && is_name r.class && is_counted c.deposits r && nat_le (class_count r.class (receipts_of r.maildrop c.deposits)) most_deposits)
+    (length r.digest == 32) b in
     let q2 = and_parts (is_name r.maildrop && is_deposit_id r.id && is_name r.class && is_counted c.deposits r) (nat_le (class_count r.class (receipts_of r.maildrop c.deposits)) most_deposits) p.0 in
     let q3 = and_parts (is_name r.maildrop && is_deposit_id r.id && is_name r.class) (is_counted c.deposits r) q2.0 in
     ap is_name e ∙ (and_parts (is_name r.maildrop && is_deposit_id r.id) (is_name r.class) q3.0).1

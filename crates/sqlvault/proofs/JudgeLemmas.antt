@@ -28,9 +28,11 @@ use Rattle.mailsql.proofs.EqualLemmas.{same_itself}
 use Rattle.sqlvault.specs.Keeps.{row_key, message_row, message_sheets}
 use Rattle.sqlvault.specs.Parts.{Finds, MaildropsAre, MessagesAre, messages_of, records_with}
 use Rattle.sqlvault.specs.Stored.{HasSheets, is_kept_text, IsStored, HasMessage, sheets_in, IsSoundIn, sheets_under}
-use Rattle.sqlvault.proofs.RemoveLemmas.{int_same, num_same, num_itself}
+use Rattle.sqlvault.proofs.RemoveLemmas.{num_same, num_itself}
 use Rattle.sqlvault.proofs.StoredLemmas.{few_octets}
-use Rattle.sqlvault.proofs.GatherLemmas.{all_here, one_of_all, found_there, finds_it, apart_distinct, distinct_weaker, in_permuted, Once, in_flat, flat_in, once_flat, in_range, range_in, once_range, same_elements, length_none, parts_sum}
+use Rattle.sqlvault.proofs.GatherLemmas.{all_here, one_of_all, found_there, finds_it, distinct_weaker, in_permuted, Once, in_flat, flat_in, once_flat, in_range}
+use Rattle.sqlvault.proofs.GatherLemmas.{range_in, once_range, same_elements, length_none, parts_sum}
+use Rattle.sqlvault.proofs.SmallLemmas.{both_hold, never_true, pos_same, apart_distinct, int_same}
 
 -- ---- sheets
 
@@ -44,10 +46,7 @@ sheet_of x s i =
     plain n p h = omega (arith, h)
 
 same_place : (mail : ℤ) (text : List ℕ) (j k : ℕ) → sheet_at mail text j ≡ sheet_at mail text k → j ≡ k
-same_place mail text j k e = number_same (ap (λ (s : Sheet). s.place) e)
-  where
-    number_same : {m n : ℕ} → pos m ≡ pos n → m ≡ n
-    number_same {m} {n} e = cc
+same_place mail text j k e = pos_same (ap (λ (s : Sheet). s.place) e)
 
 -- they are all different
 sheets_once : (x : Keyed) → Once (message_sheets x)
@@ -76,9 +75,6 @@ few_sheets n h = let e = div_ceil_times n 4096 (omega arith) in go (div_ceil n 4
     go : (count : ℕ) → count * 4096 < n + 4096 → count ≤ 6400
     go count end = omega (arith, h, end)
 
-and_both : (a b : Bool) → a ≡ true → b ≡ true → (a && b) ≡ true
-and_both a b e f = rw (e, f) refl
-
 names_turned : (a b : List ℕ) → bytes_eq a b ≡ true → bytes_eq b a ≡ true
 names_turned a b h = ap (λ x. bytes_eq x a) (sym (bytes_are a b h)) ∙ bytes_same a
 
@@ -95,7 +91,8 @@ module _ (rows : Rows) (deposits : List Receipt) (apart : AreApart rows) (droppe
       let in_it : In m (filter (is_in d.0) rows.messages) = filter_in (is_in d.0) rows.messages m i (names_turned d.0 m.maildrop d.2) in
       one_of_all (HasMessage rows deposits) (filter (is_in d.0) rows.messages) m (one_of_all (IsSoundIn rows deposits) rows.maildrops d.0 all d.1).1 in_it
 
-  gathered : (shown : List Message) → ((m : Message) → In m shown → HasMessage rows deposits m) → (ms : List Keyed) × (shown ≡ map message_row ms) × ((x : Keyed) → In x ms → IsStored rows deposits (message_row x) x)
+  gathered : (shown : List Message) → ((m : Message) → In m shown → HasMessage rows deposits m)
+      → (ms : List Keyed) × (shown ≡ map message_row ms) × ((x : Keyed) → In x ms → IsStored rows deposits (message_row x) x)
   gathered [] h = ([], refl, λ x i. absurd i)
   gathered (m ∷ shown) h =
       let x = h m (inl refl) in
@@ -161,7 +158,7 @@ module _ (rows : Rows) (deposits : List Receipt) (apart : AreApart rows) (droppe
         distinct-map (λ (x : Keyed). x.message) same_message ms
         ∙ distinct_weaker row_same (λ (x y : Keyed). same_message x.message y.message) ms
         (λ x y h. let r = and_parts (bytes_eq x.message.maildrop y.message.maildrop && bytes_eq x.message.class y.message.class) (x.message.k == y.message.k) h in
-        and_both (bytes_eq x.message.maildrop y.message.maildrop && bytes_eq x.message.class y.message.class) (same_int (pos x.message.k) (pos y.message.k)) r.0
+        both_hold (bytes_eq x.message.maildrop y.message.maildrop && bytes_eq x.message.class y.message.class) (same_int (pos x.message.k) (pos y.message.k)) r.0
         (subst (λ n. same_int (pos x.message.k) (pos n) ≡ true) (num_same x.message.k y.message.k r.1) (same_itself (pos x.message.k))))
         (sym (distinct-map message_row told ms) ∙ ap (are_distinct told) (sym same) ∙ sym (apart_distinct told rows.messages) ∙ apart.messages)
       where
@@ -175,8 +172,8 @@ module _ (rows : Rows) (deposits : List Receipt) (apart : AreApart rows) (droppe
       sound_at : (x : Keyed) → In x ms → is_sound_message (records_with rows.maildrops deposits) x.message ≡ true
       sound_at x i =
           let s = stored x i in
-          and_both (is_kept_text x.message.text && is_one_of x.message.maildrop rows.maildrops) (list_any (is_receipt_for x.message) deposits)
-          (and_both (is_kept_text x.message.text) (is_one_of x.message.maildrop rows.maildrops) s.text (parent (message_row x) (row_in x i))) s.receipt
+          both_hold (is_kept_text x.message.text && is_one_of x.message.maildrop rows.maildrops) (list_any (is_receipt_for x.message) deposits)
+          (both_hold (is_kept_text x.message.text) (is_one_of x.message.maildrop rows.maildrops) s.text (parent (message_row x) (row_in x i))) s.receipt
 
       all_sound : list_all (is_sound_message (records_with rows.maildrops deposits)) (messages_of ms) ≡ true
       all_sound = all_of (is_sound_message (records_with rows.maildrops deposits)) (messages_of ms)
@@ -199,13 +196,10 @@ module _ (rows : Rows) (deposits : List Receipt) (apart : AreApart rows) (droppe
           let r = found (λ x. bytes_eq x d) rows.maildrops t in
           subst (λ e. length (filter (is_in e) rows.messages) ≤ most_messages) (bytes_are r.0 d r.2) (one_of_all (IsSoundIn rows deposits) rows.maildrops r.0 all r.1).0)
           (λ (f : is_one_of d rows.maildrops ≡ false).
-          let none = length_none (is_in d) rows.messages (λ m i. no (bytes_eq m.maildrop d) (λ e. true≢false (sym (parent m i) ∙ ap (λ n. is_one_of n rows.maildrops) (bytes_are m.maildrop d e) ∙ f))) in
+          let none = length_none (is_in d) rows.messages
+          (λ m i. never_true (bytes_eq m.maildrop d) (λ e. true≢false (sym (parent m i) ∙ ap (λ n. is_one_of n rows.maildrops) (bytes_are m.maildrop d e) ∙ f))) in
           omega (arith, none))
           (cases_Bool (is_one_of d rows.maildrops)))
-        where
-          no : (b : Bool) → (b ≡ true → ⊥) → b ≡ false
-          no true h = absurd (h refl)
-          no false h = refl
 
       pub messages_are : All (IsSoundIn rows deposits) rows.maildrops → length rows.sheets ≡ sum_by sheets_in rows.messages → MessagesAre rows deposits ms
       messages_are all long = record {
@@ -224,16 +218,17 @@ module _ (rows : Rows) (deposits : List Receipt) (apart : AreApart rows) (droppe
     sheets_found : (x : Keyed) → In x ms → HasSheets rows (row_key x.key) x.message.text
     sheets_found x i p low =
         let s = sheet_at (row_key x.key) x.message.text p in
-        let here : In s (flat_map message_sheets ms) = flat_in message_sheets ms x s i (range_in (sheet_at (row_key x.key) x.message.text) 0 (sheet_count x.message.text) p (omega arith) (plain (sheet_count x.message.text) p low)) in
+        let here : In s (flat_map message_sheets ms) = flat_in message_sheets ms x s i
+        (range_in (sheet_at (row_key x.key) x.message.text) 0 (sheet_count x.message.text) p (omega arith) (plain (sheet_count x.message.text) p low)) in
         let moved : In s rows.sheets = in_permuted (flat_map message_sheets ms) rows.sheets s are.sheets here in
         finds_it (λ (a b : Sheet). same_int a.mail b.mail && same_int a.place b.place) (is_sheet (row_key x.key) (pos p)) rows.sheets s
         (λ y z h k.
         let a = and_parts (same_int y.mail (row_key x.key)) (same_int y.place (pos p)) h in
         let b = and_parts (same_int z.mail (row_key x.key)) (same_int z.place (pos p)) k in
-        and_both (same_int y.mail z.mail) (same_int y.place z.place)
+        both_hold (same_int y.mail z.mail) (same_int y.place z.place)
         (subst (λ n. same_int y.mail n ≡ true) (int_same y.mail (row_key x.key) a.0 ∙ sym (int_same z.mail (row_key x.key) b.0)) (same_itself y.mail))
         (subst (λ n. same_int y.place n ≡ true) (int_same y.place (pos p) a.1 ∙ sym (int_same z.place (pos p) b.1)) (same_itself y.place)))
-        apart.sheets moved (and_both (same_int (row_key x.key) (row_key x.key)) (same_int (pos p) (pos p)) (same_itself (row_key x.key)) (same_itself (pos p)))
+        apart.sheets moved (both_hold (same_int (row_key x.key) (row_key x.key)) (same_int (pos p) (pos p)) (same_itself (row_key x.key)) (same_itself (pos p)))
       where
         plain : (n q : ℕ) → q < n → q < 0 + n
         plain n q h = omega (arith, h)
@@ -276,7 +271,8 @@ module _ (rows : Rows) (deposits : List Receipt) (apart : AreApart rows) (droppe
   exact_back : (long sum count total : ℕ) → sum ≤ 64000000000 → count ≡ min long 9223372036854775807 → total ≡ min sum (2 ^ 64 - 1) → long ≡ sum → count ≡ total
   exact_back long sum count total few a b e = omega (arith, few, a, b, e)
 
-  pub judged_all : (count total : ℕ) → All (IsSoundIn rows deposits) rows.maildrops → count ≡ min (length rows.sheets) 9223372036854775807 → total ≡ min (sum_by (sheets_under rows) rows.maildrops) (2 ^ 64 - 1)
+  pub judged_all : (count total : ℕ) → All (IsSoundIn rows deposits) rows.maildrops → count ≡ min (length rows.sheets) 9223372036854775807
+      → total ≡ min (sum_by (sheets_under rows) rows.maildrops) (2 ^ 64 - 1)
       → count ≡ total → (ms : List Keyed) × MessagesAre rows deposits ms
   judged_all count total all a b e =
       let r = gathered rows.messages (there all) in
@@ -287,7 +283,8 @@ module _ (rows : Rows) (deposits : List Receipt) (apart : AreApart rows) (droppe
   judged_other count total ms a b other are =
       other (exact_back (length rows.sheets) (sum_by (sheets_under rows) rows.maildrops) count total (few_all (all_sound_in ms are)) a b (sheets_long ms are ∙ sym sum_all))
 
-  pub judged_count : (count total : ℕ) → All (IsSoundIn rows deposits) rows.maildrops → count ≡ min (length rows.sheets) 9223372036854775807 → total ≡ min (sum_by (sheets_under rows) rows.maildrops) (2 ^ 64 - 1)
+  pub judged_count : (count total : ℕ) → All (IsSoundIn rows deposits) rows.maildrops → count ≡ min (length rows.sheets) 9223372036854775807
+      → total ≡ min (sum_by (sheets_under rows) rows.maildrops) (2 ^ 64 - 1)
       → Finds (MessagesAre rows deposits) (count == total)
   judged_count count total all a b = go (count == total) (num_same count total) (λ e. subst (λ n. (count == n) ≡ true) e (num_itself count))
     where

@@ -1,3 +1,4 @@
+pub mod SmallLemmas
 pub mod FrameLemmas
 pub mod HoldsLemmas
 pub mod WithinLemmas
@@ -5,6 +6,7 @@ pub mod FaultLemmas
 pub mod NewLemmas
 pub mod PermutationLemmas
 pub mod ClerkLemmas
+pub mod ReceiptLemmas
 pub mod MaildropLemmas
 pub mod DepositLemmas
 pub mod HeadLemmas

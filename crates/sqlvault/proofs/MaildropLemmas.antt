@@ -1,6 +1,6 @@
 -- What each statement leaves of the maildrops, and what the rows tell of them.
 use Rattle.std.proofs.Common.{◌≡◌, ℕ, ◌<◌, ◌≤◌, Bool, true, false, List, [], ◌∷◌, ◌++◌, length, Ok, Err, refl, sym, ◌∙◌, ap, subst, arith, length-append}
-use Rattle.std.specs.Prelude.{filter, min, nat_le, not, bytes_eq, ◌==◌}
+use Rattle.std.specs.Prelude.{filter, min, not, bytes_eq, ◌==◌}
 use Rattle.std.proofs.lemmas.Bool.Decides.{nat_tests}
 use Rattle.std.specs.List.{list_all}
 use Rattle.policy.specs.Policy.{are_distinct}
@@ -11,12 +11,14 @@ use Rattle.vault.specs.Records.{Records, is_sound_message, is_one_of, most_maild
 use Rattle.vault.specs.Changes.{Contents, AreSound, records_of, with_maildrop, without_maildrop, with_maildrops, kept_in}
 use Rattle.vault.specs.Changes.{put_maildrop_answer, drop_answer}
 use Rattle.vault.specs.Calls.{IsMaildropAdded, IsMaildropDropped, put_result, drop_result, present_in}
-use Rattle.vault.proofs.ListLemmas.{all_last, all_weaker, all_filter, distinct_last, distinct_filter, filter_fits, filter_in, found, any_of, any_in, any_front, none_kept, not_false, bytes_are, In, filter-map, length-map}
+use Rattle.vault.proofs.ListLemmas.{all_last, all_weaker, all_filter, distinct_last, distinct_filter, filter_fits, filter_in, found, any_of, any_in, any_front, none_kept}
+use Rattle.vault.proofs.ListLemmas.{not_false, bytes_are, In, filter-map, length-map}
 use Rattle.vault.proofs.TotalLemmas.{present_is}
 use Rattle.mailsql.specs.Rows.{Rows, has_name, is_in}
 use Rattle.mailsql.specs.declared.rows.Message as row
 use Rattle.mailsql.specs.Changes.{AddsMaildrop, DropsMaildrop}
 use Rattle.sqlvault.specs.Keeps.{Keeps, message_row}
+use Rattle.sqlvault.proofs.SmallLemmas.{lt-nat_le, le-nat_le}
 
 -- ---- sound contents with other maildrops
 
@@ -128,12 +130,6 @@ present_rows rows c name n most k e = e ∙ ap (λ (m : ℕ). min m most) (
 
 -- ---- the answers
 
-room : (most count : ℕ) → count < most → nat_le most count ≡ false
-room most count h = grind (arith, nat_tests)
-
-no_room : (most count : ℕ) → most ≤ count → nat_le most count ≡ true
-no_room most count h = grind (arith, nat_tests)
-
 pub was_there : (Held : Contents → Type 0) (c : Contents) (name : List ℕ) → is_one_of name c.maildrops ≡ true → Held c → IsMaildropAdded Held c name (Ok false)
 was_there Held c name e h = record { answer = rw e refl; held = rw e h }
 
@@ -142,7 +138,7 @@ missing Held c name e h = record { answer = rw e refl; held = h }
 
 pub full : (Held : Contents → Type 0) (c : Contents) (name : List ℕ) → is_one_of name c.maildrops ≡ false → most_maildrops ≤ length c.maildrops → Held c
     → IsMaildropAdded Held c name (Err fault.Full)
-full Held c name e most h = let f = no_room most_maildrops (length c.maildrops) most in record { answer = rw (e, f) refl; held = h }
+full Held c name e most h = let f = le-nat_le most_maildrops (length c.maildrops) most in record { answer = rw (e, f) refl; held = h }
 
 pub not_empty : (Held : Contents → Type 0) (c : Contents) (name : List ℕ) → is_one_of name c.maildrops ≡ true → 0 < present_in name c → Held c
     → IsMaildropDropped Held c name (Err fault.NotEmpty)
@@ -160,7 +156,7 @@ pub may_add : (c : Contents) (text name : List ℕ) → text ≡ name → is_nam
     × ((from to : Rows) → AddsMaildrop text from to → Keeps from c
     → Keeps to (with_maildrops (with_maildrop name c.maildrops) c))
 may_add c text name same form new fits = (
-  let f = room most_maildrops (length c.maildrops) fits in rw (new, f) refl,
+  let f = lt-nat_le most_maildrops (length c.maildrops) fits in rw (new, f) refl,
   subst (λ t. (from to : Rows) → AddsMaildrop t from to → Keeps from c
       → Keeps to (with_maildrops (with_maildrop name c.maildrops) c)) (sym same)
       (λ from to change k. rw new (keeps_added c name form new fits from to change k)),

@@ -1,5 +1,6 @@
 -- Parts of the transaction that carries a store over, one behind the other; and the messages of version 1 that come into the tables of ours.
-use Rattle.std.proofs.Common.{◌≡◌, inl, inr, IsTrue, ℕ, zero, suc, ◌+◌, ◌<◌, ◌≤◌, ℤ, ◌<ℤ◌, Bool, true, false, cond, List, [], ◌∷◌, ◌++◌, length, map, take, take_all, get_or, Some, None, Less, int_cmp, is_eq, refl, sym, ap, ap₂, subst, ◌∙◌, true≢false, arith}
+use Rattle.std.proofs.Common.{◌≡◌, inl, inr, IsTrue, ℕ, zero, suc, ◌+◌, ◌<◌, ◌≤◌, ℤ, ◌<ℤ◌, Bool, true, false, cond, List, [], ◌∷◌, ◌++◌, length, map, take, take_all, get_or, Some}
+use Rattle.std.proofs.Common.{None, Less, int_cmp, is_eq, refl, sym, ap, ap₂, subst, ◌∙◌, true≢false, arith}
 use Rattle.std.specs.Prelude.{Result, Ok, Err, flat_map, OnOk, OnErr}
 use Rattle.std.specs.List.{find, AllByRecursion}
 use Rattle.std.proofs.lemmas.Bool.Decides.{nat_tests}
@@ -19,8 +20,8 @@ use Rattle.mailsql.specs.Rows.{Rows, rows_in, bodies_at, is_carried, is_body, co
 use Rattle.mailsql.proofs.EqualLemmas.{same_itself}
 use Rattle.sqlvault.specs.Moves.{Moves, MovesBody, MovesKey, MovesAll, MovesOld, AreBelow, body_head, body_sheets, IsInside, IsUnmoved, HasHeads, DoesPart, HaltsPart, Part}
 use Rattle.sqlvault.specs.Stands.{LeavesNoMore}
-use Rattle.sqlvault.proofs.AdoptLemmas.{halted_after}
 use Rattle.sqlvault.proofs.CarryLemmas.{goes_then, halted_then, more_then, changed_on, looked_on, no_more_in}
+use Rattle.mailsql.proofs.CreateLemmas.{stops_making}
 
 -- ---- a part
 
@@ -31,13 +32,27 @@ pub inside_on : (Change : Rows → Rows → Type 0) (a b : State) → DoesPart C
 inside_on Change a b d = record { is_open = d.on.is_open; inside = d.on.mode; tables = d.tables }
 
 -- one statement
-pub part_of : (Change Other : Rows → Rows → Type 0) (a b : State) (r : Result (Unit {0}) Error) → HasCleanDisk b → IsInside a → OnOk r (Changes Change a b) → OnErr r (IsUndone a b) → Survives a b (MayLeave Other a) → Part Change a b r
-part_of Change Other a b (Ok x) clean i ok err s = record { on = changed_on Change a b i.inside ok; tables = ok.kept; change = ok.change; stop = no_more_in Other a b i.inside (i.is_open, i.tables) clean s }
-part_of Change Other a b (Err e) clean i ok err s = record { halted = halted_after a a b (inside_stays a i) err; stop = no_more_in Other a b i.inside (i.is_open, i.tables) clean s }
+pub part_of : (Change Other : Rows → Rows → Type 0) (a b : State) (r : Result (Unit {0}) Error) → HasCleanDisk b → IsInside a
+    → OnOk r (Changes Change a b) → OnErr r (IsUndone a b) → Survives a b (MayLeave Other a) → Part Change a b r
+part_of Change Other a b (Ok x) clean i ok err s = record {
+  on = changed_on Change a b i.inside ok;
+  tables = ok.kept;
+  change = ok.change;
+  stop = no_more_in Other a b i.inside
+      (i.is_open, i.tables) clean s;
+}
+part_of Change Other a b (Err e) clean i ok err s = record { halted = stops_making a a b (inside_stays a i) err; stop = no_more_in Other a b i.inside (i.is_open, i.tables) clean s }
 
 -- several
-pub parts_of : (Change Other : Rows → Rows → Type 0) (a b : State) (r : Result (Unit {0}) Error) → HasCleanDisk b → IsInside a → OnOk r (Changes Change a b) → OnErr r (IsHalted a b) → Survives a b (MayLeave Other a) → Part Change a b r
-parts_of Change Other a b (Ok x) clean i ok err s = record { on = changed_on Change a b i.inside ok; tables = ok.kept; change = ok.change; stop = no_more_in Other a b i.inside (i.is_open, i.tables) clean s }
+pub parts_of : (Change Other : Rows → Rows → Type 0) (a b : State) (r : Result (Unit {0}) Error) → HasCleanDisk b → IsInside a
+    → OnOk r (Changes Change a b) → OnErr r (IsHalted a b) → Survives a b (MayLeave Other a) → Part Change a b r
+parts_of Change Other a b (Ok x) clean i ok err s = record {
+  on = changed_on Change a b i.inside ok;
+  tables = ok.kept;
+  change = ok.change;
+  stop = no_more_in Other a b i.inside
+      (i.is_open, i.tables) clean s;
+}
 parts_of Change Other a b (Err e) clean i ok err s = record { halted = err; stop = no_more_in Other a b i.inside (i.is_open, i.tables) clean s }
 
 -- none
@@ -58,7 +73,7 @@ part_looked a b i same stop = record {
 }
 
 pub part_refused : (a b : State) → IsInside a → IsUndone a b → LeavesNoMore a b → HaltsPart a b
-part_refused a b i undone stop = record { halted = halted_after a a b (inside_stays a i) undone; stop = stop }
+part_refused a b i undone stop = record { halted = stops_making a a b (inside_stays a i) undone; stop = stop }
 
 -- a query of the messages of version 1 commits nothing
 pub asked_carried : (a b : State) → IsInside a → is_carried a.now.trees ≡ true → HasCleanDisk b → Survives a b (λ _. IsTrue (is_carried a.now.trees) → ¬ IsOurs a.now) → LeavesNoMore a b
@@ -66,7 +81,8 @@ asked_carried a b i carried clean s db may = elim (s.crash clean db may) [ inl w
 
 -- ---- one behind another
 
-pub part_then : (First Then Both : Rows → Rows → Type 0) (a b c : State) → ((from mid to : Rows) → First from mid → Then mid to → Both from to) → DoesPart First a b → DoesPart Then b c → DoesPart Both a c
+pub part_then : (First Then Both : Rows → Rows → Type 0) (a b c : State) → ((from mid to : Rows) → First from mid → Then mid to → Both from to)
+    → DoesPart First a b → DoesPart Then b c → DoesPart Both a c
 part_then First Then Both a b c both p q = record {
   on = goes_then a b c p.on q.on;
   tables = q.tables;
@@ -77,7 +93,8 @@ part_then First Then Both a b c both p q = record {
 pub halts_behind : (First : Rows → Rows → Type 0) (a b c : State) → DoesPart First a b → HaltsPart b c → HaltsPart a c
 halts_behind First a b c p q = record { halted = halted_then a b c p.on q.halted; stop = more_then a b c p.stop q.stop }
 
-pub then_part : (First Then Both : Rows → Rows → Type 0) (a b c : State) (r : Result (Unit {0}) Error) → ((from mid to : Rows) → First from mid → Then mid to → Both from to) → DoesPart First a b → Part Then b c r → Part Both a c r
+pub then_part : (First Then Both : Rows → Rows → Type 0) (a b c : State) (r : Result (Unit {0}) Error)
+    → ((from mid to : Rows) → First from mid → Then mid to → Both from to) → DoesPart First a b → Part Then b c r → Part Both a c r
 then_part First Then Both a b c (Ok x) both p q = part_then First Then Both a b c both p q
 then_part First Then Both a b c (Err e) both p q = halts_behind First a b c p q
 
@@ -93,7 +110,8 @@ pub same_head : (m : Message) (key : ℤ) (maildrop class : List ℕ) (k octets 
     → (let h : Message = record { key = key; maildrop = maildrop; class = class; k = k; octets = octets } in h) ≡ m
 same_head m key maildrop class k octets a b c d e = rw (a, b, c, d, e) refl
 
-pub body_put : (body : Body) (a b c : State) (r : Result (Unit {0}) Error) → HasCleanDisk c → DoesPart (AddsKeyed body.head) a b → OnOk r (Changes (AddsSheets body.head.key body.body) b c) → OnErr r (IsHalted b c) → Survives b c (MayLeave (AddsSomeSheets body.head.key body.body) b)
+pub body_put : (body : Body) (a b c : State) (r : Result (Unit {0}) Error) → HasCleanDisk c → DoesPart (AddsKeyed body.head) a b
+    → OnOk r (Changes (AddsSheets body.head.key body.body) b c) → OnErr r (IsHalted b c) → Survives b c (MayLeave (AddsSomeSheets body.head.key body.body) b)
     → Part (MovesBody body) a c r
 body_put body a b c r clean row ok err s =
     then_part (AddsKeyed body.head) (AddsSheets body.head.key body.body) (MovesBody body) a b c r (λ from mid to adds sheets above. one_moved body from mid to (adds above) sheets) row
@@ -110,7 +128,8 @@ sees_moves key found from mid to sees moves asked here above =
     let low = subst (λ (x : Body). AreBelow x.head.key mid) (sym is) (subst (λ (x : Rows). AreBelow asked.head.key x) (sym sees.0) above) in
     subst (λ (x : Rows). Moves (asked ∷ []) x to) sees.0 (subst (λ (x : Body). Moves (x ∷ []) mid to) is (moves low))
 
-pub found_put : (key : ℤ) (found : Body) (a b c : State) (r : Result (Unit {0}) Error) → DoesPart (λ old new. new ≡ old) a b → find (is_body key) (rows_in a.now.trees).bodies ≡ Some found → Part (MovesBody found) b c r → Part (MovesKey key) a c r
+pub found_put : (key : ℤ) (found : Body) (a b c : State) (r : Result (Unit {0}) Error) → DoesPart (λ old new. new ≡ old) a b
+    → find (is_body key) (rows_in a.now.trees).bodies ≡ Some found → Part (MovesBody found) b c r → Part (MovesKey key) a c r
 found_put key found a b c r looked is put =
     then_part (SeesBody key found) (MovesBody found) (MovesKey key) a b c r (sees_moves key found)
     (record { on = looked.on; tables = looked.tables; change = (looked.change, is); stop = looked.stop }) put
@@ -141,7 +160,8 @@ pub moved_found : (a b c : State) → DoesPart (λ old new. new ≡ old) a b →
 moved_found a b c = part_then (λ old new. new ≡ old) (λ from to. Moves from.bodies from to) MovesFound a b c (λ from same to is moves. (same, is, moves))
 
 -- and gone from where it was
-pub moved_cleared : (a b c : State) (r : Result (Unit {0}) Error) → HasCleanDisk c → DoesPart MovesFound a b → is_carried b.now.trees ≡ true → OnOk r (Changes ClearsBodies b c) → OnErr r (IsUndone b c)
+pub moved_cleared : (a b c : State) (r : Result (Unit {0}) Error) → HasCleanDisk c → DoesPart MovesFound a b → is_carried b.now.trees ≡ true
+    → OnOk r (Changes ClearsBodies b c) → OnErr r (IsUndone b c)
     → Survives b c (λ db. IsTrue (is_carried b.now.trees) → MayLeave ClearsBodies b db) → Part MovesAll a c r
 moved_cleared a b c r clean moved carried ok err s =
     then_part MovesFound ClearsBodies MovesAll a b c r (λ from mid to m clears. all_moved from m.0 mid to m.1 m.2 clears) moved
@@ -183,7 +203,8 @@ next_at (b ∷ bodies) (suc i) head low rising is =
       later = λ a all. n.later a all.1;
     }
 
-pub next_body : (bodies : List Body) (heads : List Message) (i : ℕ) (head : Message) → heads ≡ map body_head bodies → AreRising bodies → i < length heads → head ≡ get_or heads i head → IsNext bodies i head
+pub next_body : (bodies : List Body) (heads : List Message) (i : ℕ) (head : Message) → heads ≡ map body_head bodies → AreRising bodies
+    → i < length heads → head ≡ get_or heads i head → IsNext bodies i head
 next_body bodies heads i head are rising low is =
     let same : length heads ≡ length bodies = ap length are ∙ length-map bodies body_head in
     next_at bodies i head (omega (arith, low, same)) rising (is ∙ ap (λ hs. get_or hs i head) are)
@@ -213,7 +234,8 @@ module _ (s0 s1 : State) (i : ℕ) (head : Message) (n : IsNext (rows_in s0.now.
   found_next = ap (find (is_body head.key)) (same_bodies (take i from.bodies) from (rows_in s1.now.trees) first.0.change) ∙ ap (λ (m : Message). find (is_body m.key) from.bodies) n.is ∙ n.found
 
   above_next : from.messages ≡ [] → AllByRecursion (λ (m : Message). m.key <ℤ n.body.head.key) (rows_in s1.now.trees).messages
-  above_next none = subst (AllByRecursion (λ (m : Message). m.key <ℤ n.body.head.key)) (sym (ap (λ (r : Rows). r.messages) first.0.change ∙ ap (λ ms. ms ++ map body_head (take i from.bodies)) none)) n.above
+  above_next none = subst (AllByRecursion (λ (m : Message). m.key <ℤ n.body.head.key))
+      (sym (ap (λ (r : Rows). r.messages) first.0.change ∙ ap (λ ms. ms ++ map body_head (take i from.bodies)) none)) n.above
 
   pub moved_next : (s2 : State) (key : ℤ) → key ≡ head.key → from.messages ≡ [] → DoesPart (MovesKey key) s1 s2 → MovesFirst (i + 1) s0 s2
   moved_next s2 key same none one =
@@ -240,7 +262,8 @@ moved_whole s0 s1 i all first =
     record { on = first.0.on; tables = first.0.tables; change = subst (λ l. Moves l from (rows_in s1.now.trees)) (take_all i from.bodies all) first.0.change; stop = first.0.stop }
 
 -- the heads were read, and nothing was changed
-pub looked_heads : (heads : List Message) (a b : State) → IsUnmoved true a → IsUnchanged a b → DoesPart (λ old new. new ≡ old) a b → AreRising (rows_in b.now.trees).bodies → heads ≡ map body_head (rows_in a.now.trees).bodies → HasHeads heads b
+pub looked_heads : (heads : List Message) (a b : State) → IsUnmoved true a → IsUnchanged a b → DoesPart (λ old new. new ≡ old) a b
+    → AreRising (rows_in b.now.trees).bodies → heads ≡ map body_head (rows_in a.now.trees).bodies → HasHeads heads b
 looked_heads heads a b u same looked rising are =
     let rows = looked.change in
     record {

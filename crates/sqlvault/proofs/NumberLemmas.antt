@@ -18,7 +18,8 @@ use Rattle.vault.specs.declared.record.Receipt.{Receipt}
 use Rattle.vault.specs.Records.{receipts_of, class_count, same_uid, is_receipt_for, is_counted, is_sound_receipt, most_deposits}
 use Rattle.vault.proofs.ListLemmas.{In, bytes_same, bytes_are, not_true, any_in, any_of, all_in, in_filter, in_map, distinct_filter, length-map}
 use Rattle.sqlvault.specs.Parts.{records_with}
-use Rattle.sqlvault.proofs.RemoveLemmas.{num_same, num_itself, low}
+use Rattle.sqlvault.proofs.RemoveLemmas.{num_same, num_itself}
+use Rattle.sqlvault.proofs.SmallLemmas.{nat_le-true, nat_lt-true}
 
 -- ---- lists in which no element stands twice
 
@@ -113,14 +114,11 @@ parts deposits r h =
       maildrop = p1.0;
       id = p1.1;
       class = p2.1;
-      above = low 0 r.k q.0;
-      within = at_most r.k n q.1;
-      few = at_most n most_deposits p4.1;
+      above = nat_lt-true 0 r.k q.0;
+      within = nat_le-true r.k n q.1;
+      few = nat_le-true n most_deposits p4.1;
       sized = num_same (length r.digest) 32 p5.1;
     }
-  where
-    at_most : (m n : ℕ) → nat_le m n ≡ true → m ≤ n
-    at_most m n h = grind (arith, nat_tests)
 
 -- those of a class in a maildrop's name
 abbrev pub of_class : List ℕ → List ℕ → List Receipt → List Receipt
@@ -161,7 +159,8 @@ number_of_class deposits d class k sound apart above within =
     let n = class_count class (receipts_of d deposits) in
     let mine = of_class d class deposits in
     let ks = map (λ (r : Receipt). r.k) mine in
-    let differ = numbers_differ d class mine (λ r i. let p = of_class_in d class deposits r i in (p.1, p.2)) (distinct_filter same_uid (λ (r : Receipt). bytes_eq r.class class) (receipts_of d deposits) (distinct_filter same_uid (λ (r : Receipt). bytes_eq r.maildrop d) deposits apart)) in
+    let differ = numbers_differ d class mine (λ r i. let p = of_class_in d class deposits r i in (p.1, p.2))
+    (distinct_filter same_uid (λ (r : Receipt). bytes_eq r.class class) (receipts_of d deposits) (distinct_filter same_uid (λ (r : Receipt). bytes_eq r.maildrop d) deposits apart)) in
     let inside = λ (m : ℕ) (i : In m ks).
     let r = in_map (λ (x : Receipt). x.k) mine m i in
     let p = of_class_in d class deposits r.0 r.1 in
@@ -179,12 +178,9 @@ pub number_has_receipt : (deposits : List Receipt) (m : Message) → list_all (i
     → nat_lt 0 m.k ≡ true → nat_le m.k (class_count m.class (receipts_of m.maildrop deposits)) ≡ true → list_any (is_receipt_for m) deposits ≡ true
 number_has_receipt deposits m sound apart above within =
     let n = class_count m.class (receipts_of m.maildrop deposits) in
-    let r = number_of_class deposits m.maildrop m.class m.k sound apart (low 0 m.k above) (at_most m.k n within) in
+    let r = number_of_class deposits m.maildrop m.class m.k sound apart (nat_lt-true 0 m.k above) (nat_le-true m.k n within) in
     any_of (is_receipt_for m) deposits r.0 r.1 (is_for m r.0 r.2 r.3 r.4)
   where
-    at_most : (m n : ℕ) → nat_le m n ≡ true → m ≤ n
-    at_most m n h = grind (arith, nat_tests)
-
     is_for : (m : Message) (r : Receipt) → r.maildrop ≡ m.maildrop → r.class ≡ m.class → m.k ≡ r.k → is_receipt_for m r ≡ true
     is_for m r e f g =
         let a : bytes_eq m.maildrop r.maildrop ≡ true = subst (λ n. bytes_eq m.maildrop n ≡ true) (sym e) (bytes_same m.maildrop) in

@@ -56,19 +56,6 @@ looked_older store old new r same s = record {
   stop = λ clean is. asked_old (state store old) (state store new) is.0 clean s;
 }
 
--- one that met an error
-pub failed_older : {S A E : Type 0} (store : Ghosts S) (old new : Held S) (e : E)
-    → (HasCleanDisk (state store new) → HasOldTables (state store old)
-    → IsUndone (state store old) (state store new))
-    → Survives (state store old) (state store new) (λ _. IsOldSchema (state store old).now → ⊥)
-    → (let r : Result A E = Err e in AsksOlder store old new r)
-failed_older store old new e undone s = record {
-  clean = was_clean store old new s;
-  same = λ clean tables. tt;
-  err = λ clean tables. undone clean tables;
-  stop = λ clean is. asked_old (state store old) (state store new) is.0 clean s;
-}
-
 -- one behind another, which was answered
 pub older_then : {S A E : Type 0} (store : Ghosts S) (old mid new : Held S) (r : Result A E)
     → (HasCleanDisk (state store mid) → HasOldTables (state store old)

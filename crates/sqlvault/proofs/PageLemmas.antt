@@ -1,5 +1,6 @@
 -- Sheets as the octets of a text.
-use Rattle.std.proofs.Common.{◌≡◌, ◌⊎◌, inl, inr, ℕ, zero, suc, ◌+◌, ◌*◌, ◌-◌, ◌/◌, ◌%◌, ◌<◌, ◌≤◌, ◌^◌, min, ℤ, pos, negsuc, Bool, true, false, not, List, [], ◌∷◌, length, take, drop, map, filter, Option, Some, None, is_lt, is_ge, int_cmp, refl, sym, ap, subst, ◌∙◌, arith, ⊎_elim, true≢false, length-take, length-drop}
+use Rattle.std.proofs.Common.{◌≡◌, ◌⊎◌, inl, inr, ℕ, zero, suc, ◌+◌, ◌*◌, ◌-◌, ◌/◌, ◌%◌, ◌<◌, ◌≤◌, ◌^◌, min, ℤ, pos, negsuc, Bool, true, false, not, List, [], ◌∷◌, length, take}
+use Rattle.std.proofs.Common.{drop, map, filter, Option, Some, None, is_lt, is_ge, int_cmp, refl, sym, ap, subst, ◌∙◌, arith, ⊎_elim, true≢false, length-take, length-drop}
 use Rattle.std.proofs.lemmas.List.{take-take, drop-drop, drop-take}
 use Rattle.std.specs.Prelude.{◌&&◌, ◌||◌, ◌==◌, nat_lt, flat_map, unwrap_or, is_some}
 use Rattle.std.specs.Option.{option_map}
@@ -26,7 +27,8 @@ use Rattle.mailsql.proofs.CutLemmas.{sheets_are_the_text}
 use Rattle.sqlvault.specs.Keeps.{Keeps, row_key, message_sheets}
 use Rattle.sqlvault.specs.Pages.{is_at, octets_from}
 use Rattle.sqlvault.proofs.CopyLemmas.{IsPart, parts_are}
-use Rattle.sqlvault.proofs.RemoveLemmas.{int_same, num_same, num_itself, low, key_told, only_one}
+use Rattle.sqlvault.proofs.RemoveLemmas.{num_same, num_itself, key_told, only_one}
+use Rattle.sqlvault.proofs.SmallLemmas.{int_same, nat_lt-true}
 
 -- ---- the message under a key
 
@@ -86,9 +88,10 @@ ends text = div_ceil_times (length text) 4096 (omega arith)
 
 module _ (key place : ℕ) (rows : Rows) (c : Contents) (fits : key < 2 ^ 64) (keeps : Keeps rows c) where
   low_keys : (x : Keyed) → In x c.messages → x.key < 2 ^ 64
-  low_keys x i = low x.key (2 ^ 64) (all_in (λ (y : Keyed). nat_lt y.key (2 ^ 64)) c.messages x keeps.keys i)
+  low_keys x i = nat_lt-true x.key (2 ^ 64) (all_in (λ (y : Keyed). nat_lt y.key (2 ^ 64)) c.messages x keeps.keys i)
 
-  sheet_there : (x : Keyed) (n : ℕ) → In x c.messages → is_sheet (row_key key) (pos place) (sheet_at (row_key x.key) x.message.text n) ≡ true → octets_at x.message.text n ≡ octets_at (text_under key c.messages) place
+  sheet_there : (x : Keyed) (n : ℕ) → In x c.messages → is_sheet (row_key key) (pos place) (sheet_at (row_key x.key) x.message.text n) ≡ true
+      → octets_at x.message.text n ≡ octets_at (text_under key c.messages) place
   sheet_there x n i is =
       let both = and_parts (same_int (row_key x.key) (row_key key)) (same_int (pos n) (pos place)) is in
       let same : x.key ≡ key = sym (num_same key x.key (sym (key_told x.key key (low_keys x i) fits) ∙ both.0)) in
@@ -103,7 +106,8 @@ module _ (key place : ℕ) (rows : Rows) (c : Contents) (fits : key < 2 ^ 64) (k
       let p = is_sheet (row_key key) (pos place) in
       let there : Sheet → Type 0 = λ t. p t ≡ true → t.octets ≡ octets_at (text_under key c.messages) place in
       let all : AllByRecursion there (flat_map message_sheets c.messages) = all-flat_map there message_sheets c.messages
-      (all_here (λ x. AllByRecursion there (message_sheets x)) c.messages (λ x i. all_ranged there (sheet_at (row_key x.key) x.message.text) 0 (sheet_count x.message.text) (λ n. sheet_there x n i))) in
+      (all_here (λ x. AllByRecursion there (message_sheets x)) c.messages
+      (λ x i. all_ranged there (sheet_at (row_key x.key) x.message.text) 0 (sheet_count x.message.text) (λ n. sheet_there x n i))) in
       let r = found_in there p rows.sheets s (all-permutation there (flat_map message_sheets c.messages) rows.sheets keeps.sheets all) found in
       r.0 r.1
 
@@ -116,9 +120,11 @@ module _ (key place : ℕ) (rows : Rows) (c : Contents) (fits : key < 2 ^ 64) (k
           let some : 0 < length (text_under key c.messages) = omega (arith, there, ends (text_under key c.messages)) in
           let x = has_message c.messages key some in
           let cut : IsCut (row_key key) (text_under key c.messages) = sheets_are_the_text (row_key key) (text_under key c.messages) in
-          let one : list_any p (sheets_of (row_key key) (text_under key c.messages)) ≡ true = any_is_found p (sheets_of (row_key key) (text_under key c.messages)) ∙ ap is_some (cut.are_found place there) in
+          let one : list_any p (sheets_of (row_key key) (text_under key c.messages)) ≡ true = any_is_found p (sheets_of (row_key key) (text_under key c.messages))
+          ∙ ap is_some (cut.are_found place there) in
           let here : list_any p (message_sheets x.0) ≡ true = rw (x.2, sym x.3) one in
-          true≢false (sym (any_joined message_sheets p c.messages x.0 x.1 here) ∙ list_any-IsPermutation p (flat_map message_sheets c.messages) rows.sheets keeps.sheets ∙ any_is_found p rows.sheets ∙ ap is_some (sym none))
+          true≢false (sym (any_joined message_sheets p c.messages x.0 x.1 here)
+          ∙ list_any-IsPermutation p (flat_map message_sheets c.messages) rows.sheets keeps.sheets ∙ any_is_found p rows.sheets ∙ ap is_some (sym none))
 
       go : (place < sheet_count (text_under key c.messages)) ⊎ (sheet_count (text_under key c.messages) ≤ place) → sheet_count (text_under key c.messages) ≤ place
       go (inl there) = absurd (clash there)
@@ -153,10 +159,12 @@ module _ (key : ℕ) (rows : Rows) (c : Contents) (fits : key < 2 ^ 64) (keeps :
       let beyond = no_sheet key place rows c fits keeps none in
       omega (arith, ends (text_under key c.messages), beyond)
 
-  pub run_read : (first end : ℕ) → first ≤ end → octets_from (end - first) (filter (is_sheet_between (row_key key) (pos first) (pos end)) rows.sheets) first ≡ take ((end - first) * 4096) (drop (first * 4096) (text_under key c.messages))
+  pub run_read : (first end : ℕ) → first ≤ end
+      → octets_from (end - first) (filter (is_sheet_between (row_key key) (pos first) (pos end)) rows.sheets) first ≡ take ((end - first) * 4096) (drop (first * 4096) (text_under key c.messages))
   run_read first end le =
       let found = filter (is_sheet_between (row_key key) (pos first) (pos end)) rows.sheets in
-      parts_are 4096 first end (text_under key c.messages) found (λ place above below. part_at place (find (is_at (pos place)) found) (found_at (row_key key) first place end rows.sheets above below)) (end - first) first (omega arith) (omega (arith, le))
+      parts_are 4096 first end (text_under key c.messages) found
+      (λ place above below. part_at place (find (is_at (pos place)) found) (found_at (row_key key) first place end rows.sheets above below)) (end - first) first (omega arith) (omega (arith, le))
 
 -- ---- the page
 
@@ -167,7 +175,8 @@ page_of text from start rest size n octets buffer at inside octets_are count cop
     let sum : rest + (size - rest) ≡ size = omega arith in
     let long : length octets ≡ min size (length text - start) = ap length octets_are ∙ length-take size (drop start text) ∙ ap (min size) (length-drop start text) in
     let left : drop rest octets ≡ take (size - rest) (drop from text) =
-    ap (drop rest) (octets_are ∙ ap (λ k. take k (drop start text)) (sym sum)) ∙ drop-take rest (size - rest) (drop start text) ∙ ap (take (size - rest)) (drop-drop rest start text ∙ ap (λ k. drop k text) at) in
+    ap (drop rest) (octets_are ∙ ap (λ k. take k (drop start text)) (sym sum)) ∙ drop-take rest (size - rest) (drop start text)
+    ∙ ap (take (size - rest)) (drop-drop rest start text ∙ ap (λ k. drop k text) at) in
     let few : n ≤ size - rest = omega (arith, count, long) in
     let fits : n ≤ length buffer = omega (arith, count) in
     let read : length (take n buffer) ≡ n = length-take n buffer ∙ (let e : min n (length buffer) ≡ n = omega (arith, fits) in e) in (

@@ -1,5 +1,6 @@
 -- The sheets of a text, one after the other, as the rows tell them.
-use Rattle.std.proofs.Common.{◌≡◌, ℕ, ◌+◌, ◌*◌, ◌-◌, ◌<◌, ◌≤◌, min, ℤ, pos, Bool, true, false, List, [], ◌∷◌, ◌++◌, length, take, drop, Option, Some, None, sym, ap, subst, ◌∙◌, arith, ⊎_elim, length-append}
+use Rattle.std.proofs.Common.{◌≡◌, ℕ, ◌+◌, ◌*◌, ◌-◌, ◌<◌, ◌≤◌, min, ℤ, pos, Bool, true, false, List, [], ◌∷◌, ◌++◌, length, take, drop, Option, Some, None, sym, ap, subst, ◌∙◌}
+use Rattle.std.proofs.Common.{arith, ⊎_elim, length-append}
 use Rattle.std.specs.Prelude.{unwrap_or}
 use Rattle.std.specs.Int.{div_ceil}
 use Rattle.std.specs.List.{find}
@@ -14,7 +15,7 @@ use Rattle.mailsql.specs.Columns.{Rows}
 use Rattle.mailsql.specs.Rows.{is_sheet, same_int}
 use Rattle.mailsql.specs.Sheets.{sheet_count, sheet_at, octets_at}
 use Rattle.sqlvault.specs.Stored.{Brings, IsPiece, HasText}
-use Rattle.sqlvault.proofs.RemoveLemmas.{int_same}
+use Rattle.sqlvault.proofs.SmallLemmas.{int_same}
 
 -- what is found passes
 pub found_passes : {X : Type 0} (p : X → Bool) (xs : List X) (x : X) → Some x ≡ find p xs → p x ≡ true
@@ -101,8 +102,10 @@ text_lacks rows rows1 mail mail1 octets place size count o r m e n low is h =
     let h3 = subst (λ q. (piece : List ℕ) → IsPiece rows q place size piece → ⊥) m h2 in
     part_lacks rows mail octets place size (subst (λ q. place < q) n low) is h3
 
-pub text_more : (rows rows1 : Rows) (mail mail1 : ℤ) (octets place size count : ℕ) (o : Option Sheet) (s : Sheet) (text more : List ℕ) → rows1 ≡ rows → mail1 ≡ mail → o ≡ Some s → count ≡ div_ceil octets 4096 → place < count
-    → size ≡ min 4096 (octets - place * 4096) → Brings (λ (s : Sheet). s.octets) (IsPiece rows1 mail1 place size) o → HasPart rows mail octets place text → more ≡ text ++ s.octets → HasPart rows mail octets (place + 1) more
+pub text_more : (rows rows1 : Rows) (mail mail1 : ℤ) (octets place size count : ℕ) (o : Option Sheet) (s : Sheet) (text more : List ℕ) → rows1 ≡ rows
+    → mail1 ≡ mail → o ≡ Some s → count ≡ div_ceil octets 4096 → place < count
+    → size ≡ min 4096 (octets - place * 4096) → Brings (λ (s : Sheet). s.octets) (IsPiece rows1 mail1 place size) o
+    → HasPart rows mail octets place text → more ≡ text ++ s.octets → HasPart rows mail octets (place + 1) more
 text_more rows rows1 mail mail1 octets place size count o s text more r m e n low is h part made =
     let h1 = subst (λ q. Brings (λ (t : Sheet). t.octets) (IsPiece rows1 mail1 place size) q) e h in
     let h2 = subst (λ q. IsPiece q mail1 place size s.octets) r h1 in

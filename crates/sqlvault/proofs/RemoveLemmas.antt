@@ -1,14 +1,12 @@
 -- What a removal leaves.
-use Rattle.std.proofs.Common.{◌≡◌, inl, inr, ℕ, ◌<◌, ◌≤◌, ◌^◌, ℤ, Bool, true, false, not, cond, List, [], ◌∷◌, ◌++◌, length, map, refl, sym, ap, subst, ◌∙◌, arith, ⊎_elim, true≢false, is_eq, int_cmp, Ordering, w64, ◌<ℤ◌}
+use Rattle.std.proofs.Common.{◌≡◌, inl, inr, ℕ, ◌<◌, ◌≤◌, ◌^◌, ℤ, Bool, true, false, not, cond, List, [], ◌∷◌, ◌++◌, length, map, refl, sym, ap, subst, ◌∙◌, arith, ⊎_elim}
+use Rattle.std.proofs.Common.{true≢false, w64}
 use Rattle.std.specs.Prelude.{◌&&◌, ◌||◌, ◌==◌, nat_lt, filter, flat_map}
-use Rattle.std.specs.declared.cmp.Ordering.TheVariants.{Less, Equal, Greater}
-use Rattle.std.specs.Ordering.{MatchOrdering}
 use Rattle.std.specs.Str.{bytes_eq}
 use Rattle.std.specs.List.{list_any}
 use Rattle.std.specs.List.Sorted.{IsPermutation}
 use Rattle.std.proofs.lemmas.Bool.{and_parts}
 use Rattle.std.proofs.lemmas.Bool.Decides.{nat_tests}
-use Rattle.std.proofs.lemmas.Cmp.{int_ranked}
 use Rattle.std.proofs.Math.Facts.{to_z_inj}
 use Rattle.std.proofs.lemmas.List.Concat.{flat_map-cons}
 use Rattle.std.proofs.lemmas.List.Elements.{filter-append}
@@ -29,16 +27,10 @@ use Rattle.mailsql.specs.Changes.{RemovesMessage}
 use Rattle.mailsql.specs.Sheets.{sheet_at}
 use Rattle.mailsql.proofs.EqualLemmas.{same_itself}
 use Rattle.sqlvault.specs.Keeps.{Keeps, row_key, message_row, message_sheets}
+use Rattle.sqlvault.proofs.SmallLemmas.{nat_lt-true, int_same, filter_twice}
+use Rattle.mailsql.proofs.WithoutLemmas.{bool_same}
 
 -- ---- keys
-
-pub int_same : (a b : ℤ) → same_int a b ≡ true → a ≡ b
-int_same a b same = go (int_cmp a b) (int_ranked a b (int_cmp a b) refl) same
-  where
-    go : (o : Ordering) → MatchOrdering o (a <ℤ b) (a ≡ b) (b <ℤ a) → is_eq o ≡ true → a ≡ b
-    go Less m e = absurd (true≢false (sym e))
-    go Equal m e = m
-    go Greater m e = absurd (true≢false (sym e))
 
 pub num_same : (m n : ℕ) → (m == n) ≡ true → m ≡ n
 num_same m n h = grind (arith, nat_tests)
@@ -46,17 +38,9 @@ num_same m n h = grind (arith, nat_tests)
 pub num_itself : (n : ℕ) → (n == n) ≡ true
 num_itself n = grind (arith, nat_tests)
 
-pub low : (m n : ℕ) → nat_lt m n ≡ true → m < n
-low m n h = grind (arith, nat_tests)
-
-tests_agree : (a b : Bool) → (a ≡ true → b ≡ true) → (b ≡ true → a ≡ true) → a ≡ b
-tests_agree true b to from = sym (to refl)
-tests_agree false true to from = absurd (true≢false (sym (from refl)))
-tests_agree false false to from = refl
-
 -- the rows tell keys apart
 pub key_told : (a b : ℕ) → a < 2 ^ 64 → b < 2 ^ 64 → same_int (row_key a) (row_key b) ≡ (b == a)
-key_told a b p q = tests_agree (same_int (row_key a) (row_key b)) (b == a)
+key_told a b p q = bool_same (same_int (row_key a) (row_key b)) (b == a)
     (λ h. let e : a ≡ b = to_z_inj {w = w64} (record { fits = p }) (record { fits = q }) (int_same (row_key a) (row_key b) h) in subst (λ n. (n == a) ≡ true) e (num_itself a))
     (λ h. subst (λ n. same_int (row_key a) (row_key n) ≡ true) (sym (num_same b a h)) (same_itself (row_key a)))
 
@@ -70,14 +54,6 @@ filter_alike p q (x ∷ xs) same = rw (same x (inl refl)) (ap (λ l. cond (q x) 
 filter_all : {X : Type 0} (p : X → Bool) (xs : List X) → ((x : X) → p x ≡ true) → filter p xs ≡ xs
 filter_all p [] all = refl
 filter_all p (x ∷ xs) all = rw (all x) (ap (λ l. x ∷ l) (filter_all p xs all))
-
-filter_twice : {X : Type 0} (p q : X → Bool) (xs : List X) → filter q (filter p xs) ≡ filter (λ x. p x && q x) xs
-filter_twice p q [] = refl
-filter_twice p q (x ∷ xs) = go (p x) (filter_twice p q xs)
-  where
-    go : (b : Bool) → filter q (filter p xs) ≡ filter (λ y. p y && q y) xs → filter q (cond b (x ∷ filter p xs) (filter p xs)) ≡ cond (b && q x) (x ∷ filter (λ y. p y && q y) xs) (filter (λ y. p y && q y) xs)
-    go true e = ap (λ l. cond (q x) (x ∷ l) l) e
-    go false e = e
 
 -- the images of those that pass
 mapped_left : {X Y : Type 0} (f : X → Y) (p : Y → Bool) (q : X → Bool) (xs : List X) → ((x : X) → In x xs → p (f x) ≡ q x) → filter p (map f xs) ≡ map f (filter q xs)
@@ -116,11 +92,14 @@ only_one (m ∷ ms) x y apart i j same =
 -- ---- sheets
 
 -- the sheets that pass a test of their message's key are those of the messages that pass
-sheets_left : (f : ℤ → Bool) (keep : Keyed → Bool) (ms : List Keyed) → ((x : Keyed) → In x ms → f (row_key x.key) ≡ keep x) → filter (λ (s : Sheet). f s.mail) (flat_map message_sheets ms) ≡ flat_map message_sheets (filter keep ms)
+sheets_left : (f : ℤ → Bool) (keep : Keyed → Bool) (ms : List Keyed) → ((x : Keyed) → In x ms → f (row_key x.key) ≡ keep x)
+    → filter (λ (s : Sheet). f s.mail) (flat_map message_sheets ms) ≡ flat_map message_sheets (filter keep ms)
 sheets_left f keep [] same = refl
 sheets_left f keep (x ∷ xs) same =
-    let of_first : filter (λ (s : Sheet). f s.mail) (message_sheets x) ≡ cond (keep x) (message_sheets x) [] = passes_alike (sheet_at (row_key x.key) x.message.text) (λ (s : Sheet). f s.mail) (keep x) _ (λ n. same x (inl refl)) in
-    rw (flat_map-cons message_sheets x xs, filter-append (λ (s : Sheet). f s.mail) (message_sheets x) (flat_map message_sheets xs), of_first, sheets_left f keep xs (λ y i. same y (inr i))) (go (keep x))
+    let of_first : filter (λ (s : Sheet). f s.mail) (message_sheets x) ≡ cond (keep x) (message_sheets x) [] = passes_alike
+    (sheet_at (row_key x.key) x.message.text) (λ (s : Sheet). f s.mail) (keep x) _ (λ n. same x (inl refl)) in
+    rw (flat_map-cons message_sheets x xs, filter-append (λ (s : Sheet). f s.mail) (message_sheets x) (flat_map message_sheets xs), of_first, sheets_left f keep xs (λ y i. same y (inr i)))
+    (go (keep x))
   where
     go : (b : Bool) → cond b (message_sheets x) [] ++ flat_map message_sheets (filter keep xs) ≡ flat_map message_sheets (cond b (x ∷ filter keep xs) (filter keep xs))
     go true = sym (flat_map-cons message_sheets x (filter keep xs))
@@ -152,7 +131,7 @@ module _ (key : ℕ) (d : List ℕ) (ms : List Keyed) (fits : key < 2 ^ 64) (low
   sheet_goes apart x i =
       let p : Keyed → Bool = λ (y : Keyed). is_message (row_key key) d (message_row y) && same_int (row_key x.key) (row_key y.key) in
       list_any-map message_row (λ (m : Message). is_message (row_key key) d m && same_int (row_key x.key) m.key) ms
-      ∙ tests_agree (list_any p ms) (is_it key d x)
+      ∙ bool_same (list_any p ms) (is_it key d x)
       (λ some.
       let y = found p ms some in
       let both = and_parts (is_message (row_key key) d (message_row y.0)) (same_int (row_key x.key) (row_key y.0.key)) y.2 in
@@ -198,7 +177,8 @@ abbrev pub Removed : (maildrop keys : List ℕ) → Rows → Rows → Type 0
 Removed d keys rows after = (c : Contents) → Keeps rows c → Keeps after (with_messages (without_keys d keys c.messages) c)
 
 pub none_removed : (d : List ℕ) (rows : Rows) → Removed d [] rows rows
-none_removed d rows c keeps = subst (λ ms. Keeps rows (with_messages ms c)) (sym (filter_all (λ (x : Keyed). not (bytes_eq x.message.maildrop d && is_named [] x.key)) c.messages (λ x. nothing (bytes_eq x.message.maildrop d)))) keeps
+none_removed d rows c keeps = subst (λ ms. Keeps rows (with_messages ms c))
+    (sym (filter_all (λ (x : Keyed). not (bytes_eq x.message.maildrop d && is_named [] x.key)) c.messages (λ x. nothing (bytes_eq x.message.maildrop d)))) keeps
   where
     nothing : (b : Bool) → not (b && false) ≡ true
     nothing true = refl
@@ -206,7 +186,7 @@ none_removed d rows c keeps = subst (λ ms. Keeps rows (with_messages ms c)) (sy
 
 pub one_removed : (d : List ℕ) (key : ℕ) (rows after : Rows) → key < 2 ^ 64 → RemovesMessage (row_key key) d rows after → Removed d (key ∷ []) rows after
 one_removed d key rows after fits change c keeps =
-    let low_keys : (x : Keyed) → In x c.messages → x.key < 2 ^ 64 = λ x i. low x.key (2 ^ 64) (all_in (λ (y : Keyed). nat_lt y.key (2 ^ 64)) c.messages x keeps.keys i) in
+    let low_keys : (x : Keyed) → In x c.messages → x.key < 2 ^ 64 = λ x i. nat_lt-true x.key (2 ^ 64) (all_in (λ (y : Keyed). nat_lt y.key (2 ^ 64)) c.messages x keeps.keys i) in
     let stays : Keyed → Bool = λ x. not (is_it key d x) in
     let passes : ℤ → Bool = λ z. not (list_any (λ (m : Message). is_message (row_key key) d m && same_int z m.key) rows.messages) in
     let same : (x : Keyed) → In x c.messages → passes (row_key x.key) ≡ stays x = λ x i.

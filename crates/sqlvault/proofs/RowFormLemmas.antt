@@ -1,12 +1,10 @@
 -- Rows that are those of sound records, and those that aren't.
-use Rattle.std.proofs.Common.{◌≡◌, ℕ, ℤ, pos, ◌≤◌, ◌<◌, ◌+◌, Bool, true, false, cond, List, [], ◌∷◌, ◌++◌, length, map, take, get_or, Some, None, Ordering, Less, Equal, Greater, is_eq, int_cmp, ◌<ℤ◌, refl, sym, ap, subst, ◌∙◌, true≢false, ⊎_elim, arith}
-use Rattle.std.specs.Prelude.{nat_le, not, ◌&&◌, ◌==◌, bytes_eq, is_some}
-use Rattle.std.specs.List.{list_any, list_all}
+use Rattle.std.proofs.Common.{◌≡◌, ℕ, pos, ◌≤◌, ◌<◌, ◌+◌, Bool, true, false, cond, List, [], ◌∷◌, ◌++◌, length, map, take, get_or, Some, None}
+use Rattle.std.proofs.Common.{refl, sym, ap, subst, ◌∙◌, true≢false, ⊎_elim}
+use Rattle.std.specs.Prelude.{nat_le, ◌&&◌, ◌==◌, bytes_eq, is_some}
+use Rattle.std.specs.List.{list_all}
 use Rattle.std.specs.List.Sorted.{IsPermutation}
-use Rattle.std.specs.Ordering.{MatchOrdering}
-use Rattle.std.specs.Cmp.{int_ranks}
 use Rattle.std.proofs.lemmas.Bool.{and_parts, or_cases}
-use Rattle.std.proofs.lemmas.Bool.Decides.{nat_tests}
 use Rattle.std.proofs.lemmas.List.{map-append}
 use Rattle.std.proofs.lemmas.List.Sorted.{IsPermutation-refl, length_permutation}
 use Rattle.creds.specs.Names.{is_name, name_of, is_secret}
@@ -21,27 +19,14 @@ use Rattle.mailsql.specs.declared.rows.Clerk.{Clerk}
 use Rattle.mailsql.specs.declared.rows.Rule.{Rule}
 use Rattle.mailsql.specs.Columns.{Rows}
 use Rattle.mailsql.specs.Rows.{same_int}
-use Rattle.mailsql.specs.Apart.{AreApart, are_apart}
+use Rattle.mailsql.specs.Apart.{AreApart}
 use Rattle.sqlvault.specs.Keeps.{kind_of, secret_of, clerk_row, rule_row, at_place, groups_in, clerks_text, pattern_text, effect_number, actions_number}
 use Rattle.sqlvault.specs.Parts.{Finds, ClerksAre, MaildropsAre, GroupsAre, PolicyIs, is_named_group}
 use Rattle.sqlvault.specs.RowForms.{is_credential_row, is_clerk_row, are_clerk_rows, are_maildrop_rows}
 use Rattle.sqlvault.proofs.PermutationLemmas.{all_permuted}
 use Rattle.sqlvault.proofs.ClerkLemmas.{row_made}
-use Rattle.sqlvault.proofs.RuleLemmas.{some_same, take_next, sound_rules, each_sound}
-
-both : (a b : Bool) → a ≡ true → b ≡ true → (a && b) ≡ true
-both a b e f = rw (e, f) refl
-
-fits : (n most : ℕ) → nat_le n most ≡ true → n ≤ most
-fits n most h = grind (arith, nat_tests)
-
-fitting : (n most : ℕ) → n ≤ most → nat_le n most ≡ true
-fitting n most h = grind (arith, nat_tests)
-
--- what the keys tell apart is distinct
-pub apart_distinct : {X : Type 0} (same : X → X → Bool) (xs : List X) → are_apart same xs ≡ are_distinct same xs
-apart_distinct same [] = refl
-apart_distinct same (x ∷ xs) = ap (λ b. not (list_any (same x) xs) && b) (apart_distinct same xs)
+use Rattle.sqlvault.proofs.RuleLemmas.{some_same, sound_rules, each_sound}
+use Rattle.sqlvault.proofs.SmallLemmas.{both_hold, nat_le-true, le-nat_le, apart_distinct, int_same, take_next}
 
 -- ---- maildrops
 
@@ -52,26 +37,18 @@ maildrops_are rows keys e =
       same = refl;
       sound = p.1;
       apart = sym (apart_distinct bytes_eq rows.maildrops) ∙ keys.maildrops;
-      fit = fits (length rows.maildrops) most_maildrops p.0;
+      fit = nat_le-true (length rows.maildrops) most_maildrops p.0;
     }
 
 maildrops_sound : (rows : Rows) (names : List (List ℕ)) → MaildropsAre rows names → are_maildrop_rows rows.maildrops ≡ true
 maildrops_sound rows names m =
-    ap are_maildrop_rows m.same ∙ both (nat_le (length names) most_maildrops) (list_all is_name names) (fitting (length names) most_maildrops m.fit) m.sound
+    ap are_maildrop_rows m.same ∙ both_hold (nat_le (length names) most_maildrops) (list_all is_name names) (le-nat_le (length names) most_maildrops m.fit) m.sound
 
 pub maildrops_judged : (rows : Rows) → AreApart rows → (b : Bool) → b ≡ are_maildrop_rows rows.maildrops → Finds (MaildropsAre rows) b
 maildrops_judged rows keys true e = (rows.maildrops, maildrops_are rows keys (sym e))
 maildrops_judged rows keys false e = λ names m. true≢false (sym (maildrops_sound rows names m) ∙ sym e)
 
 -- ---- clerks
-
-int_same : (x y : ℤ) → same_int x y ≡ true → x ≡ y
-int_same x y e = at (int_cmp x y) (int_ranks x y) e
-  where
-    at : (o : Ordering) → MatchOrdering o (x <ℤ y) (x ≡ y) (y <ℤ x) → is_eq o ≡ true → x ≡ y
-    at Less m e = absurd (true≢false (sym e))
-    at Equal m e = m
-    at Greater m e = absurd (true≢false (sym e))
 
 -- the credential of a row
 credential_is : (row : Clerk) → is_credential_row row ≡ true → (given : Credential) × (row.kind ≡ kind_of given) × (row.secret ≡ secret_of given) × (is_sound_credential given ≡ true)
@@ -88,7 +65,7 @@ clerk_is row e =
     let p = and_parts (is_name row.name) (is_credential_row row) e in
     let f = credential_is row p.1 in
     let x : vault.Clerk = record { name = row.name; credential = f.0 } in
-    (x, row_made row.name row.name row.secret row.kind f.0 refl f.1 f.2, both (is_name row.name) (is_sound_credential f.0) p.0 f.3)
+    (x, row_made row.name row.name row.secret row.kind f.0 refl f.1 f.2, both_hold (is_name row.name) (is_sound_credential f.0) p.0 f.3)
 
 -- the row of a credential that is sound
 credential_row : (name : List ℕ) (given : Credential) → is_sound_credential given ≡ true → is_credential_row (clerk_row (record { name = name; credential = given })) ≡ true
@@ -98,7 +75,7 @@ credential_row name (kept.Pass digest) e = e
 row_is : (x : vault.Clerk) → is_sound_clerk x ≡ true → is_clerk_row (clerk_row x) ≡ true
 row_is x e =
     let p = and_parts (is_name x.name) (is_sound_credential x.credential) e in
-    both (is_name x.name) (is_credential_row (clerk_row x)) p.0 (credential_row x.name x.credential p.1)
+    both_hold (is_name x.name) (is_credential_row (clerk_row x)) p.0 (credential_row x.name x.credential p.1)
 
 -- rows of sound clerks are those of a list of them
 clerks_are : (rows : List Clerk) → list_all is_clerk_row rows ≡ true → (xs : List vault.Clerk) × (rows ≡ map clerk_row xs) × (list_all is_sound_clerk xs ≡ true)
@@ -107,13 +84,13 @@ clerks_are (row ∷ rows) e =
     let p = and_parts (is_clerk_row row) (list_all is_clerk_row rows) e in
     let x = clerk_is row p.0 in
     let r = clerks_are rows p.1 in
-    (x.0 ∷ r.0, λ i. x.1 i ∷ r.1 i, both (is_sound_clerk x.0) (list_all is_sound_clerk r.0) x.2 r.2)
+    (x.0 ∷ r.0, λ i. x.1 i ∷ r.1 i, both_hold (is_sound_clerk x.0) (list_all is_sound_clerk r.0) x.2 r.2)
 
 rows_are : (xs : List vault.Clerk) → list_all is_sound_clerk xs ≡ true → list_all is_clerk_row (map clerk_row xs) ≡ true
 rows_are [] e = refl
 rows_are (x ∷ xs) e =
     let p = and_parts (is_sound_clerk x) (list_all is_sound_clerk xs) e in
-    both (is_clerk_row (clerk_row x)) (list_all is_clerk_row (map clerk_row xs)) (row_is x p.0) (rows_are xs p.1)
+    both_hold (is_clerk_row (clerk_row x)) (list_all is_clerk_row (map clerk_row xs)) (row_is x p.0) (rows_are xs p.1)
 
 abbrev same_name : Clerk → Clerk → Bool
 same_name x y = bytes_eq x.name y.name
@@ -128,15 +105,15 @@ clerks_found rows keys e =
         same = subst (λ (ys : List Clerk). IsPermutation (map clerk_row r.0) ys) (sym r.1) (IsPermutation-refl (map clerk_row r.0));
         sound = r.2;
         apart = sym (distinct-map clerk_row same_name r.0) ∙ ap (are_distinct same_name) (sym r.1) ∙ sym (apart_distinct same_name rows.clerks) ∙ keys.clerks;
-        fit = subst (λ n. n ≤ most_clerks) as_many (fits (length rows.clerks) most_clerks p.0);
+        fit = subst (λ n. n ≤ most_clerks) as_many (nat_le-true (length rows.clerks) most_clerks p.0);
       },
     )
 
 clerks_sound : (rows : Rows) (xs : List vault.Clerk) → ClerksAre rows xs → are_clerk_rows rows.clerks ≡ true
 clerks_sound rows xs m =
     let as_many : length rows.clerks ≡ length xs = length_permutation (map clerk_row xs) rows.clerks m.same ∙ length-map clerk_row xs in
-    both (nat_le (length rows.clerks) most_clerks) (list_all is_clerk_row rows.clerks)
-    (fitting (length rows.clerks) most_clerks (subst (λ n. n ≤ most_clerks) (sym as_many) m.fit))
+    both_hold (nat_le (length rows.clerks) most_clerks) (list_all is_clerk_row rows.clerks)
+    (le-nat_le (length rows.clerks) most_clerks (subst (λ n. n ≤ most_clerks) (sym as_many) m.fit))
     (sym (all_permuted is_clerk_row (map clerk_row xs) rows.clerks m.same) ∙ rows_are xs m.sound)
 
 pub clerks_judged : (rows : Rows) → AreApart rows → (b : Bool) → b ≡ are_clerk_rows rows.clerks → Finds (ClerksAre rows) b
@@ -166,7 +143,8 @@ rows_more rows items grown i row r lt is same grows held =
     ap (map (at_place (pos 0))) (take_next rows i row lt is) ∙ map-append (at_place (pos 0)) (take i rows) (row ∷ []) ∙ ap (λ l. l ++ at_place (pos 0) row ∷ []) held
     ∙ ap (λ x. map (rule_row (pos 0)) items ++ x ∷ []) same ∙ sym (map-append (rule_row (pos 0)) items (r ∷ [])) ∙ ap (map (rule_row (pos 0))) (sym grows)
 
-pub items_more : (rs items grown : List rule.Rule) (i : ℕ) (r s : rule.Rule) → i < length rs → s ≡ get_or rs i s → Some r ≡ Some s → grown ≡ items ++ r ∷ [] → items ≡ take i rs → grown ≡ take (i + 1) rs
+pub items_more : (rs items grown : List rule.Rule) (i : ℕ) (r s : rule.Rule) → i < length rs → s ≡ get_or rs i s → Some r ≡ Some s
+    → grown ≡ items ++ r ∷ [] → items ≡ take i rs → grown ≡ take (i + 1) rs
 items_more rs items grown i r s lt is read grows held =
     grows ∙ ap (λ x. items ++ x ∷ []) (some_same (Some r) r s refl read) ∙ ap (λ l. l ++ s ∷ []) held ∙ sym (take_next rs i s lt is)
 
@@ -180,14 +158,16 @@ pub read_judged : (groups : List Group) (rows : List Rule) (items : List rule.Ru
     → b ≡ is_some (policy_with groups items) → Finds (IsPolicyOf groups rows) b
 read_judged groups rows items b held all e = at (is_sound_policy (record { groups = groups; rules = items })) b refl e
   where
-    at : (s b : Bool) → is_sound_policy (record { groups = groups; rules = items }) ≡ s → b ≡ is_some (let p : Policy = record { groups = groups; rules = items } in cond s (Some p) None) → Finds (IsPolicyOf groups rows) b
+    at : (s b : Bool) → is_sound_policy (record { groups = groups; rules = items }) ≡ s
+        → b ≡ is_some (let p : Policy = record { groups = groups; rules = items } in cond s (Some p) None) → Finds (IsPolicyOf groups rows) b
     at true true f e = (record { groups = groups; rules = items }, (refl, held, f))
     at true false f e = absurd (true≢false (sym e))
     at false true f e = absurd (true≢false e)
     at false false f e = λ p m. true≢false (sym m.2 ∙ ap is_sound_policy (λ i. let made : Policy = record { groups = sym m.0 i; rules = sym (all p.rules (sound_rules p m.2) m.1) i } in made) ∙ f)
 
 -- where a row is no sound rule's, there is no policy
-pub none_judged : (groups : List Group) (rows : List Rule) → ((rs : List rule.Rule) → list_all is_sound_rule rs ≡ true → map (at_place (pos 0)) rows ≡ map (rule_row (pos 0)) rs → ⊥) → Finds (IsPolicyOf groups rows) false
+pub none_judged : (groups : List Group) (rows : List Rule)
+    → ((rs : List rule.Rule) → list_all is_sound_rule rs ≡ true → map (at_place (pos 0)) rows ≡ map (rule_row (pos 0)) rs → ⊥) → Finds (IsPolicyOf groups rows) false
 none_judged groups rows none = λ p m. none p.rules (sound_rules p m.2) m.1
 
 -- rows that were read are those of the store

@@ -1,10 +1,10 @@
 -- Rules as rows.
-use Rattle.std.proofs.Common.{◌≡◌, ℕ, ◌+◌, ◌<◌, ◌≤◌, arith, take, drop, length, get_or, pos, append_assoc, append-nil, Bool, true, false, cond, ◌||◌, not, List, [], ◌∷◌, ◌++◌, map, Option, Some, None, refl, sym, ap, subst, ◌∙◌, true≢false, inl, inr}
-use Rattle.std.proofs.lemmas.Bool.{and_parts, cases_Bool}
+use Rattle.std.proofs.Common.{◌≡◌, ℕ, ◌<◌, ◌≤◌, arith, take, drop, length, get_or, pos, append_assoc, append-nil, Bool, true, false, cond, ◌||◌, not, List, [], ◌∷◌, ◌++◌, map}
+use Rattle.std.proofs.Common.{Option, Some, None, refl, sym, ap, subst, ◌∙◌, true≢false}
+use Rattle.std.proofs.lemmas.Bool.{and_parts}
 use Rattle.std.specs.List.{list_all}
 use Rattle.std.proofs.lemmas.Bool.Decides.{nat_tests}
-use Rattle.std.proofs.lemmas.List.Folds.{list_all_at}
-use Rattle.std.proofs.lemmas.List.{map-append, take-append-drop, take_more, length-map, get_or-map, get_or_default}
+use Rattle.std.proofs.lemmas.List.{map-append, take-append-drop, length-map, get_or-map, get_or_default}
 use Rattle.creds.specs.Names.{is_name, has_length, name_of}
 use Rattle.policy.specs.declared.rule.Actions.{Actions}
 use Rattle.policy.specs.declared.rule.Clerks.{Clerks}
@@ -14,7 +14,8 @@ use Rattle.policy.specs.declared.rule.Effect.TheVariants.{Allow}
 use Rattle.policy.specs.declared.rule.Pattern.{Pattern}
 use Rattle.policy.specs.declared.rule.Pattern.TheVariants.{Any}
 use Rattle.policy.specs.declared.rule.Rule as rule
-use Rattle.policy.specs.Policy.{is_sound_rule, are_clerks, is_pattern, lists_any, is_any, policy_with, are_sound_groups, are_sound_rules, know_groups, is_sound_group, are_distinct, same_group, most_rules, most_groups}
+use Rattle.policy.specs.Policy.{is_sound_rule, are_clerks, is_pattern, lists_any, is_any, policy_with, are_sound_groups, are_sound_rules, know_groups, is_sound_group, are_distinct}
+use Rattle.policy.specs.Policy.{same_group, most_rules, most_groups}
 use Rattle.std.specs.Prelude.{nat_le, ◌&&◌, codes, bytes_eq}
 use Rattle.std.specs.Option.{option_map}
 use Rattle.vault.proofs.ListLemmas.{bytes_are}
@@ -148,12 +149,6 @@ set rs old mid new cleared a = record {
 
 -- ---- walks over lists
 
-pub take_next : {A : Type 0} (xs : List A) (i : ℕ) (x : A) → i < length xs → x ≡ get_or xs i x → take (i + 1) xs ≡ take i xs ++ x ∷ []
-take_next xs i x lt is = take_more xs i x lt ∙ ap (λ y. take i xs ++ y ∷ []) (sym is)
-
-pub all_at : {A : Type 0} (p : A → Bool) (xs : List A) (i : ℕ) (d : A) → i < length xs → list_all p xs ≡ true → p (get_or xs i d) ≡ true
-all_at p xs i d lt all = elim (cases_Bool (p (get_or xs i d))) [ inl holds ↦ holds | inr fails ↦ absurd (true≢false (sym all ∙ list_all_at p xs i d lt fails)) ]
-
 pub as_many : (rows : List Rule) (rs : List rule.Rule) → map (at_place (pos 0)) rows ≡ map (rule_row (pos 0)) rs → length rows ≡ length rs
 as_many rows rs same = sym (length-map rows (at_place (pos 0))) ∙ ap length same ∙ length-map rs (rule_row (pos 0))
 
@@ -204,7 +199,8 @@ keeps_set p old new c sound s keeps =
     let set = s.2 in
     let all : new ≡ record old { groups = new.groups; members = new.members; rules = new.rules } =
     set.others ∙ ap (λ (m : Rows). let x : Rows = record m { rules = new.rules } in x) s.1
-    ∙ ap (λ (m : Rows). let x : Rows = record old { groups = m.groups; members = m.members; rules = new.rules } in x) (sym (set.others ∙ ap (λ (m : Rows). let x : Rows = record m { rules = new.rules } in x) s.1)) in
+    ∙ ap (λ (m : Rows). let x : Rows = record old { groups = m.groups; members = m.members; rules = new.rules } in x)
+    (sym (set.others ∙ ap (λ (m : Rows). let x : Rows = record m { rules = new.rules } in x) s.1)) in
     record {
       meta_row = ap (λ (x : Rows). x.meta_rows) all ∙ keeps.meta_row;
       clerks = subst (λ l. IsPermutation (map clerk_row c.clerks) l) (sym (ap (λ (x : Rows). x.clerks) all)) keeps.clerks;

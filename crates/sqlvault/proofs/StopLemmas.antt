@@ -59,13 +59,15 @@ left_deposited s c left d class id text leaves may = elim (leaves may.0 may.1) [
 -- ---- a call of a vault, over the connection inside it
 
 pub done_told : {A S : Type 0} (g : Ghosts S) (expected : Result A VaultFault) (old was new now : Conn S) (c after : Contents) (r said : Result A VaultFault) → was ≡ old → new ≡ now → r ≡ said
-    → (HasCleanDisk (state g now) → Holds (state g was) c → IsDone (Holds (state g now)) c after expected said) → Holds (state g old) c → HasCleanDisk (state g new) → IsDone (Holds (state g new)) c after expected r
+    → (HasCleanDisk (state g now) → Holds (state g was) c → IsDone (Holds (state g now)) c after expected said) → Holds (state g old) c
+    → HasCleanDisk (state g new) → IsDone (Holds (state g new)) c after expected r
 done_told {A} {S} g expected old was new now c after r said e f same done h clean =
     let it = done (subst (λ (x : Conn S). HasCleanDisk (state g x)) f clean) (subst (λ (x : Conn S). Holds (state g x) c) (sym e) h) in
     subst (λ (a : Result A VaultFault). IsDone (Holds (state g new)) c after expected a) (sym same) (subst (λ (x : Conn S). IsDone (Holds (state g x)) c after expected said) (sym f) it)
 
 -- a call whose relation is this one
-pub done_by : {A S : Type 0} (g : Ghosts S) (Done : (Contents → Type 0) → Result A VaultFault → Type 0) (old was new now : Conn S) (c : Contents) (r said : Result A VaultFault) → was ≡ old → new ≡ now → r ≡ said
+pub done_by : {A S : Type 0} (g : Ghosts S) (Done : (Contents → Type 0) → Result A VaultFault → Type 0) (old was new now : Conn S) (c : Contents) (r said : Result A VaultFault)
+    → was ≡ old → new ≡ now → r ≡ said
     → (HasCleanDisk (state g now) → Holds (state g was) c → Done (Holds (state g now)) said) → Holds (state g old) c → HasCleanDisk (state g new) → Done (Holds (state g new)) r
 done_by {A} {S} g Done old was new now c r said e f same done h clean =
     let it = done (subst (λ (x : Conn S). HasCleanDisk (state g x)) f clean) (subst (λ (x : Conn S). Holds (state g x) c) (sym e) h) in

@@ -1,5 +1,6 @@
 -- A message as its row, its number and its text tell it.
-use Rattle.std.proofs.Common.{◌≡◌, ℕ, zero, suc, ◌+◌, ◌<◌, ◌≤◌, ℤ, pos, SFits, w64, of_z, to_z-of_z, Bool, true, List, [], ◌∷◌, length, map, Option, Some, None, nat_abs, refl, sym, ap, subst, ◌∙◌, arith, negsuc, ◌<ℤ◌, ◌≤ℤ◌, false, Result, Ok, Err, true≢false}
+use Rattle.std.proofs.Common.{◌≡◌, ℕ, zero, suc, ◌+◌, ◌<◌, ◌≤◌, ℤ, pos, SFits, w64, of_z, to_z-of_z, Bool, true, List, [], ◌∷◌, length, map, Option, Some, None, nat_abs, refl, sym}
+use Rattle.std.proofs.Common.{ap, subst, ◌∙◌, arith, negsuc, ◌<ℤ◌, ◌≤ℤ◌, false, Result, Ok, Err, true≢false}
 use Rattle.std.specs.Prelude.{◌&&◌, ◌==◌, ◌≢◌, ◌↔◌, nat_lt, nat_le, unwrap_or, IfOk}
 use Rattle.std.specs.List.{find, list_all, list_any, range_with_len}
 use Rattle.std.specs.Str.{bytes_eq}
@@ -27,19 +28,13 @@ use Rattle.sqlvault.specs.Parts.{Finds, DepositsAre, records_with}
 use Rattle.sqlvault.specs.Stored.{Brings, HasSheets, HasText, is_kept_text, IsNumber, IsStored}
 use Rattle.sqlvault.proofs.RemoveLemmas.{num_same}
 use Rattle.sqlvault.proofs.NumberLemmas.{number_has_receipt}
-
-below_64 : (key : ℤ) (most : ℕ) → SFits w64 key → most ≡ 18446744073709551616 → of_z w64 key < most
-below_64 key most fits is = omega (arith, ints)
-
-lt_test : (m n : ℕ) → m < n → nat_lt m n ≡ true
-lt_test m n h = grind (arith, nat_tests)
-
-at_most : (m n : ℕ) → nat_le m n ≡ true → m ≤ n
-at_most m n h = grind (arith, nat_tests)
+use Rattle.sqlvault.proofs.SmallLemmas.{both_hold, nat_le-true, lt-nat_lt, below_64, pos_same}
+use Rattle.mailsql.proofs.WithoutLemmas.{bool_same}
 
 -- ---- what was read is a message
 
-pub message_stored : (rows : Rows) (deposits : List Receipt) (row : Message) (k octets : ℕ) (text : List ℕ) → DepositsAre rows deposits → SFits w64 row.key → IsNumber deposits row k → row.octets ≡ pos octets
+pub message_stored : (rows : Rows) (deposits : List Receipt) (row : Message) (k octets : ℕ) (text : List ℕ) → DepositsAre rows deposits
+    → SFits w64 row.key → IsNumber deposits row k → row.octets ≡ pos octets
     → HasText rows row.key octets text → is_kept_text text ≡ true → (x : Keyed) × IsStored rows deposits row x
 message_stored rows deposits row k octets text d fits n oct h kept =
     let m : vault.Message = record { maildrop = row.maildrop; class = row.class; k = k; text = text } in
@@ -48,7 +43,7 @@ message_stored rows deposits row k octets text d fits n oct h kept =
       record { key = of_z w64 row.key; message = m },
       record {
         is = λ i. let t : Message = record { key = sym key i; maildrop = row.maildrop; class = row.class; k = n.is i; octets = long i } in t;
-        key = lt_test (of_z w64 row.key) 18446744073709551616 (below_64 row.key 18446744073709551616 fits refl);
+        key = lt-nat_lt (of_z w64 row.key) 18446744073709551616 (below_64 row.key 18446744073709551616 fits refl);
         text = kept;
         receipt = number_has_receipt deposits m d.sound d.uids_apart n.above n.within;
         sheets = subst (λ z. HasSheets rows z text) (sym key) h.sheets;
@@ -95,7 +90,7 @@ pub octets_stored : (rows : Rows) (deposits : List Receipt) (row : Message) (x :
 octets_stored rows deposits row x s = ap (λ (y : Message). y.octets) s.is
 
 pub few_octets : (text : List ℕ) → is_kept_text text ≡ true → length text ≤ 26214400
-few_octets text h = at_most (length text) most_octets (and_parts (bytes_eq (kept_form text) text && nat_lt 0 (length text)) (nat_le (length text) most_octets) h).1
+few_octets text h = nat_le-true (length text) most_octets (and_parts (bytes_eq (kept_form text) text && nat_lt 0 (length text)) (nat_le (length text) most_octets) h).1
 
 -- ---- the rows tell one text alone
 
@@ -122,25 +117,25 @@ text_unique rows mail octets a b h k =
     under p low = subst (λ n. p < n) (plain (sheet_count a)) low
 
 -- what the sheets hold isn't a kept form
-pub text_refused : (rows : Rows) (deposits : List Receipt) (row : Message) (octets : ℕ) (text : List ℕ) (x : Keyed) → row.octets ≡ pos octets → HasText rows row.key octets text → (is_kept_text text ≡ true → ⊥)
+pub text_refused : (rows : Rows) (deposits : List Receipt) (row : Message) (octets : ℕ) (text : List ℕ) (x : Keyed) → row.octets ≡ pos octets
+    → HasText rows row.key octets text → (is_kept_text text ≡ true → ⊥)
     → IsStored rows deposits row x → ⊥
 text_refused rows deposits row octets text x oct h not_kept s =
-    let same : octets ≡ length x.message.text = number_same (sym oct ∙ octets_stored rows deposits row x s) in
+    let same : octets ≡ length x.message.text = pos_same (sym oct ∙ octets_stored rows deposits row x s) in
     let e = text_unique rows row.key octets x.message.text text (subst (λ n. HasText rows row.key n x.message.text) (sym same) (text_stored rows deposits row x s)) h in
     not_kept (subst (λ t. is_kept_text t ≡ true) e s.text)
-  where
-    number_same : {m n : ℕ} → pos m ≡ pos n → m ≡ n
-    number_same {m} {n} e = cc
 
 -- ---- what the count of a class tells
 
-pub count_told : (rows : Rows) (deposits : List Receipt) (row : Message) (asked named : List ℕ) (count : Count) (o : Option Count) → DepositsAre rows deposits → asked ≡ row.maildrop → named ≡ row.class
+pub count_told : (rows : Rows) (deposits : List Receipt) (row : Message) (asked named : List ℕ) (count : Count) (o : Option Count)
+    → DepositsAre rows deposits → asked ≡ row.maildrop → named ≡ row.class
     → o ≡ find (is_count asked named) rows.counts → o ≡ Some count → count.k ≡ pos (class_count row.class (receipts_of row.maildrop deposits))
 count_told rows deposits row asked named count o d a n is e =
     ap number_in (sym e ∙ is) ∙ d.counts asked named ∙ ap (λ x. pos (class_count named (receipts_of x deposits))) a ∙ ap (λ x. pos (class_count x (receipts_of row.maildrop deposits))) n
 
 pub not_counted : (deposits : List Receipt) (row : Message) (most : ℤ) (k : ℕ) → most ≡ pos (class_count row.class (receipts_of row.maildrop deposits)) → most <ℤ row.k → IsNumber deposits row k → ⊥
-not_counted deposits row most k is above n = clash (class_count row.class (receipts_of row.maildrop deposits)) k most row.k is n.is above (at_most k (class_count row.class (receipts_of row.maildrop deposits)) n.within)
+not_counted deposits row most k is above n = clash (class_count row.class (receipts_of row.maildrop deposits)) k most row.k is n.is above
+    (nat_le-true k (class_count row.class (receipts_of row.maildrop deposits)) n.within)
   where
     clash : (n k : ℕ) (most z : ℤ) → most ≡ pos n → z ≡ pos k → most <ℤ z → k ≤ n → ⊥
     clash n k most z a b c d = omega (arith, ints, a, b, c, d)
@@ -152,20 +147,13 @@ none_told rows deposits row asked named o d a n is e =
     ap number_in (sym e ∙ is) ∙ d.counts asked named ∙ ap (λ x. pos (class_count named (receipts_of x deposits))) a ∙ ap (λ x. pos (class_count x (receipts_of row.maildrop deposits))) n
 
 pub not_numbered : (deposits : List Receipt) (row : Message) (k : ℕ) → pos 0 ≡ pos (class_count row.class (receipts_of row.maildrop deposits)) → IsNumber deposits row k → ⊥
-not_numbered deposits row k none n = clash (class_count row.class (receipts_of row.maildrop deposits)) k none n.above (at_most k (class_count row.class (receipts_of row.maildrop deposits)) n.within)
+not_numbered deposits row k none n = clash (class_count row.class (receipts_of row.maildrop deposits)) k none n.above
+    (nat_le-true k (class_count row.class (receipts_of row.maildrop deposits)) n.within)
   where
     clash : (n k : ℕ) → pos 0 ≡ pos n → nat_lt 0 k ≡ true → k ≤ n → ⊥
     clash n k a b c = let zero : 0 ≡ n = cc in grind (arith, nat_tests, zero, b, c)
 
 -- ---- what the test of the text tells
-
-both_ways : (a b : Bool) → (a ≡ true → b ≡ true) → (b ≡ true → a ≡ true) → a ≡ b
-both_ways true b f g = sym (f refl)
-both_ways false true f g = g refl
-both_ways false false f g = refl
-
-two_hold : (a b : Bool) → a ≡ true → b ≡ true → (a && b) ≡ true
-two_hold a b e f = rw (e, f) refl
 
 kept_is : (text : List ℕ) → is_kept_text text ≡ true → IsMailText text
 kept_is text h =
@@ -174,27 +162,28 @@ kept_is text h =
     let b = and_parts (bytes_eq (kept_form text) text) (nat_lt 0 (length text)) a.0 in record {
       nonempty = λ e. absurd (false≢true (subst (λ t. nat_lt 0 (length t) ≡ true) e b.1));
       kept = bytes_are (kept_form text) text b.0;
-      within = at_most (length text) most_octets a.1;
+      within = nat_le-true (length text) most_octets a.1;
     }
 
 is_kept_so : (text : List ℕ) → IsMailText text → is_kept_text text ≡ true
 is_kept_so text m =
-    two_hold (bytes_eq (kept_form text) text && nat_lt 0 (length text))
+    both_hold (bytes_eq (kept_form text) text && nat_lt 0 (length text))
     (nat_le (length text) most_octets)
-    (two_hold (bytes_eq (kept_form text) text) (nat_lt 0 (length text))
+    (both_hold (bytes_eq (kept_form text) text) (nat_lt 0 (length text))
     (ap (λ t. bytes_eq t text) m.kept ∙ bytes_same text) (some text m.nonempty))
     (grind (arith, nat_tests, m.within))
   where
     some : (text : List ℕ) → text ≢ [] → nat_lt 0 (length text) ≡ true
     some [] full = absurd (full refl)
-    some (b ∷ bs) full = lt_test 0 (length (b ∷ bs)) (omega arith)
+    some (b ∷ bs) full = lt-nat_lt 0 (length (b ∷ bs)) (omega arith)
 
 pub kept_told : (kept : Bool) (text : List ℕ) → ((kept ≡ true) ↔ IsMailText text)
     → kept ≡ is_kept_text text
-kept_told kept text is = both_ways kept (is_kept_text text) (λ yes. is_kept_so text (is.0 yes))
+kept_told kept text is = bool_same kept (is_kept_text text) (λ yes. is_kept_so text (is.0 yes))
     (λ yes. is.1 (kept_is text yes))
 
-pub kept_judged : (rows : Rows) (deposits : List Receipt) (row : Message) (octets : ℕ) (text shown : List ℕ) (r : Result Bool Error) → IfOk r (λ b. b ≡ is_kept_text shown) → shown ≡ text → HasText rows row.key octets text
+pub kept_judged : (rows : Rows) (deposits : List Receipt) (row : Message) (octets : ℕ) (text shown : List ℕ) (r : Result Bool Error)
+    → IfOk r (λ b. b ≡ is_kept_text shown) → shown ≡ text → HasText rows row.key octets text
     → row.octets ≡ pos octets → SFits w64 row.key → DepositsAre rows deposits → (k : ℕ) × IsNumber deposits row k → IfOk r (Finds (IsStored rows deposits row))
 kept_judged rows deposits row octets text shown (Ok true) is same h oct fits d n =
     message_stored rows deposits row n.0 octets text d fits n.1 oct h (ap is_kept_text (sym same) ∙ sym is)
@@ -204,7 +193,8 @@ kept_judged rows deposits row octets text shown (Err e) is same h oct fits d n =
 
 -- ---- what the search for the text answered
 
-pub text_read : {V : Type 0} (items : V → List ℕ) (rows rows1 : Rows) (mail mail1 : ℤ) (n : ℕ) (o : Option V) (v : V) → rows1 ≡ rows → mail1 ≡ mail → o ≡ Some v → Brings items (HasText rows1 mail1 n) o → HasText rows mail n (items v)
+pub text_read : {V : Type 0} (items : V → List ℕ) (rows rows1 : Rows) (mail mail1 : ℤ) (n : ℕ) (o : Option V) (v : V) → rows1 ≡ rows → mail1 ≡ mail
+    → o ≡ Some v → Brings items (HasText rows1 mail1 n) o → HasText rows mail n (items v)
 text_read {V} items rows rows1 mail mail1 n o v r m e h =
     let h1 = subst (λ q. Brings items (HasText rows1 mail1 n) q) e h in
     let h2 = subst (λ q. HasText q mail1 n (items v)) r h1 in

@@ -5,7 +5,6 @@ use Rattle.std.proofs.lemmas.List.{take_more, get_or-map}
 use Rattle.std.proofs.lemmas.List.Sums.{sum_by_more}
 use Rattle.std.specs.List.{list_all}
 use Rattle.creds.specs.Names.{by_name, is_name}
-use Rattle.sqlvault.proofs.RuleLemmas.{all_at}
 use Rattle.mailsql.specs.declared.rows.Message.{Message}
 use Rattle.mailsql.specs.Columns.{Rows}
 use Rattle.mailsql.specs.Rows.{is_in}
@@ -16,6 +15,7 @@ use Rattle.vault.specs.Plain.{capped_total}
 use Rattle.vault.proofs.ListLemmas.{filter-map, length-map}
 use Rattle.vault.proofs.TotalLemmas.{totals_are}
 use Rattle.sqlvault.specs.Keeps.{Keeps, message_row}
+use Rattle.sqlvault.proofs.SmallLemmas.{all_at}
 
 abbrev pub octets_in : Keyed → ℕ
 octets_in x = length x.message.text

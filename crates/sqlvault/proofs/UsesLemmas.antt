@@ -33,7 +33,8 @@ before s = record { clerks = clerk_of s ∷ []; maildrops = s.maildrop ∷ []; m
 pub accepted : (s : Stock) → deposit_result (deposit_answer_in (before s) s.maildrop s.class s.id s.text) ≡ Ok (New (record { class = s.class; k = 1 }))
 accepted s = let own : bytes_eq s.maildrop s.maildrop ≡ true = bytes_same s.maildrop in rw own refl
 
-pub put : (Holds : Contents → Type 0) (s : Stock) (d : Deposited) → d ≡ New (record { class = s.class; k = 1 }) → DepositLeft Holds (before s) s.maildrop s.class s.id s.text (Ok d) → (key : ℕ) × Holds (filled key s)
+pub put : (Holds : Contents → Type 0) (s : Stock) (d : Deposited) → d ≡ New (record { class = s.class; k = 1 })
+    → DepositLeft Holds (before s) s.maildrop s.class s.id s.text (Ok d) → (key : ℕ) × Holds (filled key s)
 put Holds s d is left = subst (λ x. DepositLeft Holds (before s) s.maildrop s.class s.id s.text (Ok x)) is left
 
 -- ---- what is shown of the stock

@@ -1,24 +1,17 @@
 -- A store whose version row is of no version that is known here.
 use Rattle.std.proofs.Common.{◌≡◌, ◌≢◌, ◌⊎◌, inl, inr, Bool, true, false, cond, refl, sym, ap, subst, ◌∙◌, arith}
-use Rattle.std.specs.Prelude.{ℤ, pos, List, [], ◌∷◌, length, codes, find, Option, Some, None, Result, Err}
+use Rattle.std.specs.Prelude.{ℤ, List, [], ◌∷◌, length, codes, find, Option, Some, None}
 use Rattle.vault.proofs.ListLemmas.{bytes_are}
-use Rattle.sqlite.specs.declared.error.Error.{Error}
-use Rattle.sqlite.specs.State.{State, HasCleanDisk, IsUnchanged, Survives}
-use Rattle.vault.specs.declared.fault.VaultFault.{VaultFault}
+use Rattle.sqlite.specs.State.{State, HasCleanDisk, IsUnchanged}
 use Rattle.vault.specs.declared.fault.VaultFault.TheVariants as fault
 use Rattle.mailsql.specs.declared.rows.MetaRow.{MetaRow}
-use Rattle.mailsql.specs.Rows.{Rows, rows_in, is_meta_row, HasTables, HasOldTables, IsUndone}
-use Rattle.mailsql.specs.MetaTable.{HasMetaRows}
-use Rattle.sqlvault.specs.declared.version.StoreVersion.{StoreVersion}
-use Rattle.sqlvault.specs.declared.version.StoreVersion.TheVariants.{Missing, Unknown, Beside, Alone}
-use Rattle.sqlvault.specs.Keeps.{version, our_meta_row}
-use Rattle.sqlvault.specs.Carries.{IsOfNoVersion, JudgesOlder, old_version, old_meta_row}
-use Rattle.sqlvault.specs.Adopts.{IsOfUnknownVersion, IsOfAnotherVersion, JudgesVersion, StaysAs}
-use Rattle.sqlvault.specs.Adopts.{IsVersionFault, IsVersionRefused, RefusesVersion}
-use Rattle.sqlvault.specs.Stands.{LeavesNoMore}
+use Rattle.mailsql.specs.Rows.{Rows, rows_in, is_meta_row, HasTables, HasOldTables}
+use Rattle.sqlvault.specs.declared.version.StoreVersion.TheVariants.{Beside, Alone}
+use Rattle.sqlvault.specs.Keeps.{version}
+use Rattle.sqlvault.specs.Carries.{IsOfNoVersion, JudgesOlder}
+use Rattle.sqlvault.specs.Adopts.{IsOfAnotherVersion}
 use Rattle.sqlvault.specs.Versions.{IsVersion, IsNoVersion, version_row, HasVersion, Tells}
-use Rattle.sqlvault.specs.Refusals.{is_memory, fault_of}
-use Rattle.sqlvault.proofs.AdoptLemmas.{IsSettled, stays_undone, tables_on, rows_on}
+use Rattle.sqlvault.proofs.AdoptLemmas.{tables_on, rows_on}
 use Rattle.sqlvault.proofs.CarryLemmas.{old_on}
 
 -- ---- the version row that was found
@@ -105,16 +98,3 @@ older_beside rows value told =
     (no_version rows value told.0 told.2, λ carried one. told.1 (ap length one))
 
 -- ---- what stands after it
-
-pub version_met : (e : Error) → IsVersionFault (fault_of e)
-version_met e = at (is_memory e)
-  where
-    at : (b : Bool) → IsVersionFault (cond b fault.NoMemory fault.Store)
-    at true = tt
-    at false = tt
-
-pub refused_version : (old new : State) (f : VaultFault) → IsOfUnknownVersion old → IsSettled old → HasCleanDisk new → IsUndone old new → Survives old new (λ _. HasMetaRows old.now → ⊥) → IsVersionFault f → RefusesVersion old new f
-refused_version old new f it settled clean undone s is = (
-  is,
-  (stays_undone old new it.autocommit settled undone, λ db may. elim (s.crash clean db may) [ inl was ↦ was | inr none ↦ absurd (none it.table) ]),
-)

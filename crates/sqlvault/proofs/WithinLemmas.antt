@@ -15,7 +15,8 @@ use Rattle.sqlite.specs.declared.error.Error.{Error}
 -- ---- a statement
 
 -- a statement of a transaction commits nothing
-stops : (Change : Rows → Rows → Type 0) (old new : State) (base : Contents) (rows : Rows) → HasCleanDisk new → Survives old new (MayLeave Change old) → Within old base rows → Leaves new (λ left. Keeps left base)
+stops : (Change : Rows → Rows → Type 0) (old new : State) (base : Contents) (rows : Rows) → HasCleanDisk new → Survives old new (MayLeave Change old)
+    → Within old base rows → Leaves new (λ left. Keeps left base)
 stops Change old new base rows clean s w db may = elim (s.crash clean db may) [
   | inl was ↦ w.stop db was
   | inr made ↦ absurd (true≢false (sym w.inside ∙ (made (w.is_open, w.tables)).0))

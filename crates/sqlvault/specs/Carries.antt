@@ -11,10 +11,17 @@ use Rattle.vault.specs.Changes.{Contents}
 use Rattle.mailsql.specs.declared.rows.MetaRow.{MetaRow}
 use Rattle.mailsql.specs.Rows.{Rows, rows_in, is_carried, completed, is_meta_row, IsOld, IsKept}
 use Rattle.sqlvault.specs.Keeps.{Keeps, our_meta_row, version}
+use Rattle.sqlvault.specs.declared.version.OlderVersion.{OlderVersion}
+use Rattle.sqlvault.specs.declared.version.OlderVersion.TheVariants.{First, Second}
 use Rattle.sqlvault.specs.Moves.{body_head, body_sheets}
 use Rattle.sqlvault.specs.Stands.{Holds}
 
 -- ---- the older versions
+
+-- it is version 1
+abbrev pub is_first : OlderVersion → Bool
+is_first First = true
+is_first Second = false
 
 -- the older versions: 1 (`carried`), which has messages and texts in one table, and 2
 abbrev pub old_version : (carried : Bool) → ℤ
@@ -101,8 +108,8 @@ JudgesOlder rows OldVersion = IsOfNoVersion rows
 JudgesOlder rows _ = ⊥
 
 -- the version row of this older version is there alone, or the fault says why not
-abbrev pub IsOfOlderVersion : Rows → Result Bool VaultFault → Type 0
-IsOfOlderVersion rows (Ok carried) = rows.meta_rows ≡ old_meta_row carried ∷ []
+abbrev pub IsOfOlderVersion : Rows → Result OlderVersion VaultFault → Type 0
+IsOfOlderVersion rows (Ok version) = rows.meta_rows ≡ old_meta_row (is_first version) ∷ []
 IsOfOlderVersion rows (Err fault) = JudgesOlder rows fault
 
 -- an older store is carried over after `Ok`, and refused for the fault's cause after `Err`

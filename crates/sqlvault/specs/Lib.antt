@@ -1,6 +1,7 @@
 pub mod Frame
 pub mod Keeps
 pub mod Clerks
+pub mod Receipts
 pub mod Parts
 pub mod Judged
 pub mod Adopts

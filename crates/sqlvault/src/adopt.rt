@@ -62,8 +62,8 @@ fn make<S: Alter>(conn: &mut Connection<S>) -> Result<(), Refusal>
     }
 }
 
-/// Checks that the store's one version row is ours, of our version. `OldVersion` where our version
-/// row has another version, `NotOurs` where it is missing or not alone. Nothing is changed.
+/// Checks that the store's one version row is ours, of our version. `OldVersion` if our version
+/// row has another version, `NotOurs` if it is missing or not alone. Nothing is changed.
 fn judge_meta_rows<S: Alter>(alloc: Global, conn: &mut Connection<S>) -> Result<(), Refusal>
     ensures judged { HasCleanDisk (state S.Store conn.new) → HasTables (state S.Store conn.old)
         → IsOfOurVersion (rows_in (state S.Store conn.old).now.trees) (answer_of result) }
@@ -83,7 +83,7 @@ fn judge_meta_rows<S: Alter>(alloc: Global, conn: &mut Connection<S>) -> Result<
 }
 
 /// Checks the version row, the columns and the rows of a store that has our tables. `OldVersion` or
-/// `NotOurs` where they aren't ours. Nothing is changed.
+/// `NotOurs` if they aren't ours. Nothing is changed.
 fn judge<S: Alter>(alloc: Global, conn: &mut Connection<S>) -> Result<(), Refusal>
     ensures adopted { HasCleanDisk (state S.Store conn.new)
         → (state S.Store conn.old).in_transaction ≡ false
@@ -109,8 +109,8 @@ fn judge<S: Alter>(alloc: Global, conn: &mut Connection<S>) -> Result<(), Refusa
     }
 }
 
-/// Makes our tables where no name of ours is taken, carries a store of version 1 or 2 over, and
-/// checks a store that has our tables. `NotOurs` inside a transaction, and where a name of ours is
+/// Makes our tables if no name of ours is taken, carries a store of version 1 or 2 over, and
+/// checks a store that has our tables. `NotOurs` inside a transaction, and if a name of ours is
 /// taken but there is no table of rows of `meta`.
 pub(crate) fn settle<S: Alter>(alloc: Global, conn: &mut Connection<S>) -> Result<(), Refusal>
     ensures known { HasCleanDisk (state S.Store conn.new) → IsKnown (state S.Store conn.old)

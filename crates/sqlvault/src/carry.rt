@@ -5,7 +5,7 @@ ghost use Rattle.sqlite.specs.State.{HasCleanDisk};
 ghost use Rattle.mailsql.specs.Tables.{old_schema};
 ghost use Rattle.mailsql.specs.Rows.{HasOldTables, rows_in};
 ghost use Rattle.sqlvault.specs.Adopts.{IsAdoptFault, IsOfUnknownVersion, IsVersionRefused};
-ghost use Rattle.sqlvault.specs.Carries.{HasOlder, IsOlder, IsOfRows, IsOfOlderVersion};
+ghost use Rattle.sqlvault.specs.Carries.{HasOlder, IsOlder, IsOfRows, IsOfOlderVersion, is_first};
 ghost use Rattle.sqlvault.specs.Moves.{Builds};
 ghost use Rattle.sqlvault.specs.Older.{IsAllCommitted, IsBegunOlder, Brings};
 ghost use Rattle.sqlvault.specs.Older.{AsksOlder, CarriesOlder};
@@ -17,39 +17,42 @@ use crate::moves::move_old;
 use crate::part::are_rows_sound;
 use crate::refusal::Refusal;
 use crate::transaction::{begin, end, roll_back, undo};
-use crate::version::{NEWEST, find_version, older};
+use crate::version::{NEWEST, OlderVersion, find_version, older};
 use mailsql::schema::{has_first_columns, has_second_columns};
 use mailsql::{meta, tables};
 use sqlite::{Alter, Connection, Error};
 use std::alloc::Global;
 use vault::VaultFault;
 
-/// Brings a store of version 1 (`is_first`) or 2 (not `is_first`) to our version, inside a
-/// transaction: makes the tables that it lacks, moves the messages of version 1, and puts our
-/// version row in place of its own.
-fn bring<S: Alter>(alloc: Global, conn: &mut Connection<S>, is_first: bool) -> Result<(), Error>
-    ensures { Builds S.Store conn.old conn.new (IsBegunOlder is_first) (Brings is_first) result }
+/// Brings an older store to our version, inside a transaction: makes the tables that it lacks,
+/// moves the messages of version 1, and puts our version row in place of its own.
+fn bring<S: Alter>(
+    alloc: Global,
+    conn: &mut Connection<S>,
+    version: OlderVersion,
+) -> Result<(), Error>
+    ensures { Builds S.Store conn.old conn.new (IsBegunOlder (is_first version))
+        (Brings (is_first version)) result }
 {
-    match tables::complete_tables(conn, is_first) {
+    match tables::complete_tables(conn, version.is_first()) {
         Ok(()) => {}
         Err(error) => return Err(error),
     }
-    match move_old(alloc, conn, is_first) {
+    match move_old(alloc, conn, version) {
         Ok(()) => meta::put_meta_row(conn, b"popbox", NEWEST),
         Err(error) => Err(error),
     }
 }
 
-/// Carries a store of version 1 (`is_first`) or 2 (not `is_first`) over, in one transaction. Its
-/// contents stay, and all its rows are read once: `NotOurs` where they aren't sound records. After
-/// any refusal the store is as it was.
+/// Carries an older store over, in one transaction. Its contents stay, and all its rows are read
+/// once: `NotOurs` if they aren't sound records. After any refusal the store is as it was.
 pub(crate) fn carry<S: Alter>(
     alloc: Global,
     conn: &mut Connection<S>,
-    is_first: bool,
+    version: OlderVersion,
 ) -> Result<(), Refusal>
     ensures turns { HasCleanDisk (state S.Store conn.new)
-        → IsOlder is_first (state S.Store conn.old)
+        → IsOlder (is_first version) (state S.Store conn.old)
         → CarriesOlder (state S.Store conn.old) (state S.Store conn.new) result }
     ensures kinds { IfErr result (λ refusal. IsAdoptFault (told refusal)) }
     ensures clean { WasClean (state S.Store conn.old) (state S.Store conn.new) }
@@ -58,7 +61,7 @@ pub(crate) fn carry<S: Alter>(
         Ok(()) => {}
         Err(error) => return Err(Refusal::Met(error)),
     }
-    match bring(alloc, conn, is_first) {
+    match bring(alloc, conn, version) {
         Ok(()) => {}
         Err(error) => return Err(Refusal::Met(undo(conn, error))),
     }
@@ -84,10 +87,9 @@ fn unsound<S: Alter>(conn: &mut Connection<S>) -> Refusal
     }
 }
 
-/// The older version of the store's one version row: true for 1, false for 2. `OldVersion` where
-/// our version row has an unknown version; `NotOurs` where it has our version, is missing or isn't
-/// alone.
-fn find_older<S: Alter>(alloc: Global, conn: &mut Connection<S>) -> Result<bool, Refusal>
+/// The older version of the store's one version row. `OldVersion` if our version row has an unknown
+/// version; `NotOurs` if it has our version, is missing or isn't alone.
+fn find_older<S: Alter>(alloc: Global, conn: &mut Connection<S>) -> Result<OlderVersion, Refusal>
     ensures asks { AsksOlder S.Store conn.old conn.new result }
     ensures judged { HasCleanDisk (state S.Store conn.new) → HasOldTables (state S.Store conn.old)
         → IsOfOlderVersion (rows_in (state S.Store conn.old).now.trees) (answer_of result) }
@@ -98,27 +100,27 @@ fn find_older<S: Alter>(alloc: Global, conn: &mut Connection<S>) -> Result<bool,
 {
     match find_version(alloc, conn) {
         Ok(version) => match older(version) {
-            Ok(is_first) => Ok(is_first),
+            Ok(version) => Ok(version),
             Err(fault) => Err(Refusal::Answered(fault)),
         },
         Err(error) => Err(Refusal::Met(error)),
     }
 }
 
-/// Whether the store has the tables of version 1 (`is_first`) or of version 2 (not `is_first`).
-fn has_older_columns<S: Alter>(conn: &Connection<S>, is_first: bool) -> bool
-    ensures fits { (state S.Store conn.now).now.schema ≡ old_schema is_first → result ≡ true }
+/// Whether the store has the tables of this version.
+fn has_older_columns<S: Alter>(conn: &Connection<S>, version: OlderVersion) -> bool
+    ensures fits { (state S.Store conn.now).now.schema ≡ old_schema (is_first version)
+        → result ≡ true }
     ensures order { (c : Bool) → (state S.Store conn.now).now.schema ≡ old_schema c
-        → result ≡ true → c ≡ is_first }
+        → result ≡ true → c ≡ is_first version }
 {
-    if is_first {
-        has_first_columns(conn)
-    } else {
-        has_second_columns(conn)
+    match version {
+        OlderVersion::First => has_first_columns(conn),
+        OlderVersion::Second => has_second_columns(conn),
     }
 }
 
-/// Carries a store without all our tables over, where its tables and its one version row are those
+/// Carries a store without all our tables over, if its tables and its one version row are those
 /// of an older version. Else `OldVersion` for a version row of ours of an unknown version, or
 /// `NotOurs`.
 pub(crate) fn carry_marked<S: Alter>(alloc: Global, conn: &mut Connection<S>) -> Result<(), Refusal>
@@ -132,12 +134,12 @@ pub(crate) fn carry_marked<S: Alter>(alloc: Global, conn: &mut Connection<S>) ->
         → IsOfUnknownVersion (state S.Store conn.old) → IsAllCommitted (state S.Store conn.old)
         → IsVersionRefused (state S.Store conn.old) (state S.Store conn.new) (answer_of result) }
 {
-    let is_first = match find_older(alloc, conn) {
-        Ok(is_first) => is_first,
+    let version = match find_older(alloc, conn) {
+        Ok(version) => version,
         Err(refusal) => return Err(refusal),
     };
-    if !has_older_columns(conn, is_first) {
+    if !has_older_columns(conn, version) {
         return Err(Refusal::Answered(VaultFault::NotOurs));
     }
-    carry(alloc, conn, is_first)
+    carry(alloc, conn, version)
 }

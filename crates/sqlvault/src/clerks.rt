@@ -63,7 +63,7 @@ fn secret_of(credential: &Credential) -> &[u8]
 }
 
 /// These 32 octets, as a digest.
-fn digest_of(octets: &[u8]) -> [u8; 32]
+pub(crate) fn digest_of(octets: &[u8]) -> [u8; 32]
     requires { length octets.now ≡ 32 }
     ensures { result ≡ octets.now }
 {

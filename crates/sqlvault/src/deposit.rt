@@ -32,13 +32,13 @@ use std::alloc::Global;
 use vault::{Deposited, Receipt, VaultFault};
 
 /// The greatest number of messages in a maildrop.
-const MAX_MESSAGES: u64 = 10_000;
+pub(crate) const MAX_MESSAGES: u64 = 10_000;
 
 /// The greatest number of deposits of one class under one maildrop name.
-const MAX_DEPOSITS: u64 = 1_000_000_000;
+pub(crate) const MAX_DEPOSITS: u64 = 1_000_000_000;
 
 /// The number of a row. An error where it is below 0, which a sound store's never is.
-fn read_number(number: i64) -> Result<u64, Error>
+pub(crate) fn read_number(number: i64) -> Result<u64, Error>
     ensures { (n : ℕ) → number ≡ pos n → result ≡ Ok n }
 {
     if number < 0 {

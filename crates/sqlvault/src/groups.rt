@@ -17,7 +17,7 @@ use policy::{Group, Policy};
 use sqlite::{Alter, Connection, Error};
 use std::alloc::{AllocError, Global};
 
-/// The names of the group's members, in the order of their rows; `None` where one hasn't the form
+/// The names of the group's members, in the order of their rows; `None` if one hasn't the form
 /// of a name.
 fn members_of(
     alloc: Global,
@@ -44,7 +44,7 @@ fn members_of(
     Ok(Some(names))
 }
 
-/// The group of a row, with its members; `None` where a name hasn't its form.
+/// The group of a row, with its members; `None` if a name hasn't its form.
 fn group_of(
     alloc: Global,
     row: &rows::Group,
@@ -65,7 +65,7 @@ fn group_of(
     }
 }
 
-/// The groups of the rows, in order, each with its members; `None` where a name hasn't its form.
+/// The groups of the rows, in order, each with its members; `None` if a name hasn't its form.
 fn groups_of(
     alloc: Global,
     rows: &[rows::Group],
@@ -89,7 +89,7 @@ fn groups_of(
     Ok(Some(groups))
 }
 
-/// The groups of the store, in order; `None` where a name hasn't its form.
+/// The groups of the store, in order; `None` if a name hasn't its form.
 pub(crate) fn read_groups<S: Alter>(
     alloc: Global,
     conn: &mut Connection<S>,
@@ -135,7 +135,7 @@ fn add_members<S: Alter>(
     Ok(())
 }
 
-/// Adds a group with its members behind the others, inside a transaction. `place` is the next free
+/// Adds a group with its members after the others, inside a transaction. `place` is the next free
 /// place.
 fn add_group<S: Alter>(conn: &mut Connection<S>, place: i64, group: &Group) -> Result<(), Error>
     requires { length group.now.members ≤ most_members }

@@ -12,6 +12,7 @@ mod maildrops;
 mod moves;
 mod pages;
 mod part;
+mod receipts;
 mod refusal;
 mod rules;
 mod sound_clerks;

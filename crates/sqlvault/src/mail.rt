@@ -23,7 +23,7 @@ use sqlite::{Alter, Connection, Error};
 use std::alloc::Global;
 use vault::{Head, MessageKey, VaultFault};
 
-/// The head of a message's row; `None` where its class hasn't the form of a name.
+/// The head of a message's row; `None` if its class hasn't the form of a name.
 fn read_head(row: &Message) -> Option<Head>
     ensures { (x : Keyed) → row.now ≡ message_row x → is_name x.message.class ≡ true
         → x.key < 2 ^ 64 → result ≡ Some (head_of x) }
@@ -39,7 +39,7 @@ fn read_head(row: &Message) -> Option<Head>
     }
 }
 
-/// The heads of these rows, in order. Where each row is that of a message, want of memory is the
+/// The heads of these rows, in order. If each row is that of a message, want of memory is the
 /// only error.
 fn read_heads(alloc: Global, rows: &[Message]) -> Result<Vec<Head>, Error>
     ensures items { (ms : List Keyed) → rows.now ≡ map message_row ms
@@ -62,7 +62,7 @@ fn read_heads(alloc: Global, rows: &[Message]) -> Result<Vec<Head>, Error>
 
 /// The heads of a maildrop's messages, in order of arrival. Nothing is changed.
 ///
-/// Answers [`VaultFault::NoMaildrop`] where the maildrop is missing, else the error that a query
+/// Answers [`VaultFault::NoMaildrop`] if the maildrop is missing, else the error that a query
 /// met.
 pub(crate) fn heads<S: Alter>(
     alloc: Global,
@@ -105,7 +105,7 @@ fn remove_all<S: Alter>(
 }
 
 /// Removes the maildrop's messages with these keys, in one transaction. A key that isn't in the
-/// maildrop is passed over; so are all keys where the maildrop is missing.
+/// maildrop is passed over; so are all keys if the maildrop is missing.
 ///
 /// Answers the error that a statement met; no message is then removed.
 pub(crate) fn remove<S: Alter>(

@@ -67,8 +67,8 @@ pub(crate) fn add_maildrop<S: Alter>(conn: &mut Connection<S>, name: &Name) -> R
 
 /// Drops an empty maildrop. The receipts and the counts under its name stay.
 ///
-/// Answers [`VaultFault::NoMaildrop`] where the maildrop is missing, else [`VaultFault::NotEmpty`]
-/// where it has a message. After any refusal the maildrops are as they were.
+/// Answers [`VaultFault::NoMaildrop`] if the maildrop is missing, else [`VaultFault::NotEmpty`]
+/// if it has a message. After any refusal the maildrops are as they were.
 pub(crate) fn drop_maildrop<S: Alter>(conn: &mut Connection<S>, name: &Name) -> Result<(), Refusal>
     ensures { Acts S.Store conn.old conn.new
         (λ c Held answered. IsMaildropDropped Held c name.now answered) (answer_of result) }

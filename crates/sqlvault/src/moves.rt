@@ -3,10 +3,12 @@ ghost use Rattle.std.specs.Prelude.{◌≡◌, true, OnOk};
 ghost use Rattle.sqlite.specs.Held.{state};
 ghost use Rattle.sqlite.specs.State.{HasCleanDisk};
 ghost use Rattle.mailsql.specs.Rows.{is_carried};
+ghost use Rattle.sqlvault.specs.Carries.{is_first};
 ghost use Rattle.sqlvault.specs.Moves.{MovesBody, MovesKey, MovesEach, MovesAll, MovesOld};
 ghost use Rattle.sqlvault.specs.Moves.{IsInside, IsInsideOf, IsUnmoved, HasHeads, Builds};
 
 use crate::refusal::unreadable;
+use crate::version::OlderVersion;
 use mailsql::rows::{Body, Message};
 use mailsql::schema::keys_hold;
 use mailsql::{bodies, mail, sheets};
@@ -79,17 +81,18 @@ fn move_messages<S: Alter>(alloc: Global, conn: &mut Connection<S>) -> Result<()
     }
 }
 
-/// Moves the messages of a store of version 1 (`is_first`), inside a transaction. A store of
-/// version 2 (not `is_first`) has them in our tables already.
+/// Moves the messages of a store of version 1, inside a transaction. A store of version 2 has them
+/// in our tables already.
 pub(crate) fn move_old<S: Alter>(
     alloc: Global,
     conn: &mut Connection<S>,
-    is_first: bool,
+    version: OlderVersion,
 ) -> Result<(), Error>
-    ensures { Builds S.Store conn.old conn.new (IsUnmoved is_first) (MovesOld is_first) result }
+    ensures { Builds S.Store conn.old conn.new (IsUnmoved (is_first version))
+        (MovesOld (is_first version)) result }
 {
-    if is_first {
-        return move_messages(alloc, conn);
+    match version {
+        OlderVersion::First => move_messages(alloc, conn),
+        OlderVersion::Second => Ok(()),
     }
-    Ok(())
 }

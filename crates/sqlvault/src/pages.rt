@@ -75,7 +75,7 @@ fn copy_sheets(sheets: &[Sheet], first: u64, end: u64, skip: usize, buffer: &mut
 }
 
 /// Reads octets of a message, from place `from` on, into the front of the buffer, by one statement.
-/// Answers how many: those of up to 16 sheets that fit; 0 only where none is left, the buffer is
+/// Answers how many: those of up to 16 sheets that fit; 0 only if none is left, the buffer is
 /// empty or the key is unknown. Nothing is changed.
 ///
 /// An `Err` is the error that the query met.

@@ -36,7 +36,7 @@ pub enum Part {
     Messages,
 }
 
-/// The first part of the rows that isn't sound, in the order of `Part`; `None` where all rows are
+/// The first part of the rows that isn't sound, in the order of `Part`; `None` if all rows are
 /// sound records of a vault. For a store that has our tables and our version row. Nothing is
 /// changed. The error is a statement's, or want of memory.
 pub fn unsound_part<S: Alter>(

@@ -58,7 +58,7 @@ pub(crate) fn fault_of(refusal: Refusal) -> VaultFault
     }
 }
 
-/// The refusal as the vault's fault. Adds one to `faults`, `u64::MAX` at most, where it is `Store`.
+/// The refusal as the vault's fault. Adds one to `faults`, `u64::MAX` at most, if it is `Store`.
 pub(crate) fn tell(faults: &mut u64, refusal: Refusal) -> VaultFault
     ensures told { result ≡ told refusal }
     ensures counted { faults.new ≡ counted_by (told refusal) faults.old }

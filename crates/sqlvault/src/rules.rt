@@ -136,7 +136,7 @@ fn read_actions(number: i64) -> Option<Actions>
     Some(Actions { open, read, remove })
 }
 
-/// The rule of a row, whatever its place; `None` where the row is no rule's.
+/// The rule of a row, whatever its place; `None` if the row is no rule's.
 fn read_rule(row: &rows::Rule) -> Option<Rule>
     ensures row { IfSome result (λ r. at_place (pos 0) row.now ≡ rule_row (pos 0) r) }
     ensures read { (r : rule.Rule) → is_sound_rule r ≡ true
@@ -152,7 +152,7 @@ fn read_rule(row: &rows::Rule) -> Option<Rule>
     })
 }
 
-/// The rules of the rows, in order; `None` where a row is no sound rule's.
+/// The rules of the rows, in order; `None` if a row is no sound rule's.
 pub(crate) fn rules_of(alloc: Global, rows: &[rows::Rule]) -> Result<Option<Vec<Rule>>, AllocError>
     ensures rows { IfOk result (λ read. IfSome read
         (λ rules. map (at_place (pos 0)) rows.now ≡ map (rule_row (pos 0)) rules.items)) }
@@ -219,7 +219,7 @@ pub(crate) fn policy<S: Alter>(alloc: Global, conn: &mut Connection<S>) -> Resul
     }
 }
 
-/// Adds a rule behind the others, inside a transaction.
+/// Adds a rule after the others, inside a transaction.
 fn add_rule<S: Alter>(alloc: Global, conn: &mut Connection<S>, rule: &Rule) -> Result<(), Error>
     ensures { Writes S.Store conn.old conn.new (λ _. AddsRules (rule.now ∷ [])) result }
 {
@@ -235,7 +235,7 @@ fn add_rule<S: Alter>(alloc: Global, conn: &mut Connection<S>, rule: &Rule) -> R
     )
 }
 
-/// Adds the rules behind the others, inside a transaction.
+/// Adds the rules after the others, inside a transaction.
 fn add_rules<S: Alter>(alloc: Global, conn: &mut Connection<S>, rules: &[Rule]) -> Result<(), Error>
     ensures { Writes S.Store conn.old conn.new (λ _. AddsRules rules.now) result }
 {

@@ -11,6 +11,7 @@ ghost use Rattle.sqlvault.specs.Frame.{Asks};
 ghost use Rattle.sqlvault.specs.Numbers as spec;
 ghost use Rattle.sqlvault.specs.Parts.{Finds, DepositsAre};
 
+use crate::deposit::MAX_DEPOSITS;
 use creds::{DepositId, Name};
 use mailsql::rows::{Count, Deposit};
 use mailsql::{counts, deposits};
@@ -18,13 +19,10 @@ use sqlite::{Alter, Connection, Error};
 use std::alloc::{AllocError, Global};
 use std::collections::BTreeSet;
 
-/// The greatest number of deposits of one class under one maildrop name.
-const MAX_DEPOSITS: u64 = 1_000_000_000;
-
 /// A deposit's maildrop name, its class, and its number in them.
 type Number = (Name, Name, u64);
 
-/// The number of a row; `None` where it is below 0.
+/// The number of a row; `None` if it is below 0.
 fn natural(number: i64) -> Option<u64>
     ensures { result ≡ spec.natural_of number }
 {
@@ -34,7 +32,7 @@ fn natural(number: i64) -> Option<u64>
     Some(number.cast_unsigned())
 }
 
-/// The number of a deposit's row; `None` where the row is no deposit's.
+/// The number of a deposit's row; `None` if the row is no deposit's.
 fn read_deposit(row: &Deposit) -> Option<Number>
     ensures { result ≡ (if spec.is_deposit_row row.now then Some (spec.number_of row.now) else
         None) }
@@ -52,7 +50,7 @@ fn read_deposit(row: &Deposit) -> Option<Number>
     Some((maildrop, class, k))
 }
 
-/// The numbers of the rows; `None` where one is no deposit's.
+/// The numbers of the rows; `None` if one is no deposit's.
 fn read_deposits(alloc: Global, rows: &[Deposit]) -> Result<Option<BTreeSet<Number>>, AllocError>
     ensures { IfOk result (λ read. MatchOption read (list_all spec.is_deposit_row rows.now ≡ false)
         (λ s. (list_all spec.is_deposit_row rows.now ≡ true)
@@ -68,7 +66,7 @@ fn read_deposits(alloc: Global, rows: &[Deposit]) -> Result<Option<BTreeSet<Numb
     Ok(Some(numbers))
 }
 
-/// The number of a count; `None` where it is out of its range.
+/// The number of a count; `None` if it is out of its range.
 fn read_count(count: &Count) -> Option<u64>
     ensures { result ≡ (if spec.is_within count.now.k then Some (spec.asked count.now) else None) }
 {
@@ -107,7 +105,7 @@ fn has_named(numbers: &BTreeSet<Number>, row: &Count, count: u64) -> bool
     has_all(numbers, &maildrop, &class, count)
 }
 
-/// The number of a count; `None` where it is out of its range or a number from 1 to it is missing.
+/// The number of a count; `None` if it is out of its range or a number from 1 to it is missing.
 fn filled(numbers: &BTreeSet<Number>, row: &Count) -> Option<u64>
     ensures value { (ns : List spec.Number) → spec.IsSetOf ns numbers.now
         → result ≡ (if spec.is_filled ns row.now then Some (spec.asked row.now) else None) }

@@ -11,6 +11,7 @@ ghost use Rattle.sqlvault.specs.Stored.{Tells, Counts, Brings, IsPiece, HasText,
 ghost use Rattle.sqlvault.specs.Stored.{IsNumber, IsStored, HasMessage, sheets_in, IsSoundIn};
 ghost use Rattle.sqlvault.specs.Stored.{sheets_under};
 
+use crate::deposit::MAX_MESSAGES;
 use mailsql::rows::{Message, Sheet};
 use mailsql::sheets::{self, SHEET_OCTETS};
 use mailsql::{counts, mail, maildrops};
@@ -18,9 +19,6 @@ use mailtext::MAX_OCTETS;
 use sqlite::{Alter, Connection, Error};
 use sqlite_value::value::Bytes;
 use std::alloc::Global;
-
-/// The greatest number of messages in a maildrop.
-const MAX_MESSAGES: usize = 10_000;
 
 /// The sheet of message `mail` at this place, if it is there and has `size` octets.
 fn find_piece<S: Alter>(
@@ -173,7 +171,7 @@ fn count_sheets(rows: &[Message]) -> u64
     sheets
 }
 
-/// How many sheets the messages of the maildrop have, 2^64 - 1 at most; `None` where its rows
+/// How many sheets the messages of the maildrop have, 2^64 - 1 at most; `None` if its rows
 /// aren't sound.
 fn judge_maildrop<S: Alter>(
     alloc: Global,
@@ -191,7 +189,7 @@ fn judge_maildrop<S: Alter>(
         Ok(rows) => rows,
         Err(error) => return Err(error),
     };
-    if rows.len() > MAX_MESSAGES {
+    if rows.len() as u64 > MAX_MESSAGES {
         return Ok(None);
     }
     match are_all_sound(alloc, conn, rows.as_slice()) {
@@ -201,7 +199,7 @@ fn judge_maildrop<S: Alter>(
     }
 }
 
-/// How many sheets the messages of these maildrops have, 2^64 - 1 at most; `None` where the rows of
+/// How many sheets the messages of these maildrops have, 2^64 - 1 at most; `None` if the rows of
 /// one aren't sound.
 fn judge_maildrops<S: Alter>(
     alloc: Global,

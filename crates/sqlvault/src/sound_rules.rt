@@ -46,8 +46,8 @@ fn are_rules_with<S: Alter>(
     }
 }
 
-/// The first part of the policy's rows that isn't sound: the groups, where a name hasn't its form,
-/// or the rules, where they and the groups are no policy; `None` where they are one.
+/// The first part of the policy's rows that isn't sound: the groups, if a name hasn't its form,
+/// or the rules, if they and the groups are no policy; `None` if they are one.
 pub(crate) fn unsound_policy<S: Alter>(
     alloc: Global,
     conn: &mut Connection<S>,

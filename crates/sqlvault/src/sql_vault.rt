@@ -11,7 +11,7 @@ ghost use Rattle.sqlvault.specs.Refusals.{answer_of, count_after, open_fault};
 
 use crate::adopt::settle;
 use crate::refusal::{Refusal, fault_of, tell};
-use crate::{clerks, deposit, mail, maildrops, pages, rules, totals};
+use crate::{clerks, deposit, mail, maildrops, pages, receipts, rules, totals};
 use creds::{Credential, DepositId, Name};
 use mailtext::MailText;
 use policy::Policy;
@@ -19,7 +19,7 @@ use sqlite::{Alter, Connection, Error, ErrorCode, FileFrom, FileStore, Files, Me
 use sqlite_disk::Disk;
 use std::alloc::Global;
 use std::marker::Model;
-use vault::{Deposited, Head, MessageKey, Total, Vault, VaultFault};
+use vault::{Deposited, Head, MessageKey, Receipt, Total, Vault, VaultFault};
 
 /// A mail store over the tables of a connection. Contracts see the connection, and how many calls
 /// answered `Store`.
@@ -198,6 +198,7 @@ impl<S: Alter> SqlVault<S> {
     ghost use Rattle.vault.specs.Changes.{Contents};
     ghost use Rattle.vault.specs.Stops.{IsOwn};
     ghost use Rattle.sqlvault.specs.Clerks.{AreClerks};
+    ghost use Rattle.sqlvault.specs.Receipts.{AreReceipts};
     ghost use Rattle.sqlvault.specs.Frame.{Looks};
     ghost use Rattle.sqlvault.specs.Stands.{Holds, WasClean};
 
@@ -287,6 +288,23 @@ impl<S: Alter> SqlVault<S> {
         ensures looks { Looks S.Store self.old.conn self.new.conn (IsOwn result) }
     {
         let answer = clerks::clerk_names(self.alloc, &mut self.conn);
+        self.told(answer)
+    }
+
+    /// The receipts of all deposits that were ever accepted, in the order of the deposits, some 200
+    /// octets each. Nothing is changed.
+    ///
+    /// Answers [`VaultFault::NoMemory`] if memory was refused, and [`VaultFault::Store`], which is
+    /// counted, if SQLite refused the query for another cause.
+    pub fn receipts(&mut self) -> Result<Vec<Receipt>, VaultFault>
+        ensures done { (c : Contents) → Holds (state S.Store self.old.conn) c
+            → HasCleanDisk (state S.Store self.new.conn)
+            → AreReceipts (Holds (state S.Store self.new.conn)) c
+            (seen_as result (λ v. v.items)) }
+        ensures counted { CountsFaults self.old.faults self.new.faults result }
+        ensures looks { Looks S.Store self.old.conn self.new.conn (IsOwn result) }
+    {
+        let answer = receipts::receipts(self.alloc, &mut self.conn);
         self.told(answer)
     }
 

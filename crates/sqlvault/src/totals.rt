@@ -23,7 +23,7 @@ use sqlite_value::value::Bytes;
 use std::alloc::Global;
 use vault::{Total, in_order};
 
-/// Adds the name of a row behind the others.
+/// Adds the name of a row after the others.
 pub(crate) fn push_name(names: &mut Vec<Name>, row: &Bytes) -> Result<(), Error>
     ensures { is_name row.now ≡ true → OnOk result
         (names.new.items ≡ names.old.items ++ row.now ∷ []) }

@@ -9,7 +9,7 @@ use crate::refusal::is_memory;
 use mailsql::transaction;
 use sqlite::{Alter, Connection, Error};
 
-/// Begins a transaction. Refused where one is under way.
+/// Begins a transaction. Refused if one is under way.
 pub(crate) fn begin<S: Alter>(conn: &mut Connection<S>) -> Result<(), Error>
     ensures { Begins S.Store conn.old conn.new result }
 {
@@ -26,7 +26,7 @@ pub(crate) fn roll_back<S: Alter>(conn: &mut Connection<S>) -> Result<(), Error>
     transaction::rollback(conn)
 }
 
-/// Rolls the transaction back after an error, if it is still under way. Answers that error; where
+/// Rolls the transaction back after an error, if it is still under way. Answers that error; if
 /// it is want of memory and the rollback fails too, the rollback's error.
 pub(crate) fn undo<S: Alter>(conn: &mut Connection<S>, error: Error) -> Error
     ensures undoes { Undoes S.Store conn.old conn.new }

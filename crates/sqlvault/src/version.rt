@@ -6,7 +6,7 @@ ghost use Rattle.mailsql.specs.Rows.{Rows, HasTables, HasOldTables, rows_in};
 ghost use Rattle.vault.specs.declared.fault.VaultFault.TheVariants.{OldVersion};
 ghost use Rattle.sqlvault.specs.declared.version.StoreVersion.TheVariants.{Unknown};
 ghost use Rattle.sqlvault.specs.Adopts.{IsAdoptFault, IsOfUnknownVersion, IsOfOurVersion};
-ghost use Rattle.sqlvault.specs.Carries.{IsOfOlderVersion};
+ghost use Rattle.sqlvault.specs.Carries.{IsOfOlderVersion, is_first};
 ghost use Rattle.sqlvault.specs.Frame.{Asks};
 ghost use Rattle.sqlvault.specs.Older.{AsksOlder, IsAllCommitted};
 ghost use Rattle.sqlvault.specs.Versions.{IsVersion, IsNoVersion, Tells, TellsUnknown};
@@ -19,11 +19,29 @@ use vault::VaultFault;
 /// The version of the layout of the tables, which a new store has.
 pub const NEWEST: i64 = 3;
 
-/// Version 1 of the layout, the oldest: one table has the messages and their texts.
+/// Version 1 of the layout, the oldest.
 pub const OLDEST: i64 = 1;
 
-/// Version 2 of the layout: there are no groups.
+/// Version 2 of the layout.
 const SECOND: i64 = 2;
+
+/// A version of the layout before the newest one.
+#[derive(Clone, Copy)]
+pub(crate) enum OlderVersion {
+    /// Version 1: one table has the messages and their texts, and there are no groups.
+    First,
+    /// Version 2: there are no groups.
+    Second,
+}
+
+impl OlderVersion {
+    /// Whether it is version 1.
+    pub(crate) fn is_first(self) -> bool
+        ensures { result ≡ is_first self }
+    {
+        matches!(self, OlderVersion::First)
+    }
+}
 
 /// What a store's table `meta` tells of its version.
 #[derive(Clone, Copy, Debug, PartialEq, Eq)]
@@ -81,7 +99,7 @@ pub fn find_version<S: Alter>(
     }
 }
 
-/// That a store is of our version. `OldVersion` where its version row has another, `NotOurs` where
+/// That a store is of our version. `OldVersion` if its version row has another, `NotOurs` if
 /// that is missing or not alone.
 pub(crate) fn ours(version: StoreVersion) -> Result<(), VaultFault>
     ensures judged { (rows : Rows) → Tells rows version → IsOfOurVersion rows result }
@@ -108,9 +126,9 @@ pub(crate) fn ours(version: StoreVersion) -> Result<(), VaultFault>
     }
 }
 
-/// The older version that a store is of: true for 1, false for 2. `OldVersion` where its version
-/// row has an unknown version; `NotOurs` where it has ours, is missing or isn't alone.
-pub(crate) fn older(version: StoreVersion) -> Result<bool, VaultFault>
+/// The older version that a store is of. `OldVersion` if its version row has an unknown version;
+/// `NotOurs` if it has ours, is missing or isn't alone.
+pub(crate) fn older(version: StoreVersion) -> Result<OlderVersion, VaultFault>
     ensures judged { (rows : Rows) → Tells rows version → IsOfOlderVersion rows result }
     ensures kinds { IfErr result IsAdoptFault }
     ensures unknown { (value : ℤ) → version ≡ Unknown value → result ≡ Err OldVersion }
@@ -121,9 +139,9 @@ pub(crate) fn older(version: StoreVersion) -> Result<bool, VaultFault>
         StoreVersion::Beside(_) => Err(VaultFault::NotOurs),
         StoreVersion::Alone(value) => {
             if value == OLDEST {
-                Ok(true)
+                Ok(OlderVersion::First)
             } else if value == SECOND {
-                Ok(false)
+                Ok(OlderVersion::Second)
             } else {
                 Err(VaultFault::NotOurs)
             }

@@ -1,6 +1,5 @@
 -- The names in the clerks' rows are those of the clerks.
-use Rattle.std.proofs.Common.{◌≡◌, ℕ, ◌<◌, Bool, true, List, [], ◌∷◌, length, map, get_or, refl, sym, ap, subst, ◌∙◌}
-use Rattle.std.specs.Prelude.{◌&&◌}
+use Rattle.std.proofs.Common.{◌≡◌, ℕ, ◌<◌, true, List, [], ◌∷◌, length, map, get_or, refl, sym, ap, subst, ◌∙◌}
 use Rattle.std.specs.List.{list_all}
 use Rattle.std.proofs.lemmas.Bool.{and_parts}
 use Rattle.std.proofs.lemmas.List.{get_or-map}
@@ -16,16 +15,14 @@ use Rattle.sqlvault.specs.Clerks.{row_name, clerk_names}
 use Rattle.sqlvault.specs.Keeps.{Keeps, clerk_row}
 use Rattle.sqlvault.proofs.AgreeLemmas.{names_are, names_told}
 use Rattle.sqlvault.proofs.PermutationLemmas.{all_permuted}
-
-both : (a b : Bool) → a ≡ true → b ≡ true → (a && b) ≡ true
-both a b e f = rw (e, f) refl
+use Rattle.sqlvault.proofs.SmallLemmas.{both_hold}
 
 each_named : (cs : List vault.Clerk) → list_all is_sound_clerk cs ≡ true
     → list_all is_name (map (λ (c : vault.Clerk). c.name) cs) ≡ true
 each_named [] all = refl
 each_named (x ∷ xs) all =
     let p = and_parts (is_sound_clerk x) (list_all is_sound_clerk xs) all in
-    both (is_name x.name) (list_all is_name (map (λ (c : vault.Clerk). c.name) xs))
+    both_hold (is_name x.name) (list_all is_name (map (λ (c : vault.Clerk). c.name) xs))
     (and_parts (is_name x.name) (is_sound_credential x.credential) p.0).0 (each_named xs p.1)
 
 -- each has its form

@@ -1,5 +1,6 @@
 -- Contents stay sound as a deposit comes, and the rows are those contents.
-use Rattle.std.proofs.Common.{◌≡◌, ℕ, ℤ, pos, ◌+◌, ◌<◌, ◌≤◌, Bool, true, false, not, cond, ◌&&◌, List, [], ◌∷◌, ◌++◌, length, Option, Some, None, Result, Ok, Err, refl, sym, ap, subst, ◌∙◌, eqb-true, ⊎_elim, inl, inr, arith, length-append, append-nil, true≢false}
+use Rattle.std.proofs.Common.{◌≡◌, ℕ, ℤ, pos, ◌+◌, ◌<◌, ◌≤◌, Bool, true, false, not, cond, ◌&&◌, List, [], ◌∷◌, ◌++◌, length, Option, Some, None, Result, Ok, Err, refl, sym, ap}
+use Rattle.std.proofs.Common.{subst, ◌∙◌, eqb-true, ⊎_elim, inl, inr, arith, length-append, append-nil, true≢false}
 use Rattle.std.specs.Prelude.{filter, map, flat_map, nat_le, nat_lt, ◌==◌, ◌<ℤ◌, if◌then◌else◌}
 use Rattle.std.specs.List.{find, list_all, list_any, AllByRecursion}
 use Rattle.std.specs.List.Sorted.{IsPermutation}
@@ -23,7 +24,8 @@ use Rattle.vault.specs.declared.fault.VaultFault.{VaultFault}
 use Rattle.vault.specs.declared.record.Keyed.{Keyed}
 use Rattle.vault.specs.declared.record.Message as vault
 use Rattle.vault.specs.declared.record.Receipt.{Receipt}
-use Rattle.vault.specs.Records.{Records, is_sound_message, is_one_of, is_receipt_for, in_maildrop, receipts_of, receipt_of, class_count, octets_of, same_uid, same_message, most_octets, most_messages, most_deposits}
+use Rattle.vault.specs.Records.{Records, is_sound_message, is_one_of, is_receipt_for, in_maildrop, receipts_of, receipt_of, class_count, octets_of, same_uid, same_message}
+use Rattle.vault.specs.Records.{most_octets, most_messages, most_deposits}
 use Rattle.vault.specs.Changes.{Contents, AreSound, records_of, with_deposit, with_messages, receipt_for, deposit_answer, deposit_answered, is_full, KnownAs}
 use Rattle.vault.specs.Changes as changes
 use Rattle.vault.specs.Calls.{IsDeposited, deposit_result, deposit_answer_in, present_in}
@@ -31,7 +33,6 @@ use Rattle.sqlite.specs.declared.error.Error.{Error}
 use Rattle.sqlvault.specs.Refusals.{fault_of}
 use Rattle.sqlvault.proofs.HoldsLemmas.{met}
 use Rattle.vault.proofs.ListLemmas.{In, all_in, all_last, all_weaker, any_in, any_front, found, distinct_last, map-append, bytes_same, bytes_are, not_true}
-use Rattle.vault.proofs.DoneLemmas.{IsKept}
 use Rattle.vault.proofs.DepositLemmas.{IsNew, HaveForms, kept_with_deposit}
 use Rattle.mailsql.specs.declared.rows.Count.{Count}
 use Rattle.mailsql.specs.declared.rows.Deposit.{Deposit}
@@ -40,6 +41,8 @@ use Rattle.mailsql.specs.declared.rows.Sheet.{Sheet}
 use Rattle.mailsql.specs.Rows.{Rows, is_count}
 use Rattle.sqlvault.specs.Keeps.{Keeps, deposit_row, message_row, message_sheets, row_key, number_in, count_in}
 use Rattle.sqlvault.specs.Deposits.{PutsReceipt, PutsMessage, Accepts, count_row, message_of}
+use Rattle.sqlvault.proofs.SmallLemmas.{both_hold}
+use Rattle.sqlvault.proofs.ClerkLemmas.{without_messages}
 
 -- ---- how a deposit was judged
 
@@ -81,7 +84,8 @@ class_is c d class id text uid h =
     let p = there_first (is_one_of d c.maildrops) (present_in d c) rs class id text uid h in
     (accepted_as (receipt_of id rs) (is_full (present_in d c) rs class) class text (class_count class rs + 1) uid p.1).3
 
-pub accepts : (c : Contents) (d class id text : List ℕ) (uid : Uid) (r : Receipt) → r ≡ receipt_for d class id text uid.k → is_name d ≡ true → is_deposit_id id ≡ true → is_name class ≡ true → IsMailText text
+pub accepts : (c : Contents) (d class id text : List ℕ) (uid : Uid) (r : Receipt) → r ≡ receipt_for d class id text uid.k → is_name d ≡ true
+    → is_deposit_id id ≡ true → is_name class ≡ true → IsMailText text
     → length (text_digest text) ≡ 32 → deposit_result (deposit_answer_in c d class id text) ≡ Ok (stored.New uid) → Accepts c r text
 accepts c d class id text uid r is maildrop deposit_id class_name form sized h =
     let same : (let x : Uid = record { class = class; k = uid.k } in x) ≡ uid = ap (λ (x : List ℕ). let y : Uid = record { class = x; k = uid.k } in y) (sym (class_is c d class id text uid h)) in
@@ -97,31 +101,6 @@ accepts c d class id text uid r is maildrop deposit_id class_name form sized h =
 
 -- ---- sound with the deposit: where no message lies first
 
-bare : (c : Contents) → AreSound c → IsKept (with_messages [] c)
-bare c s =
-    let b = s.records in
-    record {
-      sound = record {
-        records = record {
-          clerks = b.clerks;
-          clerks_apart = b.clerks_apart;
-          clerks_fit = b.clerks_fit;
-          maildrops = b.maildrops;
-          maildrops_apart = b.maildrops_apart;
-          maildrops_fit = b.maildrops_fit;
-          messages = refl;
-          messages_apart = refl;
-          messages_fit = λ d. omega arith;
-          deposits = b.deposits;
-          ids_apart = b.ids_apart;
-          uids_apart = b.uids_apart;
-          policy = b.policy;
-        };
-        keys = refl;
-      };
-      keys = refl;
-    }
-
 bare_new : (c : Contents) (d class id : List ℕ) (k : ℕ) → IsNew c d class id k → IsNew (with_messages [] c) d class id k
 bare_new c d class id k n = record { there = n.there; new = n.new; room = omega arith; few = n.few; next = n.next }
 
@@ -135,7 +114,7 @@ sound_bare : (c : Contents) (r : Receipt) (text : List ℕ) → AreSound c → A
 sound_bare c r text s a =
     let same = receipt_is r text a.digest in
     let other = receipt_for r.maildrop r.class r.id text r.k in
-    let kept = kept_with_deposit (with_messages [] c) r.maildrop r.class r.id text r.k (bare c s) (bare_new c r.maildrop r.class r.id r.k (is_new c r text a)) (have_forms c r text a) in (
+    let kept = kept_with_deposit (with_messages [] c) r.maildrop r.class r.id text r.k (without_messages c s) (bare_new c r.maildrop r.class r.id r.k (is_new c r text a)) (have_forms c r text a) in (
       length (c.deposits ++ other ∷ []),
       subst (λ (x : Receipt). AreSound (with_deposit (length (c.deposits ++ other ∷ [])) (message_of r text) x (with_messages [] c))) (sym same) kept.sound,
     )
@@ -154,9 +133,6 @@ distinct_end same (y ∷ ys) n x h i =
     (λ (e : x ≡ y). ap (λ z. same z n) e ∙ any_in (same y) (ys ++ n ∷ []) n (not_true (list_any (same y) (ys ++ n ∷ [])) p.0) (last_in ys n))
     (λ k. distinct_end same ys n x p.1 k) i
 
-both : (a b : Bool) → a ≡ true → b ≡ true → (a && b) ≡ true
-both a b e f = rw (e, f) refl
-
 three_parts : (a b c : Bool) → (a && b && c) ≡ true → (a ≡ true) × (b ≡ true) × (c ≡ true)
 three_parts a b c h = let s = and_parts (a && b) c h in let t = and_parts a b s.0 in (t.0, t.1, s.1)
 
@@ -170,8 +146,8 @@ same_number : (m : vault.Message) (q r : Receipt) (text : List ℕ) → is_recei
 same_number m q r text h t =
     let u = three_parts (bytes_eq m.maildrop q.maildrop) (bytes_eq m.class q.class) (m.k == q.k) h in
     let p = three_parts (bytes_eq m.maildrop r.maildrop) (bytes_eq m.class r.class) (m.k == r.k) t in
-    both (bytes_eq q.maildrop r.maildrop && bytes_eq q.class r.class) (q.k == r.k)
-    (both (bytes_eq q.maildrop r.maildrop) (bytes_eq q.class r.class) (like_bytes m.maildrop q.maildrop r.maildrop u.0 p.0) (like_bytes m.class q.class r.class u.1 p.1))
+    both_hold (bytes_eq q.maildrop r.maildrop && bytes_eq q.class r.class) (q.k == r.k)
+    (both_hold (bytes_eq q.maildrop r.maildrop) (bytes_eq q.class r.class) (like_bytes m.maildrop q.maildrop r.maildrop u.0 p.0) (like_bytes m.class q.class r.class u.1 p.1))
     (like_number m.k q.k r.k u.2 p.2)
 
 -- no message has the number of the new one, since none of their receipts has it
@@ -179,7 +155,8 @@ other_message : (c : Contents) (r : Receipt) (text : List ℕ) (m : vault.Messag
     → same_message m (message_of r text) ≡ false
 other_message c r text m apart sound = ⊎_elim
     (λ (t : same_message m (message_of r text) ≡ true).
-    let q = and_parts (bytes_eq (kept_form m.text) m.text && nat_lt 0 (octets_of m) && nat_le (octets_of m) most_octets && is_one_of m.maildrop c.maildrops) (list_any (is_receipt_for m) c.deposits) sound in
+    let q = and_parts (bytes_eq (kept_form m.text) m.text && nat_lt 0 (octets_of m) && nat_le (octets_of m) most_octets && is_one_of m.maildrop c.maildrops)
+    (list_any (is_receipt_for m) c.deposits) sound in
     let f = found (is_receipt_for m) c.deposits q.1 in
     absurd (true≢false (sym (same_number m f.0 r text f.2 t) ∙ distinct_end same_uid c.deposits r f.0 apart f.1)))
     (λ f. f)
@@ -188,8 +165,9 @@ other_message c r text m apart sound = ⊎_elim
 message_kept : (c : Contents) (r : Receipt) (B : Records) (m : vault.Message) → B.maildrops ≡ c.maildrops → B.deposits ≡ c.deposits ++ r ∷ []
     → is_sound_message (records_of c) m ≡ true → is_sound_message B m ≡ true
 message_kept c r B m e f h =
-    let q = and_parts (bytes_eq (kept_form m.text) m.text && nat_lt 0 (octets_of m) && nat_le (octets_of m) most_octets && is_one_of m.maildrop c.maildrops) (list_any (is_receipt_for m) c.deposits) h in
-    rw (e, f) (both (bytes_eq (kept_form m.text) m.text && nat_lt 0 (octets_of m) && nat_le (octets_of m) most_octets && is_one_of m.maildrop c.maildrops)
+    let q = and_parts (bytes_eq (kept_form m.text) m.text && nat_lt 0 (octets_of m) && nat_le (octets_of m) most_octets && is_one_of m.maildrop c.maildrops)
+    (list_any (is_receipt_for m) c.deposits) h in
+    rw (e, f) (both_hold (bytes_eq (kept_form m.text) m.text && nat_lt 0 (octets_of m) && nat_le (octets_of m) most_octets && is_one_of m.maildrop c.maildrops)
     (list_any (is_receipt_for m) (c.deposits ++ r ∷ [])) q.0 (any_front (is_receipt_for m) c.deposits (r ∷ []) q.1))
 
 fits_last : (d : List ℕ) (m : vault.Message) (ms : List vault.Message) → ((e : List ℕ) → length (in_maildrop e ms) ≤ most_messages) → length (in_maildrop m.maildrop ms) < most_messages
@@ -284,7 +262,7 @@ counted_none class d r h = ⊎_elim
 counted_same : (counts : List Count) (r : Receipt) (ds : List Receipt) → r.k ≡ class_count r.class (receipts_of r.maildrop ds) + 1
     → count_in r.maildrop r.class (filter (λ x. not (is_count r.maildrop r.class x)) counts ++ count_row r ∷ []) ≡ pos (class_count r.class (receipts_of r.maildrop (ds ++ r ∷ [])))
 counted_same counts r ds next =
-    ap number_in (fresh (is_count r.maildrop r.class) counts (count_row r) (both (bytes_eq r.maildrop r.maildrop) (bytes_eq r.class r.class) (bytes_same r.maildrop) (bytes_same r.class)))
+    ap number_in (fresh (is_count r.maildrop r.class) counts (count_row r) (both_hold (bytes_eq r.maildrop r.maildrop) (bytes_eq r.class r.class) (bytes_same r.maildrop) (bytes_same r.class)))
     ∙ ap pos (next ∙ sym (counted_last r.class r.maildrop ds r ∙ ap (λ n. class_count r.class (receipts_of r.maildrop ds) + n) (counted_own r)))
 
 counted_other : (counts : List Count) (r : Receipt) (ds : List Receipt) (d class : List ℕ) → (bytes_eq r.maildrop d && bytes_eq r.class class) ≡ false
@@ -300,7 +278,7 @@ counted_other counts r ds d class h was =
         (λ (u : is_count r.maildrop r.class x ≡ true).
         let p = and_parts (bytes_eq x.maildrop d) (bytes_eq x.class class) t in
         let q = and_parts (bytes_eq x.maildrop r.maildrop) (bytes_eq x.class r.class) u in
-        absurd (true≢false (sym (both (bytes_eq r.maildrop d) (bytes_eq r.class class) (like_bytes x.maildrop r.maildrop d q.0 p.0) (like_bytes x.class r.class class q.1 p.1)) ∙ h)))
+        absurd (true≢false (sym (both_hold (bytes_eq r.maildrop d) (bytes_eq r.class class) (like_bytes x.maildrop r.maildrop d q.0 p.0) (like_bytes x.class r.class class q.1 p.1)) ∙ h)))
         (λ f. f)
         (cases_Bool (is_count r.maildrop r.class x))
 
@@ -310,8 +288,10 @@ counted_all : (counts : List Count) (r : Receipt) (ds : List Receipt) → r.k �
 counted_all counts r ds next was d class = ⊎_elim
     (λ (t : (bytes_eq r.maildrop d && bytes_eq r.class class) ≡ true).
     let p = and_parts (bytes_eq r.maildrop d) (bytes_eq r.class class) t in
-    subst (λ (x : List ℕ). count_in x class (filter (λ y. not (is_count r.maildrop r.class y)) counts ++ count_row r ∷ []) ≡ pos (class_count class (receipts_of x (ds ++ r ∷ [])))) (bytes_are r.maildrop d p.0)
-    (subst (λ (x : List ℕ). count_in r.maildrop x (filter (λ y. not (is_count r.maildrop r.class y)) counts ++ count_row r ∷ []) ≡ pos (class_count x (receipts_of r.maildrop (ds ++ r ∷ [])))) (bytes_are r.class class p.1)
+    subst (λ (x : List ℕ). count_in x class (filter (λ y. not (is_count r.maildrop r.class y)) counts ++ count_row r ∷ []) ≡ pos (class_count class (receipts_of x (ds ++ r ∷ []))))
+    (bytes_are r.maildrop d p.0)
+    (subst (λ (x : List ℕ). count_in r.maildrop x (filter (λ y. not (is_count r.maildrop r.class y)) counts ++ count_row r ∷ []) ≡ pos (class_count x (receipts_of r.maildrop (ds ++ r ∷ []))))
+    (bytes_are r.class class p.1)
     (counted_same counts r ds next)))
     (λ (f : (bytes_eq r.maildrop d && bytes_eq r.class class) ≡ false). counted_other counts r ds d class f (was d class))
     (cases_Bool (bytes_eq r.maildrop d && bytes_eq r.class class))
@@ -330,7 +310,8 @@ arrived x rows = record rows { messages = rows.messages ++ message_row x ∷ [] 
 abbrev cut : Keyed → Rows → Rows
 cut x rows = record rows { sheets = rows.sheets ++ message_sheets x }
 
-sheets_kept : (ms : List Keyed) (x : Keyed) (sheets : List Sheet) → IsPermutation (flat_map message_sheets ms) sheets → IsPermutation (flat_map message_sheets (ms ++ x ∷ [])) (sheets ++ message_sheets x)
+sheets_kept : (ms : List Keyed) (x : Keyed) (sheets : List Sheet) → IsPermutation (flat_map message_sheets ms) sheets
+    → IsPermutation (flat_map message_sheets (ms ++ x ∷ [])) (sheets ++ message_sheets x)
 sheets_kept ms x sheets h =
     subst (λ (l : List Sheet). IsPermutation l (sheets ++ message_sheets x))
     (sym (flat_map-append message_sheets ms (x ∷ []) ∙ ap (λ (l : List Sheet). flat_map message_sheets ms ++ l) (append-nil (message_sheets x))))
@@ -374,7 +355,8 @@ pub receipt_made : (r : Receipt) (d class id text : List ℕ) (k : ℕ) (digest 
 receipt_made r d class id text k digest is e = is ∙ ap (λ (x : List ℕ). let made : Receipt = record { maildrop = d; id = id; class = class; k = k; digest = x } in made) e
 
 pub deposited : (Held : Contents → Type 0) (c : Contents) (d class id text : List ℕ) (uid : Uid) (r : Receipt) → r ≡ receipt_for d class id text uid.k
-    → deposit_result (deposit_answer_in c d class id text) ≡ Ok (stored.New uid) → (key : ℕ) × Held (with_deposit key (message_of r text) r c) → IsDeposited Held c d class id text (Ok (stored.New uid))
+    → deposit_result (deposit_answer_in c d class id text) ≡ Ok (stored.New uid) → (key : ℕ) × Held (with_deposit key (message_of r text) r c)
+    → IsDeposited Held c d class id text (Ok (stored.New uid))
 deposited Held c d class id text uid r is h left = record {
   answer = h;
   held = (left.0, subst (λ (x : Receipt). Held (with_deposit left.0 (message_of x text) x c)) is left.1);

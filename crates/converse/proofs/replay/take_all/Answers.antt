@@ -1,4 +1,4 @@
-use Rattle.std.proofs.Common.{rules, arith, ◌≡◌, ◌++◌, [], length, sym, ◌∙◌}
+use Rattle.std.proofs.Common.{rules, arith, ◌≡◌, ◌++◌, [], length}
 use Rattle.std.proofs.KnownBytes.{Appends-nil, Appends-trans}
 use Rattle.office.specs.Events.{Took}
 use Rattle.office.specs.Seen.{outcome_seen, followed_by}

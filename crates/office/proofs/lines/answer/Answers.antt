@@ -16,8 +16,10 @@ returns-in_ok-outcome-in-None-clause-answered g c d v held clean sits =
     let x = cut_seen c.args.cut in
     let new = c.authorization_answer.new in
     let P : Option Transaction → Type 0 =
-    λ v. AfterLine (g.V.Vault.holds new.vault) (has_grown (g.V.Vault.faults c.args.vault.now) (g.V.Vault.faults new.vault)) d (context_over d c.args.context c.args.locks.now) x c.in_ok-outcome-in-None.outcome v None c.in_ok-outcome-in-None.begun c.args.state.now new.state new.output c.args.account.now new.account in
-    rw (sym e) (unseated_case d v P (told_anew _ _ _ _ _ _ _ _ _ _ _ _ _ _ (rw c.read-line.ensures at c.in_ok-outcome-in-None.ensures.answered d held clean)) (subst (λ o. HasTransaction d o v) (sym e) sits))
+    λ v. AfterLine (g.V.Vault.holds new.vault) (has_grown (g.V.Vault.faults c.args.vault.now) (g.V.Vault.faults new.vault)) d
+    (context_over d c.args.context c.args.locks.now) x c.in_ok-outcome-in-None.outcome v None c.in_ok-outcome-in-None.begun c.args.state.now new.state new.output c.args.account.now new.account in
+    rw (sym e) (unseated_case d v P
+    (told_anew _ _ _ _ _ _ _ _ _ _ _ _ _ _ (rw c.read-line.ensures at c.in_ok-outcome-in-None.ensures.answered d held clean)) (subst (λ o. HasTransaction d o v) (sym e) sits))
 
 pub returns-in_ok-outcome-in-Some-clause-answered : goal.returns-in_ok-outcome-in-Some-clause-answered
 returns-in_ok-outcome-in-Some-clause-answered g c d v held clean sits =
@@ -25,7 +27,9 @@ returns-in_ok-outcome-in-Some-clause-answered g c d v held clean sits =
     let x = cut_seen c.args.cut in
     let new = c.transaction_answer.new in
     let P : Option Transaction → Type 0 =
-    λ v. AfterLine (g.V.Vault.holds new.vault) (has_grown (g.V.Vault.faults c.args.vault.now) (g.V.Vault.faults new.vault)) d (context_over d c.args.context c.args.locks.now) x c.in_ok-outcome-in-Some.outcome v (Some c.in-Some.current) c.in_ok-outcome-in-Some.after c.args.state.now new.state new.output c.args.account.now new.account in
+    λ v. AfterLine (g.V.Vault.holds new.vault) (has_grown (g.V.Vault.faults c.args.vault.now) (g.V.Vault.faults new.vault)) d
+    (context_over d c.args.context c.args.locks.now) x c.in_ok-outcome-in-Some.outcome v
+    (Some c.in-Some.current) c.in_ok-outcome-in-Some.after c.args.state.now new.state new.output c.args.account.now new.account in
     rw (sym e) (state_case d c.in-Some.current v P (λ w seat. rw c.read-line.ensures at c.in_ok-outcome-in-Some.ensures.answered d w held clean seat) (subst (λ o. HasTransaction d o v) (sym e) sits))
 
 pub returns-in_ok-outcome-in-None-clause-unasked : goal.returns-in_ok-outcome-in-None-clause-unasked

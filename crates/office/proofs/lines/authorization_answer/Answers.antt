@@ -63,7 +63,8 @@ pub returns-in_err-say-clause-err : goal.returns-in_err-say-clause-err
 returns-in_err-say-clause-err g c = err_or_not c.from_residual.result (record { held = λ d held clean. c.reply_to.ensures.looks.held d clean held; locks = λ d. refl; account = refl })
 
 pub returns-in_err-lock-clause-err : goal.returns-in_err-lock-clause-err
-returns-in_err-lock-clause-err g c = err_or_not c.from_residual-in_err-lock.result (record { held = λ d held clean. c.reply_to.ensures.looks.held d clean held; locks = c.in_err-lock.ensures.err; account = refl })
+returns-in_err-lock-clause-err g c = err_or_not c.from_residual-in_err-lock.result
+    (record { held = λ d held clean. c.reply_to.ensures.looks.held d clean held; locks = c.in_err-lock.ensures.err; account = refl })
 
 pub returns-in-Err-NoMemory-clause-looks : goal.returns-in-Err-NoMemory-clause-looks
 returns-in-Err-NoMemory-clause-looks g c =

@@ -32,11 +32,13 @@ returns-then-is_quit-clause-answered g c d v held clean sits =
       owed = subst (λ (v : Transaction). OwesReply d (session_if true c.answer.new.session) c.answer.new.output (transaction_reply w p v x)) (sym sits.2)
           (subst (λ b. OwesReply d (session_if b c.answer.new.session) c.answer.new.output (transaction_reply w p (transaction_of s sits.0) x)) q so.owed);
       state = search rules;
-      session = subst (λ b. SessionAfter b (logs_in (reading x) (Says (transaction_reply w p v x)) c.args.state.now.user) d p c.args.state.now.removals (transaction_reply w p v x) (Some s) None) (sym q) refl;
+      session = subst (λ b. SessionAfter b (logs_in (reading x) (Says (transaction_reply w p v x)) c.args.state.now.user) d p c.args.state.now.removals (transaction_reply w p v x) (Some s) None)
+          (sym q) refl;
       held = so.held;
       may = λ failed. subst (λ (v : Transaction). transaction_asks p v (reading x) ≡ true) (sym sits.2) (so.may failed);
       cause = so.cause;
-      account = λ fresh. state_told d p s v w c.args.state.now.user x _ sits (λ failed. subst (λ (v : Transaction). transaction_asks p v (reading x) ≡ true) (sym sits.2) (so.may failed)) (c.of_quit.ensures ∙ told);
+      account = λ fresh. state_told d p s v w c.args.state.now.user x _ sits
+          (λ failed. subst (λ (v : Transaction). transaction_asks p v (reading x) ≡ true) (sym sits.2) (so.may failed)) (c.of_quit.ensures ∙ told);
     }
 
 pub returns-clause-answered : goal.returns-clause-answered
@@ -52,7 +54,8 @@ returns-clause-answered g c d v held clean sits =
       owed = subst (λ (v : Transaction). OwesReply d (session_if false c.answer.new.session) c.answer.new.output (transaction_reply w p v x)) (sym sits.2)
           (subst (λ b. OwesReply d (session_if b c.answer.new.session) c.answer.new.output (transaction_reply w p (transaction_of s sits.0) x)) q so.owed);
       state = search rules;
-      session = subst (λ (name : Option LoginName). SessionAfter (is_quit (reading x)) name d p c.args.state.now.removals (transaction_reply w p v x) (Some s) (Some c.answer.new.session)) (sym (transaction_no_login p v w x c.args.state.now.user))
+      session = subst (λ (name : Option LoginName). SessionAfter (is_quit (reading x)) name d p c.args.state.now.removals (transaction_reply w p v x) (Some s) (Some c.answer.new.session))
+          (sym (transaction_no_login p v w x c.args.state.now.user))
           (subst (λ b. SessionAfter b None d p c.args.state.now.removals (transaction_reply w p v x) (Some s) (Some c.answer.new.session)) (sym q)
           (subst (λ (v : Transaction). GoesOn (transaction_reply w p v x) s c.answer.new.session) (sym sits.2) so.session));
       held = so.held;

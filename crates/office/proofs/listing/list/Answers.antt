@@ -15,6 +15,7 @@ returns-clause-owed c = λ d.
     let first = one_line (codes "+OK scan listing follows") in
     let begun : c.begin_sizes.new.self.ready ≡ first ++ [] = ap (λ (o : Output). o.ready) c.in_ok-begin_sizes.ensures ∙ ap (λ (o : Output). o.ready ++ (first ++ [])) c.requires in
     record {
-      owes = subst (λ xs. Owes d (Some s) c.send_sizes.new.self xs) (begun_whole first (flat_map (λ row. one_line (scan_text row)) rows) c.begin_sizes.new.self.ready begun) (c.in_ok-send_sizes.ensures.owes d);
+      owes = subst (λ xs. Owes d (Some s) c.send_sizes.new.self xs)
+          (begun_whole first (flat_map (λ row. one_line (scan_text row)) rows) c.begin_sizes.new.self.ready begun) (c.in_ok-send_sizes.ensures.owes d);
       serves = λ h. absurd (true≢false (sym h ∙ c.in_ok-send_sizes.ensures.kind));
     }

@@ -15,6 +15,7 @@ returns-clause-owed c = λ d.
     let first = one_line (codes "+OK unique-id listing follows") in
     let begun : c.begin_uids.new.self.ready ≡ first ++ [] = ap (λ (o : Output). o.ready) c.in_ok-begin_uids.ensures ∙ ap (λ (o : Output). o.ready ++ (first ++ [])) c.requires in
     record {
-      owes = subst (λ xs. Owes d (Some s) c.send_uids.new.self xs) (begun_whole first (flat_map (λ row. one_line (uid_row_text row)) rows) c.begin_uids.new.self.ready begun) (c.in_ok-send_uids.ensures.owes d);
+      owes = subst (λ xs. Owes d (Some s) c.send_uids.new.self xs)
+          (begun_whole first (flat_map (λ row. one_line (uid_row_text row)) rows) c.begin_uids.new.self.ready begun) (c.in_ok-send_uids.ensures.owes d);
       serves = λ h. absurd (true≢false (sym h ∙ c.in_ok-send_uids.ensures.kind));
     }

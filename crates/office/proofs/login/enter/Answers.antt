@@ -12,7 +12,8 @@ returns-clause-said g c d held clean =
     let sound = g.met.V.Vault.sound c.args.vault.now d held (c.heads.ensures.looks.clean clean) in
     let free : is_locked_by c.args.locks.now c.args.name.now.maildrop ≡ false = sym c.contains_key.ensures ∙ c.if-contains_key.false in
     let so = opens d c.args.policy.now c.args.name.now c.args.removals c.args.locks.now _ c.in-Ok-start.session _ _ sound found.answer free
-    (c.in-Ok-start.ensures.session ∙ ap (λ hs. started c.args.policy.now c.args.removals c.args.name.now.clerk c.args.name.now.maildrop hs) c.deref.ensures.value) c.stat-messages.ensures.messages c.stat-messages.ensures.exact in
+    (c.in-Ok-start.ensures.session ∙ ap
+    (λ hs. started c.args.policy.now c.args.removals c.args.name.now.clerk c.args.name.now.maildrop hs) c.deref.ensures.value) c.stat-messages.ensures.messages c.stat-messages.ensures.exact in
     record { answer = ap Ok so.0; held = found.held }
 
 pub returns-then-contains_key-clause-said : goal.returns-then-contains_key-clause-said

@@ -27,7 +27,8 @@ returns-in_ok-begin_message-in-Ok-clause-done g c = if_ok_so _ c.serve.result c.
     let first = one_line (codes "+OK " ++ decimal c.in-Ok.head.octets ++ codes " octets") in
     let front : c.begin_message.new.self.ready ≡ first = ap (λ (o : Output). o.ready) c.in_ok-begin_message-in-Ok.ensures ∙ ap (λ (o : Output). o.ready ++ first) c.requires in
     let whole : c.begin_message.new.self.ready ++ text_coming r t ≡ bytes_of (Message (length t) (stuffed_lines (lines_of t))) =
-    ap₂ (λ (xs ys : List ℕ). xs ++ ys) front (c.whole.ensures.coming t (form d sound p s kept lies c.args.n c.in-Ok.head f).kept) ∙ sym (append_assoc first (stuffed_lines (lines_of t)) last_line) ∙ ap (λ n. bytes_of (Message n (stuffed_lines (lines_of t)))) (sym (size d sound p s kept lies c.args.n c.in-Ok.head f)) in
+    ap₂ (λ (xs ys : List ℕ). xs ++ ys) front (c.whole.ensures.coming t (form d sound p s kept lies c.args.n c.in-Ok.head f).kept)
+    ∙ sym (append_assoc first (stuffed_lines (lines_of t)) last_line) ∙ ap (λ n. bytes_of (Message n (stuffed_lines (lines_of t)))) (sym (size d sound p s kept lies c.args.n c.in-Ok.head f)) in
     retrieved d sound p s kept lies c.args.n c.in-Ok.head f _ _ _ w (c.begin_message.new.self.ready ++ text_coming r t) whole (h d s (text_coming r t) held clean reads))
 
 pub returns-in-Err-clause-done : goal.returns-in-Err-clause-done
@@ -35,7 +36,8 @@ returns-in-Err-clause-done g c = if_ok_both _ c.say.result c.say.ensures.outcome
     let p = c.args.policy.now in
     let s = c.args.session.now in
     let put = subst (λ (r : Reply). OwesReply d (Some s) c.say.new.output r) c.refused.ensures (said d (Some s)) in
-    said_so _ _ d p s s kept _ (Ok (Retr c.args.n)) w (refused_pick c.args.n c.in-Err.why) e put (retrieve_refused d p s kept lies c.args.n c.in-Err.why c.in-Err.ensures) (refused_goes_on c.args.n c.in-Err.why s) held)
+    said_so _ _ d p s s kept _ (Ok (Retr c.args.n)) w (refused_pick c.args.n c.in-Err.why) e put
+    (retrieve_refused d p s kept lies c.args.n c.in-Err.why c.in-Err.ensures) (refused_goes_on c.args.n c.in-Err.why s) held)
 
 pub returns-in_err-begin_message-in-Ok-clause-unasked : goal.returns-in_err-begin_message-in-Ok-clause-unasked
 returns-in_err-begin_message-in-Ok-clause-unasked g c d kept lies none = absurd (asks_for d c.args.policy.now c.args.session.now kept lies c.args.n c.in-Ok.head c.in-Ok.ensures none)

@@ -26,7 +26,8 @@ returns-in_ok-begin_top-in-Ok-clause-done g c = if_ok_so _ c.serve.result c.serv
     let first = one_line (codes "+OK top follows") in
     let front : c.begin_top.new.self.ready ≡ first = ap (λ (o : Output). o.ready) c.in_ok-begin_top-in-Ok.ensures ∙ ap (λ (o : Output). o.ready ++ first) c.requires in
     let whole : c.begin_top.new.self.ready ++ text_coming r t ≡ bytes_of (TopPart (stuffed_lines (top_part (lines_of t) c.args.lines))) =
-    ap₂ (λ (xs ys : List ℕ). xs ++ ys) front (c.top.ensures.coming t (form d sound p s kept lies c.args.number c.in-Ok.head f).kept) ∙ sym (append_assoc first (stuffed_lines (top_part (lines_of t) c.args.lines)) last_line) in
+    ap₂ (λ (xs ys : List ℕ). xs ++ ys) front (c.top.ensures.coming t (form d sound p s kept lies c.args.number c.in-Ok.head f).kept)
+    ∙ sym (append_assoc first (stuffed_lines (top_part (lines_of t) c.args.lines)) last_line) in
     topped d sound p s kept lies c.args.number c.in-Ok.head f _ _ _ c.args.lines w (c.begin_top.new.self.ready ++ text_coming r t) whole (h d s (text_coming r t) held clean reads))
 
 pub returns-in-Err-clause-done : goal.returns-in-Err-clause-done
@@ -34,7 +35,8 @@ returns-in-Err-clause-done g c = if_ok_both _ c.say.result c.say.ensures.outcome
     let p = c.args.policy.now in
     let s = c.args.session.now in
     let put = subst (λ (r : Reply). OwesReply d (Some s) c.say.new.output r) c.refused.ensures (said d (Some s)) in
-    said_so _ _ d p s s kept _ (Ok (Top c.args.number c.args.lines)) w (refused_pick c.args.number c.in-Err.why) e put (top_refused d p s kept lies c.args.number c.in-Err.why c.in-Err.ensures c.args.lines) (refused_goes_on c.args.number c.in-Err.why s) held)
+    said_so _ _ d p s s kept _ (Ok (Top c.args.number c.args.lines)) w (refused_pick c.args.number c.in-Err.why) e put
+    (top_refused d p s kept lies c.args.number c.in-Err.why c.in-Err.ensures c.args.lines) (refused_goes_on c.args.number c.in-Err.why s) held)
 
 pub returns-in_err-begin_top-in-Ok-clause-unasked : goal.returns-in_err-begin_top-in-Ok-clause-unasked
 returns-in_err-begin_top-in-Ok-clause-unasked g c d kept lies none = absurd (asks_for d c.args.policy.now c.args.session.now kept lies c.args.number c.in-Ok.head c.in-Ok.ensures none)

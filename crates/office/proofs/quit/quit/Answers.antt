@@ -39,7 +39,8 @@ returns-clause-done g c = λ d kept held clean lies.
     let len : vec_len c.in_ok-keys.keys ≡ length c.in_ok-keys.keys.items = search rules in
     let some = some_left c.in_ok-keys.keys.items (vec_len c.in_ok-keys.keys) len (sym c.is_empty.ensures ∙ c.if-is_empty.false) in
     let said = owes_put d None c.clear.new.self c.say-in-Err.new.self RemovalFailed c.clear.ensures c.in_ok-say-in-Err.ensures in
-    quit_failed d c.args.policy.now c.args.session.now kept lies _ _ _ said (λ e. some (c.in_ok-keys.ensures.keys ∙ e)) did.held (c.in-Err.ensures.commits.counted.cause (ap (λ (e : VaultFault). Err e) store))
+    quit_failed d c.args.policy.now c.args.session.now kept lies _ _ _ said (λ e. some (c.in_ok-keys.ensures.keys ∙ e)) did.held
+    (c.in-Err.ensures.commits.counted.cause (ap (λ (e : VaultFault). Err e) store))
 
 pub returns-in_err-keys-clause-done : goal.returns-in_err-keys-clause-done
 returns-in_err-keys-clause-done g c = search rules

@@ -1,48 +1,54 @@
-use Rattle.std.proofs.Common.{◌≡◌, false, None, refl, sym, ◌∙◌, subst}
-use Rattle.popline.specs.Cutting.{Cut}
-use Rattle.popline.specs.Replies.{Reply}
-use Rattle.vault.specs.Calls.{has_grown}
-use Rattle.office.specs.Connections.{reading}
-use Rattle.office.specs.LongLine.{is_too_long}
-use Rattle.office.specs.History.{Says}
-use Rattle.office.specs.Accounts.{line_account}
+use Rattle.std.proofs.Common.{sym, ap, ◌∙◌}
+use Rattle.popline.specs.Seen.{reply_seen}
+use Rattle.office.specs.Connections.{is_quit}
+use Rattle.office.specs.History.{Done}
 use Rattle.office.specs.Replying.{InTransaction}
-use Rattle.office.specs.Transaction.{IsAnsweredBy, transaction_of, tag_of}
-use Rattle.office.proofs.Obeying.{if_ok_so, if_ok_both, reads_so, is_the_long}
+use Rattle.office.specs.Transaction.{transaction_of, transaction_asks, tag_of}
+use Rattle.office.proofs.Obeying.{if_ok_so, if_ok_both}
+use Rattle.office.proofs.Permitted.{permitted_reply, refused_reply, refused_silent, refused_goes_on, refused_held}
 use Rattle.office.proofs.transaction.answer.Goals as goal
 
-pub returns-clause-answered : goal.returns-clause-answered
-returns-clause-answered g c =
-    let x : Cut = c.args.line.now in
+pub returns-in-Ok-clause-answered : goal.returns-in-Ok-clause-answered
+returns-in-Ok-clause-answered g c = if_ok_so _ c.answer_command.result c.answer_command.ensures.done (λ w h d kept held clean lies.
+    let it = c.in-Ok.ensures.ok in
+    let s = InTransaction c.args.policy.now (transaction_of c.args.session.now kept) in
+    rw (it.read, permitted_reply _ _ c.args.line.now _ it s (tag_of w)) (h d kept held clean lies))
+
+pub returns-in-Err-clause-answered : goal.returns-in-Err-clause-answered
+returns-in-Err-clause-answered g c = if_ok_both _ c.say.result c.say.ensures.outcome c.say.ensures.owed (λ w e said d kept held clean lies.
+    let x = c.args.line.now in
     let p = c.args.policy.now in
-    let s = c.args.session.now in
-    let new = c.answer_reading.new in
-    let fits : is_too_long x ≡ false = sym c.is_too_long.ensures ∙ c.if-is_too_long.false in
-    if_ok_so _ c.answer_reading.result c.answer_reading.ensures.done (λ w h d kept held clean lies.
-    subst (λ (r : Reply). IsAnsweredBy (g.V.Vault.holds new.vault) (has_grown (g.V.Vault.faults c.args.vault.now) (g.V.Vault.faults new.vault)) d p s new.session kept new.output (reading x) w r)
-    (reads_so (InTransaction p (transaction_of s kept)) x (tag_of w) fits) (h d kept held clean lies))
+    let v = transaction_of c.args.session.now kept in
+    let h = c.in-Err.ensures.err in
+    rw (e, sym (refused_reply p v x _ h Done)) (record {
+      owed = said d _;
+      session = refused_goes_on p v x (reply_seen c.in-Err.reply) h c.args.session.now;
+      held = rw (refused_held p v x _ h c.args.session.now d) held;
+      may = λ f. cc;
+      cause = λ f. cc;
+    }))
 
-pub returns-then-is_too_long-clause-answered : goal.returns-then-is_too_long-clause-answered
-returns-then-is_too_long-clause-answered g c = if_ok_both _ c.say.result c.say.ensures.outcome c.say.ensures.owed (λ w e said d kept held clean lies.
-    let long = is_the_long c.args.line.now (sym c.is_too_long.ensures ∙ c.if-is_too_long.true) in
-    rw (e, long) (record { owed = said d _; session = record { name = refl; removals = refl; view = refl; marks = λ n. refl }; held = held; may = λ f. cc; cause = λ f. cc }))
+pub returns-in-Ok-clause-acts : goal.returns-in-Ok-clause-acts
+returns-in-Ok-clause-acts g c = rw c.in-Ok.ensures.ok.read c.answer_command.ensures.acts
 
-pub returns-clause-unasked : goal.returns-clause-unasked
-returns-clause-unasked g c d kept lies none = c.answer_reading.ensures.unasked d kept lies none
+pub returns-in-Ok-clause-unasked : goal.returns-in-Ok-clause-unasked
+returns-in-Ok-clause-unasked g c d kept lies none =
+    c.answer_command.ensures.unasked d kept lies (ap (transaction_asks c.args.policy.now (transaction_of c.args.session.now kept)) (sym c.in-Ok.ensures.ok.read) ∙ none)
 
-pub returns-clause-account : goal.returns-clause-account
-returns-clause-account g c other fresh =
-    let x : Cut = c.args.line.now in
+pub returns-in-Ok-clause-account : goal.returns-in-Ok-clause-account
+returns-in-Ok-clause-account g c other fresh =
+    let it = c.in-Ok.ensures.ok in
+    if_ok_so _ c.answer_command.result (c.answer_command.ensures.account (ap is_quit (sym it.read) ∙ other) fresh) (λ w h d kept lies.
+    let s = InTransaction c.args.policy.now (transaction_of c.args.session.now kept) in
+    rw (it.read, permitted_reply _ _ c.args.line.now _ it s (tag_of w)) (h d kept lies))
+
+pub returns-in-Err-clause-account : goal.returns-in-Err-clause-account
+returns-in-Err-clause-account g c other fresh = if_ok_so _ c.say.result c.say.ensures.outcome (λ w e d kept lies.
     let p = c.args.policy.now in
-    let s = c.args.session.now in
-    let fits : is_too_long x ≡ false = sym c.is_too_long.ensures ∙ c.if-is_too_long.false in
-    if_ok_so _ c.answer_reading.result (c.answer_reading.ensures.account other fresh) (λ w h d kept lies.
-    subst (λ (r : Reply). c.answer_reading.new.account ≡ line_account (reading x) (Says r) None) (reads_so (InTransaction p (transaction_of s kept)) x (tag_of w) fits) (h d kept lies))
+    let v = transaction_of c.args.session.now kept in
+    let h = c.in-Err.ensures.err in
+    rw (e, sym (refused_reply p v c.args.line.now _ h Done)) (fresh ∙ sym (refused_silent p v c.args.line.now _ h)))
 
-pub returns-then-is_too_long-clause-account : goal.returns-then-is_too_long-clause-account
-returns-then-is_too_long-clause-account g c other fresh = if_ok_so _ c.say.result c.say.ensures.outcome (λ w e d kept lies.
-    let long = is_the_long c.args.line.now (sym c.is_too_long.ensures ∙ c.if-is_too_long.true) in
-    rw (e, long) fresh)
-
-pub returns-clause-quits : goal.returns-clause-quits
-returns-clause-quits g c quits = c.answer_reading.ensures.quits quits
+pub returns-in-Ok-clause-quits : goal.returns-in-Ok-clause-quits
+returns-in-Ok-clause-quits g c quits =
+    c.answer_command.ensures.quits (ap is_quit (sym c.in-Ok.ensures.ok.read) ∙ quits)

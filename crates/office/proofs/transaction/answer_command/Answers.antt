@@ -38,7 +38,8 @@ returns-in_default-clause-done g c = if_ok_both _ c.put.result c.put.ensures.out
     let p = c.args.policy.now in
     let s = c.args.session.now in
     let is : is_told (command_seen c.args.command.now) ≡ true = search rules in
-    said_so _ _ d p s c.plain_reply-reply.new.session kept _ (Ok (command_seen c.args.command.now)) w (reply_seen c.plain_reply-reply.result) e (said d _) (c.plain_reply-reply.ensures.said d kept lies is) c.plain_reply-reply.ensures.session
+    said_so _ _ d p s c.plain_reply-reply.new.session kept _ (Ok (command_seen c.args.command.now)) w (reply_seen c.plain_reply-reply.result) e
+    (said d _) (c.plain_reply-reply.ensures.said d kept lies) c.plain_reply-reply.ensures.session
     (rw (stays_held p s d (command_seen c.args.command.now) is) held))
 
 pub returns-in-Quit-clause-unasked : goal.returns-in-Quit-clause-unasked
@@ -73,8 +74,7 @@ pub returns-in_default-clause-account : goal.returns-in_default-clause-account
 returns-in_default-clause-account g c other fresh = if_ok_both _ c.put.result c.put.ensures.outcome c.put.ensures.account (λ w e so d kept lies.
     let p = c.args.policy.now in
     let s = c.args.session.now in
-    let is : is_told (command_seen c.args.command.now) ≡ true = search rules in
-    told_so p (transaction_of s kept) w (command_seen c.args.command.now) (reply_seen c.plain_reply-reply.result) c.put.new.account e (c.plain_reply-reply.ensures.said d kept lies is) so)
+    told_so p (transaction_of s kept) w (command_seen c.args.command.now) (reply_seen c.plain_reply-reply.result) c.put.new.account e (c.plain_reply-reply.ensures.said d kept lies) so)
 
 pub returns-in-Quit-clause-acts : goal.returns-in-Quit-clause-acts
 returns-in-Quit-clause-acts g c = rw c.in-Quit.is c.quit.ensures.acts

@@ -5,7 +5,6 @@ use Rattle.serving.specs.Spools.{WasRead, WasRemoved, WasRenamed}
 use Rattle.serving.specs.declared.files.Disposal.TheVariants as disposal
 use Rattle.serving.proofs.Depositing.{filed_if, tried_none, tried_one}
 use Rattle.std.proofs.lemmas.List.{append-nil}
-use Rattle.office.specs.Outcomes.{event_tag_of}
 use Rattle.serving.proofs.Working.{given_one}
 use Rattle.serving.proofs.Trying.{tries_unread, tries_read, dealt_so}
 use Rattle.std.proofs.Common.{false, subst}

@@ -5,7 +5,7 @@ use Rattle.serving.specs.declared.wire.Port.TheVariants.{Pop}
 use Rattle.serving.specs.declared.wire.Io.TheVariants.{Count}
 use Rattle.serving.specs.Calls.{Looked}
 use Rattle.serving.specs.Wires.{counted}
-use Rattle.serving.specs.Works.{is_count, WasAsked, Unlooked, NothingCame, PieceCame}
+use Rattle.serving.specs.ClientParts.{is_count, Unlooked, NothingCame, PieceCame}
 use Rattle.serving.proofs.Working.{asked_none, asked_one}
 use Rattle.serving.proofs.pace.next_part.Goals as goal
 

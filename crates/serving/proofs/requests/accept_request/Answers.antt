@@ -1,4 +1,4 @@
-use Rattle.std.proofs.Common.{rules, ◌≡◌, true, false, refl, sym, ◌∙◌, ap, subst}
+use Rattle.std.proofs.Common.{rules, true, false, refl, sym, ◌∙◌, ap, subst}
 use Rattle.serving.specs.Wires.{has_accepted, has_closed}
 use Rattle.serving.specs.Requests.{AreHeld}
 use Rattle.serving.proofs.Requesting.{exchanged_same, exchanged_accepted, held_refused, held_new}
@@ -6,7 +6,7 @@ use Rattle.serving.proofs.Quieting.{quiet_accepted, quiet_closed, asks_one, asks
 use Rattle.std.proofs.Common.{None, Some, [], ◌∷◌, arith}
 use Rattle.serving.specs.declared.wire.Port.TheVariants.{Admin}
 use Rattle.serving.specs.Calls.{Accepted, Closed}
-use Rattle.serving.specs.HttpWorks.{NoMore, IsKept, IsTurnedAway, WantsMemory, HasAcceptedBeside}
+use Rattle.serving.specs.HttpWorks.{NoMore, IsKept, IsTurnedAway, WantsMemory, HasAcceptedForAdmin}
 use Rattle.serving.proofs.requests.accept_request.Goals as goal
 
 pub returns-in-Ok-true-clause-answers : goal.returns-in-Ok-true-clause-answers
@@ -51,7 +51,7 @@ returns-in-Err-clause-answers g c = λ x B start L pop s.
 pub returns-in_default-clause-works : goal.returns-in_default-clause-works
 returns-in_default-clause-works g c =
     let xs = c.args.requests.now.exchanges.items in
-    asks_one g.W.Wire.asked c.args.wire.now c.accept.new.self (Accepted Admin None) (HasAcceptedBeside c.args.now 1 false xs xs) (quiet_accepted None)
+    asks_one g.W.Wire.asked c.args.wire.now c.accept.new.self (Accepted Admin None) (HasAcceptedForAdmin c.args.now 1 false xs xs) (quiet_accepted None)
     (record { came = 0; arrivals = []; come = NoMore xs; calls_are = refl; enough = λ e. cc }) c.in_default.ensures.called
 
 pub returns-in-Ok-true-clause-works : goal.returns-in-Ok-true-clause-works
@@ -59,7 +59,7 @@ returns-in-Ok-true-clause-works g c =
     let link = c.in-Some.link in
     let xs = c.args.requests.now.exchanges.items in
     let ys = c.keep.new.self.exchanges.items in
-    asks_one g.W.Wire.asked c.args.wire.now c.accept.new.self (Accepted Admin (Some link)) (HasAcceptedBeside c.args.now 1 true xs ys) (quiet_accepted (Some link))
+    asks_one g.W.Wire.asked c.args.wire.now c.accept.new.self (Accepted Admin (Some link)) (HasAcceptedForAdmin c.args.now 1 true xs ys) (quiet_accepted (Some link))
     (record { came = 1; arrivals = Accepted Admin (Some link) ∷ []; come = IsKept link xs ys ys 0 [] (c.in-Ok-true.ensures.kept (search rules)) (NoMore ys); calls_are = refl; enough = λ e. omega arith }) c.in-Some.ensures.called
 
 pub returns-in-Ok-false-clause-works : goal.returns-in-Ok-false-clause-works
@@ -68,8 +68,8 @@ returns-in-Ok-false-clause-works g c =
     let xs = c.args.requests.now.exchanges.items in
     let ys = c.keep.new.self.exchanges.items in
     let calls = Accepted Admin (Some link) ∷ Closed Admin link ∷ [] in
-    asks_two g.W.Wire.asked c.args.wire.now c.accept.new.self c.close.new.self (Accepted Admin (Some link)) (Closed Admin link) (HasAcceptedBeside c.args.now 1 true xs ys) (quiet_accepted (Some link)) (quiet_closed link)
-    (subst (λ l. HasAcceptedBeside c.args.now 1 true xs l calls) (sym (c.in-Ok-false.ensures.turned_away (search rules)))
+    asks_two g.W.Wire.asked c.args.wire.now c.accept.new.self c.close.new.self (Accepted Admin (Some link)) (Closed Admin link) (HasAcceptedForAdmin c.args.now 1 true xs ys) (quiet_accepted (Some link)) (quiet_closed link)
+    (subst (λ l. HasAcceptedForAdmin c.args.now 1 true xs l calls) (sym (c.in-Ok-false.ensures.turned_away (search rules)))
     (record { came = 1; arrivals = calls; come = IsTurnedAway link xs xs 0 [] (c.in-Ok-false.ensures.full (search rules)) (NoMore xs); calls_are = refl; enough = λ e. omega arith }))
     c.in-Some.ensures.called c.close.ensures.called
 
@@ -79,7 +79,7 @@ returns-in-Err-clause-works g c =
     let xs = c.args.requests.now.exchanges.items in
     let ys = c.keep.new.self.exchanges.items in
     let calls = Accepted Admin (Some link) ∷ Closed Admin link ∷ [] in
-    asks_two g.W.Wire.asked c.args.wire.now c.accept.new.self c.close-in-Err.new.self (Accepted Admin (Some link)) (Closed Admin link) (HasAcceptedBeside c.args.now 1 true xs ys) (quiet_accepted (Some link)) (quiet_closed link)
-    (subst (λ l. HasAcceptedBeside c.args.now 1 true xs l calls) (sym c.in-Err.ensures.refused)
+    asks_two g.W.Wire.asked c.args.wire.now c.accept.new.self c.close-in-Err.new.self (Accepted Admin (Some link)) (Closed Admin link) (HasAcceptedForAdmin c.args.now 1 true xs ys) (quiet_accepted (Some link)) (quiet_closed link)
+    (subst (λ l. HasAcceptedForAdmin c.args.now 1 true xs l calls) (sym c.in-Err.ensures.refused)
     (record { came = 1; arrivals = calls; come = WantsMemory link xs xs 0 [] (NoMore xs); calls_are = refl; enough = λ e. omega arith }))
     c.in-Some.ensures.called c.close-in-Err.ensures.called

@@ -1,6 +1,7 @@
-use Rattle.std.proofs.Common.{rules, ◌≡◌, ◌≤◌, ◌+◌, true, false, subst, arith}
-use Rattle.serving.specs.Works.{Asking}
-use Rattle.serving.specs.HttpWorks.{AskedApart, HasAcceptedBeside}
+use Rattle.std.proofs.Common.{rules, ◌≡◌, ◌≤◌, ◌+◌, true, false, subst}
+use Rattle.serving.specs.Parts.{Asking}
+use Rattle.serving.specs.HttpParts.{AskedApart}
+use Rattle.serving.specs.HttpWorks.{HasAcceptedForAdmin}
 use Rattle.serving.proofs.Quieting.{asks_none, asks_then, asks_so}
 use Rattle.serving.proofs.HttpWorking.{accepted_none, accepted_then, accepted_less}
 use Rattle.serving.proofs.requests.accept_requests.Goals as goal
@@ -8,7 +9,7 @@ use Rattle.serving.proofs.requests.accept_requests.Goals as goal
 pub loop-times-init : goal.loop-times-init
 loop-times-init g c =
     let xs = c.args.requests.now.exchanges.items in
-    record { answers = λ x B start L pop s. s; few = λ h. h; works = asks_none g.W.Wire.asked c.args.wire.now (HasAcceptedBeside c.args.now 0 true xs xs) (accepted_none c.args.now xs) }
+    record { answers = λ x B start L pop s. s; few = λ h. h; works = asks_none g.W.Wire.asked c.args.wire.now (HasAcceptedForAdmin c.args.now 0 true xs xs) (accepted_none c.args.now xs) }
 
 pub loop-times-preserved : goal.loop-times-preserved
 loop-times-preserved g c =
@@ -18,11 +19,11 @@ loop-times-preserved g c =
     let ys = k.requests.exchanges.items in
     let zs = x.new.requests.exchanges.items in
     let goes : x.result ≡ true = search rules in
-    let once = subst (λ b. Asking g.W.Wire.asked k.wire x.new.wire (AskedApart (HasAcceptedBeside c.args.now 1 b ys zs))) goes x.ensures.works in
+    let once = subst (λ b. Asking g.W.Wire.asked k.wire x.new.wire (AskedApart (HasAcceptedForAdmin c.args.now 1 b ys zs))) goes x.ensures.works in
     record {
       answers = λ y B start L pop s. x.ensures.answers y B start L pop (k.invariant.answers y B start L pop s);
       few = λ h. x.ensures.few (k.invariant.few h);
-      works = asks_then g.W.Wire.asked c.args.wire.now k.wire x.new.wire (HasAcceptedBeside c.args.now k._times true xs ys) (HasAcceptedBeside c.args.now 1 true ys zs) (HasAcceptedBeside c.args.now (k._times + 1) true xs zs)
+      works = asks_then g.W.Wire.asked c.args.wire.now k.wire x.new.wire (HasAcceptedForAdmin c.args.now k._times true xs ys) (HasAcceptedForAdmin c.args.now 1 true ys zs) (HasAcceptedForAdmin c.args.now (k._times + 1) true xs zs)
           (λ c1 c2 a b. accepted_then c.args.now xs ys zs k._times 1 true c1 c2 a b) k.invariant.works once;
     }
 
@@ -36,9 +37,9 @@ returns-then-not-accept_request-clause-works g c =
     let ys = k.requests.exchanges.items in
     let zs = x.new.requests.exchanges.items in
     let ends : x.result ≡ false = search rules in
-    let once = subst (λ b. Asking g.W.Wire.asked k.wire x.new.wire (AskedApart (HasAcceptedBeside now 1 b ys zs))) ends x.ensures.works in (
+    let once = subst (λ b. Asking g.W.Wire.asked k.wire x.new.wire (AskedApart (HasAcceptedForAdmin now 1 b ys zs))) ends x.ensures.works in (
       false,
-      asks_then g.W.Wire.asked c.args.wire.now k.wire x.new.wire (HasAcceptedBeside now k._times true xs ys) (HasAcceptedBeside now 1 false ys zs) (HasAcceptedBeside now most false xs zs)
+      asks_then g.W.Wire.asked c.args.wire.now k.wire x.new.wire (HasAcceptedForAdmin now k._times true xs ys) (HasAcceptedForAdmin now 1 false ys zs) (HasAcceptedForAdmin now most false xs zs)
           (λ c1 c2 a b. accepted_less now xs zs (k._times + 1) most false _ (λ e. cc) (accepted_then now xs ys zs k._times 1 false c1 c2 a b)) k.invariant.works once,
     )
 
@@ -49,6 +50,6 @@ returns-clause-works g c =
     let ys = k.requests.exchanges.items in
     let h : c.args.most ≤ k._times = search rules in (
       true,
-      asks_so g.W.Wire.asked c.args.wire.now k.wire (HasAcceptedBeside c.args.now k._times true xs ys) (HasAcceptedBeside c.args.now c.args.most true xs ys)
+      asks_so g.W.Wire.asked c.args.wire.now k.wire (HasAcceptedForAdmin c.args.now k._times true xs ys) (HasAcceptedForAdmin c.args.now c.args.most true xs ys)
           (λ cs a. accepted_less c.args.now xs ys k._times c.args.most true cs (λ e. h) a) k.invariant.works,
     )

@@ -1,12 +1,13 @@
 use Rattle.std.proofs.Common.{◌≤◌, length, true}
 use Rattle.serving.specs.Requests.{AllStillAnswer}
-use Rattle.serving.specs.Works.{Asking}
-use Rattle.serving.specs.HttpWorks.{AskedApart, HasAcceptedBeside}
+use Rattle.serving.specs.Parts.{Asking}
+use Rattle.serving.specs.HttpParts.{AskedApart}
+use Rattle.serving.specs.HttpWorks.{HasAcceptedForAdmin}
 use Rattle.serving.proofs.requests.accept_requests.Given as goal
 
 abbrev pub invariant-loop-times : goal.invariant-loop-times
 invariant-loop-times g l = record {
   answers : AllStillAnswer g.W.Wire.tells l.fn.wire l.fn.requests.exchanges.items l.wire l.requests.exchanges.items;
   few : length l.fn.requests.exchanges.items ≤ 8 → length l.requests.exchanges.items ≤ 8;
-  works : Asking g.W.Wire.asked l.fn.wire l.wire (AskedApart (HasAcceptedBeside l.fn.now l._times true l.fn.requests.exchanges.items l.requests.exchanges.items));
+  works : Asking g.W.Wire.asked l.fn.wire l.wire (AskedApart (HasAcceptedForAdmin l.fn.now l._times true l.fn.requests.exchanges.items l.requests.exchanges.items));
 }

@@ -3,7 +3,7 @@ use Rattle.office.specs.Stands.{lent_by}
 use Rattle.office.specs.Taken.{trace_of}
 use Rattle.serving.specs.Requests.{octets_of}
 use Rattle.serving.proofs.Requesting.{asked_one, comes_to}
-use Rattle.serving.specs.HttpWorks.{ComeTo}
+use Rattle.serving.specs.HttpParts.{ComeTo}
 use Rattle.std.proofs.Common.{Some, ◌∷◌, []}
 use Rattle.serving.specs.Hearing.{HeardApart, heard_of_all}
 use Rattle.serving.proofs.Hearing.{told_same, told_still, command_told}

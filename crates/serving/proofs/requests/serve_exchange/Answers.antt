@@ -6,10 +6,10 @@ use Rattle.serving.specs.Hearing.{HeardApart}
 use Rattle.serving.proofs.Hearing.{told_none, apart_still}
 use Rattle.serving.proofs.HttpWorking.{turn_served}
 use Rattle.serving.specs.HttpWorks.{HasHeard, HasTold, HasHttpTurn, IsLate}
-use Rattle.std.proofs.Common.{rules, ◌≡◌, true, false, [], ◌∙◌, sym}
+use Rattle.std.proofs.Common.{rules, ◌≡◌, true, false, ◌∙◌, sym}
 use Rattle.serving.proofs.Ongoing.{still_timely}
-use Rattle.serving.specs.Works.{HurriesBy}
-use Rattle.serving.proofs.Resting.{hurried_same, hurried_then}
+use Rattle.serving.specs.Parts.{PollsBy}
+use Rattle.serving.proofs.Resting.{polled_same, polled_then}
 use Rattle.serving.proofs.requests.serve_exchange.Goals as goal
 
 pub returns-then-is_late-clause-asked : goal.returns-then-is_late-clause-asked
@@ -21,9 +21,9 @@ returns-then-is_late-clause-asked g c = λ B start L pop others s clean.
 
 pub returns-clause-asked : goal.returns-clause-asked
 returns-clause-asked g c = λ B start L pop others s clean.
-    (let k = c.hear.ensures.asked B start L pop others s clean in
-    asked_still g.V.Vault.holds g.W.Wire.tells B start L pop c.hear.new.office c.hear.new.wire c.tell.new.wire (AreKeptBeside others c.hear.new.exchange) (AreKeptBeside others c.tell.new.exchange) k
-    (c.tell.ensures.answers k.x B start k.log pop others k.is))
+    (let k = c.read_request.ensures.asked B start L pop others s clean in
+    asked_still g.V.Vault.holds g.W.Wire.tells B start L pop c.read_request.new.office c.read_request.new.wire c.write_response.new.wire (AreKeptBeside others c.read_request.new.exchange) (AreKeptBeside others c.write_response.new.exchange) k
+    (c.write_response.ensures.answers k.x B start k.log pop others k.is))
 
 pub returns-then-is_late-clause-timely : goal.returns-then-is_late-clause-timely
 returns-then-is_late-clause-timely g c = λ q. cc
@@ -31,12 +31,12 @@ returns-then-is_late-clause-timely g c = λ q. cc
 pub returns-clause-timely : goal.returns-clause-timely
 returns-clause-timely g c =
     let no : c.is_late.result ≡ false = search rules in
-    λ q. still_timely c.args.now c.args.exchange.now c.tell.new.exchange (c.tell.ensures.since ∙ c.hear.ensures.since) (sym c.is_late.ensures ∙ no)
+    λ q. still_timely c.args.now c.args.exchange.now c.write_response.new.exchange (c.write_response.ensures.keeps.since ∙ c.read_request.ensures.keeps.since) (sym c.is_late.ensures ∙ no)
 
 pub returns-then-is_late-clause-works : goal.returns-then-is_late-clause-works
 returns-then-is_late-clause-works g c =
     let yes : c.is_late.result ≡ true = search rules in
-    also_from g.V.Vault.holds g.V.Vault.is_clean g.V.Vault.faults g.W.Wire.asked c.args.office.now c.args.office.now c.args.wire.now c.args.wire.now _ (HurriesBy false false) (hurried_same false)
+    also_from g.V.Vault.holds g.V.Vault.is_clean g.V.Vault.faults g.W.Wire.asked c.args.office.now c.args.office.now c.args.wire.now c.args.wire.now _ (PollsBy false false) (polled_same false)
     (did_none g.V.Vault.holds g.V.Vault.is_clean g.V.Vault.faults g.W.Wire.asked c.args.office.now c.args.wire.now (HeardApart g.L.Listener.heard c.args.listener.now c.args.listener.now (λ B L. HasHttpTurn c.args.now B L c.args.exchange.now _))
     (λ B L. (told_none g.L.Listener.heard c.args.listener.now, IsLate (sym c.is_late.ensures ∙ yes) refl)))
 
@@ -44,12 +44,12 @@ pub returns-clause-works : goal.returns-clause-works
 returns-clause-works g c =
     let no : c.is_late.result ≡ false = search rules in
     let e = c.args.exchange.now in
-    let e1 = c.hear.new.exchange in
-    let e2 = c.tell.new.exchange in
+    let e1 = c.read_request.new.exchange in
+    let e2 = c.write_response.new.exchange in
     let l = c.args.listener.now in
-    let l1 = c.hear.new.listener in
-    also_then g.V.Vault.holds g.V.Vault.is_clean g.V.Vault.faults g.W.Wire.asked c.args.office.now c.hear.new.office c.hear.new.office c.args.wire.now c.hear.new.wire c.tell.new.wire
-    (HeardApart g.L.Listener.heard l l1 (λ B L. HasHeard B L e e1)) (NoEvent (HasTold e1 e2)) (HeardApart g.L.Listener.heard l l1 (λ B L. HasHttpTurn c.args.now B L e e2)) (HurriesBy false false) (HurriesBy false c.tell.result) (HurriesBy false c.tell.result)
-    (λ B L g1 g2 c1 c2 p q. (apart_still g.L.Listener.heard l l1 B L g1 g2 q.0 p.0, turn_served c.args.now B L e e1 e2 g1 g2 c1 c2 (sym c.is_late.ensures ∙ no) p.1 q.0 q.1)) (λ c1 c2 m n. hurried_then false false c.tell.result c1 c2 m n)
-    (also_from g.V.Vault.holds g.V.Vault.is_clean g.V.Vault.faults g.W.Wire.asked c.args.office.now c.hear.new.office c.args.wire.now c.hear.new.wire _ (HurriesBy false false) (hurried_same false) c.hear.ensures.works)
-    (also_asked g.V.Vault.holds g.V.Vault.is_clean g.V.Vault.faults g.W.Wire.asked c.hear.new.office c.hear.new.wire c.tell.new.wire (HasTold e1 e2) (HurriesBy false c.tell.result) c.tell.ensures.works)
+    let l1 = c.read_request.new.listener in
+    also_then g.V.Vault.holds g.V.Vault.is_clean g.V.Vault.faults g.W.Wire.asked c.args.office.now c.read_request.new.office c.read_request.new.office c.args.wire.now c.read_request.new.wire c.write_response.new.wire
+    (HeardApart g.L.Listener.heard l l1 (λ B L. HasHeard B L e e1)) (NoEvent (HasTold e1 e2)) (HeardApart g.L.Listener.heard l l1 (λ B L. HasHttpTurn c.args.now B L e e2)) (PollsBy false false) (PollsBy false c.write_response.result) (PollsBy false c.write_response.result)
+    (λ B L g1 g2 c1 c2 p q. (apart_still g.L.Listener.heard l l1 B L g1 g2 q.0 p.0, turn_served c.args.now B L e e1 e2 g1 g2 c1 c2 (sym c.is_late.ensures ∙ no) p.1 q.0 q.1)) (λ c1 c2 m n. polled_then false false c.write_response.result c1 c2 m n)
+    (also_from g.V.Vault.holds g.V.Vault.is_clean g.V.Vault.faults g.W.Wire.asked c.args.office.now c.read_request.new.office c.args.wire.now c.read_request.new.wire _ (PollsBy false false) (polled_same false) c.read_request.ensures.works)
+    (also_asked g.V.Vault.holds g.V.Vault.is_clean g.V.Vault.faults g.W.Wire.asked c.read_request.new.office c.read_request.new.wire c.write_response.new.wire (HasTold e1 e2) (PollsBy false c.write_response.result) c.write_response.ensures.works)

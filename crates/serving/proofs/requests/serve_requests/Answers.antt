@@ -1,23 +1,23 @@
 use Rattle.serving.proofs.Quieting.{did_none, also_from, also_then, also_so}
 use Rattle.serving.proofs.HttpWorking.{HadSome, had_none, had_held, had_closed, had_all}
-use Rattle.serving.specs.Works.{Part, Also, HurriesBy}
-use Rattle.serving.specs.HttpWorks.{DidApart, HadHttpTurns}
+use Rattle.serving.specs.Parts.{Part, Also, PollsBy}
+use Rattle.serving.specs.HttpParts.{DidApart}
+use Rattle.serving.specs.HttpWorks.{HadHttpTurns}
 use Rattle.serving.specs.Hearing.{HeardApart}
 use Rattle.serving.proofs.Hearing.{told_none, apart_then}
 use Rattle.std.proofs.Common.{◌≡◌, ◌+◌, true, false, [], take, drop, subst}
 use Rattle.std.specs.Bool.{if◌then◌else◌}
 use Rattle.std.proofs.Common.{rules, arith, ◌≤◌, length}
 use Rattle.serving.proofs.Ongoing.{none_yet, one_more, as_many, all_go_on}
-use Rattle.serving.proofs.Resting.{hurried_same, hurried_then}
+use Rattle.serving.proofs.Resting.{polled_same, polled_then}
 use Rattle.serving.proofs.requests.serve_requests.Goals as goal
 
 pub loop-place-init : goal.loop-place-init
 loop-place-init g c = record {
   asked = λ B start L pop s clean. s;
-  clean = λ k. k;
   stay = none_yet c.args.now c.args.requests.now.exchanges.items;
   no_more = omega arith;
-  works = also_from g.V.Vault.holds g.V.Vault.is_clean g.V.Vault.faults g.W.Wire.asked c.args.office.now c.args.office.now c.args.wire.now c.args.wire.now _ (HurriesBy false false) (hurried_same false)
+  works = also_from g.V.Vault.holds g.V.Vault.is_clean g.V.Vault.faults g.W.Wire.asked c.args.office.now c.args.office.now c.args.wire.now c.args.wire.now _ (PollsBy false false) (polled_same false)
       (did_none g.V.Vault.holds g.V.Vault.is_clean g.V.Vault.faults g.W.Wire.asked c.args.office.now c.args.wire.now (HeardApart g.L.Listener.heard c.args.listener.now c.args.listener.now (HadSome c.args.now 0 c.args.requests.now.exchanges.items c.args.requests.now.exchanges.items))
       (λ B L. (told_none g.L.Listener.heard c.args.listener.now, had_none c.args.now c.args.requests.now.exchanges.items B L)));
 }
@@ -33,21 +33,20 @@ loop-place-preserved-then-serve_place g c =
     let l = c.args.listener.now in
     let so : x.result ≡ true = search rules in
     record {
-      asked = λ B start L pop s clean. x.ensures.asked B start L pop (k.invariant.asked B start L pop s (x.ensures.clean clean)) clean;
-      clean = λ clean. k.invariant.clean (x.ensures.clean clean);
-      stay = one_more c.args.now k.requests.exchanges.items x.new.requests.exchanges.items k.place x.ensures.before (x.ensures.stays c.if-serve_place.true) k.invariant.stay;
+      asked = λ B start L pop s clean. x.ensures.asked B start L pop (k.invariant.asked B start L pop s (x.ensures.works.was_given.clean clean)) clean;
+      stay = one_more c.args.now k.requests.exchanges.items x.new.requests.exchanges.items k.place x.ensures.held.before (x.ensures.held.goes_on c.if-serve_place.true) k.invariant.stay;
       no_more = (let a = x.ensures.left in let b = k.invariant.no_more in omega (arith, a, b));
       works =
           (let one = subst (λ b. Part g.V.Vault.holds g.V.Vault.is_clean g.V.Vault.faults g.W.Wire.asked k.office k.wire x.new.office x.new.wire
-          (Also (DidApart g.V.Vault.holds g.V.Vault.is_clean k.office x.new.office (HeardApart g.L.Listener.heard k.listener x.new.listener (λ B L. HadHttpTurns now B L (take 1 (drop k.place ys)) (take (if b then 1 else 0) (drop k.place zs))))) (HurriesBy k.requests.hurries x.new.requests.hurries))) so x.ensures.works in
+          (Also (DidApart g.V.Vault.holds g.V.Vault.is_clean k.office x.new.office (HeardApart g.L.Listener.heard k.listener x.new.listener (λ B L. HadHttpTurns now B L (take 1 (drop k.place ys)) (take (if b then 1 else 0) (drop k.place zs))))) (PollsBy k.requests.poll_now x.new.requests.poll_now))) so x.ensures.works in
           also_then g.V.Vault.holds g.V.Vault.is_clean g.V.Vault.faults g.W.Wire.asked c.args.office.now k.office x.new.office c.args.wire.now k.wire x.new.wire
           (HeardApart g.L.Listener.heard l k.listener (HadSome now k.place xs ys)) (HeardApart g.L.Listener.heard k.listener x.new.listener (λ B L. HadHttpTurns now B L (take 1 (drop k.place ys)) (take 1 (drop k.place zs))))
-          (HeardApart g.L.Listener.heard l x.new.listener (HadSome now (k.place + 1) xs zs)) (HurriesBy false k.requests.hurries) (HurriesBy k.requests.hurries x.new.requests.hurries) (HurriesBy false x.new.requests.hurries)
+          (HeardApart g.L.Listener.heard l x.new.listener (HadSome now (k.place + 1) xs zs)) (PollsBy false k.requests.poll_now) (PollsBy k.requests.poll_now x.new.requests.poll_now) (PollsBy false x.new.requests.poll_now)
           (λ B L g1 g2 c1 c2 a turn. (
             apart_then g.L.Listener.heard l k.listener x.new.listener B L g1 g2 a.0 turn.0,
-            had_held now k.place xs ys zs B L g1 g2 c1 c2 a.1 turn.1 x.ensures.before (subst (λ b. drop (if b then k.place + 1 else k.place) zs ≡ drop (k.place + 1) ys) so x.ensures.behind),
+            had_held now k.place xs ys zs B L g1 g2 c1 c2 a.1 turn.1 x.ensures.held.before (subst (λ b. drop (if b then k.place + 1 else k.place) zs ≡ drop (k.place + 1) ys) so x.ensures.held.behind),
           ))
-          (hurried_then false k.requests.hurries x.new.requests.hurries)
+          (polled_then false k.requests.poll_now x.new.requests.poll_now)
           k.invariant.works one);
     }
 
@@ -62,21 +61,20 @@ loop-place-preserved g c =
     let l = c.args.listener.now in
     let so : x.result ≡ false = search rules in
     record {
-      asked = λ B start L pop s clean. x.ensures.asked B start L pop (k.invariant.asked B start L pop s (x.ensures.clean clean)) clean;
-      clean = λ clean. k.invariant.clean (x.ensures.clean clean);
-      stay = as_many c.args.now k.requests.exchanges.items x.new.requests.exchanges.items k.place x.ensures.before k.invariant.stay;
+      asked = λ B start L pop s clean. x.ensures.asked B start L pop (k.invariant.asked B start L pop s (x.ensures.works.was_given.clean clean)) clean;
+      stay = as_many c.args.now k.requests.exchanges.items x.new.requests.exchanges.items k.place x.ensures.held.before k.invariant.stay;
       no_more = (let a = x.ensures.left in let b = k.invariant.no_more in omega (arith, a, b));
       works =
           (let one = subst (λ b. Part g.V.Vault.holds g.V.Vault.is_clean g.V.Vault.faults g.W.Wire.asked k.office k.wire x.new.office x.new.wire
-          (Also (DidApart g.V.Vault.holds g.V.Vault.is_clean k.office x.new.office (HeardApart g.L.Listener.heard k.listener x.new.listener (λ B L. HadHttpTurns now B L (take 1 (drop k.place ys)) (take (if b then 1 else 0) (drop k.place zs))))) (HurriesBy k.requests.hurries x.new.requests.hurries))) so x.ensures.works in
+          (Also (DidApart g.V.Vault.holds g.V.Vault.is_clean k.office x.new.office (HeardApart g.L.Listener.heard k.listener x.new.listener (λ B L. HadHttpTurns now B L (take 1 (drop k.place ys)) (take (if b then 1 else 0) (drop k.place zs))))) (PollsBy k.requests.poll_now x.new.requests.poll_now))) so x.ensures.works in
           also_then g.V.Vault.holds g.V.Vault.is_clean g.V.Vault.faults g.W.Wire.asked c.args.office.now k.office x.new.office c.args.wire.now k.wire x.new.wire
           (HeardApart g.L.Listener.heard l k.listener (HadSome now k.place xs ys)) (HeardApart g.L.Listener.heard k.listener x.new.listener (λ B L. HadHttpTurns now B L (take 1 (drop k.place ys)) []))
-          (HeardApart g.L.Listener.heard l x.new.listener (HadSome now k.place xs zs)) (HurriesBy false k.requests.hurries) (HurriesBy k.requests.hurries x.new.requests.hurries) (HurriesBy false x.new.requests.hurries)
+          (HeardApart g.L.Listener.heard l x.new.listener (HadSome now k.place xs zs)) (PollsBy false k.requests.poll_now) (PollsBy k.requests.poll_now x.new.requests.poll_now) (PollsBy false x.new.requests.poll_now)
           (λ B L g1 g2 c1 c2 a turn. (
             apart_then g.L.Listener.heard l k.listener x.new.listener B L g1 g2 a.0 turn.0,
-            had_closed now k.place xs ys zs B L g1 g2 c1 c2 a.1 turn.1 x.ensures.before (subst (λ b. drop (if b then k.place + 1 else k.place) zs ≡ drop (k.place + 1) ys) so x.ensures.behind),
+            had_closed now k.place xs ys zs B L g1 g2 c1 c2 a.1 turn.1 x.ensures.held.before (subst (λ b. drop (if b then k.place + 1 else k.place) zs ≡ drop (k.place + 1) ys) so x.ensures.held.behind),
           ))
-          (hurried_then false k.requests.hurries x.new.requests.hurries)
+          (polled_then false k.requests.poll_now x.new.requests.poll_now)
           k.invariant.works one);
     }
 
@@ -94,5 +92,5 @@ returns-clause-works g c =
     let ys = k.requests.exchanges.items in
     let done : length ys ≤ k.place = search rules in
     also_so g.V.Vault.holds g.V.Vault.is_clean g.V.Vault.faults g.W.Wire.asked c.args.office.now k.office c.args.wire.now k.wire
-    (HeardApart g.L.Listener.heard c.args.listener.now k.listener (HadSome now k.place xs ys)) (HeardApart g.L.Listener.heard c.args.listener.now k.listener (λ B L. HadHttpTurns now B L xs ys)) (HurriesBy false k.requests.hurries) (HurriesBy false k.requests.hurries)
+    (HeardApart g.L.Listener.heard c.args.listener.now k.listener (HadSome now k.place xs ys)) (HeardApart g.L.Listener.heard c.args.listener.now k.listener (λ B L. HadHttpTurns now B L xs ys)) (PollsBy false k.requests.poll_now) (PollsBy false k.requests.poll_now)
     (λ B L given calls a. (a.0, had_all now k.place xs ys B L given calls done a.1)) (λ cs m. m) k.invariant.works

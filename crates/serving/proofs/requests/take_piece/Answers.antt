@@ -2,8 +2,8 @@ use Rattle.std.proofs.Common.{rules, ◌≡◌, ℕ, List, ◌++◌, Some, optio
 use Rattle.serving.specs.Requests.{octets_of, HasAsked, IsResponse, ForMemory, NoCommand}
 use Rattle.serving.proofs.Requesting.{asked_none}
 use Rattle.serving.proofs.Quieting.{gives_none}
-use Rattle.serving.specs.Works.{Giving}
-use Rattle.serving.specs.HttpWorks.{ComeTo, DidApart}
+use Rattle.serving.specs.Parts.{Giving}
+use Rattle.serving.specs.HttpParts.{ComeTo, DidApart}
 use Rattle.serving.specs.Hearing.{HeardApart}
 use Rattle.serving.proofs.Hearing.{told_same}
 use Rattle.std.proofs.Common.{None, []}
@@ -18,7 +18,7 @@ returns-then-is_err-clause-asked g c = λ B L stands clean.
 pub returns-clause-asked : goal.returns-clause-asked
 returns-clause-asked g c = λ B L stands clean.
     (let same : c.as_slice.result.now ≡ c.args.exchange.now.read.items ++ c.args.piece.now = search rules in
-    subst (λ read. HasAsked g.V.Vault.holds B L read c.ask.new.office (option_map octets_of c.ask.result)) same (c.ask.ensures.asked B L stands clean))
+    subst (λ read. HasAsked g.V.Vault.holds B L read c.respond_to.new.office (option_map octets_of c.respond_to.result)) same (c.respond_to.ensures.asked B L stands clean))
 
 pub returns-then-is_err-clause-works : goal.returns-then-is_err-clause-works
 returns-then-is_err-clause-works g c =
@@ -33,6 +33,6 @@ returns-then-is_err-clause-works g c =
 pub returns-clause-works : goal.returns-clause-works
 returns-clause-works g c =
     let o = c.args.office.now in
-    let o1 = c.ask.new.office in
+    let o1 = c.respond_to.new.office in
     let same : c.as_slice.result.now ≡ c.args.exchange.now.read.items ++ c.args.piece.now = search rules in
-    subst (λ read. Giving g.V.Vault.holds g.V.Vault.is_clean g.V.Vault.faults o o1 (λ given. DidApart g.V.Vault.holds g.V.Vault.is_clean o o1 (HeardApart g.L.Listener.heard c.args.listener.now c.ask.new.listener (ComeTo read (option_map octets_of c.ask.result))) given [])) same c.ask.ensures.works
+    subst (λ read. Giving g.V.Vault.holds g.V.Vault.is_clean g.V.Vault.faults o o1 (λ given. DidApart g.V.Vault.holds g.V.Vault.is_clean o o1 (HeardApart g.L.Listener.heard c.args.listener.now c.respond_to.new.listener (ComeTo read (option_map octets_of c.respond_to.result))) given [])) same c.respond_to.ensures.works

@@ -1,4 +1,4 @@
-use Rattle.std.proofs.Common.{rules, ◌≡◌, ◌≤◌, ◌++◌, ◌∷◌, [], true, false, refl, ◌∙◌, length, arith}
+use Rattle.std.proofs.Common.{rules, ◌≤◌, ◌++◌, ◌∷◌, [], true, false, refl, ◌∙◌, arith}
 use Rattle.office.specs.Taken.{trace_of}
 use Rattle.serving.proofs.Going.{turned_none, turned_more, turned_stopped, one_longer}
 use Rattle.serving.proofs.running.serve_while.Goals as goal

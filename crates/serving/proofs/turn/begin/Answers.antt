@@ -1,7 +1,7 @@
-use Rattle.std.proofs.Common.{◌≡◌, ◌∙◌, [], None, refl, sym, subst, true, false, true≢false, arith}
+use Rattle.std.proofs.Common.{[], None, refl, sym, subst, arith}
 use Rattle.std.proofs.lemmas.List.Elements.{All-nil}
 use Rattle.office.specs.Taken.{trace_of}
-use Rattle.serving.specs.Served.{HasOwn, HasOpen, AreSeated}
+use Rattle.serving.specs.Served.{AreSeated}
 use Rattle.serving.proofs.Seating.{none_seated}
 use Rattle.serving.specs.Requests.{AreHeld, IsHeld}
 use Rattle.serving.proofs.Requesting.{none_newer}

@@ -4,7 +4,7 @@ use Rattle.sqlite.specs.Effect.{Database}
 use Rattle.sqlite.specs.State.{IsUnchanged}
 use Rattle.mailsql.specs.Tables.{old_schema}
 use Rattle.mailsql.specs.Rows.{rows_in, is_carried, HasOldTables}
-use Rattle.sqlvault.specs.Carries.{old_meta_row}
+use Rattle.sqlvault.specs.Carries.{old_meta_row, is_first}
 use Rattle.sqlvault.specs.Refusals.{told}
 use Rattle.sqlvault.proofs.AdoptLemmas.{stays_undone}
 use Rattle.sqlvault.proofs.CarryLemmas.{judged_uncarried, order_uncarried, older_on, old_on, either}
@@ -28,13 +28,13 @@ returns-then-not-has_older_columns-clause-turns g c clean1 older out settled =
     let s1 = state g.S.Store c.find_older.new.conn in
     let tables : HasOldTables s0 = λ _. older in
     let u1 : IsUnchanged s0 s1 = c.in-Ok.ensures.asks.same clean1 tables in
-    let is : (rows_in s0.now.trees).meta_rows ≡ old_meta_row c.in-Ok.is_first ∷ [] =
+    let is : (rows_in s0.now.trees).meta_rows ≡ old_meta_row (is_first c.in-Ok.version) ∷ [] =
     c.in-Ok.ensures.judged clean1 tables in
     let schema : s1.now.schema ≡ old_schema (is_carried s1.now.trees) =
     (old_on s0 s1 u1 tables u1.0.is_open).0 in
     let order = ap (λ (d : Database). is_carried d.trees) u1.0.now_is in
     record {
-      carried = order_uncarried c.in-Ok.is_first s0 is (λ same. true≢false
+      carried = order_uncarried (is_first c.in-Ok.version) s0 is (λ same. true≢false
           (sym (c.has_older_columns.ensures.fits (schema ∙ ap old_schema (order ∙ same)))
           ∙ c.if-not-has_older_columns.true));
       stays = λ up. (u1.0.was_open, (u1.0.now_is, u1.0.committed_is), u1.0.mode);
@@ -48,11 +48,11 @@ returns-clause-turns g c clean2 older out settled =
     let tables : HasOldTables s0 = λ _. older in
     let clean1 = c.carry.ensures.clean clean2 in
     let u1 : IsUnchanged s0 s1 = c.in-Ok.ensures.asks.same clean1 tables in
-    let is : (rows_in s0.now.trees).meta_rows ≡ old_meta_row c.in-Ok.is_first ∷ [] =
+    let is : (rows_in s0.now.trees).meta_rows ≡ old_meta_row (is_first c.in-Ok.version) ∷ [] =
     c.in-Ok.ensures.judged clean1 tables in
     let schema : s1.now.schema ≡ old_schema (is_carried s1.now.trees) =
     (old_on s0 s1 u1 tables u1.0.is_open).0 in
-    let now = older_on c.in-Ok.is_first s0 s1 u1 older (c.has_older_columns.ensures.order
+    let now = older_on (is_first c.in-Ok.version) s0 s1 u1 older (c.has_older_columns.ensures.order
     (is_carried s1.now.trees) schema c.if-not-has_older_columns.false) out settled is in
     carries_behind s0 s1 (state g.S.Store c.carry.new.conn) c.carry.result u1
     (c.find_older.ensures.asks.stop clean1 older) (c.carry.ensures.turns clean2 now)

@@ -14,7 +14,8 @@ returns-in-Ok-clause-answered g c k clean h =
     let kept = seen s0 (state g.S.Store c.find_count.new.conn) k (c.in-Ok.ensures.same clean h.tables) h in
     let n = class_count class (receipts_of d k.deposits) in
     ok_known c.number_of.result n (c.number_of.ensures n
-    (count_seen (rows_in s0.now.trees) k c.as_bytes.result.now d c.as_bytes-2.result.now class c.in-Ok.count kept c.as_bytes.ensures.value c.as_bytes-2.ensures.value (c.in-Ok.ensures.ok clean h.tables)))
+    (count_seen (rows_in s0.now.trees) k c.as_bytes.result.now d c.as_bytes-2.result.now class c.in-Ok.count kept c.as_bytes.ensures.value c.as_bytes-2.ensures.value
+    (c.in-Ok.ensures.ok clean h.tables)))
 
 pub returns-in-Ok-clause-looks : goal.returns-in-Ok-clause-looks
 returns-in-Ok-clause-looks g c =

@@ -30,5 +30,6 @@ returns g c =
     c.add_deposit.result c.add_deposit.ensures.ok c.add_deposit.ensures.err
     c.add_deposit.ensures.survives)
     (λ from mid to set add.
-    receipt_put receipt row.maildrop row.class put.maildrop put.id put.class put.digest (to_z w64 receipt.k) from mid to c.as_bytes.ensures.value c.as_bytes-2.ensures.value c.as_bytes-3.ensures.value c.as_bytes-4.ensures.value
+    receipt_put receipt row.maildrop row.class put.maildrop put.id put.class put.digest
+    (to_z w64 receipt.k) from mid to c.as_bytes.ensures.value c.as_bytes-2.ensures.value c.as_bytes-3.ensures.value c.as_bytes-4.ensures.value
     c.as_bytes-5.ensures.value c.as_slice.ensures (to_z_pos w64 receipt.k (omega arith)) set add)

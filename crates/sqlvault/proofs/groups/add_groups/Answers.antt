@@ -1,8 +1,9 @@
 use Rattle.std.proofs.Common.{◌≡◌, ◌<◌, ◌≤◌, ◌+◌, ◌∙◌, ◌+ℤ◌, pos, length, take, take_all, get_or, sym, ap, subst, arith, rules, w64, to_z, of_z, Ok}
 use Rattle.sqlvault.specs.Rules.{AddsGroup, AddsGroups}
 use Rattle.sqlvault.proofs.FrameLemmas.{writes_none, writes_then, writes_halted, writes_failed}
-use Rattle.sqlvault.proofs.GroupLemmas.{place_next, place_at, take_next, group_more, no_group}
+use Rattle.sqlvault.proofs.GroupLemmas.{place_next, place_at, group_more, no_group}
 use Rattle.sqlvault.proofs.RuleLemmas.{few_groups}
+use Rattle.sqlvault.proofs.SmallLemmas.{take_next}
 use Rattle.sqlvault.proofs.groups.add_groups.Goals as goal
 
 pub loop-group-init : goal.loop-group-init

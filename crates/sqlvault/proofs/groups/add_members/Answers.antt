@@ -3,9 +3,10 @@ use Rattle.mailsql.specs.declared.rows.Member.{Member}
 use Rattle.mailsql.specs.Changes.{AddsMember}
 use Rattle.mailsql.specs.Rows.{Rows}
 use Rattle.sqlvault.specs.Rules.{AddsMembers}
-use Rattle.sqlvault.proofs.GroupLemmas.{place_next, place_at, take_next, member_more, no_members}
+use Rattle.sqlvault.proofs.GroupLemmas.{place_next, place_at, member_more, no_members}
 use Rattle.sqlvault.proofs.FrameLemmas.{wrote, unwritten, writes_none, writes_then, writes_failed}
 use Rattle.sqlvault.proofs.FrameLemmas.{writes_halted}
+use Rattle.sqlvault.proofs.SmallLemmas.{take_next}
 use Rattle.sqlvault.proofs.groups.add_members.Goals as goal
 
 pub loop-member-init : goal.loop-member-init

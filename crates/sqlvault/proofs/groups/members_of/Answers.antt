@@ -5,11 +5,11 @@ use Rattle.vault.proofs.ListLemmas.{all_last}
 use Rattle.mailsql.specs.Rows.{same_int}
 use Rattle.mailsql.proofs.EqualLemmas.{same_itself}
 use Rattle.sqlvault.specs.Keeps.{member_names}
-use Rattle.sqlvault.proofs.GroupLemmas.{not_same, name_at, name_taken, name_passed, name_form}
-use Rattle.sqlvault.proofs.RemoveLemmas.{int_same}
+use Rattle.sqlvault.proofs.GroupLemmas.{name_at, name_taken, name_passed, name_form}
 use Rattle.sqlvault.proofs.RowFormLemmas.{name_was}
 use Rattle.sqlvault.proofs.RuleLemmas.{never, name_read}
 use Rattle.sqlvault.proofs.groups.members_of.Goals.{then-row-group+in-Some+in_ok-extend_from_slice, else-row-group}
+use Rattle.sqlvault.proofs.SmallLemmas.{int_same, never_true}
 use Rattle.sqlvault.proofs.groups.members_of.Goals as goal
 
 pub returns-in_default-clause-all : goal.returns-in_default-clause-all
@@ -48,7 +48,7 @@ loop-row-preserved c =
       | else-row-group w ↦
           let test = w.if-row-group.false in
           let other : row.group ≢ c.args.group = first_of (search rules, omega (arith, ints), grind (arith, ints, to_z-of_z)) in
-          let apart = not_same (same_int row.group group) (λ e. other (int_same row.group group e ∙ back)) in
+          let apart = never_true (same_int row.group group) (λ e. other (int_same row.group group e ∙ back)) in
           let are = w.names-is in
           let next = name_passed group rows i row c.loop-row-test.true c.row-item.is apart in
           let all = c.loop-row.invariant.1 in

@@ -1,17 +1,18 @@
-use Rattle.std.proofs.Common.{sym, subst}
+use Rattle.std.proofs.Common.{ap, sym, subst}
 use Rattle.sqlite.specs.Held.{state}
+use Rattle.sqlvault.specs.Carries.{is_first}
 use Rattle.sqlvault.specs.Moves.{MovesOld, IsUnmoved, Builds}
 use Rattle.sqlvault.proofs.MoveLemmas.{part_old}
 use Rattle.sqlvault.proofs.moves.move_old.Goals as goal
 
-pub returns-then-is_first : goal.returns-then-is_first
-returns-then-is_first g c =
+pub returns-in-First : goal.returns-in-First
+returns-in-First g c =
     subst (λ b. Builds g.S.Store c.args.conn.now c.move_messages.new.conn (IsUnmoved b)
-    (MovesOld b) c.move_messages.result) (sym c.if-is_first.true) c.move_messages.ensures
+    (MovesOld b) c.move_messages.result) (sym (ap is_first c.in-First.is)) c.move_messages.ensures
 
-pub returns : goal.returns
-returns g c = record {
+pub returns-in-Second : goal.returns-in-Second
+returns-in-Second g c = record {
   clean = λ clean. clean;
-  part = λ clean u. part_old c.args.is_first (state g.S.Store c.args.conn.now) u.of.under
-      c.if-is_first.false;
+  part = λ clean u. part_old (is_first c.args.version) (state g.S.Store c.args.conn.now) u.of.under
+      (ap is_first c.in-Second.is);
 }

@@ -3,7 +3,8 @@ use Rattle.std.proofs.lemmas.Int.{to_z_pos}
 use Rattle.std.proofs.lemmas.List.{length-drop, take_rest}
 use Rattle.std.specs.Prelude.{option_copied}
 use Rattle.sqlvault.specs.Pages.{octets_from}
-use Rattle.sqlvault.proofs.CopyLemmas.{copied_more, copied_all, length_written, one_sheet, no_sheets}
+use Rattle.sqlvault.proofs.CopyLemmas.{copied_more, copied_all, one_sheet, no_sheets}
+use Rattle.mailtext.proofs.StreamLemmas.{length-written_end}
 use Rattle.sqlvault.proofs.pages.copy_sheets.Goals as goal
 
 pub loop-place-preserved : goal.loop-place-preserved
@@ -19,7 +20,7 @@ loop-place-preserved c =
     one_sheet sheets l.place c.args.end (Some c.in-Some.sheet.now) c.loop-place-test.true found ∙ ap (λ o. o ++ behind) (sym c.as_slice-octets.ensures) in
     let before = ap (λ r. take l.put l.buffer ++ take (length l.buffer - l.put) (drop l.left r)) (sym parts) ∙ l.invariant.copied in
     let whole = drop c.args.skip (octets_from (c.args.end - c.args.first) sheets c.args.first) in
-    let size = length_written l.put l.buffer p.new.buffer l.invariant.room p.auto.buffer in
+    let size = length-written_end l.put l.buffer p.new.buffer l.invariant.room p.auto.buffer in
     let left : length (take (length l.buffer - l.put) (drop l.put l.buffer)) ≡ length l.buffer - l.put = ap length (take_rest l.buffer l.put) ∙ length-drop l.put l.buffer in
     record {
       room = omega (arith, size, left, p.auto.buffer, p.ensures.count, l.invariant.room);

@@ -45,6 +45,7 @@ returns-in-Ok-clause-done g c base clean h =
     let shown = rw (mail, from_is, end_is) at (c.in-Ok.ensures.ok clean (has_tables s0 base h)) in
     let run = ap (λ l. octets_from (end - first) l first) (c.as_slice.ensures.value ∙ shown) ∙ run_read key (rows_in s0.now.trees) base fits (seen s0 s1 base same h) first end (omega arith) in
     record {
-      answer = pages_at (text_under key base.messages) c.args.from c.copy_sheets.result (end - first) (octets_from (end - first) c.as_slice.result.now first) c.copy_sheets.new.buffer (omega (arith, c.sheets_for.ensures.some)) run c.copy_sheets.ensures.count c.copy_sheets.ensures.copied;
+      answer = pages_at (text_under key base.messages) c.args.from c.copy_sheets.result (end - first)
+          (octets_from (end - first) c.as_slice.result.now first) c.copy_sheets.new.buffer (omega (arith, c.sheets_for.ensures.some)) run c.copy_sheets.ensures.count c.copy_sheets.ensures.copied;
       held = holds_unchanged s0 s1 base same h;
     }

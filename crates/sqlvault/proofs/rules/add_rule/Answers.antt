@@ -11,11 +11,31 @@ returns g c =
     let r = c.args.rule.now in
     let fits_effect : SFits w64 c.effect_number.result = search rules in
     let fits_actions : SFits w64 c.actions_number.result = search rules in
-    let survives = rw (to_z-of_z fits_effect, to_z-of_z fits_actions, c.as_bytes.ensures.value, c.effect_number.ensures, c.as_slice.ensures.value, c.in_ok-clerk.ensures, c.pattern_text.ensures, c.pattern_text-2.ensures, c.actions_number.ensures) at c.add_rule.ensures.survives in
+    let survives = rw (
+      to_z-of_z fits_effect,
+      to_z-of_z fits_actions,
+      c.as_bytes.ensures.value,
+      c.effect_number.ensures,
+      c.as_slice.ensures.value,
+      c.in_ok-clerk.ensures,
+      c.pattern_text.ensures,
+      c.pattern_text-2.ensures,
+      c.actions_number.ensures,
+    ) at c.add_rule.ensures.survives in
     written_as g.S.Store c.args.conn.now c.add_rule.new.conn
     (AddsRule r.name (effect_number r.effect) (clerks_text r.clerk) (pattern_text r.maildrop)
     (pattern_text r.class) (actions_number r.actions)) (AddsRules (r ∷ [])) c.add_rule.result
-    (λ clean. rw (to_z-of_z fits_effect, to_z-of_z fits_actions, c.as_bytes.ensures.value, c.effect_number.ensures, c.as_slice.ensures.value, c.in_ok-clerk.ensures, c.pattern_text.ensures, c.pattern_text-2.ensures, c.actions_number.ensures) at (c.add_rule.ensures.ok clean))
+    (λ clean. rw (
+      to_z-of_z fits_effect,
+      to_z-of_z fits_actions,
+      c.as_bytes.ensures.value,
+      c.effect_number.ensures,
+      c.as_slice.ensures.value,
+      c.in_ok-clerk.ensures,
+      c.pattern_text.ensures,
+      c.pattern_text-2.ensures,
+      c.actions_number.ensures,
+    ) at (c.add_rule.ensures.ok clean))
     c.add_rule.ensures.err survives (added_one r)
 
 pub returns-in_err-clerk : goal.returns-in_err-clerk

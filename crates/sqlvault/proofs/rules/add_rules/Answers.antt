@@ -1,7 +1,8 @@
 use Rattle.std.proofs.Common.{◌<◌, ◌≤◌, ◌+◌, [], ◌∷◌, take, take_all, sym, subst, arith, length, Ok}
 use Rattle.sqlvault.specs.Rules.{AddsRules}
 use Rattle.sqlvault.proofs.FrameLemmas.{writes_none, writes_then, writes_halted, writes_failed}
-use Rattle.sqlvault.proofs.RuleLemmas.{none_added, added_more, take_next}
+use Rattle.sqlvault.proofs.RuleLemmas.{none_added, added_more}
+use Rattle.sqlvault.proofs.SmallLemmas.{take_next}
 use Rattle.sqlvault.proofs.rules.add_rules.Goals as goal
 
 pub loop-rule-init : goal.loop-rule-init

@@ -17,7 +17,8 @@ returns-in-Ok-Some-clause-done g c held clean2 h =
     let clean1 = c.policy_with.ensures.looks.clean clean2 in
     let same = c.in-Ok-Some.ensures.asks.same clean1 h.tables in
     let keeps = seen s0 s1 held same h in
-    let groups = subst (λ (o : Option (Vec Group Global)). IfSome o (λ (v : Vec Group Global). v.items ≡ groups_in (rows_in s0.now.trees))) c.in-Ok-Some.field-0-is (c.in-Ok-Some.ensures.rows clean1 h.tables) in
+    let groups = subst (λ (o : Option (Vec Group Global)). IfSome o (λ (v : Vec Group Global). v.items ≡ groups_in (rows_in s0.now.trees))) c.in-Ok-Some.field-0-is
+    (c.in-Ok-Some.ensures.rows clean1 h.tables) in
     c.policy_with.ensures.done held clean2 (holds_unchanged s0 s1 held same h) (groups ∙ keeps.groups)
 
 pub returns-in-Ok-None-clause-done : goal.returns-in-Ok-None-clause-done

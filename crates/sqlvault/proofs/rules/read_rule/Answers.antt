@@ -23,7 +23,8 @@ returns-clause-read c r sound same =
     (c.read_pattern-2.ensures.read r.class p.class (c.as_slice-4.ensures ∙ ap (λ (x : Rule). x.class) same)) in
     let actions = some_same c.read_actions.result c.in_ok-read_actions.field-0 r.actions c.in_ok-read_actions.was
     (c.read_actions.ensures.read r.actions (to_z-of_z fits_actions ∙ ap (λ (x : Rule). x.actions) same)) in
-    rule_is r c.in_ok-read.field-0 c.in_ok-read_effect.field-0 c.in_ok-read_clerks.field-0 c.in_ok-read_pattern.field-0 c.in_ok-read_pattern-2.field-0 c.in_ok-read_actions.field-0 name effect clerk maildrop class actions
+    rule_is r c.in_ok-read.field-0 c.in_ok-read_effect.field-0 c.in_ok-read_clerks.field-0 c.in_ok-read_pattern.field-0 c.in_ok-read_pattern-2.field-0
+    c.in_ok-read_actions.field-0 name effect clerk maildrop class actions
 
 pub returns-clause-row : goal.returns-clause-row
 returns-clause-row c =

@@ -2,8 +2,9 @@ use Rattle.std.proofs.lemmas.Grind.{common_steps}
 use Rattle.std.proofs.Common.{◌≡◌, ◌<◌, true, pos, map, sym, ap, subst, arith, length}
 use Rattle.policy.specs.Policy.{is_sound_rule}
 use Rattle.sqlvault.specs.Keeps.{rule_row}
-use Rattle.sqlvault.proofs.RuleLemmas.{all_at, row_at}
+use Rattle.sqlvault.proofs.RuleLemmas.{row_at}
 use Rattle.sqlvault.proofs.RowFormLemmas.{rows_more, items_more}
+use Rattle.sqlvault.proofs.SmallLemmas.{all_at}
 use Rattle.sqlvault.proofs.rules.rules_of.Goals as goal
 
 pub loop-row-init : goal.loop-row-init

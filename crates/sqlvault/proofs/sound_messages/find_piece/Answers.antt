@@ -12,7 +12,8 @@ returns-then-as_slice-size-clause-judged g c clean h =
     let mail : to_z w64 (of_z w64 c.args.mail) ≡ c.args.mail = (let f : SFits w64 c.args.mail = search rules in to_z-of_z f) in
     let fits : SFits w64 c.from.result = search rules in
     let place : to_z w64 (of_z w64 c.from.result) ≡ pos c.args.place = to_z-of_z fits ∙ c.from.ensures in
-    piece_found (rows_in s0.now.trees) c.args.mail c.args.place c.args.size c.in-Ok-Some.sheet (sym c.in-Ok-Some.field-0-is ∙ rw (mail, place) at e) (ap length (sym c.as_slice.ensures) ∙ c.if-as_slice-size.true)
+    piece_found (rows_in s0.now.trees) c.args.mail c.args.place c.args.size c.in-Ok-Some.sheet (sym c.in-Ok-Some.field-0-is ∙ rw (mail, place) at e)
+    (ap length (sym c.as_slice.ensures) ∙ c.if-as_slice-size.true)
 
 pub returns-then-as_slice-size-clause-reads : goal.returns-then-as_slice-size-clause-reads
 returns-then-as_slice-size-clause-reads g c =

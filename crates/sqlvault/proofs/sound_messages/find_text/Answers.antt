@@ -19,9 +19,11 @@ loop-place-preserved g c = (
       let was = c.loop-place.invariant.0.goes clean1 h in
       let mail : to_z w64 (of_z w64 c.args.mail) ≡ to_z w64 (of_z w64 c.args.mail) = λ i. to_z w64 (of_z w64 c.args.mail) in
       let judged = c.in-Ok-Some.ensures.judged clean (tables_stay s0 s1 was h) in
-      text_more (rows_in s0.now.trees) (rows_in s1.now.trees) (to_z w64 (of_z w64 c.args.mail)) (to_z w64 (of_z w64 c.args.mail)) c.args.octets c.loop-place.place c.min-size.result c.div_ceil-place-end.result c.in-Ok-Some.field-0 c.in-Ok-Some.sheet
+      text_more (rows_in s0.now.trees) (rows_in s1.now.trees) (to_z w64 (of_z w64 c.args.mail))
+      (to_z w64 (of_z w64 c.args.mail)) c.args.octets c.loop-place.place c.min-size.result c.div_ceil-place-end.result c.in-Ok-Some.field-0 c.in-Ok-Some.sheet
       c.loop-place.text.items c.extend_from_slice.new.self.items
-      (rows_stay s0 s1 was) mail c.in-Ok-Some.field-0-is c.div_ceil-place-end.ensures c.loop-place-test.true c.min-size.ensures judged (c.loop-place.invariant.1 clean1 h) (c.in_ok-extend_from_slice-in-Ok-Some.ensures.items ∙ ap (λ l. c.loop-place.text.items ++ l) c.as_slice.ensures),
+      (rows_stay s0 s1 was) mail c.in-Ok-Some.field-0-is c.div_ceil-place-end.ensures c.loop-place-test.true c.min-size.ensures judged
+      (c.loop-place.invariant.1 clean1 h) (c.in_ok-extend_from_slice-in-Ok-Some.ensures.items ∙ ap (λ l. c.loop-place.text.items ++ l) c.as_slice.ensures),
 )
 
 pub returns-in-Ok-None-clause-judged : goal.returns-in-Ok-None-clause-judged
@@ -31,7 +33,8 @@ returns-in-Ok-None-clause-judged g c clean h =
     let was = c.loop-place.invariant.0.goes (c.find_piece.ensures.reads.clean clean) h in
     let mail : to_z w64 (of_z w64 c.args.mail) ≡ c.args.mail = (let f : SFits w64 c.args.mail = search rules in to_z-of_z f) in
     let judged = c.in-Ok-None.ensures.judged clean (tables_stay s0 s1 was h) in
-    text_lacks (rows_in s0.now.trees) (rows_in s1.now.trees) c.args.mail (to_z w64 (of_z w64 c.args.mail)) c.args.octets c.loop-place.place c.min-size.result c.div_ceil-place-end.result c.in-Ok-None.field-0
+    text_lacks (rows_in s0.now.trees) (rows_in s1.now.trees) c.args.mail
+    (to_z w64 (of_z w64 c.args.mail)) c.args.octets c.loop-place.place c.min-size.result c.div_ceil-place-end.result c.in-Ok-None.field-0
     (rows_stay s0 s1 was) mail c.in-Ok-None.field-0-is c.div_ceil-place-end.ensures c.loop-place-test.true c.min-size.ensures judged
 
 pub returns-in-Ok-None-clause-reads : goal.returns-in-Ok-None-clause-reads

@@ -30,7 +30,8 @@ returns-in-Ok-Some-clause-judged g c deposits clean h d =
     let low : pos 0 ≤ℤ c.args.row.now.octets = first_of (omega (arith, ints), grind (arith, ints, to_z-of_z), search (ints, rules)) in
     let n = nat_abs (to_z w64 (of_z w64 c.args.row.now.octets)) in
     let stay = rows_stay s0 s1 stays in
-    let text = text_read (λ (v : Vec ℕ Global). v.items) (rows_in s0.now.trees) (rows_in s1.now.trees) c.args.row.now.key (to_z w64 (of_z w64 c.args.row.now.key)) n c.in-Ok-Some.field-0 c.in-Ok-Some.text stay (back.to_z-of_z f) c.in-Ok-Some.field-0-is judged in
+    let text = text_read (λ (v : Vec ℕ Global). v.items) (rows_in s0.now.trees) (rows_in s1.now.trees) c.args.row.now.key
+    (to_z w64 (of_z w64 c.args.row.now.key)) n c.in-Ok-Some.field-0 c.in-Ok-Some.text stay (back.to_z-of_z f) c.in-Ok-Some.field-0-is judged in
     kept_judged (rows_in s0.now.trees) deposits c.args.row.now n c.in-Ok-Some.text.items
     c.deref.result.now (Ok c.is_kept.result) c.is_kept.ensures c.deref.ensures.value text
     (octets_back c.args.row.now.octets (to_z w64 (of_z w64 c.args.row.now.octets)) (back.to_z-of_z f2) low) f d number

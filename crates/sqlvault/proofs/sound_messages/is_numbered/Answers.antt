@@ -10,13 +10,15 @@ pub returns-then-row-count-clause-judged : goal.returns-then-row-count-clause-ju
 returns-then-row-count-clause-judged g c deposits clean h d =
     let s0 = state g.S.Store c.args.conn.now in
     let above : c.in-Ok-Some.count.k <ℤ c.args.row.now.k = first_of (omega (arith, ints), grind (arith, ints, to_z-of_z), search (ints, rules)) in
-    let told = count_told (rows_in s0.now.trees) deposits c.args.row.now c.as_slice.result.now c.as_slice-2.result.now c.in-Ok-Some.count c.in-Ok-Some.field-0 d c.as_slice.ensures c.as_slice-2.ensures (c.in-Ok-Some.ensures.ok clean h) c.in-Ok-Some.field-0-is in
+    let told = count_told (rows_in s0.now.trees) deposits c.args.row.now c.as_slice.result.now c.as_slice-2.result.now c.in-Ok-Some.count
+    c.in-Ok-Some.field-0 d c.as_slice.ensures c.as_slice-2.ensures (c.in-Ok-Some.ensures.ok clean h) c.in-Ok-Some.field-0-is in
     λ k n. not_counted deposits c.args.row.now c.in-Ok-Some.count.k k told above n
 
 pub returns-in-Ok-None-clause-judged : goal.returns-in-Ok-None-clause-judged
 returns-in-Ok-None-clause-judged g c deposits clean h d =
     let s0 = state g.S.Store c.args.conn.now in
-    let told = none_told (rows_in s0.now.trees) deposits c.args.row.now c.as_slice.result.now c.as_slice-2.result.now c.in-Ok-None.field-0 d c.as_slice.ensures c.as_slice-2.ensures (c.in-Ok-None.ensures.ok clean h) c.in-Ok-None.field-0-is in
+    let told = none_told (rows_in s0.now.trees) deposits c.args.row.now c.as_slice.result.now c.as_slice-2.result.now c.in-Ok-None.field-0 d c.as_slice.ensures c.as_slice-2.ensures
+    (c.in-Ok-None.ensures.ok clean h) c.in-Ok-None.field-0-is in
     λ k n. not_numbered deposits c.args.row.now k told n
 
 pub returns-then-row-lt1-clause-reads : goal.returns-then-row-lt1-clause-reads

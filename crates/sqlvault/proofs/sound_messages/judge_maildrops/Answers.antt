@@ -19,11 +19,13 @@ loop-name-preserved g c = (
       let clean1 = c.judge_maildrop.ensures.reads.clean clean in
       let was = c.loop-name.invariant.0.goes clean1 h in
       let lt : c.loop-name.name-index < length c.args.names.now = omega (arith, c.loop-name-test.true) in
-      let some = told_behind (λ r. Counts (IsSoundIn r deposits c.as_slice.result.now) (sheets_under r c.as_slice.result.now)) s0 s1 deposits c.in-Ok-Some.field-0-is was h d (c.in-Ok-Some.ensures.judged deposits clean) in
+      let some = told_behind (λ r. Counts (IsSoundIn r deposits c.as_slice.result.now) (sheets_under r c.as_slice.result.now)) s0 s1 deposits c.in-Ok-Some.field-0-is was h d
+      (c.in-Ok-Some.ensures.judged deposits clean) in
       let some2 = subst (λ n. Counts (IsSoundIn (rows_in s0.now.trees) deposits n) (sheets_under (rows_in s0.now.trees) n) (Some c.in-Ok-Some.more)) c.as_slice.ensures some in
       let before = c.loop-name.invariant.1 deposits clean1 h d in (
         next_passes (IsSoundIn (rows_in s0.now.trees) deposits) c.args.names.now c.loop-name.name-index c.name-item.result lt c.name-item.is before.0 some2.0,
-        sum_next (sheets_under (rows_in s0.now.trees)) c.args.names.now c.loop-name.name-index c.name-item.result c.loop-name.sheets c.in-Ok-Some.more c.saturating_add-sheets.result (2 ^ 64 - 1) lt c.name-item.is before.1 some2.1 c.saturating_add-sheets.ensures,
+        sum_next (sheets_under (rows_in s0.now.trees)) c.args.names.now c.loop-name.name-index c.name-item.result c.loop-name.sheets c.in-Ok-Some.more c.saturating_add-sheets.result
+            (2 ^ 64 - 1) lt c.name-item.is before.1 some2.1 c.saturating_add-sheets.ensures,
       ),
 )
 
@@ -33,8 +35,10 @@ returns-in-Ok-None-clause-judged g c deposits clean h d =
     let s1 = state g.S.Store c.loop-name.conn in
     let was = c.loop-name.invariant.0.goes (c.judge_maildrop.ensures.reads.clean clean) h in
     let lt : c.loop-name.name-index < length c.args.names.now = omega (arith, c.loop-name-test.true) in
-    let none = told_behind (λ r. Counts (IsSoundIn r deposits c.as_slice.result.now) (sheets_under r c.as_slice.result.now)) s0 s1 deposits c.in-Ok-None.field-0-is was h d (c.in-Ok-None.ensures.judged deposits clean) in
-    one_fails (IsSoundIn (rows_in s0.now.trees) deposits) c.args.names.now c.loop-name.name-index c.name-item.result lt c.name-item.is (subst (λ n. IsSoundIn (rows_in s0.now.trees) deposits n → ⊥) c.as_slice.ensures none)
+    let none = told_behind (λ r. Counts (IsSoundIn r deposits c.as_slice.result.now) (sheets_under r c.as_slice.result.now)) s0 s1 deposits c.in-Ok-None.field-0-is was h d
+    (c.in-Ok-None.ensures.judged deposits clean) in
+    one_fails (IsSoundIn (rows_in s0.now.trees) deposits) c.args.names.now c.loop-name.name-index c.name-item.result lt c.name-item.is
+    (subst (λ n. IsSoundIn (rows_in s0.now.trees) deposits n → ⊥) c.as_slice.ensures none)
 
 pub returns-clause-judged : goal.returns-clause-judged
 returns-clause-judged g c deposits clean h d =

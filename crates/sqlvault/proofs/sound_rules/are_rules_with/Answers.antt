@@ -9,7 +9,8 @@ use Rattle.sqlvault.proofs.sound_rules.are_rules_with.Goals as goal
 pub returns-in_ok-are_rules-in-Ok-clause-judged : goal.returns-in_ok-are_rules-in-Ok-clause-judged
 returns-in_ok-are_rules-in-Ok-clause-judged g c clean tables groups =
     let s0 = state g.S.Store c.args.conn.now in
-    policy_judged (rows_in s0.now.trees) c.args.groups.items c.as_slice.result.now c.in_ok-are_rules-in-Ok.field-0 groups (c.as_slice.ensures.value ∙ c.in-Ok.ensures.ok clean tables) c.in_ok-are_rules-in-Ok.ensures
+    policy_judged (rows_in s0.now.trees) c.args.groups.items c.as_slice.result.now c.in_ok-are_rules-in-Ok.field-0 groups
+    (c.as_slice.ensures.value ∙ c.in-Ok.ensures.ok clean tables) c.in_ok-are_rules-in-Ok.ensures
 
 pub returns-in_ok-are_rules-in-Ok-clause-asks : goal.returns-in_ok-are_rules-in-Ok-clause-asks
 returns-in_ok-are_rules-in-Ok-clause-asks g c =

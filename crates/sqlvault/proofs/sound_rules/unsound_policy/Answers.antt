@@ -15,7 +15,8 @@ pub returns-in-Ok-None-clause-judged : goal.returns-in-Ok-None-clause-judged
 returns-in-Ok-None-clause-judged g c clean1 tables =
     let s0 = state g.S.Store c.args.conn.now in
     no_groups (rows_in s0.now.trees)
-    (λ all. subst (λ (o : Option (Vec Group Global)). IsSomeAnd o (λ (v : Vec Group Global). v.items ≡ groups_in (rows_in s0.now.trees))) c.in-Ok-None.field-0-is (c.in-Ok-None.ensures.all clean1 tables all))
+    (λ all. subst (λ (o : Option (Vec Group Global)). IsSomeAnd o (λ (v : Vec Group Global). v.items ≡ groups_in (rows_in s0.now.trees))) c.in-Ok-None.field-0-is
+    (c.in-Ok-None.ensures.all clean1 tables all))
 
 pub returns-in-Ok-true-clause-judged : goal.returns-in-Ok-true-clause-judged
 returns-in-Ok-true-clause-judged g c clean2 tables =
@@ -24,7 +25,8 @@ returns-in-Ok-true-clause-judged g c clean2 tables =
     let clean1 = c.are_rules_with.ensures.asks.clean clean2 in
     let same = c.in-Ok-Some.ensures.asks.same clean1 tables in
     let rows = rows_on s0 s1 same in
-    let groups = subst (λ (o : Option (Vec Group Global)). IfSome o (λ (v : Vec Group Global). v.items ≡ groups_in (rows_in s0.now.trees))) c.in-Ok-Some.field-0-is (c.in-Ok-Some.ensures.rows clean1 tables) in
+    let groups = subst (λ (o : Option (Vec Group Global)). IfSome o (λ (v : Vec Group Global). v.items ≡ groups_in (rows_in s0.now.trees))) c.in-Ok-Some.field-0-is
+    (c.in-Ok-Some.ensures.rows clean1 tables) in
     let judged = c.in-Ok-true.ensures.judged clean2 (tables_on s0 s1 same tables) (groups ∙ ap groups_in (sym rows)) in
     subst (λ r. Finds (PolicyIs r) true) rows (subst (Finds (PolicyIs (rows_in s1.now.trees))) c.in-Ok-true.field-0-test judged)
 
@@ -35,7 +37,8 @@ returns-in-Ok-false-clause-judged g c clean2 tables =
     let clean1 = c.are_rules_with.ensures.asks.clean clean2 in
     let same = c.in-Ok-Some.ensures.asks.same clean1 tables in
     let rows = rows_on s0 s1 same in
-    let groups = subst (λ (o : Option (Vec Group Global)). IfSome o (λ (v : Vec Group Global). v.items ≡ groups_in (rows_in s0.now.trees))) c.in-Ok-Some.field-0-is (c.in-Ok-Some.ensures.rows clean1 tables) in
+    let groups = subst (λ (o : Option (Vec Group Global)). IfSome o (λ (v : Vec Group Global). v.items ≡ groups_in (rows_in s0.now.trees))) c.in-Ok-Some.field-0-is
+    (c.in-Ok-Some.ensures.rows clean1 tables) in
     let named = subst (λ (o : Option (Vec Group Global)). IfSome o (λ (v : Vec Group Global). list_all is_named_group v.items ≡ true)) c.in-Ok-Some.field-0-is c.in-Ok-Some.ensures.named in
     let judged = c.in-Ok-false.ensures.judged clean2 (tables_on s0 s1 same tables) (groups ∙ ap groups_in (sym rows)) in (
       groups_read (rows_in s0.now.trees) c.in-Ok-Some.groups.items groups named,

@@ -1,7 +1,7 @@
 use Rattle.sqlite.specs.Held.{state}
-use Rattle.sqlvault.proofs.AdoptLemmas.{halted_after}
 use Rattle.sqlvault.proofs.CarryLemmas.{nothing_more}
 use Rattle.sqlvault.proofs.FrameLemmas.{was_clean}
+use Rattle.mailsql.proofs.CreateLemmas.{stops_making}
 use Rattle.sqlvault.proofs.transaction.end.Goals as goal
 
 pub returns-in-Ok : goal.returns-in-Ok
@@ -25,7 +25,7 @@ returns-in-Err g c =
           c.commit.ensures.survives (before clean);
       live = c.tables_are_listed.ensures.live;
       ok = λ clean. tt;
-      err = λ first clean on. c.undo.ensures.undoes.gone first clean (halted_after
+      err = λ first clean on. c.undo.ensures.undoes.gone first clean (stops_making
           (state g.S.Store first) s0 s1 on (c.in-Err.ensures.err (before clean)));
       stop = λ clean db may. c.commit.ensures.survives.crash (before clean) db (nothing_more s1
           s2 clean c.undo.ensures.undoes.survives db may);

@@ -23,7 +23,8 @@ returns-in_err-left-clause-cause g c clean h =
     let full = c.in_ok-filled.ensures.held (c.look.ensures.clean (c.look_up.ensures.clean (c.empty.ensures.clean clean))) h in
     let same = c.in_ok-mail.ensures.same full.0 (c.look_up.ensures.clean (c.empty.ensures.clean clean)) full.1 in
     let still = c.in_ok-kept.ensures.same full.0 (c.empty.ensures.clean clean) same in
-    let there = subst (λ key. g.V.Vault.holds c.look_up.new.vault (filled key c.args.stock.now)) (sym (c.in_ok-mail.ensures.key full.0 (c.look_up.ensures.clean (c.empty.ensures.clean clean)) full.1)) still in
+    let there = subst (λ key. g.V.Vault.holds c.look_up.new.vault (filled key c.args.stock.now))
+    (sym (c.in_ok-mail.ensures.key full.0 (c.look_up.ensures.clean (c.empty.ensures.clean clean)) full.1)) still in
     if_passed_on c.from_residual-in_err-left.result c.in_err-left.field-0.0 IsOfAnyCall c.from_residual-in_err-left.ensures.1 (c.in_err-left.ensures.cause clean there)
 
 pub returns-clause-saw : goal.returns-clause-saw
@@ -31,7 +32,8 @@ returns-clause-saw g c clean h =
     let full = c.in_ok-filled.ensures.held (c.look.ensures.clean (c.look_up.ensures.clean (c.empty.ensures.clean clean))) h in
     let same = c.in_ok-mail.ensures.same full.0 (c.look_up.ensures.clean (c.empty.ensures.clean clean)) full.1 in
     let still = c.in_ok-kept.ensures.same full.0 (c.empty.ensures.clean clean) same in
-    let there = subst (λ key. g.V.Vault.holds c.look_up.new.vault (filled key c.args.stock.now)) (sym (c.in_ok-mail.ensures.key full.0 (c.look_up.ensures.clean (c.empty.ensures.clean clean)) full.1)) still in
+    let there = subst (λ key. g.V.Vault.holds c.look_up.new.vault (filled key c.args.stock.now))
+    (sym (c.in_ok-mail.ensures.key full.0 (c.look_up.ensures.clean (c.empty.ensures.clean clean)) full.1)) still in
     record {
       new = c.in_ok-filled.ensures.answers (c.look.ensures.clean (c.look_up.ensures.clean (c.empty.ensures.clean clean))) h;
       shown = c.in_ok-mail.ensures.shown full.0 (c.look_up.ensures.clean (c.empty.ensures.clean clean)) full.1;
@@ -44,7 +46,8 @@ returns-clause-left g c clean h =
     let full = c.in_ok-filled.ensures.held (c.look.ensures.clean (c.look_up.ensures.clean (c.empty.ensures.clean clean))) h in
     let same = c.in_ok-mail.ensures.same full.0 (c.look_up.ensures.clean (c.empty.ensures.clean clean)) full.1 in
     let still = c.in_ok-kept.ensures.same full.0 (c.empty.ensures.clean clean) same in
-    let there = subst (λ key. g.V.Vault.holds c.look_up.new.vault (filled key c.args.stock.now)) (sym (c.in_ok-mail.ensures.key full.0 (c.look_up.ensures.clean (c.empty.ensures.clean clean)) full.1)) still in
+    let there = subst (λ key. g.V.Vault.holds c.look_up.new.vault (filled key c.args.stock.now))
+    (sym (c.in_ok-mail.ensures.key full.0 (c.look_up.ensures.clean (c.empty.ensures.clean clean)) full.1)) still in
     c.in_ok-left.ensures.held clean there
 
 pub returns-in_err-filled-clause-clean : goal.returns-in_err-filled-clause-clean

@@ -28,7 +28,6 @@ returns-in_err-octets_read-clause-cause g c key clean h =
     let all = filled key s in
     let counted = c.in_ok-totals.ensures.done all h (c.heads.ensures.looks.clean (c.page.ensures.looks.clean clean)) in
     let seen = c.in_ok-heads.ensures.done all counted.held (c.page.ensures.looks.clean clean) in
-    let heads = same_ok _ _ (sym (one_head key s) ∙ seen.answer) in
     let e = c.in_err-octets_read.field-0.0 in
     let done = c.in_err-octets_read.ensures.done all seen.held clean in
     if_passed_on c.from_residual-in_err-octets_read.result e IsOfAnyCall c.from_residual-in_err-octets_read.ensures.1 (any _ e done.answer)
@@ -39,7 +38,6 @@ returns-clause-same g c key clean h =
     let all = filled key s in
     let counted = c.in_ok-totals.ensures.done all h (c.heads.ensures.looks.clean (c.page.ensures.looks.clean clean)) in
     let seen = c.in_ok-heads.ensures.done all counted.held (c.page.ensures.looks.clean clean) in
-    let heads = same_ok _ _ (sym (one_head key s) ∙ seen.answer) in
     let read = c.in_ok-octets_read.ensures.done all seen.held clean in
     read.held
 

@@ -7,6 +7,9 @@ use Rattle.sqlvault.proofs.AskLemmas.{answered, asks_then}
 use Rattle.sqlvault.proofs.FrameLemmas.{was_clean}
 use Rattle.sqlvault.proofs.OlderLemmas.{looked_older, older_then}
 use Rattle.sqlvault.proofs.VersionLemmas.{alone, all_then, found_here, no_version}
+use Rattle.sqlvault.specs.Adopts.{IsOfUnknownVersion}
+use Rattle.sqlvault.proofs.version.find_version.Given.{Over}
+use Rattle.sqlvault.proofs.version.find_version.Goals.{After-all_meta_rows}
 use Rattle.sqlvault.proofs.version.find_version.Goals as goal
 
 pub returns-then-len-eq1-clause-told : goal.returns-then-len-eq1-clause-told
@@ -71,41 +74,21 @@ returns-in-Ok-clause-asks_older g c =
     (looked_older g.S.Store c.find_meta_row.new.conn c.all_meta_rows.new.conn _
     c.in-Ok.ensures.old_same c.all_meta_rows.ensures.old_survives)
 
-pub returns-then-len-eq1-clause-unknown : goal.returns-then-len-eq1-clause-unknown
-returns-then-len-eq1-clause-unknown g c clean2 it settled =
-    let s0 = state g.S.Store c.args.conn.now in
-    let clean1 : HasCleanDisk (state g.S.Store c.find_meta_row.new.conn) = was_clean g.S.Store
-    c.find_meta_row.new.conn c.all_meta_rows.new.conn c.all_meta_rows.ensures.survives clean2 in
+-- ---- of no version that is known here
+
+known : (g : Over) (c : After-all_meta_rows g) → HasCleanDisk (state g.S.Store c.all_meta_rows.new.conn) → IsOfUnknownVersion (state g.S.Store c.args.conn.now) → ⊥
+known g c clean2 it =
+    let clean1 = was_clean g.S.Store c.find_meta_row.new.conn c.all_meta_rows.new.conn c.all_meta_rows.ensures.survives clean2 in
     let value = (let f : SFits w64 c.in-Ok-Some.meta_row.value = search rules in to_z-of_z f) in
-    absurd (no_version (rows_in s0.now.trees) _ (
-      c.in-Ok-Some.meta_row,
-      sym (c.in-Ok-Some.ensures.marked_ok clean1 it.table) ∙ c.in-Ok-Some.field-0-is,
-      sym value,
-    )
-    (c.if-not-is_version.ensures.known refl) it.meta_row)
+    no_version (rows_in (state g.S.Store c.args.conn.now).now.trees) _
+    (c.in-Ok-Some.meta_row, sym (c.in-Ok-Some.ensures.marked_ok clean1 it.table) ∙ c.in-Ok-Some.field-0-is, sym value)
+    (c.if-not-is_version.ensures.known refl) it.meta_row
+
+pub returns-then-len-eq1-clause-unknown : goal.returns-then-len-eq1-clause-unknown
+returns-then-len-eq1-clause-unknown g c clean2 it settled = absurd (known g (goal.at.returns-then-len-eq1-clause-unknown g c).After-all_meta_rows clean2 it)
 
 pub returns-in-Ok-clause-unknown : goal.returns-in-Ok-clause-unknown
-returns-in-Ok-clause-unknown g c clean2 it settled =
-    let s0 = state g.S.Store c.args.conn.now in
-    let clean1 : HasCleanDisk (state g.S.Store c.find_meta_row.new.conn) = was_clean g.S.Store
-    c.find_meta_row.new.conn c.all_meta_rows.new.conn c.all_meta_rows.ensures.survives clean2 in
-    let value = (let f : SFits w64 c.in-Ok-Some.meta_row.value = search rules in to_z-of_z f) in
-    absurd (no_version (rows_in s0.now.trees) _ (
-      c.in-Ok-Some.meta_row,
-      sym (c.in-Ok-Some.ensures.marked_ok clean1 it.table) ∙ c.in-Ok-Some.field-0-is,
-      sym value,
-    )
-    (c.if-not-is_version.ensures.known refl) it.meta_row)
+returns-in-Ok-clause-unknown g c clean2 it settled = absurd (known g (goal.at.returns-in-Ok-clause-unknown g c).After-all_meta_rows clean2 it)
 
 pub returns-clause-unknown : goal.returns-clause-unknown
-returns-clause-unknown g c clean2 it settled =
-    let s0 = state g.S.Store c.args.conn.now in
-    let clean1 : HasCleanDisk (state g.S.Store c.find_meta_row.new.conn) = was_clean g.S.Store
-    c.find_meta_row.new.conn c.all_meta_rows.new.conn c.all_meta_rows.ensures.survives clean2 in
-    let value = (let f : SFits w64 c.in-Ok-Some.meta_row.value = search rules in to_z-of_z f) in
-    absurd (no_version (rows_in s0.now.trees) _ (
-      c.in-Ok-Some.meta_row,
-      sym (c.in-Ok-Some.ensures.marked_ok clean1 it.table) ∙ c.in-Ok-Some.field-0-is,
-      sym value,
-    )
-    (c.if-not-is_version.ensures.known refl) it.meta_row)
+returns-clause-unknown g c clean2 it settled = absurd (known g (goal.at.returns-clause-unknown g c).After-all_meta_rows clean2 it)

@@ -1,4 +1,4 @@
-use Rattle.std.proofs.Common.{rules, ◌≡◌, [], ◌∷◌, ◌++◌, refl, sym, subst, Some, None, true, false}
+use Rattle.std.proofs.Common.{rules, ◌≡◌, [], ◌∷◌, ◌++◌, refl, sym, subst, None, true, false}
 use Rattle.serving.specs.Spools.{Next}
 use Rattle.journal.specs.Guards.{AreGuarded}
 use Rattle.journal.proofs.Guarding.{file_on, name_on, name_back}

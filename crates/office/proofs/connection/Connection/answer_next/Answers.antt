@@ -26,15 +26,21 @@ returns-clause-answered g c =
     let grown = has_grown (g.V.Vault.faults c.args.vault.now) (g.V.Vault.faults new.vault) in
     if_ok_so _ c.answer.result c.answer.ensures.answered (λ w h d t held clean sits.
     let line = h d t held clean (subst (λ (k : Kept). HasTransaction d k.session t) (sym v) sits) in
-    subst (λ (k : Kept). AfterNext (g.V.Vault.holds new.vault) grown d p locks t k (record { held = s.cutter; pending = drop s.cut s.pending.items; output = new.output; state = new.state; stamp = string_bytes s.stamp; session = new.session; clock = s.clock }) w c.args.account.now new.account) v
+    subst (λ (k : Kept). AfterNext (g.V.Vault.holds new.vault) grown d p locks t k
+    (record { held = s.cutter; pending = drop s.cut s.pending.items; output = new.output; state = new.state; stamp = string_bytes s.stamp; session = new.session; clock = s.clock })
+    w c.args.account.now new.account) v
     (next_answered k x c.in-Some.ensures (g.V.Vault.holds new.vault) grown d p locks t w c.args.account.now new.account new.session new.state new.output
-    (subst (λ stamp. AfterLine (g.V.Vault.holds new.vault) grown d (judged_at d p stamp locks) x w t k.session new.session k.state new.state new.output c.args.account.now new.account) c.as_bytes.ensures.value line)))
+    (subst (λ stamp. AfterLine (g.V.Vault.holds new.vault) grown d
+    (judged_at d p stamp locks) x w t k.session new.session k.state new.state new.output c.args.account.now new.account) c.as_bytes.ensures.value line)))
 
 pub returns-in_default-clause-answered : goal.returns-in_default-clause-answered
 returns-in_default-clause-answered g c d t held clean sits =
     let s = c.self.inside in
     let k : Kept = record { held = s.cutter; pending = drop s.cut s.pending.items; output = s.output; state = s.state; stamp = string_bytes s.stamp; session = s.session; clock = s.clock } in
-    subst (λ (k : Kept). AfterNext (g.V.Vault.holds c.args.vault.now) (has_grown (g.V.Vault.faults c.args.vault.now) (g.V.Vault.faults c.args.vault.now)) d c.args.policy.now c.args.locks.now t k (record { held = s.cutter; pending = drop s.cut s.pending.items; output = c.clear.new.self; state = s.state; stamp = string_bytes s.stamp; session = s.session; clock = s.clock }) outcome.Done c.args.account.now c.args.account.now) c.self.view_is
+    subst (λ (k : Kept). AfterNext (g.V.Vault.holds c.args.vault.now)
+    (has_grown (g.V.Vault.faults c.args.vault.now) (g.V.Vault.faults c.args.vault.now)) d c.args.policy.now c.args.locks.now t k
+    (record { held = s.cutter; pending = drop s.cut s.pending.items; output = c.clear.new.self; state = s.state; stamp = string_bytes s.stamp; session = s.session; clock = s.clock })
+    outcome.Done c.args.account.now c.args.account.now) c.self.view_is
     (next_none k c.in_default.ensures (g.V.Vault.holds c.args.vault.now) _ d c.args.policy.now c.args.locks.now t c.args.account.now c.clear.new.self c.clear.ensures held)
 
 pub returns-clause-err : goal.returns-clause-err

@@ -14,7 +14,8 @@ returns-in_default-clause-cut c =
     let n = c.feed-n.result in
     let none : drop n p ≡ [] = none_left n p (f.all (none_whole k c.feed-n.new.self p f.held c.in_default.ensures)) in
     let rest = c.clear.ensures.items ∙ (sym none ∙ ap (λ m. drop m p) f.taken) in
-    piece_cut k c.args.self.now c.self.view_is c.feed-n.new.self p c.clear.new.self.items c.args.now s.clock f.held rest (ap (λ b. cond b c.args.now s.clock) (sym (no_line k c.feed-n.new.self p f.held c.in_default.ensures)))
+    piece_cut k c.args.self.now c.self.view_is c.feed-n.new.self p c.clear.new.self.items c.args.now s.clock f.held rest
+    (ap (λ b. cond b c.args.now s.clock) (sym (no_line k c.feed-n.new.self p f.held c.in_default.ensures)))
 
 pub returns-clause-cut : goal.returns-clause-cut
 returns-clause-cut c =

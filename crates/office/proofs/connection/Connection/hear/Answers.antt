@@ -16,25 +16,30 @@ returns-clause-answered g c =
     let before = c.args in
     let new = c.answer_next.new in
     subst (λ (k : Kept). IfOk c.answer_next.result (λ w. (d : Contents) (v : Option Transaction) → g.V.Vault.holds before.vault.now d → g.V.Vault.is_clean new.vault → HasTransaction d k.session v
-    → AfterNext (g.V.Vault.holds new.vault) (has_grown (g.V.Vault.faults before.vault.now) (g.V.Vault.faults new.vault)) d before.policy.now before.locks.now v k new.self w before.account.now new.account))
+    → AfterNext (g.V.Vault.holds new.vault)
+    (has_grown (g.V.Vault.faults before.vault.now) (g.V.Vault.faults new.vault)) d before.policy.now before.locks.now v k new.self w before.account.now new.account))
     c.in_ok-cut_piece.ensures.cut c.answer_next.ensures.answered
 
 pub returns-clause-locks : goal.returns-clause-locks
 returns-clause-locks g c =
-    subst (λ (k : Kept). OnOk c.answer_next.result (LocksFollow c.args.number k.session c.answer_next.new.self.session c.args.locks.now c.answer_next.new.locks)) c.in_ok-cut_piece.ensures.cut c.answer_next.ensures.locks
+    subst (λ (k : Kept). OnOk c.answer_next.result
+    (LocksFollow c.args.number k.session c.answer_next.new.self.session c.args.locks.now c.answer_next.new.locks)) c.in_ok-cut_piece.ensures.cut c.answer_next.ensures.locks
 
 pub returns-clause-err : goal.returns-clause-err
 returns-clause-err g c =
     let before = c.args in
     let new = c.answer_next.new in
-    subst (λ (k : Kept). OnErr c.answer_next.result ((k.held.whole ≡ true) × NothingDone g.V.Vault before.vault.now new.vault before.locks.now new.locks before.account.now new.account)) c.in_ok-cut_piece.ensures.cut c.answer_next.ensures.err
+    subst (λ (k : Kept). OnErr c.answer_next.result
+    ((k.held.whole ≡ true) × NothingDone g.V.Vault before.vault.now new.vault before.locks.now new.locks before.account.now new.account)) c.in_ok-cut_piece.ensures.cut c.answer_next.ensures.err
 
 pub returns-clause-acts : goal.returns-clause-acts
 returns-clause-acts g c =
-    subst (λ (k : Kept). ActsOnce g.V.Vault c.args.vault.now c.answer_next.new.vault (IsOkAnd c.answer_next.result WasDone) (held_if k.held.whole outcome.Done c.args.policy.now k.session (reading (line_of k)))) c.in_ok-cut_piece.ensures.cut
+    subst (λ (k : Kept). ActsOnce g.V.Vault c.args.vault.now c.answer_next.new.vault (IsOkAnd c.answer_next.result WasDone)
+    (held_if k.held.whole outcome.Done c.args.policy.now k.session (reading (line_of k)))) c.in_ok-cut_piece.ensures.cut
     c.answer_next.ensures.acts
 
 pub returns-clause-unasked : goal.returns-clause-unasked
 returns-clause-unasked g c =
-    subst (λ (k : Kept). (d : Contents) (v : Option Transaction) → HasTransaction d k.session v → (k.held.whole ≡ true → asks c.args.policy.now k.state v (reading (line_of k)) ≡ false) → c.answer_next.new.vault ≡ c.args.vault.now)
+    subst (λ (k : Kept). (d : Contents) (v : Option Transaction) → HasTransaction d k.session v
+    → (k.held.whole ≡ true → asks c.args.policy.now k.state v (reading (line_of k)) ≡ false) → c.answer_next.new.vault ≡ c.args.vault.now)
     c.in_ok-cut_piece.ensures.cut c.answer_next.ensures.unasked

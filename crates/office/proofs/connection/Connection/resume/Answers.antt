@@ -1,4 +1,4 @@
-use Rattle.std.proofs.Common.{◌≡◌, ◌-◌, ◌≤◌, IfOk, true, false, drop, take, take_all, length, length-drop, string_bytes, arith, refl, ◌∙◌, ap, subst, Option}
+use Rattle.std.proofs.Common.{◌≡◌, ◌+◌, ◌-◌, ◌≤◌, IfOk, true, false, drop, take, take_all, length, length-drop, string_bytes, arith, refl, ◌∙◌, ap, subst, Option}
 use Rattle.std.specs.Prelude.{IsOkAnd, OnOk, OnErr}
 use Rattle.vault.specs.Changes.{Contents}
 use Rattle.vault.specs.Calls.{has_grown}
@@ -10,62 +10,60 @@ use Rattle.office.specs.Answered.{HasTransaction, LocksFollow, held_if}
 use Rattle.office.specs.AfterLine.{AfterNext, NothingDone, line_of}
 use Rattle.office.specs.declared.login_state.LineOutcome.TheVariants as outcome
 use Rattle.office.proofs.AfterLines.{rest_cut}
+use Rattle.office.specs.AfterLine.{cut_through}
+use Rattle.office.proofs.connection.Connection.resume.Given.{Over}
+use Rattle.office.proofs.connection.Connection.resume.Goals.{After-answer_next}
 use Rattle.office.proofs.connection.Connection.resume.Goals as goal
+
+-- what is kept as the rest of the piece is cut, and that it is cut so
+abbrev opened : (g : Over) → After-answer_next g → Kept
+opened g c =
+    let s = c.self.inside in
+    record { held = s.cutter; pending = drop s.cut s.pending.items; output = s.output; state = s.state; stamp = string_bytes s.stamp; session = s.session; clock = s.clock }
+
+cut : (g : Over) (c : After-answer_next g) → record (opened g c) { held = c.feed.new.self; pending = drop (c.self.inside.cut + c.feed.result) c.self.inside.pending.items }
+    ≡ cut_through c.args.self.now.pending c.args.self.now
+cut g c =
+    let s = c.self.inside in
+    let xs = c.deref.result.now in
+    let all : xs ≡ s.pending.items = c.deref.ensures.value in
+    let fits : length (drop s.cut xs) ≤ length xs - s.cut = omega (arith, length-drop s.cut xs) in
+    let given : take (length xs - s.cut) (drop s.cut xs) ≡ drop s.cut s.pending.items = take_all (length xs - s.cut) (drop s.cut xs) fits ∙ ap (drop s.cut) all in
+    rest_cut (opened g c) c.args.self.now c.self.view_is c.feed.new.self s.cut c.feed.result s.pending.items _ given refl c.feed.ensures.held c.feed.ensures.taken
 
 pub returns-clause-answered : goal.returns-clause-answered
 returns-clause-answered g c =
-    let s = c.self.inside in
-    let k : Kept = record { held = s.cutter; pending = drop s.cut s.pending.items; output = s.output; state = s.state; stamp = string_bytes s.stamp; session = s.session; clock = s.clock } in
-    let all : c.deref.result.now ≡ s.pending.items = c.deref.ensures.value in
-    let fits : length (drop s.cut c.deref.result.now) ≤ length c.deref.result.now - s.cut = omega (arith, length-drop s.cut c.deref.result.now) in
-    let given : take (length c.deref.result.now - s.cut) (drop s.cut c.deref.result.now) ≡ k.pending = take_all (length c.deref.result.now - s.cut) (drop s.cut c.deref.result.now) fits ∙ ap (drop s.cut) all in
-    let e = rest_cut k c.args.self.now c.self.view_is c.feed.new.self s.cut c.feed.result s.pending.items _ given refl c.feed.ensures.held c.feed.ensures.taken in
     let before = c.args in
     let new = c.answer_next.new in
     subst (λ (k : Kept). IfOk c.answer_next.result (λ w. (d : Contents) (v : Option Transaction) → g.V.Vault.holds before.vault.now d → g.V.Vault.is_clean new.vault → HasTransaction d k.session v
-    → AfterNext (g.V.Vault.holds new.vault) (has_grown (g.V.Vault.faults before.vault.now) (g.V.Vault.faults new.vault)) d before.policy.now before.locks.now v k new.self w before.account.now new.account))
-    e c.answer_next.ensures.answered
+    → AfterNext (g.V.Vault.holds new.vault)
+    (has_grown (g.V.Vault.faults before.vault.now) (g.V.Vault.faults new.vault)) d before.policy.now before.locks.now v k new.self w before.account.now new.account))
+    (cut g (goal.at.returns-clause-answered g c).After-answer_next)
+    c.answer_next.ensures.answered
 
 pub returns-clause-locks : goal.returns-clause-locks
 returns-clause-locks g c =
-    let s = c.self.inside in
-    let k : Kept = record { held = s.cutter; pending = drop s.cut s.pending.items; output = s.output; state = s.state; stamp = string_bytes s.stamp; session = s.session; clock = s.clock } in
-    let all : c.deref.result.now ≡ s.pending.items = c.deref.ensures.value in
-    let fits : length (drop s.cut c.deref.result.now) ≤ length c.deref.result.now - s.cut = omega (arith, length-drop s.cut c.deref.result.now) in
-    let given : take (length c.deref.result.now - s.cut) (drop s.cut c.deref.result.now) ≡ k.pending = take_all (length c.deref.result.now - s.cut) (drop s.cut c.deref.result.now) fits ∙ ap (drop s.cut) all in
-    let e = rest_cut k c.args.self.now c.self.view_is c.feed.new.self s.cut c.feed.result s.pending.items _ given refl c.feed.ensures.held c.feed.ensures.taken in
-    subst (λ (k : Kept). OnOk c.answer_next.result (LocksFollow c.args.number k.session c.answer_next.new.self.session c.args.locks.now c.answer_next.new.locks)) e c.answer_next.ensures.locks
+    subst (λ (k : Kept). OnOk c.answer_next.result (LocksFollow c.args.number k.session c.answer_next.new.self.session c.args.locks.now c.answer_next.new.locks))
+    (cut g (goal.at.returns-clause-locks g c).After-answer_next)
+    c.answer_next.ensures.locks
 
 pub returns-clause-err : goal.returns-clause-err
 returns-clause-err g c =
-    let s = c.self.inside in
-    let k : Kept = record { held = s.cutter; pending = drop s.cut s.pending.items; output = s.output; state = s.state; stamp = string_bytes s.stamp; session = s.session; clock = s.clock } in
-    let all : c.deref.result.now ≡ s.pending.items = c.deref.ensures.value in
-    let fits : length (drop s.cut c.deref.result.now) ≤ length c.deref.result.now - s.cut = omega (arith, length-drop s.cut c.deref.result.now) in
-    let given : take (length c.deref.result.now - s.cut) (drop s.cut c.deref.result.now) ≡ k.pending = take_all (length c.deref.result.now - s.cut) (drop s.cut c.deref.result.now) fits ∙ ap (drop s.cut) all in
-    let e = rest_cut k c.args.self.now c.self.view_is c.feed.new.self s.cut c.feed.result s.pending.items _ given refl c.feed.ensures.held c.feed.ensures.taken in
     let before = c.args in
     let new = c.answer_next.new in
-    subst (λ (k : Kept). OnErr c.answer_next.result ((k.held.whole ≡ true) × NothingDone g.V.Vault before.vault.now new.vault before.locks.now new.locks before.account.now new.account)) e c.answer_next.ensures.err
+    subst (λ (k : Kept). OnErr c.answer_next.result
+    ((k.held.whole ≡ true) × NothingDone g.V.Vault before.vault.now new.vault before.locks.now new.locks before.account.now new.account)) (cut g (goal.at.returns-clause-err g c).After-answer_next)
+    c.answer_next.ensures.err
 
 pub returns-clause-acts : goal.returns-clause-acts
 returns-clause-acts g c =
-    let s = c.self.inside in
-    let k : Kept = record { held = s.cutter; pending = drop s.cut s.pending.items; output = s.output; state = s.state; stamp = string_bytes s.stamp; session = s.session; clock = s.clock } in
-    let all : c.deref.result.now ≡ s.pending.items = c.deref.ensures.value in
-    let fits : length (drop s.cut c.deref.result.now) ≤ length c.deref.result.now - s.cut = omega (arith, length-drop s.cut c.deref.result.now) in
-    let given : take (length c.deref.result.now - s.cut) (drop s.cut c.deref.result.now) ≡ k.pending = take_all (length c.deref.result.now - s.cut) (drop s.cut c.deref.result.now) fits ∙ ap (drop s.cut) all in
-    let e = rest_cut k c.args.self.now c.self.view_is c.feed.new.self s.cut c.feed.result s.pending.items _ given refl c.feed.ensures.held c.feed.ensures.taken in
-    subst (λ (k : Kept). ActsOnce g.V.Vault c.args.vault.now c.answer_next.new.vault (IsOkAnd c.answer_next.result WasDone) (held_if k.held.whole outcome.Done c.args.policy.now k.session (reading (line_of k)))) e
+    subst (λ (k : Kept). ActsOnce g.V.Vault c.args.vault.now c.answer_next.new.vault (IsOkAnd c.answer_next.result WasDone)
+    (held_if k.held.whole outcome.Done c.args.policy.now k.session (reading (line_of k)))) (cut g (goal.at.returns-clause-acts g c).After-answer_next)
     c.answer_next.ensures.acts
 
 pub returns-clause-unasked : goal.returns-clause-unasked
 returns-clause-unasked g c =
-    let s = c.self.inside in
-    let k : Kept = record { held = s.cutter; pending = drop s.cut s.pending.items; output = s.output; state = s.state; stamp = string_bytes s.stamp; session = s.session; clock = s.clock } in
-    let all : c.deref.result.now ≡ s.pending.items = c.deref.ensures.value in
-    let fits : length (drop s.cut c.deref.result.now) ≤ length c.deref.result.now - s.cut = omega (arith, length-drop s.cut c.deref.result.now) in
-    let given : take (length c.deref.result.now - s.cut) (drop s.cut c.deref.result.now) ≡ k.pending = take_all (length c.deref.result.now - s.cut) (drop s.cut c.deref.result.now) fits ∙ ap (drop s.cut) all in
-    let e = rest_cut k c.args.self.now c.self.view_is c.feed.new.self s.cut c.feed.result s.pending.items _ given refl c.feed.ensures.held c.feed.ensures.taken in
-    subst (λ (k : Kept). (d : Contents) (v : Option Transaction) → HasTransaction d k.session v → (k.held.whole ≡ true → asks c.args.policy.now k.state v (reading (line_of k)) ≡ false) → c.answer_next.new.vault ≡ c.args.vault.now)
-    e c.answer_next.ensures.unasked
+    subst (λ (k : Kept). (d : Contents) (v : Option Transaction) → HasTransaction d k.session v
+    → (k.held.whole ≡ true → asks c.args.policy.now k.state v (reading (line_of k)) ≡ false) → c.answer_next.new.vault ≡ c.args.vault.now)
+    (cut g (goal.at.returns-clause-unasked g c).After-answer_next)
+    c.answer_next.ensures.unasked

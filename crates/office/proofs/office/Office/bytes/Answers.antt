@@ -4,8 +4,7 @@ use Rattle.std.specs.BTreeMap.{get}
 use Rattle.vault.specs.Changes.{AreSound}
 use Rattle.office.specs.Events.{Bytes, Tagged, given}
 use Rattle.office.specs.History.{Done, NoMemory}
-use Rattle.popline.specs.Cutting.{has_newline}
-use Rattle.office.specs.Trace.{acts, history, next_line}
+use Rattle.office.specs.Trace.{acts}
 use Rattle.office.specs.Accounts.{account_of}
 use Rattle.office.proofs.Accounts.{piece_account}
 use Rattle.office.specs.Locks.{Released}
@@ -14,7 +13,8 @@ use Rattle.office.specs.Output.{nothing_owed}
 use Rattle.office.specs.Kept.{Kept, clocked, line_after}
 use Rattle.office.specs.Answered.{tag_of, judged_at}
 use Rattle.office.specs.Stands.{Matches, IsKeptFor, seen, untaken_of, lent_by}
-use Rattle.office.proofs.Events.{moved, marked, seen-bytes_other, whole-bytes, is_apart, line_cause, next_there, awaits_bytes, records-bytes_lacking, over-bytes, bytes_goes, records-bytes_line, records-bytes_part, bytes_waits, bytes_too_long}
+use Rattle.office.proofs.Events.{moved, marked, seen-bytes_other, whole-bytes, is_apart, line_cause, next_there, awaits_bytes, records-bytes_lacking, over-bytes, bytes_goes}
+use Rattle.office.proofs.Events.{records-bytes_line, records-bytes_part, bytes_waits, bytes_too_long}
 use Rattle.office.proofs.Hearing.{streamed}
 use Rattle.office.proofs.Locking.{holds_by}
 use Rattle.office.proofs.Coming.{released, put_back}
@@ -31,7 +31,8 @@ pub returns-in_default-clause-after : goal.returns-in_default-clause-after
 returns-in_default-clause-after g c =
     let o = c.args.self.now in
     let none : get nat_cmp o.connections c.args.c ≡ None = search rules in
-    ignored_after g.V.Vault o _ (Bytes c.args.c c.args.piece.now) outcome.NoSuchConnection (g.met.V.Vault.settled _) (λ q. ap (λ connections. get nat_cmp connections q) c.get_mut.follows.holds-at-none)
+    ignored_after g.V.Vault o _ (Bytes c.args.c c.args.piece.now) outcome.NoSuchConnection (g.met.V.Vault.settled _)
+    (λ q. ap (λ connections. get nat_cmp connections q) c.get_mut.follows.holds-at-none)
     (λ T st. let closed = closed_at T c.args.c st none in rw closed refl)
 
 pub returns-then-not-owes_nothing-clause-after : goal.returns-then-not-owes_nothing-clause-after
@@ -130,7 +131,8 @@ returns-in-Err-clause-after g c = record {
         carried = λ q e i. i;
         locks = released T.base (acts T) (acts (given T (Bytes n p) (Tagged NoMemory))) n (λ d q e. ap (λ s. holds_by s d) (seen-bytes_other T n p q NoMemory e))
             (λ d. let out = gone.authorization in rw out refl) ct (seen T n) k.session c.hear.new.locks _ m.session refl refl
-            (λ d. c.in-Err.ensures.err.1.locks d ∙ st.locks d) (subst (λ h. Released h c.hear.new.locks c.cut_off_without_memory.new.locks) c.maildrop-held.ensures c.cut_off_without_memory.ensures.locks);
+            (λ d. c.in-Err.ensures.err.1.locks d ∙ st.locks d)
+            (subst (λ h. Released h c.hear.new.locks c.cut_off_without_memory.new.locks) c.maildrop-held.ensures c.cut_off_without_memory.ensures.locks);
       }))
       (record { tag = NoMemory; may = line; is = rw goes refl }) tt (λ up answered. absurd answered)
       (λ up. line_left T n st.keeps sound (streamed (seen T n) p o.moment) (clocked o.moment p k) p (judged_at ct o.policy k.stamp o.locks) k.state ready j (Bytes n p)

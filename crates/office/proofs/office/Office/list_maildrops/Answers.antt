@@ -10,5 +10,7 @@ use Rattle.office.proofs.office.Office.list_maildrops.Goals as goal
 
 pub returns : goal.returns
 returns g c =
-    rw c.listed.ensures (looked_after g.V.Vault c.args.self.now _ (Admin ListMaildrops) _ tt c.maildrops.ensures.looks (own (λ r. by_vault.listed (seen_as r (λ v. v.items))) c.maildrops.result refl refl)
-    (g.met.V.Vault.settled _) (λ T st clean. maildrops_listed _ T st.keeps _ _ (c.maildrops.ensures.done st.keeps.contents st.keeps.held clean) (λ e. c.maildrops.ensures.looks.counted.cause (store_seen _ _ e))))
+    rw c.listed.ensures (looked_after g.V.Vault c.args.self.now _ (Admin ListMaildrops) _ tt c.maildrops.ensures.looks
+    (own (λ r. by_vault.listed (seen_as r (λ v. v.items))) c.maildrops.result refl refl)
+    (g.met.V.Vault.settled _) (λ T st clean. maildrops_listed _ T st.keeps _ _ (c.maildrops.ensures.done st.keeps.contents st.keeps.held clean)
+    (λ e. c.maildrops.ensures.looks.counted.cause (store_seen _ _ e))))

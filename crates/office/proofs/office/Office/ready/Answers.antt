@@ -16,5 +16,6 @@ returns-in-Some g c T st =
     let found : get nat_cmp c.args.self.now.connections n ≡ Some k = sym c.in-Some.ensures.value in
     let m : Matches ct s k = subst (IsKeptFor ct s) found (st.connections n) in
     let opened : is_open T n ≡ true = m.opened in
-    let same : c.owes_nothing.result ≡ is_empty (untaken_of s) = same_empty ct k.session k.output (untaken_of s) m.owed c.owes_nothing.result (sym c.owes_nothing.ensures.value) c.owes_nothing.ensures.nothing in
+    let same : c.owes_nothing.result ≡ is_empty (untaken_of s) = same_empty ct k.session k.output (untaken_of s) m.owed c.owes_nothing.result
+    (sym c.owes_nothing.ensures.value) c.owes_nothing.ensures.nothing in
     rw opened same

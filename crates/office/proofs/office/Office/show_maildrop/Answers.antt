@@ -12,7 +12,8 @@ pub returns : goal.returns
 returns g c =
     let d = c.args.maildrop.now in
     ⊎_elim
-    (λ e. rw e (looked_after g.V.Vault c.args.self.now _ (Admin (ShowMaildrop d)) _ tt c.heads.ensures.looks (own (λ r. by_vault.maildrop_shown (seen_as r (λ v. v.items))) c.heads.result refl refl) (g.met.V.Vault.settled _)
+    (λ e. rw e (looked_after g.V.Vault c.args.self.now _ (Admin (ShowMaildrop d)) _ tt c.heads.ensures.looks
+    (own (λ r. by_vault.maildrop_shown (seen_as r (λ v. v.items))) c.heads.result refl refl) (g.met.V.Vault.settled _)
     (λ T st clean. maildrop_shown _ T st.keeps _ d _ (c.heads.ensures.done st.keeps.contents st.keeps.held clean) (λ x. c.heads.ensures.looks.counted.cause (store_seen _ _ x)))))
     (λ e. rw e (looked_after g.V.Vault c.args.self.now _ (Admin (ShowMaildrop d)) _ tt c.heads.ensures.looks (λ answered. absurd answered) (g.met.V.Vault.settled _)
     (λ T st clean. maildrop_show_lacked _ T st.keeps _ d _ (c.heads.ensures.done st.keeps.contents st.keeps.held clean))))

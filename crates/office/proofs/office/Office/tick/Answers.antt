@@ -14,6 +14,7 @@ returns-clause-after g c =
     let later : c.max-self.result ≡ max o.moment c.args.now = search rules in
     unasked_after g.V.Vault o _ (Tick c.args.now) outcome.Done (g.met.V.Vault.settled _) refl tt
     (λ T st clean. tick_stands g.V.Vault.holds o _ T c.args.now st
-    (λ q. c.end_idle.ensures q ∙ (ap (λ m. unless_idle m c.idle.result (get nat_cmp o.connections q)) later ∙ ap (λ s. unless_idle (max o.moment c.args.now) s (get nat_cmp o.connections q)) c.idle.ensures))
+    (λ q. c.end_idle.ensures q ∙ (ap (λ m. unless_idle m c.idle.result (get nat_cmp o.connections q)) later
+    ∙ ap (λ s. unless_idle (max o.moment c.args.now) s (get nat_cmp o.connections q)) c.idle.ensures))
     (λ k h. h) refl refl refl refl (ap (λ m. (o.opened, m)) later) c.release_ended.ensures)
     (λ T st. record { tag = Done; may = refl; is = refl })

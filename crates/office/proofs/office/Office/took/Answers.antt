@@ -1,4 +1,4 @@
-use Rattle.std.proofs.Common.{◌≡◌, ◌≤◌, [], false, true, Option, Some, None, sym, ◌∙◌, ap, nat_cmp, subst, rules, refl, arith}
+use Rattle.std.proofs.Common.{◌≡◌, [], false, true, Some, None, sym, ◌∙◌, ap, nat_cmp, subst, rules, refl, arith}
 use Rattle.std.specs.BTreeMap.{get}
 use Rattle.vault.specs.Changes.{AreSound}
 use Rattle.office.specs.Events.{Took, Tagged, given}
@@ -12,23 +12,68 @@ use Rattle.office.specs.Output.{nothing_owed}
 use Rattle.office.specs.Kept.{Kept, line_after, maildrop_of}
 use Rattle.office.specs.Locks.{Released}
 use Rattle.office.specs.Answered.{tag_of, judged_at}
-use Rattle.office.specs.Stands.{Matches, IsOver, IsKeptFor, IsSession, seen, untaken_of, lent_by, length_of_lent}
+use Rattle.office.specs.Stands.{Matches, IsOver, IsKeptFor, IsSession, seen, untaken_of, lent_by}
 use Rattle.office.specs.declared.login_state.LineOutcome.TheVariants as line_outcome
-use Rattle.office.proofs.Events.{moved, marked, seen-took_other, seen-took_part, records-took_part, seen-took_closing, records-took_closing, records-took_lacking, whole-took, over-took, next_there, next_kept, is_apart, left_over, all_over, closed_took, took_goes, line_cause, same_part, same_closing, records-took_line, records-took_none}
-use Rattle.office.proofs.Hearing.{Awaits, took}
+use Rattle.office.proofs.Events.{moved, marked, seen-took_other, seen-took_part, records-took_part, seen-took_closing, records-took_closing, records-took_lacking, whole-took}
+use Rattle.office.proofs.Events.{over-took, next_there, next_kept, is_apart, left_over, all_over, closed_took, line_cause, same_part, same_closing, records-took_line}
+use Rattle.office.proofs.Events.{records-took_none}
+use Rattle.office.proofs.Hearing.{took}
 use Rattle.office.proofs.Locking.{holds_by}
 use Rattle.office.proofs.Coming.{released, put_back}
 use Rattle.office.proofs.Ending.{ended_by, took_ends}
-use Rattle.office.proofs.Taking.{lent_ready, took_more, took_less, took_all, some_taken, all_taken, grown_behind, lacking_ends, refused_ends, takes_all}
+use Rattle.office.proofs.Taking.{lent_ready, took_more, took_less, took_all, some_taken, lacking_ends, refused_ends, takes_all}
 use Rattle.office.proofs.Owing.{text_feeds}
 use Rattle.office.proofs.Memory.{more_than_lent}
-use Rattle.office.proofs.TakingDone.{judged, taking_moves, taking_answered, taking_told}
+use Rattle.office.proofs.TakingDone.{taking_at, judged, taking_moves, taking_answered, taking_told}
 use Rattle.office.specs.Outcomes as outcome
-use Rattle.office.proofs.AfterEvents.{kept_at, closed_at, stands_after, ignored_after}
+use Rattle.office.proofs.AfterEvents.{closed_at, stands_after, ignored_after}
 use Rattle.office.proofs.Stopping.{before_left}
 use Rattle.office.proofs.StoppingLines.{line_left, line_answered}
-use Rattle.office.proofs.Unasked.{taking_asks_none, taking_reads_none}
+use Rattle.office.proofs.Unasked.{taking_asks_none}
+use Rattle.vault.proofs.CallLemmas.{grown_before}
+use Rattle.office.specs.Expected.{may_show}
+use Rattle.office.specs.Events.{Trace}
+use Rattle.office.specs.Stands.{StandsFor}
+use Rattle.office.proofs.TakingDone.{IsTaking}
+use Rattle.office.proofs.Taking.{TakesAll}
+use Rattle.office.proofs.office.Office.took.Given.{Over}
+use Rattle.office.proofs.office.Office.took.Goals.{After-take, After-resume}
 use Rattle.office.proofs.office.Office.took.Goals as goal
+
+-- ---- what several exits know
+
+-- what is known as the octets are taken
+taking : (g : Over) (c : After-take g) (T : Trace) (st : StandsFor g.V.Vault.holds c.args.self.now T) → IsTaking c.args.self.now T st.keeps.contents c.args.c c.args.octets c.in-Some.connection.now
+taking g c T st = taking_at c.args.self.now T st c.args.c c.args.octets c.in-Some.connection.now (sym c.in-Some.ensures.value) (c.lends.ensures.some c.if-not-lends.false)
+
+-- they are taken without asking the store, if the taking asks nothing
+unasked : (g : Over) (c : After-take g) (T : Trace) → StandsFor g.V.Vault.holds c.args.self.now T → may_show T (Took c.args.c c.args.octets) Failed ≡ false → c.take.new.vault ≡ c.args.self.now.vault
+unasked g c T st none = c.take.ensures.unasked ((taking g c T st).reads_none none)
+
+-- all is taken before the next line acts
+all : (g : Over) (c : After-resume g) (T : Trace) (st : StandsFor g.V.Vault.holds c.args.self.now T) → g.V.Vault.is_clean c.take.new.vault
+    → TakesAll st.keeps.contents T c.args.c c.args.octets c.args.self.now.moment c.take.new.self
+all g c T st before =
+    let o = c.args.self.now in
+    let at = taking_at o T st c.args.c c.args.octets c.in-Some.connection.now (sym c.in-Some.ensures.value) (c.lends.ensures.some c.if-not-lends.false) in
+    takes_all st.keeps.contents T c.args.c c.args.octets o.moment c.in-Some.connection.now c.take.new.self at.matches at.fits c.take.ensures.kept
+    (c.in-Ok.ensures.owes c.if-not-taken.false st.keeps.contents (untaken_of (seen T c.args.c)) st.keeps.held before at.matches.owed)
+    (c.owes_nothing.ensures.nothing c.if-not-owes_nothing.false) (sym c.is_closing.ensures ∙ c.if-is_closing.false)
+
+-- nothing is asked for the next line either
+resumed : (g : Over) (c : After-resume g) (T : Trace) → StandsFor g.V.Vault.holds c.args.self.now T → g.V.Vault.is_clean c.args.self.now.vault
+    → may_show T (Took c.args.c c.args.octets) Failed ≡ false → c.take.new.vault ≡ c.args.self.now.vault → c.resume.new.vault ≡ c.args.self.now.vault
+resumed g c T st clean none same =
+    let o = c.args.self.now in
+    let ct = st.keeps.contents in
+    let k1 : Kept = c.take.new.self in
+    let a = all g c T st (subst g.V.Vault.is_clean (sym same) clean) in
+    let sound : AreSound ct = g.met.V.Vault.sound o.vault ct st.keeps.held clean in
+    let j = judged T c.args.c c.args.octets st.keeps sound o.policy st.policy o.locks st.locks o.moment st.moment k1 a.ready a.over a.open_yet in
+    c.resume.ensures.unasked ct j.transaction j.has_transaction
+    (taking_asks_none T c.args.c ct k1 (judged_at ct o.policy k1.stamp o.locks) k1.state k1.session j c.args.octets o.moment a.ready a.over a.open_yet none) ∙ same
+
+-- ---- each exit
 
 pub returns-in_default-clause-after : goal.returns-in_default-clause-after
 returns-in_default-clause-after g c =
@@ -60,20 +105,16 @@ returns-in-Err-clause-after g c = record {
       let ct = st.keeps.contents in
       let k1 : Kept = c.take.new.self in
       let found : get nat_cmp o.connections x ≡ Some k = sym c.in-Some.ensures.value in
-      let m : Matches ct s k = kept_at T x st k found in
-      let lends = c.lends.ensures.some c.if-not-lends.false in
-      let fits = lent_ready k.output n lends.1 in
-      let lent : n ≤ lent_by o x = subst (λ (e : Option Kept). n ≤ length_of_lent e) (sym found) lends.1 in
-      let goes = took_goes T (lent_by o) x n m.opened lends.0 lent in
-      let left : is_left T.log (history T) x n ≡ true = left_over s n (took_more ct s k n o.moment m fits c.in-Err.ensures.err) in
-      let more = more_than_lent ct T x k m c.in-Err.ensures.err in
+      let at = taking g (goal.at.returns-in-Err-clause-after g c).After-take T st in
+      let left : is_left T.log (history T) x n ≡ true = left_over s n (took_more ct s k n o.moment at.matches at.fits c.in-Err.ensures.err) in
+      let more = more_than_lent ct T x k at.matches c.in-Err.ensures.err in
       let first = (c.get_mut.follows.holds k1).3 (search rules) in
       let second = c.cut_off_without_memory.ensures.connections in
       stands_after g.V.Vault o _ T (Took x n) outcome.NoMemory
       (ended_by g.V.Vault.holds o _ T (Took x n) NoMemory x (took_ends T x n NoMemory left (lacking_ends (serving (history T) x) x)) st k found
       (λ d h. c.take.ensures.looks.held d h clean) refl refl refl refl refl second.1 (λ q e. second.2 q e ∙ first.2 q e)
       (subst (λ h. Released h o.locks c.cut_off_without_memory.new.locks) c.maildrop-held.ensures c.cut_off_without_memory.ensures.locks))
-      (record { tag = NoMemory; may = rw (left, more) refl; is = rw goes refl }) tt (λ up answered. absurd answered)
+      (record { tag = NoMemory; may = rw (left, more) refl; is = rw at.goes refl }) tt (λ up answered. absurd answered)
       (λ up. before_left T (Took x n) st.keeps (c.take.ensures.looks.stop ct st.keeps.held clean up)) (g.met.V.Vault.settled _) clean;
 }
 
@@ -90,21 +131,18 @@ returns-then-not-taken-clause-after g c = record {
       let ct = st.keeps.contents in
       let k1 : Kept = c.take.new.self in
       let found : get nat_cmp o.connections x ≡ Some k = sym c.in-Some.ensures.value in
-      let m : Matches ct s k = kept_at T x st k found in
-      let lends = c.lends.ensures.some c.if-not-lends.false in
-      let fits = lent_ready k.output n lends.1 in
-      let lent : n ≤ lent_by o x = subst (λ (e : Option Kept). n ≤ length_of_lent e) (sym found) lends.1 in
-      let goes = took_goes T (lent_by o) x n m.opened lends.0 lent in
+      let at = taking g (goal.at.returns-then-not-taken-clause-after g c).After-take T st in
       let reads = c.in-Ok.ensures.refused c.if-not-taken.true in
-      let left : is_left T.log (history T) x n ≡ true = left_over s n (took_more ct s k n o.moment m fits (text_feeds k.output.source reads)) in
-      let serves : serving (history T) x ≡ true = m.serving reads in
+      let left : is_left T.log (history T) x n ≡ true = left_over s n (took_more ct s k n o.moment at.matches at.fits (text_feeds k.output.source reads)) in
+      let serves : serving (history T) x ≡ true = at.matches.serving reads in
       let first = (c.get_mut.follows.holds k1).3 (search rules) in
       let second = c.cut_off.ensures.connections in
       stands_after g.V.Vault o _ T (Took x n) outcome.Failed
       (ended_by g.V.Vault.holds o _ T (Took x n) Failed x (took_ends T x n Failed left (refused_ends (serving (history T) x) x serves)) st k found
       (λ d h. c.take.ensures.looks.held d h clean) refl refl refl refl refl second.1 (λ q e. second.2 q e ∙ first.2 q e)
       (subst (λ h. Released h o.locks c.cut_off.new.locks) c.maildrop-held.ensures c.cut_off.ensures.locks))
-      (record { tag = Failed; may = rw (left, serves) refl; is = rw goes refl }) (c.in-Ok.ensures.cause c.if-not-taken.true ct (untaken_of s) st.keeps.held clean m.owed) (λ up answered. absurd answered)
+      (record { tag = Failed; may = rw (left, serves) refl; is = rw at.goes refl })
+      (c.in-Ok.ensures.cause c.if-not-taken.true ct (untaken_of s) st.keeps.held clean at.matches.owed) (λ up answered. absurd answered)
       (λ up. before_left T (Took x n) st.keeps (c.take.ensures.looks.stop ct st.keeps.held clean up)) (g.met.V.Vault.settled _) clean;
 }
 
@@ -121,19 +159,15 @@ returns-then-not-owes_nothing-clause-after g c = record {
       let ct = st.keeps.contents in
       let k1 : Kept = c.take.new.self in
       let found : get nat_cmp o.connections x ≡ Some k = sym c.in-Some.ensures.value in
-      let m : Matches ct s k = kept_at T x st k found in
-      let lends = c.lends.ensures.some c.if-not-lends.false in
-      let fits = lent_ready k.output n lends.1 in
-      let lent : n ≤ lent_by o x = subst (λ (e : Option Kept). n ≤ length_of_lent e) (sym found) lends.1 in
-      let goes = took_goes T (lent_by o) x n m.opened lends.0 lent in
+      let at = taking g (goal.at.returns-then-not-owes_nothing-clause-after g c).After-take T st in
       let does = c.in-Ok.ensures in
       let yes : c.in-Ok.taken ≡ true = c.if-not-taken.false in
-      let owes = does.owes yes ct (untaken_of s) st.keeps.held clean m.owed in
+      let owes = does.owes yes ct (untaken_of s) st.keeps.held clean at.matches.owed in
       let some : is_empty k1.output.ready ≡ false = sym c.owes_nothing.ensures.value ∙ c.if-not-owes_nothing.true in
-      let left = left_over s n (took_less ct s k n o.moment m fits k1.output owes some) in
+      let left = left_over s n (took_less ct s k n o.moment at.matches at.fits k1.output owes some) in
       let change = (c.get_mut.follows.holds k1).3 (search rules) in
       let here : Matches ct (seen (given T (Took x n) (Tagged Done)) x) k1 =
-      subst (λ y. Matches ct y k1) (sym (seen-took_part T x n o.moment st.moment left)) (some_taken ct s k n o.moment m fits k1.output owes k1 c.take.ensures.kept some does.kind) in
+      subst (λ y. Matches ct y k1) (sym (seen-took_part T x n o.moment st.moment left)) (some_taken ct s k n o.moment at.matches at.fits k1.output owes k1 c.take.ensures.kept some does.kind) in
       stands_after g.V.Vault o _ T (Took x n) outcome.Done
       (moved g.V.Vault.holds o _ T (Took x n) _ Done x refl st refl refl refl refl refl refl (whole-took T x n Done) refl refl (rw found refl)
       (λ q e. seen-took_other T x n q Done e) (λ q ne. change.2 q (is_apart x q ne)) (record {
@@ -144,7 +178,7 @@ returns-then-not-owes_nothing-clause-after g c = record {
         carried = λ q e i. i;
         locks = λ d. st.locks d ∙ sym (same_part T x n left d);
       }))
-      (record { tag = Done; may = refl; is = rw goes refl }) tt (λ up answered. does.looks.up ct st.keeps.held clean up yes)
+      (record { tag = Done; may = refl; is = rw at.goes refl }) tt (λ up answered. does.looks.up ct st.keeps.held clean up yes)
       (λ up. before_left T (Took x n) st.keeps (c.take.ensures.looks.stop ct st.keeps.held clean up)) (g.met.V.Vault.settled _) clean;
 }
 
@@ -161,20 +195,16 @@ returns-then-is_closing-clause-after g c = record {
       let ct = st.keeps.contents in
       let k1 : Kept = c.take.new.self in
       let found : get nat_cmp o.connections x ≡ Some k = sym c.in-Some.ensures.value in
-      let m : Matches ct s k = kept_at T x st k found in
-      let lends = c.lends.ensures.some c.if-not-lends.false in
-      let fits = lent_ready k.output n lends.1 in
-      let lent : n ≤ lent_by o x = subst (λ (e : Option Kept). n ≤ length_of_lent e) (sym found) lends.1 in
-      let goes = took_goes T (lent_by o) x n m.opened lends.0 lent in
+      let at = taking g (goal.at.returns-then-is_closing-clause-after g c).After-take T st in
       let does = c.in-Ok.ensures in
       let yes : c.in-Ok.taken ≡ true = c.if-not-taken.false in
-      let owes = does.owes yes ct (untaken_of s) st.keeps.held clean m.owed in
+      let owes = does.owes yes ct (untaken_of s) st.keeps.held clean at.matches.owed in
       let none : k1.output ≡ nothing_owed = c.owes_nothing.ensures.nothing c.if-not-owes_nothing.false in
-      let all = took_all ct s k n o.moment m fits k1.output owes none in
+      let all = took_all ct s k n o.moment at.matches at.fits k1.output owes none in
       let over = all_over s n all in
-      let closed : s.closing ≡ true = sym m.closing ∙ (sym (ap (λ (k : Kept). k.state.closing) c.take.ensures.kept) ∙ (sym c.is_closing.ensures ∙ c.if-is_closing.true)) in
+      let closed : s.closing ≡ true = sym at.matches.closing ∙ (sym (ap (λ (k : Kept). k.state.closing) c.take.ensures.kept) ∙ (sym c.is_closing.ensures ∙ c.if-is_closing.true)) in
       let gone : IsOver (seen (given T (Took x n) (Tagged Done)) x) =
-      rw (seen-took_closing T x n o.moment st.moment over closed) (record { closed = closed_took s n o.moment all closed; authorization = m.parted closed }) in
+      rw (seen-took_closing T x n o.moment st.moment over closed) (record { closed = closed_took s n o.moment all closed; authorization = at.matches.parted closed }) in
       let first = (c.get_mut.follows.holds k1).3 (search rules) in
       let second = c.remove.ensures.updates in
       stands_after g.V.Vault o _ T (Took x n) outcome.Done
@@ -187,7 +217,7 @@ returns-then-is_closing-clause-after g c = record {
         carried = λ q e i. i;
         locks = λ d. st.locks d ∙ sym (same_closing T x n over closed d);
       }))
-      (record { tag = Done; may = refl; is = rw goes refl }) tt (λ up answered. does.looks.up ct st.keeps.held clean up yes)
+      (record { tag = Done; may = refl; is = rw at.goes refl }) tt (λ up answered. does.looks.up ct st.keeps.held clean up yes)
       (λ up. before_left T (Took x n) st.keeps (c.take.ensures.looks.stop ct st.keeps.held clean up)) (g.met.V.Vault.settled _) clean;
 }
 
@@ -205,21 +235,13 @@ returns-in-Ok-resume-clause-after g c = record {
       let ct = st.keeps.contents in
       let k1 : Kept = c.take.new.self in
       let found : get nat_cmp o.connections x ≡ Some k = sym c.in-Some.ensures.value in
-      let m : Matches ct s k = kept_at T x st k found in
-      let lends = c.lends.ensures.some c.if-not-lends.false in
-      let fits = lent_ready k.output n lends.1 in
-      let lent : n ≤ lent_by o x = subst (λ (e : Option Kept). n ≤ length_of_lent e) (sym found) lends.1 in
-      let goes = took_goes T (lent_by o) x n m.opened lends.0 lent in
+      let at = taking g (goal.at.returns-in-Ok-resume-clause-after g c).After-take T st in
       let does = c.in-Ok.ensures in
       let yes : c.in-Ok.taken ≡ true = c.if-not-taken.false in
-      let a = takes_all ct T x n o.moment k k1 m fits c.take.ensures.kept (does.owes yes ct (untaken_of s) st.keeps.held before m.owed) (c.owes_nothing.ensures.nothing c.if-not-owes_nothing.false)
-      (sym c.is_closing.ensures ∙ c.if-is_closing.false) in
-      let ready = a.ready in
-      let over = a.over in
-      let open_yet = a.open_yet in
+      let a = all g (goal.at.returns-in-Ok-resume-clause-after g c).After-resume T st before in
       let held = c.take.ensures.looks.held ct st.keeps.held before in
       let sound : AreSound ct = g.met.V.Vault.sound o.vault ct st.keeps.held (c.take.ensures.looks.clean before) in
-      let j = judged T x n st.keeps sound o.policy st.policy o.locks st.locks o.moment st.moment k1 ready over open_yet in
+      let j = judged T x n st.keeps sound o.policy st.policy o.locks st.locks o.moment st.moment k1 a.ready a.over a.open_yet in
       let w = c.in-Ok-resume.line_outcome in
       let line = c.in-Ok-resume.ensures in
       let k' : Kept = c.resume.new.self in
@@ -228,13 +250,13 @@ returns-in-Ok-resume-clause-after g c = record {
       stands_after g.V.Vault o _ T (Took x n) _
       (moved g.V.Vault.holds o _ T (Took x n) _ (tag_of w) x (marked w _ c.outcome_of.ensures) st refl refl refl refl refl refl (whole-took T x n (tag_of w)) refl refl
       (rw found refl) (λ q e. seen-took_other T x n q (tag_of w) e) (λ q ne. change.2 q (is_apart x q ne))
-      (taking_moves T x n st.keeps sound o.policy st.policy o.locks st.locks o.moment st.moment k1 ready over open_yet w k' did _ line.locks g.V.Vault.holds o _ change.1 refl did.held))
-      (taking_answered T x n st.keeps sound o.policy st.policy o.locks st.locks o.moment st.moment k1 ready over open_yet w k' did (lent_by o) _ goes c.outcome_of.ensures)
+      (taking_moves T x n st.keeps sound o.policy st.policy o.locks st.locks o.moment st.moment k1 a.ready a.over a.open_yet w k' did _ line.locks g.V.Vault.holds o _ change.1 refl did.held))
+      (taking_answered T x n st.keeps sound o.policy st.policy o.locks st.locks o.moment st.moment k1 a.ready a.over a.open_yet w k' did (lent_by o) _ at.goes c.outcome_of.ensures)
       (line_cause (g.V.Vault.faults o.vault) (g.V.Vault.faults c.resume.new.vault) w _ c.outcome_of.ensures
-      (λ f. grown_behind (g.V.Vault.faults o.vault) (g.V.Vault.faults c.take.new.vault) (g.V.Vault.faults c.resume.new.vault) c.take.ensures.looks.counted (did.cause f)))
+      (λ f. grown_before (g.V.Vault.faults o.vault) (g.V.Vault.faults c.take.new.vault) (g.V.Vault.faults c.resume.new.vault) c.take.ensures.looks.counted (did.cause f)))
       (λ up answered. line.acts.up ct held clean (does.looks.up ct st.keeps.held before up yes) (line_answered w _ c.outcome_of.ensures answered))
-      (λ up. line_left T x st.keeps sound (took s n o.moment) k1 k1.pending (judged_at ct o.policy k1.stamp o.locks) k1.state ready j (Took x n)
-      (λ h nx. records-took_line T x n line_outcome.Done (line_after k1 k1.pending) over open_yet (next_kept T x ∙ nx)) (λ h nx. records-took_none T x n over open_yet (next_kept T x ∙ nx))
+      (λ up. line_left T x st.keeps sound (took s n o.moment) k1 k1.pending (judged_at ct o.policy k1.stamp o.locks) k1.state a.ready j (Took x n)
+      (λ h nx. records-took_line T x n line_outcome.Done (line_after k1 k1.pending) a.over a.open_yet (next_kept T x ∙ nx)) (λ h nx. records-took_none T x n a.over a.open_yet (next_kept T x ∙ nx))
       (c.resume.ensures.acts.stop ct held clean (does.looks.up ct st.keeps.held before up yes)))
       (g.met.V.Vault.settled _) clean;
 }
@@ -253,43 +275,36 @@ returns-in-Err-resume-clause-after g c = record {
       let ct = st.keeps.contents in
       let k1 : Kept = c.take.new.self in
       let found : get nat_cmp o.connections x ≡ Some k = sym c.in-Some.ensures.value in
-      let m : Matches ct s k = kept_at T x st k found in
-      let lends = c.lends.ensures.some c.if-not-lends.false in
-      let fits = lent_ready k.output n lends.1 in
-      let lent : n ≤ lent_by o x = subst (λ (e : Option Kept). n ≤ length_of_lent e) (sym found) lends.1 in
-      let goes = took_goes T (lent_by o) x n m.opened lends.0 lent in
+      let at = taking g (goal.at.returns-in-Err-resume-clause-after g c).After-take T st in
       let does = c.in-Ok.ensures in
       let yes : c.in-Ok.taken ≡ true = c.if-not-taken.false in
-      let a = takes_all ct T x n o.moment k k1 m fits c.take.ensures.kept (does.owes yes ct (untaken_of s) st.keeps.held before m.owed) (c.owes_nothing.ensures.nothing c.if-not-owes_nothing.false)
-      (sym c.is_closing.ensures ∙ c.if-is_closing.false) in
-      let ready = a.ready in
-      let over = a.over in
-      let open_yet = a.open_yet in
+      let a = all g (goal.at.returns-in-Err-resume-clause-after g c).After-resume T st before in
       let held = c.take.ensures.looks.held ct st.keeps.held before in
       let sound : AreSound ct = g.met.V.Vault.sound o.vault ct st.keeps.held (c.take.ensures.looks.clean before) in
-      let j = judged T x n st.keeps sound o.policy st.policy o.locks st.locks o.moment st.moment k1 ready over open_yet in
-      let next = next_there ct (took s n o.moment) k1 k1.pending ready c.in-Err-resume.ensures.err.0 in
+      let j = judged T x n st.keeps sound o.policy st.policy o.locks st.locks o.moment st.moment k1 a.ready a.over a.open_yet in
+      let next = next_there ct (took s n o.moment) k1 k1.pending a.ready c.in-Err-resume.ensures.err.0 in
       let line = next_kept T x ∙ next.1 in
       let first = (c.get_mut.follows.holds c.resume.new.self).3 (search rules) in
       let second = c.cut_off_without_memory-in-Err-resume.ensures.connections in
-      let gone = over-took T x n next.0 over open_yet line in
+      let gone = over-took T x n next.0 a.over a.open_yet line in
       let sits : k1.session ≡ k.session = ap (λ (k : Kept). k.session) c.take.ensures.kept in
       stands_after g.V.Vault o _ T (Took x n) outcome.NoMemory
       (moved g.V.Vault.holds o _ T (Took x n) _ NoMemory x refl st refl refl refl refl refl refl (whole-took T x n NoMemory) refl refl (rw found refl) (λ q e. seen-took_other T x n q NoMemory e)
       (λ q ne. second.2 q (is_apart x q ne) ∙ first.2 q (is_apart x q ne)) (record {
         contents = ct;
         held = c.in-Err-resume.ensures.err.1.held ct held clean;
-        agree = rw (records-took_lacking T x n next.0 over open_yet line) st.keeps.agree;
+        agree = rw (records-took_lacking T x n next.0 a.over a.open_yet line) st.keeps.agree;
         here = subst (IsKeptFor ct (seen (given T (Took x n) (Tagged NoMemory)) x)) (sym second.1) gone;
         carried = λ q e i. i;
         locks = released T.base (acts T) (acts (given T (Took x n) (Tagged NoMemory))) x (λ d q e. ap (λ s. holds_by s d) (seen-took_other T x n q NoMemory e))
-            (λ d. let out = gone.authorization in rw out refl) ct s k1.session c.resume.new.locks _ (subst (IsSession ct s) (sym sits) m.session) refl refl
+            (λ d. let out = gone.authorization in rw out refl) ct s k1.session c.resume.new.locks _ (subst (IsSession ct s) (sym sits) at.matches.session) refl refl
             (λ d. c.in-Err-resume.ensures.err.1.locks d ∙ st.locks d)
-            (subst (λ h. Released h c.resume.new.locks c.cut_off_without_memory-in-Err-resume.new.locks) (c.maildrop-held.ensures ∙ ap maildrop_of (sym sits)) c.cut_off_without_memory-in-Err-resume.ensures.locks);
+            (subst (λ h. Released h c.resume.new.locks c.cut_off_without_memory-in-Err-resume.new.locks)
+            (c.maildrop-held.ensures ∙ ap maildrop_of (sym sits)) c.cut_off_without_memory-in-Err-resume.ensures.locks);
       }))
-      (record { tag = NoMemory; may = rw (over, open_yet, line) refl; is = rw goes refl }) tt (λ up answered. absurd answered)
-      (λ up. line_left T x st.keeps sound (took s n o.moment) k1 k1.pending (judged_at ct o.policy k1.stamp o.locks) k1.state ready j (Took x n)
-      (λ h nx. records-took_line T x n line_outcome.Done (line_after k1 k1.pending) over open_yet (next_kept T x ∙ nx)) (λ h nx. records-took_none T x n over open_yet (next_kept T x ∙ nx))
+      (record { tag = NoMemory; may = rw (a.over, a.open_yet, line) refl; is = rw at.goes refl }) tt (λ up answered. absurd answered)
+      (λ up. line_left T x st.keeps sound (took s n o.moment) k1 k1.pending (judged_at ct o.policy k1.stamp o.locks) k1.state a.ready j (Took x n)
+      (λ h nx. records-took_line T x n line_outcome.Done (line_after k1 k1.pending) a.over a.open_yet (next_kept T x ∙ nx)) (λ h nx. records-took_none T x n a.over a.open_yet (next_kept T x ∙ nx))
       (c.resume.ensures.acts.stop ct held clean (does.looks.up ct st.keeps.held before up yes)))
       (g.met.V.Vault.settled _) clean;
 }
@@ -298,66 +313,26 @@ pub take-requires : goal.take-requires
 take-requires g c = lent_ready c.in-Some.connection.now.output c.args.octets (c.lends.ensures.some c.if-not-lends.false).1
 
 pub returns-in-Err-clause-unasked : goal.returns-in-Err-clause-unasked
-returns-in-Err-clause-unasked g c T st clean none =
-    let k : Kept = c.in-Some.connection.now in
-    let m = kept_at T c.args.c st k (sym c.in-Some.ensures.value) in
-    c.take.ensures.unasked (taking_reads_none T c.args.c c.args.octets st.keeps.contents k c.args.self.now.moment m (lent_ready k.output c.args.octets (c.lends.ensures.some c.if-not-lends.false).1) none)
+returns-in-Err-clause-unasked g c T st clean none = unasked g (goal.at.returns-in-Err-clause-unasked g c).After-take T st none
 
 pub returns-then-not-taken-clause-unasked : goal.returns-then-not-taken-clause-unasked
-returns-then-not-taken-clause-unasked g c T st clean none =
-    let k : Kept = c.in-Some.connection.now in
-    let m = kept_at T c.args.c st k (sym c.in-Some.ensures.value) in
-    c.take.ensures.unasked (taking_reads_none T c.args.c c.args.octets st.keeps.contents k c.args.self.now.moment m (lent_ready k.output c.args.octets (c.lends.ensures.some c.if-not-lends.false).1) none)
+returns-then-not-taken-clause-unasked g c T st clean none = unasked g (goal.at.returns-then-not-taken-clause-unasked g c).After-take T st none
 
 pub returns-then-not-owes_nothing-clause-unasked : goal.returns-then-not-owes_nothing-clause-unasked
-returns-then-not-owes_nothing-clause-unasked g c T st clean none =
-    let k : Kept = c.in-Some.connection.now in
-    let m = kept_at T c.args.c st k (sym c.in-Some.ensures.value) in
-    c.take.ensures.unasked (taking_reads_none T c.args.c c.args.octets st.keeps.contents k c.args.self.now.moment m (lent_ready k.output c.args.octets (c.lends.ensures.some c.if-not-lends.false).1) none)
+returns-then-not-owes_nothing-clause-unasked g c T st clean none = unasked g (goal.at.returns-then-not-owes_nothing-clause-unasked g c).After-take T st none
 
 pub returns-then-is_closing-clause-unasked : goal.returns-then-is_closing-clause-unasked
-returns-then-is_closing-clause-unasked g c T st clean none =
-    let k : Kept = c.in-Some.connection.now in
-    let m = kept_at T c.args.c st k (sym c.in-Some.ensures.value) in
-    c.take.ensures.unasked (taking_reads_none T c.args.c c.args.octets st.keeps.contents k c.args.self.now.moment m (lent_ready k.output c.args.octets (c.lends.ensures.some c.if-not-lends.false).1) none)
+returns-then-is_closing-clause-unasked g c T st clean none = unasked g (goal.at.returns-then-is_closing-clause-unasked g c).After-take T st none
 
 pub returns-in-Ok-resume-clause-unasked : goal.returns-in-Ok-resume-clause-unasked
 returns-in-Ok-resume-clause-unasked g c T st clean none =
-    let o = c.args.self.now in
-    let x = c.args.c in
-    let n = c.args.octets in
-    let k : Kept = c.in-Some.connection.now in
-    let s = seen T x in
-    let ct = st.keeps.contents in
-    let m : Matches ct s k = kept_at T x st k (sym c.in-Some.ensures.value) in
-    let fits = lent_ready k.output n (c.lends.ensures.some c.if-not-lends.false).1 in
-    let k1 : Kept = c.take.new.self in
-    let same = c.take.ensures.unasked (taking_reads_none T x n ct k o.moment m fits none) in
-    let before = subst g.V.Vault.is_clean (sym same) clean in
-    let a = takes_all ct T x n o.moment k k1 m fits c.take.ensures.kept (c.in-Ok.ensures.owes c.if-not-taken.false ct (untaken_of s) st.keeps.held before m.owed) (c.owes_nothing.ensures.nothing c.if-not-owes_nothing.false)
-    (sym c.is_closing.ensures ∙ c.if-is_closing.false) in
-    let sound : AreSound ct = g.met.V.Vault.sound o.vault ct st.keeps.held clean in
-    let j = judged T x n st.keeps sound o.policy st.policy o.locks st.locks o.moment st.moment k1 a.ready a.over a.open_yet in
-    c.resume.ensures.unasked ct j.transaction j.has_transaction (taking_asks_none T x ct k1 (judged_at ct o.policy k1.stamp o.locks) k1.state k1.session j n o.moment a.ready a.over a.open_yet none) ∙ same
+    let at = goal.at.returns-in-Ok-resume-clause-unasked g c in
+    resumed g at.After-resume T st clean none (unasked g at.After-take T st none)
 
 pub returns-in-Err-resume-clause-unasked : goal.returns-in-Err-resume-clause-unasked
 returns-in-Err-resume-clause-unasked g c T st clean none =
-    let o = c.args.self.now in
-    let x = c.args.c in
-    let n = c.args.octets in
-    let k : Kept = c.in-Some.connection.now in
-    let s = seen T x in
-    let ct = st.keeps.contents in
-    let m : Matches ct s k = kept_at T x st k (sym c.in-Some.ensures.value) in
-    let fits = lent_ready k.output n (c.lends.ensures.some c.if-not-lends.false).1 in
-    let k1 : Kept = c.take.new.self in
-    let same = c.take.ensures.unasked (taking_reads_none T x n ct k o.moment m fits none) in
-    let before = subst g.V.Vault.is_clean (sym same) clean in
-    let a = takes_all ct T x n o.moment k k1 m fits c.take.ensures.kept (c.in-Ok.ensures.owes c.if-not-taken.false ct (untaken_of s) st.keeps.held before m.owed) (c.owes_nothing.ensures.nothing c.if-not-owes_nothing.false)
-    (sym c.is_closing.ensures ∙ c.if-is_closing.false) in
-    let sound : AreSound ct = g.met.V.Vault.sound o.vault ct st.keeps.held clean in
-    let j = judged T x n st.keeps sound o.policy st.policy o.locks st.locks o.moment st.moment k1 a.ready a.over a.open_yet in
-    c.resume.ensures.unasked ct j.transaction j.has_transaction (taking_asks_none T x ct k1 (judged_at ct o.policy k1.stamp o.locks) k1.state k1.session j n o.moment a.ready a.over a.open_yet none) ∙ same
+    let at = goal.at.returns-in-Err-resume-clause-unasked g c in
+    resumed g at.After-resume T st clean none (unasked g at.After-take T st none)
 
 pub returns-in-Ok-resume-clause-account : goal.returns-in-Ok-resume-clause-account
 returns-in-Ok-resume-clause-account g c fresh T st clean =
@@ -366,30 +341,19 @@ returns-in-Ok-resume-clause-account g c fresh T st clean =
     let x = c.args.c in
     let n = c.args.octets in
     let k : Kept = c.in-Some.connection.now in
-    let s = seen T x in
     let ct = st.keeps.contents in
     let k1 : Kept = c.take.new.self in
-    let found : get nat_cmp o.connections x ≡ Some k = sym c.in-Some.ensures.value in
-    let m : Matches ct s k = subst (IsKeptFor ct s) found (st.connections x) in
-    let lends = c.lends.ensures.some c.if-not-lends.false in
-    let fits = lent_ready k.output n lends.1 in
-    let does = c.in-Ok.ensures in
-    let yes : c.in-Ok.taken ≡ true = c.if-not-taken.false in
-    let owes = does.owes yes ct (untaken_of s) st.keeps.held before m.owed in
-    let none : k1.output ≡ nothing_owed = c.owes_nothing.ensures.nothing c.if-not-owes_nothing.false in
-    let all = took_all ct s k n o.moment m fits k1.output owes none in
-    let open_yet : s.closing ≡ false = sym m.closing ∙ (sym (ap (λ (k : Kept). k.state.closing) c.take.ensures.kept) ∙ (sym c.is_closing.ensures ∙ c.if-is_closing.false)) in
-    let ready : Awaits ct (took s n o.moment) k1 k1.pending = all_taken ct s k n o.moment m fits k1.output owes k1 c.take.ensures.kept none open_yet in
+    let at = taking g (goal.at.returns-in-Ok-resume-clause-account g c).After-take T st in
+    let a = all g (goal.at.returns-in-Ok-resume-clause-account g c).After-resume T st before in
     let held = c.take.ensures.looks.held ct st.keeps.held before in
     let sound : AreSound ct = g.met.V.Vault.sound o.vault ct st.keeps.held (c.take.ensures.looks.clean before) in
-    let over = all_over s n all in
     let w = c.in-Ok-resume.line_outcome in
-    let j = judged T x n st.keeps sound o.policy st.policy o.locks st.locks o.moment st.moment k1 ready over open_yet in
+    let j = judged T x n st.keeps sound o.policy st.policy o.locks st.locks o.moment st.moment k1 a.ready a.over a.open_yet in
     let line = c.in-Ok-resume.ensures in
     let did = line.answered ct j.transaction held clean j.has_transaction in
-    let named : k1.state.user ≡ user (history T) x = ap (λ (k : Kept). k.state.user) c.take.ensures.kept ∙ m.user in
-    let is = taking_told T x n st.keeps sound o.policy st.policy o.locks st.locks o.moment st.moment k1 ready over open_yet w c.resume.new.self did named in
-    did.account fresh ∙ (is ∙ sym (ap (account_of T (Took x n)) (marked w _ c.outcome_of.ensures) ∙ taking_account T x n w over))
+    let named : k1.state.user ≡ user (history T) x = ap (λ (k : Kept). k.state.user) c.take.ensures.kept ∙ at.matches.user in
+    let is = taking_told T x n st.keeps sound o.policy st.policy o.locks st.locks o.moment st.moment k1 a.ready a.over a.open_yet w c.resume.new.self did named in
+    did.account fresh ∙ (is ∙ sym (ap (account_of T (Took x n)) (marked w _ c.outcome_of.ensures) ∙ taking_account T x n w a.over))
 
 pub returns-in-Err-resume-clause-account : goal.returns-in-Err-resume-clause-account
 returns-in-Err-resume-clause-account g c fresh T st clean = c.cut_off_without_memory-in-Err-resume.ensures.account
@@ -405,13 +369,9 @@ returns-then-not-taken-clause-account g c fresh T st clean =
     let k : Kept = c.in-Some.connection.now in
     let s = seen T x in
     let ct = st.keeps.contents in
-    let k1 : Kept = c.take.new.self in
-    let found : get nat_cmp o.connections x ≡ Some k = sym c.in-Some.ensures.value in
-    let m : Matches ct s k = subst (IsKeptFor ct s) found (st.connections x) in
-    let lends = c.lends.ensures.some c.if-not-lends.false in
-    let fits = lent_ready k.output n lends.1 in
+    let at = taking g (goal.at.returns-then-not-taken-clause-account g c).After-take T st in
     let reads = c.in-Ok.ensures.refused c.if-not-taken.true in
-    let left : is_left T.log (history T) x n ≡ true = left_over s n (took_more ct s k n o.moment m fits (text_feeds k.output.source reads)) in
+    let left : is_left T.log (history T) x n ≡ true = left_over s n (took_more ct s k n o.moment at.matches at.fits (text_feeds k.output.source reads)) in
     rw left refl
 
 pub returns-then-not-owes_nothing-clause-account : goal.returns-then-not-owes_nothing-clause-account
@@ -423,15 +383,12 @@ returns-then-not-owes_nothing-clause-account g c fresh T st clean =
     let s = seen T x in
     let ct = st.keeps.contents in
     let k1 : Kept = c.take.new.self in
-    let found : get nat_cmp o.connections x ≡ Some k = sym c.in-Some.ensures.value in
-    let m : Matches ct s k = subst (IsKeptFor ct s) found (st.connections x) in
-    let lends = c.lends.ensures.some c.if-not-lends.false in
-    let fits = lent_ready k.output n lends.1 in
+    let at = taking g (goal.at.returns-then-not-owes_nothing-clause-account g c).After-take T st in
     let does = c.in-Ok.ensures in
     let yes : c.in-Ok.taken ≡ true = c.if-not-taken.false in
-    let owes = does.owes yes ct (untaken_of s) st.keeps.held clean m.owed in
+    let owes = does.owes yes ct (untaken_of s) st.keeps.held clean at.matches.owed in
     let some : is_empty k1.output.ready ≡ false = sym c.owes_nothing.ensures.value ∙ c.if-not-owes_nothing.true in
-    let less = took_less ct s k n o.moment m fits k1.output owes some in
+    let less = took_less ct s k n o.moment at.matches at.fits k1.output owes some in
     let left : is_left T.log (history T) x n ≡ true = left_over s n less in
     rw left (fresh ∙ sym (part_taken T.base (history T) (serving (history T) x) (closing (history T) x) x (next_line T.log (history T) x [])))
 
@@ -443,7 +400,6 @@ returns-then-is_closing-clause-account g c fresh T st clean =
     let k : Kept = c.in-Some.connection.now in
     let s = seen T x in
     let ct = st.keeps.contents in
-    let k1 : Kept = c.take.new.self in
     let found : get nat_cmp o.connections x ≡ Some k = sym c.in-Some.ensures.value in
     let m : Matches ct s k = subst (IsKeptFor ct s) found (st.connections x) in
     let closed : closing (history T) x ≡ true = sym m.closing ∙ (sym (ap (λ (k : Kept). k.state.closing) c.take.ensures.kept) ∙ (sym c.is_closing.ensures ∙ c.if-is_closing.true)) in

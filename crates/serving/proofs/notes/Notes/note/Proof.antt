@@ -26,9 +26,9 @@ use denote.Triple.Spec.{Meets, triple_of}
 use denote.Triple.Table.{entered}
 use denote.Triple.Walked.{says, Stays, stay_ref, stay_none_ref, walk_of, AllGo, Goes-ref, Goes-none_ref, Walks, ends_at, walked, walk_Meets}
 use Rattle.serving.specs.declared.notes.Notes.{Notes}
-use Rattle.serving.specs.declared.notes.Asked.{Asked}
+use Rattle.serving.specs.declared.notes.WireCall.{WireCall}
 use Rattle.serving.specs.Noted.{call_of}
-use Rattle.serving.specs.contracts.notes.Asked as K
+use Rattle.serving.specs.contracts.notes.WireCall as K
 use Rattle.serving.specs.contracts.notes.Notes as T
 use Rattle.serving.specs.contracts.notes.Notes.note.Key.{name as #it}
 use Rattle.serving.specs.contracts.notes.Notes.note as it
@@ -42,12 +42,12 @@ use denote.Triple.Walked.{stay_none_slice, Goes-none_slice}
 use Rattle.std.proofs.Common.{◌<◌, ◌^◌, length}
 
 abbrev Arg : Type 0
-Arg = MutBor Notes × (Bor Asked × (Bor (List ℕ) × Unit {0}))
+Arg = MutBor Notes × (Bor WireCall × (Bor (List ℕ) × Unit {0}))
 
 abbrev stayed : Stays (it.ended).signature.params (it.ended).kept
 stayed = (stay_ref (0 ∷ []) tt (plain (λ _. T.the_row)), (stay_none_ref (1 ∷ []) tt (plain (λ _. K.the_row)) yes, (stay_none_slice (2 ∷ []) tt (plain (λ _. u8)) yes, tt)))
 
-module _ {M : Type 1} {𝓤 : Ura M} (𝓛 : Logic 𝓤) (at_mem : Memory → SProp 𝓤) (run : Routine → Fun 𝓤) (κ κ' κ'' : Lft) (q q' q'' : Share) (b o : ℕ) (γ : GName) (h : Notes) (k : Bor Asked) (s : Bor (List ℕ)) where
+module _ {M : Type 1} {𝓤 : Ura M} (𝓛 : Logic 𝓤) (at_mem : Memory → SProp 𝓤) (run : Routine → Fun 𝓤) (κ κ' κ'' : Lft) (q q' q'' : Share) (b o : ℕ) (γ : GName) (h : Notes) (k : Bor WireCall) (s : Bor (List ℕ)) where
   open 𝓛 use {H, A}
 
   abbrev x : Arg

@@ -1,5 +1,5 @@
 use Rattle.std.proofs.Common.{sym, subst}
-use Rattle.serving.specs.Wires.{ToldOfPorts, IsAccepted}
+use Rattle.serving.specs.Wires.{IsAccepted}
 use Rattle.serving.specs.Scripts.{TellsOf}
 use Rattle.serving.proofs.Scripting.{accepts_pop, accepts_admin}
 use Rattle.serving.proofs.script_wire.ScriptWireWire.accept.Goals as goal

@@ -6,7 +6,8 @@ use Rattle.sqlvault.proofs.sql_vault.SqlVaultVault.credential.Goals as goal
 
 pub returns-clause-done : goal.returns-clause-done
 returns-clause-done g c b h clean =
-    done_told g.S.Store _ c.args.self.now.conn c.self.inside.conn c.told.new.self.conn c.find_credential-answer.new.conn b _ c.told.result _ (ap (λ (o : Opened g.row.S.Denot). o.conn) c.self.view_is) c.told.ensures.conn c.told.ensures.answer
+    done_told g.S.Store _ c.args.self.now.conn c.self.inside.conn c.told.new.self.conn c.find_credential-answer.new.conn b _ c.told.result _
+    (ap (λ (o : Opened g.row.S.Denot). o.conn) c.self.view_is) c.told.ensures.conn c.told.ensures.answer
     (c.find_credential-answer.ensures.done b) h clean
 
 pub returns-clause-looks : goal.returns-clause-looks

@@ -7,7 +7,8 @@ use Rattle.sqlvault.proofs.sql_vault.SqlVaultVault.page.Goals as goal
 
 pub returns-clause-done : goal.returns-clause-done
 returns-clause-done g c b h clean =
-    done_by g.S.Store (λ Held a. IsPaged Held b c.args.key c.args.from c.page-answer.new.buffer a) c.args.self.now.conn c.self.inside.conn c.told.new.self.conn c.page-answer.new.conn b c.told.result _ (ap (λ (o : Opened g.row.S.Denot). o.conn) c.self.view_is) c.told.ensures.conn c.told.ensures.answer
+    done_by g.S.Store (λ Held a. IsPaged Held b c.args.key c.args.from c.page-answer.new.buffer a) c.args.self.now.conn c.self.inside.conn
+    c.told.new.self.conn c.page-answer.new.conn b c.told.result _ (ap (λ (o : Opened g.row.S.Denot). o.conn) c.self.view_is) c.told.ensures.conn c.told.ensures.answer
     (c.page-answer.ensures.done b) h clean
 
 pub returns-clause-looks : goal.returns-clause-looks

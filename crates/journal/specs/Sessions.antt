@@ -1,0 +1,208 @@
+-- What the log keeps of the connections' sessions, by the accounts that it heard, and what its
+-- lines tell of them.
+use Rattle.std.specs.Prelude.{ℕ, zero, suc, Bool, true, false, ◌&&◌, ◌==◌, ◌+◌, ◌-◌, ◌^◌, min}
+use Rattle.std.specs.Prelude.{List, [], ◌∷◌, ◌++◌, map, position, Option, Some, None, codes}
+use Rattle.std.specs.Prelude.{if◌then◌else◌, string_bytes}
+use Rattle.std.specs.Fmt.{decimal}
+use Rattle.std.specs.Str.{bytes_eq}
+use Rattle.creds.specs.declared.login_name.LoginName.{LoginName}
+use Rattle.office.specs.declared.account.Account.{Account}
+use Rattle.office.specs.declared.account.Account.TheVariants as account
+use Rattle.office.specs.declared.account.Verdict.{Verdict}
+use Rattle.office.specs.declared.account.Verdict.TheVariants as judged
+use Rattle.journal.specs.Lines.{account_text}
+use Rattle.journal.specs.declared.heard.Heard.{Heard}
+use Rattle.journal.specs.declared.client.Client.{Client}
+
+-- ---- what an account changes
+
+-- an accepted login begins a session, without a mark or a command; another one changes nothing
+abbrev pub judged_so : LoginName → Verdict → Heard → Heard
+judged_so name judged.Accepted heard =
+    record {
+      name = Some name;
+      is_in = true;
+      marked = 0;
+      deles = 0;
+      resets = 0;
+      has_quit = heard.has_quit;
+    }
+judged_so name judged.WrongCredential heard = heard
+judged_so name judged.ThirdWrongCredential heard = heard
+judged_so name (judged.Denied rule) heard = heard
+judged_so name judged.NoSuchMaildrop heard = heard
+judged_so name judged.InUse heard = heard
+judged_so name judged.StoreFailed heard = heard
+
+-- one more; a count stays at the greatest number of 64 bits
+abbrev pub one_more : ℕ → ℕ
+one_more count = min (count + 1) (2 ^ 64 - 1)
+
+-- a message more is marked, by a DELE more
+abbrev pub with_mark : Heard → Heard
+with_mark heard =
+    record heard { marked = one_more heard.marked; deles = one_more heard.deles }
+
+-- no message is marked, by a RSET more
+abbrev pub without_marks : Heard → Heard
+without_marks heard = record heard { marked = 0; resets = one_more heard.resets }
+
+-- a QUIT ends it
+abbrev pub has_quit : Heard → Heard
+has_quit heard = record heard { is_in = false; has_quit = true }
+
+-- what is kept of a connection after an account of it
+abbrev pub heard_after : Account → Heard → Heard
+heard_after (account.Login name by verdict) heard = judged_so name verdict heard
+heard_after account.Marked heard = with_mark heard
+heard_after account.Unmarked heard = without_marks heard
+heard_after (account.Quit removal) heard = has_quit heard
+heard_after account.QuitBeforeLogin heard = has_quit heard
+heard_after account.NoName heard = heard
+heard_after account.Nothing heard = heard
+heard_after (account.Ended cause) heard = heard
+
+-- ---- who is where
+
+-- a login name is in this maildrop
+abbrev pub is_of : (maildrop : List ℕ) → Option LoginName → Bool
+is_of maildrop None = false
+is_of maildrop (Some name) = bytes_eq name.maildrop maildrop
+
+-- a session goes on in this maildrop
+abbrev pub is_in : (maildrop : List ℕ) → Heard → Bool
+is_in maildrop heard = heard.is_in && is_of maildrop heard.name
+
+-- it goes on no more
+abbrev pub left : (maildrop : List ℕ) → Heard → Heard
+left maildrop heard =
+    record heard { is_in = if is_in maildrop heard then false else heard.is_in }
+
+-- so it is of a client's session
+abbrev pub left_client : (maildrop : List ℕ) → Client → Client
+left_client maildrop client = record client { heard = left maildrop client.heard }
+
+-- a client's connection has this number
+abbrev pub is_number : (connection : ℕ) → Option ℕ → Bool
+is_number connection None = false
+is_number connection (Some n) = n == connection
+
+-- a login that is accepted ends the session that is kept in its maildrop
+abbrev pub left_at : Verdict → (maildrop : List ℕ) → List Client → List Client
+left_at judged.Accepted maildrop clients = map (left_client maildrop) clients
+left_at judged.WrongCredential maildrop clients = clients
+left_at judged.ThirdWrongCredential maildrop clients = clients
+left_at (judged.Denied rule) maildrop clients = clients
+left_at judged.NoSuchMaildrop maildrop clients = clients
+left_at judged.InUse maildrop clients = clients
+left_at judged.StoreFailed maildrop clients = clients
+
+abbrev pub left_by : Account → List Client → List Client
+left_by (account.Login name by verdict) clients = left_at verdict name.maildrop clients
+left_by account.NoName clients = clients
+left_by account.Marked clients = clients
+left_by account.Unmarked clients = clients
+left_by (account.Quit removal) clients = clients
+left_by account.QuitBeforeLogin clients = clients
+left_by account.Nothing clients = clients
+left_by (account.Ended cause) clients = clients
+
+-- what is kept of a client's session
+abbrev pub heard_of : Client → Heard
+heard_of client = client.heard
+
+-- the client at a place has heard an account, and the others have not
+abbrev pub heard_at : (place : ℕ) → Account → List Client → List Heard
+heard_at place account [] = []
+heard_at zero account (client ∷ clients) =
+    heard_after account client.heard ∷ map heard_of clients
+heard_at (suc place) account (client ∷ clients) = client.heard ∷ heard_at place account clients
+
+abbrev pub heard_in : Option ℕ → Account → List Client → List Heard
+heard_in None account clients = map heard_of clients
+heard_in (Some place) account clients = heard_at place account clients
+
+-- the client of this connection has, if there is one
+abbrev pub heard_by : (connection : ℕ) → Account → List Client → List Heard
+heard_by connection account clients =
+    heard_in (position (λ (client : Client). is_number connection client.number) clients) account
+    clients
+
+-- ---- what lines tell
+
+-- the connection's number, where it was opened, and the client's address
+abbrev pub numbered_text : (connection : ℕ) → (address : List ℕ) → List ℕ
+numbered_text n address = codes "connection=" ++ (decimal n ++ (codes " client=" ++ address))
+
+abbrev pub client_text : (address : List ℕ) → List ℕ
+client_text address = codes "client=" ++ address
+
+abbrev pub who_text : Option ℕ → (address : List ℕ) → List ℕ
+who_text None address = client_text address
+who_text (Some n) address = numbered_text n address
+
+-- how many DELEs marked a message, and how many RSETs came
+abbrev pub counts_text : (deles resets : ℕ) → List ℕ
+counts_text deles resets = codes " dele=" ++ (decimal deles ++ (codes " rset=" ++ decimal resets))
+
+-- the session's clerk, maildrop, marked messages and commands
+abbrev pub session_text : Option LoginName → (marked deles resets : ℕ) → List ℕ
+session_text None marked deles resets = []
+session_text (Some name) marked deles resets =
+    codes " clerk=" ++ name.clerk ++ codes " maildrop=" ++ name.maildrop
+    ++ codes " marked=" ++ decimal marked ++ counts_text deles resets
+
+-- the line of a connection that ended without a QUIT
+abbrev pub loss_text : (who session cause : List ℕ) → List ℕ
+loss_text who session cause = codes "event=closed " ++ (who ++ (session ++ cause))
+
+-- the values of a line that tells of a session
+abbrev pub held_text : (connection : ℕ) → LoginName → List ℕ
+held_text n name = codes " connection=" ++ (decimal n ++ (codes " clerk=" ++ name.clerk))
+
+abbrev pub holder_text : Option ℕ → Option LoginName → List ℕ
+holder_text None name = []
+holder_text (Some n) None = []
+holder_text (Some n) (Some name) = held_text n name
+
+-- those of the one who is in a maildrop, where one is
+abbrev pub holder_of : Option Client → List ℕ
+holder_of None = []
+holder_of (Some client) = holder_text client.number client.heard.name
+
+-- a client's connection and address, and the line of its loss
+abbrev pub who_of : Client → List ℕ
+who_of client = who_text client.number (string_bytes client.address)
+
+abbrev pub loss_of : Client → List ℕ
+loss_of client =
+    loss_text (who_of client)
+    (session_text client.heard.name client.heard.marked client.heard.deles client.heard.resets)
+    (string_bytes client.cause)
+
+-- for how many seconds a login waited, where it was one or more
+abbrev pub waited_text : (seconds : ℕ) → List ℕ
+waited_text zero = []
+waited_text (suc seconds) = codes " waited=" ++ decimal (suc seconds)
+
+-- what stands behind an account's line: of a login how long it waited, and of a session's QUIT its
+-- commands
+abbrev pub behind_account : Account → Client → List ℕ
+behind_account (account.Login name by verdict) client = waited_text client.waited
+behind_account (account.Quit removal) client = counts_text client.heard.deles client.heard.resets
+behind_account account.NoName client = []
+behind_account account.Marked client = []
+behind_account account.Unmarked client = []
+behind_account account.QuitBeforeLogin client = []
+behind_account account.Nothing client = []
+behind_account (account.Ended cause) client = []
+
+-- the line of an account, or of a loss, of the client that was found
+abbrev pub told_of : Account → Option Client → List ℕ
+told_of account None = []
+told_of account (Some client) =
+    account_text (who_of client) account ++ behind_account account client
+
+abbrev pub lost_of : Option Client → List ℕ
+lost_of None = []
+lost_of (Some client) = loss_of client

@@ -1,0 +1,34 @@
+-- The options in force, as the line of a server's start tells them.
+use Rattle.std.specs.Prelude.{ℕ, Bool, true, false, List, ◌++◌, codes}
+use Rattle.std.specs.Fmt.{decimal}
+use Rattle.session.specs.declared.removals.Removals.{Removals}
+use Rattle.session.specs.declared.removals.Removals.TheVariants as judged
+use Rattle.journal.specs.declared.settings.Settings.{Settings}
+
+-- an option that is set or isn't
+abbrev pub yes_or_no : Bool → List ℕ
+yes_or_no true = codes "yes"
+yes_or_no false = codes "no"
+
+-- when removals are judged
+abbrev pub when_text : Removals → List ℕ
+when_text judged.JudgedAtDele = codes "dele"
+when_text judged.JudgedAtQuit = codes "quit"
+
+-- the options that are seconds
+abbrev pub seconds_text : Settings → List ℕ
+seconds_text s =
+    codes " idle=" ++ decimal s.idle ++ codes " wait=" ++ decimal s.wait
+    ++ codes " login-seconds=" ++ decimal s.login_seconds
+    ++ codes " full-house-seconds=" ++ decimal s.full_house_seconds
+
+-- the options that are set or aren't
+abbrev pub flags_text : Settings → List ℕ
+flags_text s =
+    codes " slow-guesses=" ++ yes_or_no s.slow_guesses
+    ++ codes " proxy-protocol=" ++ yes_or_no s.proxy_protocol
+    ++ codes " log-message-ids=" ++ yes_or_no s.message_ids
+
+-- all of them
+abbrev pub settings_text : Settings → List ℕ
+settings_text s = codes " removals=" ++ when_text s.removals ++ seconds_text s ++ flags_text s

@@ -1,0 +1,145 @@
+//! What the log heard of a connection's session.
+ghost use Rattle.std.specs.Prelude.{◌≡◌, Some, IfOk, string_bytes};
+ghost use Rattle.journal.specs.Sessions.{heard_after, judged_so, left, is_in, session_text};
+ghost use Rattle.journal.specs.Sessions.{counts_text};
+
+use creds::{LoginName, Name};
+use office::{Account, Verdict};
+use std::alloc::{AllocError, Global};
+
+/// What was heard of a connection: who logged in on it, and what became of that session.
+#[derive(Drop)]
+pub(crate) struct Heard {
+    /// Who logged in last, and into which maildrop; `None` before a login.
+    pub name: Option<LoginName>,
+    /// Whether that session goes on, as far as it was heard.
+    pub is_in: bool,
+    /// How many messages that session has marked.
+    pub marked: u64,
+    /// How many of that session's DELEs marked a message.
+    pub deles: u64,
+    /// How many RSETs that session gave.
+    pub resets: u64,
+    /// Whether a QUIT was judged.
+    pub has_quit: bool,
+}
+
+impl Heard {
+    /// Nothing was heard yet.
+    pub fn nothing() -> Heard {
+        Heard {
+            name: None,
+            is_in: false,
+            marked: 0,
+            deles: 0,
+            resets: 0,
+            has_quit: false,
+        }
+    }
+
+    /// Keeps what an account says of the session.
+    pub fn take(&mut self, account: &Account)
+        ensures { self.new ≡ heard_after account.now self.old }
+    {
+        match account {
+            Account::Login(name, _, verdict) => self.judge(*name, *verdict),
+            Account::Marked => {
+                self.marked = self.marked.saturating_add(1);
+                self.deles = self.deles.saturating_add(1);
+            }
+            Account::Unmarked => {
+                self.marked = 0;
+                self.resets = self.resets.saturating_add(1);
+            }
+            Account::Quit(_) | Account::QuitBeforeLogin => {
+                self.is_in = false;
+                self.has_quit = true;
+            }
+            Account::NoName | Account::Nothing | Account::Ended(_) => {}
+        }
+    }
+
+    /// A login was judged so: where it was accepted its session begins, without a mark.
+    fn judge(&mut self, name: LoginName, verdict: Verdict)
+        ensures { self.new ≡ judged_so name verdict self.old }
+    {
+        match verdict {
+            Verdict::Accepted => {
+                self.name = Some(name);
+                self.is_in = true;
+                self.marked = 0;
+                self.deles = 0;
+                self.resets = 0;
+            }
+            Verdict::WrongCredential | Verdict::ThirdWrongCredential => {}
+            Verdict::Denied(_) | Verdict::NoSuchMaildrop => {}
+            Verdict::InUse | Verdict::StoreFailed => {}
+        }
+    }
+
+    /// Whether its session is in a maildrop.
+    pub fn is_in_maildrop(&self, maildrop: &Name) -> bool
+        ensures { result ≡ is_in maildrop.now self.now }
+    {
+        match &self.name {
+            Some(name) => self.is_in && name.maildrop == *maildrop,
+            None => false,
+        }
+    }
+
+    /// Its session, if it is in a maildrop, is over: another one begins there.
+    pub fn leave(&mut self, maildrop: &Name)
+        ensures { self.new ≡ left maildrop.now self.old }
+    {
+        if self.is_in_maildrop(maildrop) {
+            self.is_in = false;
+        }
+    }
+
+    /// The session's clerk, maildrop, marked messages and commands, as values of a line; empty
+    /// without a session. Its error is want of memory.
+    pub fn session_text(&self, alloc: Global) -> Result<String, AllocError>
+        ensures { IfOk result (λ text. string_bytes text ≡ session_text self.now.name
+            self.now.marked self.now.deles self.now.resets) }
+    {
+        match &self.name {
+            Some(name) => named_text(alloc, name, self.marked, self.deles, self.resets),
+            None => Ok(String::new(alloc)),
+        }
+    }
+
+    /// How many DELEs marked a message and how many RSETs the session gave, as values of a line.
+    pub fn counts_text(&self, alloc: Global) -> Result<String, AllocError>
+        ensures { IfOk result (λ text. string_bytes text ≡ counts_text self.now.deles
+            self.now.resets) }
+    {
+        counts_text(alloc, self.deles, self.resets)
+    }
+}
+
+/// How many DELEs marked a message, and how many RSETs came, as values of a line.
+fn counts_text(alloc: Global, deles: u64, resets: u64) -> Result<String, AllocError>
+    ensures { IfOk result (λ text. string_bytes text ≡ counts_text deles resets) }
+{
+    let text = format!(in alloc; " dele={deles} rset={resets}")?;
+    Ok(text)
+}
+
+/// A session's values: its clerk, its maildrop, how many messages it has marked, and its commands.
+fn named_text(
+    alloc: Global,
+    name: &LoginName,
+    marked: u64,
+    deles: u64,
+    resets: u64,
+) -> Result<String, AllocError>
+    ensures { IfOk result (λ text. string_bytes text ≡ session_text (Some name.now) marked deles
+        resets) }
+{
+    let counts = counts_text(alloc, deles, resets)?;
+    let text = format!(in alloc;
+        " clerk={} maildrop={} marked={marked}{counts}",
+        name.clerk, name.maildrop
+    )?;
+    Ok(text)
+}

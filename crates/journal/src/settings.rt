@@ -1,0 +1,75 @@
+//! The options in force, as the line of a server's start tells them.
+ghost use Rattle.std.specs.Prelude.{◌≡◌, IfOk, string_bytes};
+ghost use Rattle.journal.specs.Settings.{yes_or_no, when_text, seconds_text, flags_text};
+ghost use Rattle.journal.specs.Settings.{settings_text};
+
+use session::Removals;
+use std::alloc::{AllocError, Global};
+
+/// The options of `serve` that say how clients are served and what is logged.
+#[derive(Clone, Copy)]
+pub struct Settings {
+    pub removals: Removals,
+    /// In seconds, as all up to `full_house_seconds`.
+    pub idle: u32,
+    pub wait: u32,
+    pub login_seconds: u32,
+    pub full_house_seconds: u32,
+    pub slow_guesses: bool,
+    pub proxy_protocol: bool,
+    pub message_ids: bool,
+}
+
+/// An option that is set or isn't.
+fn yes_or_no(is_set: bool) -> &'static str
+    ensures { result.now ≡ yes_or_no is_set }
+{
+    if is_set { "yes" } else { "no" }
+}
+
+/// When removals are judged.
+fn when_word(removals: Removals) -> &'static str
+    ensures { result.now ≡ when_text removals }
+{
+    match removals {
+        Removals::JudgedAtDele => "dele",
+        Removals::JudgedAtQuit => "quit",
+    }
+}
+
+/// The options that are seconds.
+fn seconds_text(alloc: Global, settings: &Settings) -> Result<String, AllocError>
+    ensures { IfOk result (λ text. string_bytes text ≡ seconds_text settings.now) }
+{
+    let Settings { idle, wait, .. } = *settings;
+    let login = settings.login_seconds;
+    let full = settings.full_house_seconds;
+    let text = format!(in alloc;
+        " idle={idle} wait={wait} login-seconds={login} full-house-seconds={full}"
+    )?;
+    Ok(text)
+}
+
+/// The options that are set or aren't.
+fn flags_text(alloc: Global, settings: &Settings) -> Result<String, AllocError>
+    ensures { IfOk result (λ text. string_bytes text ≡ flags_text settings.now) }
+{
+    let guesses = yes_or_no(settings.slow_guesses);
+    let proxied = yes_or_no(settings.proxy_protocol);
+    let ids = yes_or_no(settings.message_ids);
+    let text = format!(in alloc;
+        " slow-guesses={guesses} proxy-protocol={proxied} log-message-ids={ids}"
+    )?;
+    Ok(text)
+}
+
+/// All of them, as values of a line. Its error is want of memory.
+pub fn settings_text(alloc: Global, settings: &Settings) -> Result<String, AllocError>
+    ensures { IfOk result (λ text. string_bytes text ≡ settings_text settings.now) }
+{
+    let removals = when_word(settings.removals);
+    let seconds = seconds_text(alloc, settings)?;
+    let flags = flags_text(alloc, settings)?;
+    let text = format!(in alloc; " removals={removals}{seconds}{flags}")?;
+    Ok(text)
+}

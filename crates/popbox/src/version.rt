@@ -1,0 +1,9 @@
+//! Which popbox this is.
+
+/// Its version, and whether it is proved. The toolchain keeps a program only if it is, so these
+/// sources say so; tools/run-unproved, which keeps another, builds from a copy that says otherwise.
+pub const VERSION: &str = "0.1.0 (proved)";
+
+/// The end of `--help`, which says the same.
+pub const FOOT: &str = "--verbose behind a command: a fault is told with what it is about\n\
+                        This program is proved";

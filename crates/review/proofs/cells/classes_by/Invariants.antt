@@ -1,0 +1,7 @@
+use Rattle.std.proofs.Common.{◌≡◌, ◌++◌, map, take}
+use Rattle.std.specs.List.{flat_map}
+use Rattle.review.specs.Cells.{classes_by}
+use Rattle.review.proofs.cells.classes_by.Given as goal
+
+abbrev pub invariant-loop-verdict : goal.invariant-loop-verdict
+invariant-loop-verdict l = l.classes.items ≡ classes_by l.remove l.allowed (take l.verdict-index l.verdicts)

@@ -1,0 +1,7 @@
+use Rattle.std.proofs.Common.{◌≡◌, ◌++◌, map, take}
+use Rattle.std.specs.List.{flat_map}
+use Rattle.review.specs.Json.{verdict_number}
+use Rattle.review.proofs.json.comma_numbers.Given as goal
+
+abbrev pub invariant-loop-verdict : goal.invariant-loop-verdict
+invariant-loop-verdict l = l.text.items ≡ flat_map (verdict_number l.remove l.rules) (take l.verdict-index l.verdicts)

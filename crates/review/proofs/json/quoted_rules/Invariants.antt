@@ -1,0 +1,8 @@
+use Rattle.std.proofs.Common.{◌≡◌, ◌++◌, map, take}
+use Rattle.std.specs.List.{flat_map}
+use Rattle.review.specs.Json.{comma_quoted}
+use Rattle.policy.specs.declared.rule.Rule.{Rule}
+use Rattle.review.proofs.json.quoted_rules.Given as goal
+
+abbrev pub invariant-loop-rule : goal.invariant-loop-rule
+invariant-loop-rule l = l.text.items ≡ flat_map (λ r. comma_quoted r.name) (take l.rule-index l.rules)

@@ -1,0 +1,7 @@
+use Rattle.std.proofs.Common.{◌≡◌, ◌++◌, map, take}
+use Rattle.std.specs.List.{flat_map}
+use Rattle.review.specs.CellSteps.{row_of}
+use Rattle.review.proofs.page.put_clerks.Given as goal
+
+abbrev pub invariant-loop-clerk : goal.invariant-loop-clerk
+invariant-loop-clerk l = l.out.items ≡ l.initial.out.items ++ flat_map (row_of l.old l.new l.asked l.maildrops) (take l.clerk-index l.clerks)

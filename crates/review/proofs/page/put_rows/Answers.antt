@@ -1,0 +1,9 @@
+use Rattle.std.proofs.Common.{◌≡◌, ◌++◌, List, ℕ, subst}
+use Rattle.std.specs.Prelude.{OnOk}
+use Rattle.review.proofs.CellLemmas.{same_rows}
+use Rattle.review.proofs.page.put_rows.Goals as goal
+
+pub returns : goal.returns
+returns c =
+    subst (λ (text : List ℕ). OnOk c.put_clerks.result (c.put_clerks.new.out.items ≡ c.args.out.now.items ++ text))
+    (same_rows c.args.old.now c.args.new.now c.args.asked.now c.args.maildrops.now c.args.clerks.now) c.put_clerks.ensures

@@ -1,0 +1,76 @@
+use Rattle.std.proofs.Common.{rules, ◌≡◌, ◌≤◌, ◌==◌, ◌+◌, ◌++◌, not, true, false, refl, ◌∙◌, ap, inl, inr, arith}
+use Rattle.std.specs.Bool.{if◌then◌else◌}
+use Rattle.serving.specs.Parts.{PollsBy}
+use Rattle.serving.specs.Works.{is_moving}
+use Rattle.serving.specs.HttpParts.{Tells}
+use Rattle.serving.specs.HttpWorks.{HasTold}
+use Rattle.serving.proofs.Quieting.{asks_none, asks_then, asks_so}
+use Rattle.serving.proofs.HttpWorking.{told_more, told_ended, told_share, told_often, written_once}
+use Rattle.serving.proofs.Working.{any_right}
+use Rattle.serving.proofs.Resting.{TellsSoFar, told_moved, polled_same, polled_moved}
+use Rattle.serving.proofs.requests.write_response.Goals as goal
+
+pub loop-times-init : goal.loop-times-init
+loop-times-init g c =
+    let e = c.args.exchange.now in
+    record { answers = λ x B start L pop others s. s; keeps = record { link = refl; since = refl }; works = asks_none g.W.Wire.asked c.args.wire.now (TellsSoFar e e 0 0) (inl (refl, refl, refl, refl), λ h. absurd (omega (arith, h))) }
+
+pub loop-times-preserved : goal.loop-times-preserved
+loop-times-preserved g c =
+    let k = c.loop-times in
+    let x = c.write_some-count in
+    let n = x.result in
+    let e = c.args.exchange.now in
+    let e1 = k.exchange in
+    let e2 = x.new.exchange in
+    let some : (n == 0) ≡ false = search rules in
+    let one = written_once n some in
+    let sum = c.saturating_add-written.result in
+    let fits : sum ≤ k.written + n = search rules in
+    record {
+      answers = λ y B start L pop others s. x.ensures.answers y B start L pop others (k.invariant.answers y B start L pop others s);
+      keeps = record { link = x.ensures.keeps.link ∙ k.invariant.keeps.link; since = x.ensures.keeps.since ∙ k.invariant.keeps.since };
+      works = asks_then g.W.Wire.asked c.args.wire.now k.wire x.new.wire (TellsSoFar e e1 k._times k.written) (Tells e1 e2 (if n == 0 then 0 else 1) n (not (n == 0))) (TellsSoFar e e2 (k._times + 1) sum)
+          (λ c1 c2 a b. (
+            inr (told_more e e1 e2 k._times (if n == 0 then 0 else 1) k.written n (k._times + 1) sum c1 c2 (omega (arith, one)) fits a.0 b.is),
+            λ h. any_right is_moving c1 c2 (told_moved e1 e2 (if n == 0 then 0 else 1) n c2 some b.is),
+          )) k.invariant.works x.ensures.works;
+    }
+
+pub returns-then-count-eq0-clause-works : goal.returns-then-count-eq0-clause-works
+returns-then-count-eq0-clause-works g c =
+    let k = c.loop-times in
+    let x = c.write_some-count in
+    let n = x.result in
+    let e = c.args.exchange.now in
+    let e1 = k.exchange in
+    let e2 = x.new.exchange in
+    let none : (n == 0) ≡ true = search rules in
+    asks_then g.W.Wire.asked c.args.wire.now k.wire x.new.wire (TellsSoFar e e1 k._times k.written) (Tells e1 e2 (if n == 0 then 0 else 1) n (not (n == 0))) (λ cs. HasTold e e2 cs × PollsBy false false cs)
+    (λ c1 c2 a b. (told_ended e e1 e2 k._times (if n == 0 then 0 else 1) k.written n c1 c2 a.0 b.is (b.ends (ap not none)), polled_same false (c1 ++ c2))) k.invariant.works x.ensures.works
+
+pub returns-then-written-ge-SHARE-clause-works : goal.returns-then-written-ge-SHARE-clause-works
+returns-then-written-ge-SHARE-clause-works g c =
+    let k = c.loop-times in
+    let x = c.write_some-count in
+    let n = x.result in
+    let e = c.args.exchange.now in
+    let e1 = k.exchange in
+    let e2 = x.new.exchange in
+    let sum = c.saturating_add-written.result in
+    let fits : sum ≤ k.written + n = search rules in
+    let enough : 16384 ≤ sum = search rules in
+    let some : (n == 0) ≡ false = search rules in
+    asks_then g.W.Wire.asked c.args.wire.now k.wire x.new.wire (TellsSoFar e e1 k._times k.written) (Tells e1 e2 (if n == 0 then 0 else 1) n (not (n == 0))) (λ cs. HasTold e e2 cs × PollsBy false true cs)
+    (λ c1 c2 a b. (
+      told_share e e1 e2 k._times (if n == 0 then 0 else 1) k.written n c1 c2 (omega (arith, fits, enough)) a.0 b.is,
+      polled_moved false true (c1 ++ c2) (any_right is_moving c1 c2 (told_moved e1 e2 (if n == 0 then 0 else 1) n c2 some b.is)),
+    )) k.invariant.works x.ensures.works
+
+pub returns-clause-works : goal.returns-clause-works
+returns-clause-works g c =
+    let k = c.loop-times in
+    let e = c.args.exchange.now in
+    let h : 64 ≤ k._times = search rules in
+    asks_so g.W.Wire.asked c.args.wire.now k.wire (TellsSoFar e k.exchange k._times k.written) (λ cs. HasTold e k.exchange cs × PollsBy false true cs)
+    (λ cs a. (told_often e k.exchange k._times k.written cs h a.0, polled_moved false true cs (a.1 (omega (arith, h))))) k.invariant.works

@@ -1,0 +1,12 @@
+use Rattle.serving.specs.Requests.{StillAnswers}
+use Rattle.serving.specs.Parts.{Asking}
+use Rattle.serving.specs.HttpParts.{AskedApart, KeepsLink}
+use Rattle.serving.proofs.Resting.{TellsSoFar}
+use Rattle.serving.proofs.requests.write_response.Given as goal
+
+abbrev pub invariant-loop-times : goal.invariant-loop-times
+invariant-loop-times g l = record {
+  answers : StillAnswers g.W.Wire.tells l.fn.wire l.fn.exchange l.wire l.exchange;
+  keeps : KeepsLink l.fn.exchange l.exchange;
+  works : Asking g.W.Wire.asked l.fn.wire l.wire (AskedApart (TellsSoFar l.fn.exchange l.exchange l._times l.written));
+}

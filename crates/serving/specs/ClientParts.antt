@@ -1,0 +1,219 @@
+-- What the parts of a turn do for clients, each in one word that its contract cites: the moment,
+-- links that come, what is written and read on one link and on all, and links that are closed.
+use Rattle.std.specs.Prelude.{◌≡◌, ◌⊎◌, ◌≤◌, ◌<◌, ⊤, ℕ, Bool, true, false, ◌&&◌, ◌||◌, ◌==◌}
+use Rattle.std.specs.Prelude.{List, [], ◌∷◌, ◌++◌, length, map, filter, filter_map, Option, None}
+use Rattle.std.specs.Prelude.{if◌then◌else◌, nat_lt}
+use Rattle.std.specs.List.{All, Contains, list_any, remove}
+use Rattle.vault.specs.Records.{Records}
+use Rattle.vault.specs.Changes.{Contents}
+use Rattle.office.specs.Events.{Event, EventTag, Log, Trace}
+use Rattle.office.specs.Events as event
+use Rattle.office.specs.Trace.{is_ready, rest}
+use Rattle.office.specs.Taken.{trace_of}
+use Rattle.office.specs.Stands.{StandsFor, vault_of}
+use Rattle.office.specs.declared.office.Office.{Office}
+use Rattle.serving.specs.declared.wire.Port.TheVariants.{Pop}
+use Rattle.serving.specs.declared.wire.Io.{Io}
+use Rattle.serving.specs.declared.wire.Io.TheVariants.{Count}
+use Rattle.serving.specs.Calls.{Call, Waited, Looked, Read, Closed}
+use Rattle.serving.specs.declared.links.Seat.{Seat}
+use Rattle.serving.specs.declared.links.Clients.{Clients}
+use Rattle.serving.specs.declared.newcomers.Newcomer.{Newcomer}
+use Rattle.serving.specs.Settings.{Settings}
+use Rattle.serving.specs.Newcomers.{newcomer, lies_unread, waited_of}
+use Rattle.serving.specs.Paces.{is_held, first_line, part_by, most_paced}
+use Rattle.serving.specs.declared.guesses.Refusal.{Refusal}
+use Rattle.creds.specs.declared.login_name.LoginName.{LoginName}
+use Rattle.serving.specs.declared.pace.Pace.{Pace}
+use Rattle.office.specs.Logins.{login_brought}
+use Rattle.serving.specs.Works.{waits, arrivals, closings, is_admin, is_read_of, is_later_of}
+use Rattle.serving.specs.Works.{is_taking_of, octets_taken, most_writes, share_by, moments}
+use Rattle.serving.specs.Works.{openings, refusals, AreCaused, IsKeptBack, reads_by_line}
+use Rattle.serving.specs.Works.{IsReadByLine, LiesUnread, Came, seat_of, unseated_of, link_of}
+use Rattle.serving.specs.Works.{HasAccepted, Way, way_by, HadTurn, HasFreed, is_open_seat}
+use Rattle.serving.specs.Works.{is_shut_seat}
+use Rattle.serving.specs.Parts.{IsQuietFor}
+
+-- an event is one
+abbrev pub IsOpening : Event × EventTag → Type 0
+IsOpening (event.Connect, m) = ⊤
+IsOpening _ = ⊥
+
+-- where a seat's login is noted as lying unread, it does
+abbrev pub IsNotedSo : (noted : List Newcomer) (B : Records) (older given : Log)
+    (calls : List Call) (wait : ℕ) (may : ℕ → Bool) (seats : List Seat) → Seat → Type 0
+IsNotedSo noted B older given calls wait may seats s =
+    lies_unread (newcomer s.connection noted) ≡ true
+    → LiesUnread B older given calls wait (may s.connection) seats s.connection
+
+-- the moment
+pub record IsPassed (millis now : ℕ) (given : Log) (calls : List Call) : Type 0 where
+  pub event_tag : EventTag
+  pub given_is : given ≡ (event.Tick now, event_tag) ∷ []
+  pub calls_are : calls ≡ Waited millis ∷ []
+
+-- So many links came, each with an opening: those whose opening was done got the next seats, and the others were closed.
+pub record HaveCome {V : Type 0} (Holds : V → Contents → Type 0) (IsClean : V → Type 0) (office office_then : Office V) (seats seats_then : List Seat) (came : List Came)
+    (given : Log) (calls : List Call) : Type 0 where
+  pub no_moments : moments given ≡ []
+  pub no_waits : waits calls ≡ []
+  pub arrived : arrivals calls ≡ map link_of came
+  pub opened : openings given ≡ length came
+  pub refused : (T : Trace) → StandsFor Holds office T → IsClean (vault_of office_then) → refusals given ≡ length (filter_map unseated_of came)
+  pub closed : closings calls ≡ filter_map unseated_of came
+  pub seated : seats_then ≡ seats ++ filter_map seat_of came
+  pub apart : list_any is_admin calls ≡ false
+  pub only : All IsOpening given
+  pub caused : AreCaused [] calls given
+
+pub record AreAccepted {V : Type 0} (Holds : V → Contents → Type 0) (IsClean : V → Type 0) (office office_then : Office V) (seats seats_then : List Seat) (most : ℕ) (goes : Bool)
+    (given : Log) (calls : List Call) : Type 0 where
+  pub came : List Came
+  pub come : HaveCome Holds IsClean office office_then seats seats_then came given calls
+  pub enough : goes ≡ true → most ≤ length came
+  pub all : goes ≡ false → HasAccepted (length seats_then) calls
+
+-- nothing is owed to a connection by then
+abbrev pub OwesNothing : {V : Type 0} (Holds : V → Contents → Type 0) (IsClean : V → Type 0) (office office_then : Office V) (c : ℕ) (given : Log) → Type 0
+OwesNothing Holds IsClean office office_then c given =
+    (B : Records) (L : Log) → StandsFor Holds office (trace_of B L) → IsClean (vault_of office_then) → rest (trace_of B (given ++ L)) c ≡ []
+
+-- A link was written on so many times, so many octets; and it takes no more for now, or nothing more is owed, where that is over.
+pub record IsWritten {V : Type 0} (Holds : V → Contents → Type 0) (IsClean : V → Type 0) (office office_then : Office V) (seat : Seat) (times octets : ℕ) (goes : Bool)
+    (given : Log) (calls : List Call) : Type 0 where
+  pub of_seat : IsQuietFor (seat ∷ []) given calls
+  pub taken : times ≤ length (filter (is_taking_of seat.link) calls)
+  pub octets_are : octets ≤ octets_taken seat.link calls
+  pub ends : goes ≡ false → (list_any (is_later_of seat.link) calls ≡ true) ⊎ OwesNothing Holds IsClean office office_then seat.connection given
+
+-- A link was written its share, or as often as it may be, where it goes on; or it takes no more for now, or nothing more is owed.
+pub record IsWrittenOut {V : Type 0} (Holds : V → Contents → Type 0) (IsClean : V → Type 0) (office office_then : Office V) (seat : Seat) (share : ℕ) (goes : Bool)
+    (given : Log) (calls : List Call) : Type 0 where
+  pub of_seat : IsQuietFor (seat ∷ []) given calls
+  pub goes_on : goes ≡ true → (most_writes ≤ length (filter (is_taking_of seat.link) calls)) ⊎ (share ≤ octets_taken seat.link calls)
+  pub ends : goes ≡ false → (list_any (is_later_of seat.link) calls ≡ true) ⊎ OwesNothing Holds IsClean office office_then seat.connection given
+
+-- no octets may come on a connection
+abbrev pub IsNotReady : {V : Type 0} (Holds : V → Contents → Type 0) (office : Office V) (c : ℕ) → Type 0
+IsNotReady Holds office c = (B : Records) (L : Log) → StandsFor Holds office (trace_of B L) → is_ready (trace_of B L) c ≡ false
+
+-- a link showed a piece that is kept back
+pub record IsUnread {V : Type 0} (Holds : V → Contents → Type 0) (office : Office V) (seat : Seat) (wait : ℕ) (may : Bool) (calls : List Call) : Type 0 where
+  pub piece : List ℕ
+  pub io : Io
+  pub shown : Contains calls (Looked Pop seat.link io piece)
+  pub kept : (B : Records) (L : Log) → StandsFor Holds office (trace_of B L) → IsKeptBack (trace_of B L) seat.connection piece wait may
+
+-- octets came
+abbrev pub is_count : Io → Bool
+is_count (Count n) = true
+is_count _ = false
+
+-- how what comes on a link is read at a moment, by what serving holds
+pub record IsPaceAt (links : Clients) (c now : ℕ) (pace : Pace) : Type 0 where
+  pub wait : pace.wait ≡ links.wait
+  pub shut : pace.is_shut ≡ links.lock_released
+  pub moment : pace.now ≡ now
+  pub waited : pace.waited ≡ waited_of now (newcomer c links.newcomers.newcomers.items)
+
+-- What comes next on a link was looked at, where lines are read one at a time, and so many octets
+-- are to be read: as many as there is room for, or a part of the piece that was shown, whose next
+-- line would log in somebody.
+pub data HasLooked {V : Type 0} (Holds : V → Contents → Type 0) (office : Office V) (seat : Seat)
+    (pace : Pace) (refusals : List Refusal)
+    : (count : ℕ) → (login : Option LoginName) → List Call → Type 0 where
+  Unlooked : pace.by_line ≡ false → HasLooked Holds office seat pace refusals 4096 None []
+  NothingCame : (io : Io) → is_count io ≡ false
+      → HasLooked Holds office seat pace refusals 4096 None (Looked Pop seat.link io [] ∷ [])
+  PieceCame : (n : ℕ) (piece : List ℕ) (count : ℕ) (login : Option LoginName)
+      → pace.by_line ≡ true → 0 < length piece
+      → ((T : Trace) → StandsFor Holds office T
+      → count ≡ part_by (is_held T seat.connection piece pace refusals) piece)
+      → ((T : Trace) → StandsFor Holds office T
+      → login ≡ login_brought T seat.connection piece)
+      → ((count == 0) ≡ false → count ≡ first_line piece)
+      → HasLooked Holds office seat pace refusals count login
+      (Looked Pop seat.link (Count n) piece ∷ [])
+
+-- A link was read from once, so many octets at most, where its connection waits for them.
+pub data IsReadOnce {V : Type 0} (Holds : V → Contents → Type 0) (office : Office V) (seat : Seat)
+    (room : ℕ) : Log → List Call → Type 0 where
+  NotReady : IsNotReady Holds office seat.connection → IsReadOnce Holds office seat room [] []
+  WasRead : (io : Io) (octets : List ℕ) (given : Log)
+      → IsQuietFor (seat ∷ []) given (Read Pop seat.link room io octets ∷ [])
+      → IsReadOnce Holds office seat room given (Read Pop seat.link room io octets ∷ [])
+
+-- A link was read from, where its connection waits for octets and nothing is kept back. Where its
+-- login is noted as lying unread, it does.
+pub record IsHeard {V : Type 0} (Holds : V → Contents → Type 0) (office : Office V) (seat : Seat)
+    (wait : ℕ) (by_line may is_noted : Bool) (given : Log) (calls : List Call) : Type 0 where
+  pub of_seat : IsQuietFor (seat ∷ []) given calls
+  pub heard : (list_any (is_read_of seat.link) calls ≡ true)
+      ⊎ (IsReadByLine calls by_line seat ⊎ ((given ≡ [])
+      × (IsNotReady Holds office seat.connection ⊎ IsUnread Holds office seat wait may calls)))
+  pub noted : is_noted ≡ true → IsUnread Holds office seat wait may calls
+
+-- logins may be kept back: behind refusals, where guesses are slow, or behind a session that ended
+-- in this turn
+abbrev pub may_keep : Clients → Bool
+may_keep links = links.guesses.are_slow || links.lock_released
+
+-- that of a connection may: behind refusals only while it has lain unread for less than 15 seconds
+abbrev pub may_at : (now : ℕ) → Clients → (c : ℕ) → Bool
+may_at now links c = links.lock_released || (links.guesses.are_slow
+    && nat_lt (waited_of now (newcomer c links.newcomers.newcomers.items)) most_paced)
+
+abbrev pub way_at : (now : ℕ) → Clients → (poll_now : Bool) → Way
+way_at now links poll_now = record {
+  share = share_by (length links.seats.items);
+  wait = links.wait;
+  by_line = reads_by_line links.wait (may_keep links);
+  may = may_at now links;
+  poll_now = poll_now;
+}
+
+-- the links of these seats had their turns, and whose login is noted as lying unread has it so
+pub record HadTurns {V : Type 0} (Holds : V → Contents → Type 0) (IsClean : V → Type 0)
+    (office office_then : Office V) (way : Way) (noted : List Newcomer) (seats these : List Seat)
+    (given : Log) (calls : List Call) : Type 0 where
+  pub of_seats : IsQuietFor seats given calls
+  pub turns : (B : Records) (L : Log) → StandsFor Holds office (trace_of B L)
+      → IsClean (vault_of office_then)
+      → All (HadTurn way B L given (trace_of B (given ++ L)) calls) these
+  pub noted_so : (B : Records) (L : Log) → StandsFor Holds office (trace_of B L)
+      → IsClean (vault_of office_then)
+      → All (IsNotedSo noted B L given calls way.wait way.may seats) these
+
+-- logins are kept back behind sessions that ended, where they wait for a lock, and behind nothing
+-- else
+abbrev pub IsFreedBy : {V : Type 0} (Holds : V → Contents → Type 0) (IsClean : V → Type 0)
+    (office office_then : Office V) (wait : ℕ) (freed : Bool) (seats : List Seat) (given : Log)
+    → Type 0
+IsFreedBy Holds IsClean office office_then wait freed seats given =
+    freed ≡ true → ((wait == 0) ≡ false) × ((B : Records) (L : Log)
+    → StandsFor Holds office (trace_of B L) → IsClean (vault_of office_then)
+    → HasFreed B L given seats)
+
+-- the links of these seats had their turns, by these settings, and what was kept back behind a
+-- session that ended was so for that
+pub record WereServed {V : Type 0} (Holds : V → Contents → Type 0) (IsClean : V → Type 0)
+    (office office_then : Office V) (set : Settings) (now : ℕ) (newcomers : List Newcomer)
+    (freed poll_now : Bool) (noted : List Newcomer) (seats these : List Seat) (given : Log) (calls : List Call)
+    : Type 0 where
+  pub turns : HadTurns Holds IsClean office office_then
+      (way_by set now newcomers seats freed poll_now) noted seats these given calls
+  pub freed_by : IsFreedBy Holds IsClean office office_then set.wait freed seats given
+
+abbrev pub closing : Seat → Call
+closing s = Closed Pop s.link
+
+-- exactly the links of those seats are closed whose connections aren't open
+pub record AreClosed (T : Trace) (seats seats_then : List Seat) (calls : List Call) : Type 0 where
+  pub calls_are : calls ≡ map closing (filter (is_shut_seat T) seats)
+  pub left : seats_then ≡ filter (is_open_seat T) seats
+
+-- exactly this seat's link is closed, where its connection isn't open
+pub record IsClosed (T : Trace) (seats seats_then : List Seat) (place : ℕ) (seat : Seat) (stays : Bool) (calls : List Call) : Type 0 where
+  pub stays_if : stays ≡ is_open_seat T seat
+  pub left : seats_then ≡ (if stays then seats else remove seats place)
+  pub calls_are : calls ≡ (if stays then [] else closing seat ∷ [])

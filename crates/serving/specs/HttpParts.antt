@@ -1,0 +1,91 @@
+-- What the parts of a turn do for the links of the administration, each in one word that its
+-- contract cites.
+use Rattle.std.specs.Prelude.{◌≡◌, ℕ, ◌+◌, Bool, true, false, if◌then◌else◌, List, []}
+use Rattle.std.specs.Prelude.{take, drop, Option}
+use Rattle.vault.specs.Records.{Records}
+use Rattle.vault.specs.Changes.{Contents}
+use Rattle.office.specs.Events.{Log}
+use Rattle.office.specs.Taken.{trace_of}
+use Rattle.office.specs.Stands.{StandsFor, vault_of}
+use Rattle.office.specs.declared.office.Office.{Office}
+use Rattle.serving.specs.Calls.{Call}
+use Rattle.serving.specs.declared.requests.Exchange.{Exchange}
+use Rattle.serving.specs.Parts.{Part, Asking, Giving, IsQuiet}
+use Rattle.serving.specs.Works.{AreCaused}
+use Rattle.serving.specs.HttpTurns.{GoesOnAt}
+use Rattle.serving.specs.HttpWorks.{ComesTo, IsToldOf, HasToldAll, HadHttpTurns}
+
+-- This was done behind any log for which the office stands, and the clients' links and openings
+-- were left alone.
+pub record DidApart {V : Type 0} (Holds : V → Contents → Type 0) (IsClean : V → Type 0)
+    (office office_then : Office V) (Did : Records → Log → Log → List Call → Type 0)
+    (given : Log) (calls : List Call) : Type 0 where
+  pub quiet : IsQuiet given calls
+  pub caused : AreCaused [] calls given
+  pub did : (B : Records) (L : Log) → StandsFor Holds office (trace_of B L)
+      → IsClean (vault_of office_then) → Did B L given calls
+
+-- what octets that were read come to, with no call
+abbrev pub ComeTo : (read : List ℕ) (response : Option (List ℕ)) → Records → Log → Log → List Call
+    → Type 0
+ComeTo read response B L given calls = ComesTo B L read given response
+
+-- calls of the administration's links alone, of which this holds
+abbrev pub AskedApart : (List Call → Type 0) → List Call → Type 0
+AskedApart Facts calls = IsQuiet [] calls × Facts calls
+
+-- A part of a turn that does this, and nothing for the clients' links.
+abbrev pub DoesApart : {V W : Type 0} (Holds : V → Contents → Type 0) (IsClean : V → Type 0)
+    (Faults : V → ℕ) (Asked : W → List Call → Type 0) (office : Office V) (wire : W)
+    (office_then : Office V) (wire_then : W) (Did : Records → Log → Log → List Call → Type 0)
+    → Type 0
+DoesApart Holds IsClean Faults Asked office wire office_then wire_then Did =
+    Part Holds IsClean Faults Asked office wire office_then wire_then
+    (DidApart Holds IsClean office office_then Did)
+
+-- One that asks the wire nothing.
+abbrev pub GivesApart : {V : Type 0} (Holds : V → Contents → Type 0) (IsClean : V → Type 0)
+    (Faults : V → ℕ) (office office_then : Office V)
+    (Did : Records → Log → Log → List Call → Type 0) → Type 0
+GivesApart Holds IsClean Faults office office_then Did =
+    Giving Holds IsClean Faults office office_then
+    (λ given. DidApart Holds IsClean office office_then Did given [])
+
+-- One that gives the office nothing.
+abbrev pub AsksApart : {W : Type 0} (Asked : W → List Call → Type 0) (wire wire_then : W)
+    (Facts : List Call → Type 0) → Type 0
+AsksApart Asked wire wire_then Facts = Asking Asked wire wire_then (AskedApart Facts)
+
+-- the link at a place had its turn, and whether it is held on
+abbrev pub HadTurnAt : (now place : ℕ) (stays : Bool) (held held_then : List Exchange)
+    → Records → Log → Log → List Call → Type 0
+HadTurnAt now place stays held held_then B L given calls =
+    HadHttpTurns now B L (take 1 (drop place held))
+    (take (if stays then 1 else 0) (drop place held_then)) given calls
+
+-- What follows of a response was written once or more, and where that doesn't go on nothing more
+-- can be written for now.
+pub record Tells (e e_then : Exchange) (times octets : ℕ) (goes : Bool) (calls : List Call)
+    : Type 0 where
+  pub is : IsToldOf e e_then times octets calls
+  pub ends : goes ≡ false → HasToldAll e_then calls
+
+-- the exchange is still that of its link, which was accepted when it was
+pub record KeepsLink (e e_then : Exchange) : Type 0 where
+  pub link : e_then.link ≡ e.link
+  pub since : e_then.since ≡ e.since
+
+-- and as much of its response is written, and it is over if it was
+pub record KeepsWritten (e e_then : Exchange) : Type 0 where
+  pub link : e_then.link ≡ e.link
+  pub since : e_then.since ≡ e.since
+  pub written : e_then.written ≡ e.written
+  pub over : e_then.is_over ≡ e.is_over
+
+-- The link at one place is served, and goes unless it stays: those before it and after it are held
+-- on, and it goes on if it stays.
+pub record ServesPlace (now place : ℕ) (stays : Bool) (held held_then : List Exchange)
+    : Type 0 where
+  pub before : take place held_then ≡ take place held
+  pub behind : drop (if stays then place + 1 else place) held_then ≡ drop (place + 1) held
+  pub goes_on : stays ≡ true → GoesOnAt now held_then place

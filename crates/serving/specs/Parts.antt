@@ -1,0 +1,186 @@
+-- What a part of a turn does, and what it keeps, in one word each. `Does`: the events that it gave,
+-- the calls that it made, and what the listener heard of them. `Keeps`: what every part leaves as
+-- it was; with the seats it is `KeepsSeats`. Then what one kind of part does to what serving holds
+-- between turns: it notes refused logins (`NotesGuesses`), serves a client (`Frees`), ends late
+-- clients (`Ends`, `IsEnded`), closes links (`Closes`, `ClosesSeat`), or gives seats to those that
+-- came (`AreNoted`). Two parts compose: `part_then` of proofs/Working, `keeps_then` of
+-- proofs/Composing, and the others there.
+use Rattle.std.specs.Prelude.{◌≡◌, ◌⊎◌, ◌≤◌, ℕ, Bool, true, false, ◌||◌, ◌==◌, List, [], ◌++◌}
+use Rattle.std.specs.Prelude.{Some, if◌then◌else◌, slice_index_or}
+use Rattle.std.specs.List.{All, list_any}
+use Rattle.vault.specs.Records.{Records}
+use Rattle.vault.specs.Calls.{has_grown}
+use Rattle.vault.specs.Changes.{Contents}
+use Rattle.office.specs.Events.{Log, Trace}
+use Rattle.office.specs.Trace.{history}
+use Rattle.office.specs.Sessions.{live}
+use Rattle.office.specs.Taken.{trace_of}
+use Rattle.office.specs.Stands.{StandsFor, vault_of}
+use Rattle.office.specs.declared.office.Office.{Office}
+use Rattle.serving.specs.Calls.{Call}
+use Rattle.serving.specs.declared.links.Seat.{Seat}
+use Rattle.serving.specs.declared.links.Clients.{Clients}
+use Rattle.serving.specs.declared.newcomers.Newcomer.{Newcomer}
+use Rattle.serving.specs.Settings.{settings_of}
+use Rattle.serving.specs.Newcomers.{newcomer, others, AreSeatedAt, AreNotedNow, IsNewlyNoted}
+use Rattle.serving.specs.Paces.{has_freed}
+use Rattle.serving.specs.Works.{is_late, AreLateGone, waits, arrivals, closings, is_admin}
+use Rattle.serving.specs.Works.{has_moved, moments, openings, refusals, is_failed, AreNewlyAdmitted}
+use Rattle.serving.specs.Works.{AreCaused, WasAsked}
+use Rattle.serving.specs.Hearing.{Hearing, WithHeard}
+use Rattle.serving.specs.Late.{IsShutBy}
+
+-- ---- what it gives and asks
+
+-- where the next turn doesn't wait by these calls, it didn't before, or something moved
+abbrev pub PollsBy : (polled polled_then : Bool) → List Call → Type 0
+PollsBy polled polled_then calls =
+    polled_then ≡ true → (polled || has_moved calls) ≡ true
+
+-- it doesn't wait where these calls moved something, if logins wait for locks
+abbrev pub Releases : (wait : ℕ) (poll_now : Bool) → List Call → Type 0
+Releases wait poll_now calls = (wait == 0) ≡ false → has_moved calls ≡ true → poll_now ≡ true
+
+-- of the calls of a part this holds too
+abbrev pub Also : (Log → List Call → Type 0) → (List Call → Type 0) → Log → List Call
+    → Type 0
+Also Facts More given calls = Facts given calls × More calls
+
+-- nobody is late who wasn't
+abbrev pub AreNoMoreLate : (now seconds : ℕ) → (newcomers newcomers_then : List Newcomer) → Type 0
+AreNoMoreLate now seconds newcomers newcomers_then = (c : ℕ) → is_late now seconds newcomers_then c ≡ true → is_late now seconds newcomers c ≡ true
+
+pub record WasGiven {V : Type 0} (Holds : V → Contents → Type 0) (IsClean : V → Type 0) (Faults : V → ℕ) (office office_then : Office V) (given : Log) : Type 0 where
+  pub clean : IsClean (vault_of office_then) → IsClean (vault_of office)
+  pub stands : (B : Records) (L : Log) → StandsFor Holds office (trace_of B L) → IsClean (vault_of office_then) → StandsFor Holds office_then (trace_of B (given ++ L))
+  pub admitted : (B : Records) (L : Log) → StandsFor Holds office (trace_of B L) → IsClean (vault_of office_then) → AreNewlyAdmitted B L given
+  -- the count of faults never falls, and an event failed only where it grew
+  pub counted : Faults (vault_of office) ≤ Faults (vault_of office_then)
+  pub failed : (B : Records) (L : Log) → StandsFor Holds office (trace_of B L) → IsClean (vault_of office_then) → list_any is_failed given ≡ true
+      → has_grown (Faults (vault_of office)) (Faults (vault_of office_then)) ≡ true
+
+-- a part of a turn, of whose events and calls this holds
+pub record Part {V W : Type 0} (Holds : V → Contents → Type 0) (IsClean : V → Type 0) (Faults : V → ℕ) (Asked : W → List Call → Type 0)
+    (office : Office V) (wire : W) (office_then : Office V) (wire_then : W) (Facts : Log → List Call → Type 0) : Type 0 where
+  pub given : Log
+  pub calls : List Call
+  pub was_given : WasGiven Holds IsClean Faults office office_then given
+  pub was_asked : WasAsked Asked wire wire_then calls
+  pub facts : Facts given calls
+
+-- a part that asks the wire alone
+pub record Asking {W : Type 0} (Asked : W → List Call → Type 0) (wire wire_then : W) (Facts : List Call → Type 0) : Type 0 where
+  pub calls : List Call
+  pub was_asked : WasAsked Asked wire wire_then calls
+  pub facts : Facts calls
+
+-- a part that gives events to the office alone
+pub record Giving {V : Type 0} (Holds : V → Contents → Type 0) (IsClean : V → Type 0) (Faults : V → ℕ) (office office_then : Office V) (Facts : Log → Type 0) : Type 0 where
+  pub given : Log
+  pub was_given : WasGiven Holds IsClean Faults office office_then given
+  pub facts : Facts given
+
+-- no wait, no link that comes, none that is closed, no tick and no opening
+pub record IsQuiet (given : Log) (calls : List Call) : Type 0 where
+  pub no_moments : moments given ≡ []
+  pub no_openings : openings given ≡ 0
+  pub no_refusals : refusals given ≡ 0
+  pub no_waits : waits calls ≡ []
+  pub no_arrivals : arrivals calls ≡ []
+  pub no_closings : closings calls ≡ []
+
+-- a quiet part of the clients' port, whose events have their causes among these seats
+pub record IsQuietFor (seats : List Seat) (given : Log) (calls : List Call) : Type 0 where
+  pub quiet : IsQuiet given calls
+  pub apart : list_any is_admin calls ≡ false
+  pub caused : AreCaused seats calls given
+
+-- It gave these events and made these calls and no others, of which `Facts` holds, and the listener
+-- heard the accounts of these events and nothing else.
+abbrev pub Does : {V W H : Type 0} (Holds : V → Contents → Type 0) (IsClean : V → Type 0)
+    (Faults : V → ℕ) (Asked : W → List Call → Type 0) (Heard : H → List Hearing → Type 0)
+    (office : Office V) (wire : W) (listener : H)
+    (office_then : Office V) (wire_then : W) (listener_then : H)
+    (Facts : Log → List Call → Type 0) → Type 0
+Does Holds IsClean Faults Asked Heard office wire listener office_then wire_then listener_then Facts =
+    Part Holds IsClean Faults Asked office wire office_then wire_then
+    (WithHeard Holds IsClean Heard office listener office_then listener_then Facts)
+
+-- a late client's connection was ended, or wasn't open
+pub record IsEnded {V : Type 0} (Holds : V → Contents → Type 0) (IsClean : V → Type 0)
+    (office office_then : Office V) (c : ℕ) (given : Log) : Type 0 where
+  pub gone : (now seconds : ℕ) (newcomers : List Newcomer)
+      → is_late now seconds newcomers c ≡ true → AreLateGone now seconds newcomers given
+  pub shut : IsShutBy Holds IsClean office office_then c given
+
+module _ (links links_then : Clients) where
+  -- The settings stay, and which spool file was tried last; and if the next turn didn't wait
+  -- before, it doesn't.
+  pub record Keeps : Type 0 where
+    pub set : settings_of links_then ≡ settings_of links
+    pub last : links_then.last ≡ links.last
+    pub polled : links.poll_now ≡ true → links_then.poll_now ≡ true
+
+  -- and the seats
+  pub record KeepsSeats : Type 0 where
+    pub keeps : Keeps
+    pub seats : links_then.seats ≡ links.seats
+
+  -- Only which logins were refused may change.
+  pub record NotesGuesses : Type 0 where
+    pub keeps : KeepsSeats
+    pub newcomers : links_then.newcomers ≡ links.newcomers
+    pub freed : links_then.lock_released ≡ links.lock_released
+    pub poll_now : links_then.poll_now ≡ links.poll_now
+
+  -- Logins are kept back after a session ended: still, if they were before; only if they wait for
+  -- locks; and then the next turn doesn't wait.
+  pub record FreesMore : Type 0 where
+    pub still : links.lock_released ≡ true → links_then.lock_released ≡ true
+    pub waits : links_then.lock_released ≡ true
+        → (links.lock_released ≡ true) ⊎ ((links.wait == 0) ≡ false)
+    pub poll_now : links_then.lock_released ≡ true
+        → (links.lock_released ≡ true) ⊎ (links_then.poll_now ≡ true)
+
+  -- While late clients are ended, the next turn waits as before, each newcomer still has a seat,
+  -- and nobody is late who wasn't.
+  pub record Ends (now seconds : ℕ) : Type 0 where
+    pub poll_now : links_then.poll_now ≡ links.poll_now
+    pub seated : AreSeatedAt links → AreSeatedAt links_then
+    pub late : AreNoMoreLate now seconds links.newcomers.newcomers.items
+        links_then.newcomers.newcomers.items
+
+  -- Links are closed: each newcomer still has a seat.
+  pub record Closes : Type 0 where
+    pub keeps : Keeps
+    pub seated : AreSeatedAt links → AreSeatedAt links_then
+
+  -- that at one place is, unless it stays: its newcomer goes with it, and nobody else
+  pub record ClosesSeat (place : ℕ) (stays : Bool) : Type 0 where
+    pub closes : Closes
+    pub newcomers : (d : Seat) → links_then.newcomers.newcomers.items
+        ≡ (if stays then links.newcomers.newcomers.items
+        else others (slice_index_or links.seats.items place d).connection
+        links.newcomers.newcomers.items)
+
+  -- More seats were taken, and their connections were noted; who was noted is so still.
+  pub record AreNoted (now : ℕ) : Type 0 where
+    pub keeps : Keeps
+    pub poll_now : links_then.poll_now ≡ links.poll_now
+    pub more : List Seat
+    pub is : links_then.seats.items ≡ links.seats.items ++ more
+    pub seated : AreSeatedAt links → AreSeatedAt links_then
+    pub each : AreNotedNow now links.newcomers.newcomers.items links_then.newcomers.newcomers.items
+    pub newly : AreSeatedAt links
+        → All (IsNewlyNoted now links.newcomers.newcomers.items
+        links_then.newcomers.newcomers.items) more
+    pub noted : (c : ℕ) (n : Newcomer) → newcomer c links.newcomers.newcomers.items ≡ Some n
+        → newcomer c links_then.newcomers.newcomers.items ≡ Some n
+
+-- A connection was served, whose session may have ended: then logins are kept back, if they wait.
+pub record Frees {V : Type 0} (Holds : V → Contents → Type 0) (office office_then : Office V)
+    (links links_then : Clients) (c : ℕ) : Type 0 where
+  pub more : FreesMore links links_then
+  pub is : (T U : Trace) → StandsFor Holds office T → StandsFor Holds office_then U
+      → links_then.lock_released ≡ (links.lock_released
+      || has_freed links.wait (live (history T) c) (live (history U) c))
