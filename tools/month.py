@@ -224,7 +224,7 @@ class Program:
 
 
 class Mpop(Program):
-    """Leaves all on the server, and fetches what is new, into an mbox."""
+    """Leaves all on the server, or removes what it fetched, and fetches what is new, into an mbox."""
 
     def fetch(self):
         kind, secret = self.office.secrets[self.clerk]
@@ -232,15 +232,20 @@ class Mpop(Program):
         self.call(
             "mpop", f"--host={HOST}", "--port=995", "--tls=on", "--tls-starttls=off",
             f"--tls-trust-file={CERTIFICATE}", f"--auth={'apop' if kind == 'apop' else 'user'}",
-            f"--user={self.clerk}/{self.maildrop}", "--passwordeval=cat secret", "--keep=on",
-            "--uidls-file=uidls", "--deliver=mbox,inbox",
+            f"--user={self.clerk}/{self.maildrop}", "--passwordeval=cat secret",
+            f"--keep={'off' if self.removes else 'on'}", "--uidls-file=uidls",
+            "--deliver=mbox,inbox", status=None if self.removes else 0,
         )  # fmt: skip
 
 
 class Getmail(Program):
-    """Leaves all on the server, or removes what it fetched, at once or by age; into a Maildir."""
+    """Removes by age what it fetched, into a Maildir.
 
-    after = 0
+    getmail 6.18.11 forks for each message, and if the child ends before it waits for it, it waits a
+    minute, calls that a failure, and fetches the message again at its next run: what it says so of
+    may be in its Maildir twice."""
+
+    removes, after, again = True, 10, 0
 
     def make(self):
         for name in ("new", "cur", "tmp"):
@@ -254,15 +259,30 @@ class Getmail(Program):
             f"ca_certs = {CERTIFICATE}\nusername = {self.clerk}/{self.maildrop}\n"
             f"password = {secret}\nuse_apop = {kind == 'apop'}\n"
             f"[destination]\ntype = Maildir\npath = {self.folder}/box/\n"
-            f"[options]\nread_all = False\ndelete = {self.removes and not self.after}\n"
-            f"delete_after = {self.after}\ndelivered_to = False\nreceived = False\n",
+            f"[options]\nread_all = False\ndelete_after = {self.after}\n"
+            "delivered_to = False\nreceived = False\n",
         )
-        clock = {"LD_PRELOAD": LIBRARY, "CLOCK": CLOCK} if self.after else {}
-        self.call("getmail", f"--getmaildir={self.folder}", "--rcfile=getmailrc", **clock)
+        words = ("taskset", "1", "getmail", f"--getmaildir={self.folder}", "--rcfile=getmailrc")
+        while True:
+            told = self.call(*words, status=None, LD_PRELOAD=LIBRARY, CLOCK=CLOCK)
+            if "timed out" not in told:
+                break
+            self.again += told.count("timed out")
+
+    def fetched(self):
+        new, once = super().fetched(), []
+        for number in new:
+            if number in once and self.again:
+                self.again -= 1
+                self.office.again += 1
+            else:
+                once.append(number)
+        return once
 
 
 class Fetchmail(Program):
-    """Removes what it fetched, and knows what stayed by its unique-ids; into one file."""
+    """Removes what it fetched, and knows what stayed by its unique-ids; into one file. It quits at
+    a DELE that is refused, and goes on after that message when it is called again."""
 
     removes = True
 
@@ -273,9 +293,12 @@ class Fetchmail(Program):
             f'password "{self.secret}" nokeep ssl sslcertck sslcertfile {CERTIFICATE}\n'
             "  mda \"sh -c 'cat >>inbox'\"\n",
         )
-        told = self.call("fetchmail", "--nodetach", "--nosyslog", status=None)
-        if re.search("(?i)authorization|refused|socket error", told):
-            raise Wrong(f"{self.name}: {told}")
+        is_new = True
+        while is_new:
+            told = self.call("fetchmail", "--nodetach", "--nosyslog", status=None)
+            if re.search("(?i)authorization|refused|socket error", told):
+                raise Wrong(f"{self.name}: {told}")
+            is_new = "reading message" in told
 
 
 class Curl(Program):
@@ -320,7 +343,7 @@ class Office:
         self.chance = random.Random(seed)
         self.messages, self.present, self.removed, self.lost = {}, {}, {}, {}
         self.secrets, self.programs = {}, []
-        self.policy, self.day, self.fetches, self.logged = Policy(policy), 0, 0, 0
+        self.policy, self.day, self.fetches, self.again = Policy(policy), 0, 0, 0
 
     # Mail
 
