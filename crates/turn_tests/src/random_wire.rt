@@ -146,6 +146,8 @@ impl Wire for RandomWire {
 
     ghost asked = { λ _ _. ⊥ };
 
+    ghost address_of = { λ _ _ _. None };
+
     ghost tells_once = { λ wire t u a b. absurd a };
 
     fn wait(&mut self, _millis: u32) {
