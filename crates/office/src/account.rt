@@ -69,6 +69,8 @@ pub enum End {
     Idle,
     /// It took too long to log in, by the seconds of who serves it; to the office it is gone.
     TooLate,
+    /// The same by the fewer seconds that whoever serves it gives while all its places are taken.
+    FullHouse,
 }
 
 /// What an office judged in an event. It takes no memory but that of a session which quit, and
