@@ -1,5 +1,6 @@
 //! `popbox serve`: clients over the network.
 use crate::command_line::{is_verbose, removals_of};
+use crate::version::IS_PROVED;
 use clap::ArgMatches;
 use converse::{Fault, tell_fault};
 use journal::{
@@ -79,9 +80,11 @@ fn seconds_of(options: &ArgMatches<'_>, name: &str) -> u32 {
     options.get_one::<u32>(name).unwrap_or(0)
 }
 
-/// The options in force that say how clients are served and what is logged.
+/// Whether this popbox is proved, and the options in force that say how clients are served and what
+/// is logged.
 fn settings_of(options: &ArgMatches<'_>) -> Settings {
     Settings {
+        is_proved: IS_PROVED,
         removals: removals_of(options),
         idle: seconds_of(options, "idle"),
         wait: seconds_of(options, "wait"),
@@ -90,6 +93,7 @@ fn settings_of(options: &ArgMatches<'_>) -> Settings {
         slow_guesses: options.get_flag("slow-guesses"),
         proxy_protocol: options.get_flag("proxy-protocol"),
         message_ids: options.get_flag("log-message-ids"),
+        reads: options.get_flag("log-reads"),
     }
 }
 
@@ -255,6 +259,7 @@ fn serve_turns<'a, V: Vault, W: Wire + Peers + Drop>(
     links.set_full_house_seconds(u64::from(full));
     links.set_slow_guesses(options.get_flag("slow-guesses"));
     let mut clock = ServerClock::start(rt, watch)?;
+    let journal = journal.with_reads(options.get_flag("log-reads"));
     let mut listener = NotedListener::new(journal);
     serve_while(
         &mut links,
