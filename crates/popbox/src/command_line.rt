@@ -2,8 +2,7 @@
 
 use crate::version::{FOOT, VERSION};
 use clap::builder::ValueParser;
-use clap::{Arg, ArgAction, ArgMatches, Command, value_parser};
-use session::Removals;
+use clap::{Arg, ArgAction, Command, value_parser};
 use std::alloc::{AllocError, Global};
 
 /// `--NAME VALUE`.
@@ -32,14 +31,6 @@ fn removals<'a>(alloc: Global) -> Arg<'a> {
         .value_parser(ValueParser::Names(&["dele", "quit"]))
 }
 
-/// When a command's removals are judged.
-pub fn removals_of(options: &ArgMatches<'_>) -> Removals {
-    match options.get_str("removals") {
-        Some("quit") => Removals::JudgedAtQuit,
-        _ => Removals::JudgedAtDele,
-    }
-}
-
 /// `--store PATH`: the file of the store.
 fn store<'a>(alloc: Global, help: &'a str) -> Arg<'a> {
     option(alloc, "store", "PATH", help)
@@ -51,11 +42,6 @@ fn verbose<'a>(alloc: Global) -> Arg<'a> {
         .long("verbose")
         .action(ArgAction::SetTrue)
         .help("Says on standard error what a fault is about")
-}
-
-/// Whether a command is to say what its faults are about.
-pub fn is_verbose(options: &ArgMatches<'_>) -> bool {
-    options.get_flag("verbose")
 }
 
 /// A subcommand with these arguments and `--verbose`.
