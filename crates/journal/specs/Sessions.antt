@@ -234,17 +234,29 @@ told_of account None = []
 told_of account (Some client) =
     account_text (who_in account client) account ++ behind_account account client
 
--- A denial has a line if it is the first of its command, message and rule; another account, if it
--- may have one.
-abbrev pub gets_told : (reads : Bool) → List Denial → Account → Bool
-gets_told reads told (account.Denied command uid rule) =
+-- it is no denial, or one that gets a line
+abbrev pub is_new : Account → List Denial → Bool
+is_new (account.Denied command uid rule) told =
     gets_a_line (record { command = command; uid = uid; rule = rule }) told
-gets_told reads told account = is_told reads account
+is_new (account.Retrieved message) told = true
+is_new (account.Topped message) told = true
+is_new (account.Login name by verdict) told = true
+is_new (account.Quit removal) told = true
+is_new account.NoName told = true
+is_new account.Marked told = true
+is_new account.Unmarked told = true
+is_new account.QuitBeforeLogin told = true
+is_new account.Nothing told = true
+is_new (account.Ended cause) told = true
+
+-- an account gets a line if it may have one, and a denial if it is new
+abbrev pub gets_told : (reads : Bool) → Account → List Denial → Bool
+gets_told reads account told = is_told reads account && is_new account told
 
 -- the same, of the client that was found
 abbrev pub is_told_of : (reads : Bool) → Account → Option Client → Bool
 is_told_of reads account None = false
-is_told_of reads account (Some client) = gets_told reads client.denials.told.items account
+is_told_of reads account (Some client) = gets_told reads account client.denials.told.items
 
 abbrev pub lost_of : Option Client → List ℕ
 lost_of None = []

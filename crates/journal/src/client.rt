@@ -1,6 +1,6 @@
 //! The mail programs' connections, as the log tells of them.
-ghost use Rattle.std.specs.Prelude.{◌≡◌, ◌≢◌, ◌⊎◌, ◌<◌, ◌==◌, [], Some, None, IfOk, IfSome, map, true};
-ghost use Rattle.std.specs.Prelude.{false};
+ghost use Rattle.std.specs.Prelude.{◌≡◌, ◌≢◌, ◌⊎◌, ◌<◌, ◌==◌, [], Some, None, IfOk, IfSome, map};
+ghost use Rattle.std.specs.Prelude.{true, false};
 ghost use Rattle.std.specs.Prelude.{find, position, length, string_bytes};
 ghost use Rattle.journal.specs.Lines.{cause_text as cause_words};
 ghost use Rattle.journal.specs.Sessions.{heard_after, heard_of, heard_by, is_in, is_number};
@@ -8,7 +8,7 @@ ghost use Rattle.journal.specs.Sessions.{left_client, left_by, who_text, numbere
 ghost use Rattle.journal.specs.Sessions.{client_text, held_text, holder_of, who_of, told_of};
 ghost use Rattle.journal.specs.Sessions.{loss_text, loss_of, lost_of};
 ghost use Rattle.journal.specs.Sessions.{waited_text, behind_account, session_of, who_in};
-ghost use Rattle.journal.specs.Sessions.{gets_told, is_told_of};
+ghost use Rattle.journal.specs.Sessions.{is_new, gets_told, is_told_of};
 ghost use Rattle.journal.specs.declared.client.Client.{Client as AClient};
 
 use super::account_text::{cause_text, has_line, line_of};
@@ -184,10 +184,9 @@ impl Client {
         }
     }
 
-    /// Whether an account gets a line; of a denial the first of its command, message and rule.
-    fn tells(&mut self, account: &Account, reads: bool) -> Result<bool, AllocError>
-        ensures ok { IfOk result (λ told. told ≡ gets_told reads self.old.denials.told.items
-            account.now) }
+    /// Whether an account is no denial, or one that gets a line. Its error is want of memory.
+    fn is_new(&mut self, account: &Account) -> Result<bool, AllocError>
+        ensures ok { IfOk result (λ it. it ≡ is_new account.now self.old.denials.told.items) }
         ensures same { self.new ≡ record self.old { denials = self.new.denials } }
     {
         match account {
@@ -199,7 +198,36 @@ impl Client {
                 };
                 self.denials.take(denial)
             }
-            _ => Ok(has_line(account, reads)),
+            Account::Login(_, _, _) | Account::NoName | Account::QuitBeforeLogin => Ok(true),
+            Account::Quit(_) | Account::Retrieved(_) | Account::Topped(_) => Ok(true),
+            Account::Marked | Account::Unmarked | Account::Nothing => Ok(true),
+            Account::Ended(_) => Ok(true),
+        }
+    }
+
+    /// An account's line, where it has one. If `reads`, a RETR has one.
+    fn line(
+        &mut self,
+        alloc: Global,
+        account: &Account,
+        reads: bool,
+    ) -> Option<Result<String, AllocError>>
+        ensures same { self.new ≡ record self.old { denials = self.new.denials } }
+        ensures line { IfSome result (λ line. IfOk line (λ text. string_bytes text
+            ≡ told_of account.now (Some self.old))) }
+        ensures told { IfSome result (λ line. IfOk line (λ _. gets_told reads account.now
+            self.old.denials.told.items ≡ true)) }
+        ensures silent { result ≡ None → gets_told reads account.now self.old.denials.told.items
+            ≡ false }
+    {
+        if !has_line(account, reads) {
+            return None;
+        }
+        let text = told(alloc, self, account);
+        match self.is_new(account) {
+            Ok(true) => Some(text),
+            Ok(false) => None,
+            Err(error) => Some(Err(error)),
         }
     }
 
@@ -213,16 +241,12 @@ impl Client {
         ensures heard { self.new.heard ≡ heard_after account.now self.old.heard }
         ensures line { IfSome result (λ line. IfOk line (λ text. string_bytes text
             ≡ told_of account.now (Some self.old))) }
-        ensures told { IfSome result (λ line. IfOk line (λ _. gets_told reads
-            self.old.denials.told.items account.now ≡ true)) }
-        ensures silent { result ≡ None → gets_told reads self.old.denials.told.items account.now
+        ensures told { IfSome result (λ line. IfOk line (λ _. gets_told reads account.now
+            self.old.denials.told.items ≡ true)) }
+        ensures silent { result ≡ None → gets_told reads account.now self.old.denials.told.items
             ≡ false }
     {
-        let line = match self.tells(account, reads) {
-            Ok(true) => Some(told(alloc, self, account)),
-            Ok(false) => None,
-            Err(error) => Some(Err(error)),
-        };
+        let line = self.line(alloc, account, reads);
         self.take(alloc, account);
         line
     }

@@ -76,7 +76,10 @@ impl Denials {
         ensures kept { IfOk result (λ told. told ≡ false → self.new ≡ self.old) }
         ensures err { OnErr result (self.new ≡ self.old) }
     {
-        if self.told.len() >= MOST_DENIALS || self.has(&denial) {
+        if self.told.len() >= MOST_DENIALS {
+            return Ok(false);
+        }
+        if self.has(&denial) {
             return Ok(false);
         }
         self.told.push(denial)?;

@@ -98,8 +98,8 @@ impl Heard {
         }
     }
 
-    /// The session's clerk and maildrop, as values behind others of a line; empty without a session.
-    /// Its error is want of memory.
+    /// The session's clerk and maildrop, as values behind others of a line; empty without a
+    /// session. Its error is want of memory.
     pub fn behind_name(&self, alloc: Global) -> Result<String, AllocError>
         ensures { IfOk result (λ text. string_bytes text ≡ behind_name self.now.name) }
     {

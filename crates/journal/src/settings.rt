@@ -6,8 +6,8 @@ ghost use Rattle.journal.specs.Settings.{settings_text};
 use session::Removals;
 use std::alloc::{AllocError, Global};
 
-/// Whether the server is proved, and the options of `serve` that say how clients are served and what
-/// is logged.
+/// Whether the server is proved, and the options of `serve` that say how clients are served and
+/// what is logged.
 #[derive(Clone, Copy)]
 pub struct Settings {
     pub is_proved: bool,

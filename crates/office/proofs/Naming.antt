@@ -101,6 +101,10 @@ module _ (p : Policy) (name : LoginName) (n : ℕ) (command : MessageCommand) (r
   sent_at (Some x) false = judged (retrieval p name x.message.class) x
 
 module _ (c : Contents) (p : Policy) (s : Session) (kept : List Keyed) (lies : LiesIn c s kept) (n : ℕ) where
+  -- what is said of the message of the number, where it may be read
+  abbrev reply_to_number : (Stored → Reply) → Reply
+  reply_to_number reply = refer s.marks (map message_of kept) n NoSuchMessage (AlreadyMarked n) (λ (m : Stored). served_if (retrieval p s.name m.class) (reply m))
+
   picked_among : picked_for p s n ≡ head_found p s.name (at_number kept n) (is_marked s.marks n)
   picked_among =
       let view : at_number s.view n ≡ option_map head_of (at_number kept n) = ap (λ (view : List Head). at_number view n) lies.heads ∙ at_number-map head_of kept n in
@@ -110,12 +114,12 @@ module _ (c : Contents) (p : Policy) (s : Session) (kept : List Keyed) (lies : L
   sending_so : (command : MessageCommand) (reply : Stored → Reply)
       → ((m : Stored) → message_told command (Says (reply m)) (Some (row_of m)) ≡ done_told command (Some (row_of m)))
       → sending_told command (picked_for p s n) (row_at s.marks (map message_of kept) n)
-      ≡ message_told command (Says (refer s.marks (map message_of kept) n NoSuchMessage (AlreadyMarked n) (λ (m : Stored). served_if (retrieval p s.name m.class) (reply m)))) (row_at s.marks (map message_of kept) n)
+      ≡ message_told command (Says (reply_to_number reply)) (row_at s.marks (map message_of kept) n)
   sending_so command reply sent =
       let b = is_marked s.marks n in
       let under : at_number (map message_of kept) n ≡ option_map message_of (at_number kept n) = at_number-map message_of kept n in
       let row : row_at s.marks (map message_of kept) n ≡ row_found (at_number kept n) b = ap (λ (o : Option Stored). referred {B = Option MessageRow} o b None None (λ m. Some (row_of m))) under in
-      let said : refer s.marks (map message_of kept) n NoSuchMessage (AlreadyMarked n) (λ (m : Stored). served_if (retrieval p s.name m.class) (reply m)) ≡ reply_found p s.name n command reply sent (at_number kept n) b =
+      let said : reply_to_number reply ≡ reply_found p s.name n command reply sent (at_number kept n) b =
       ap (λ (o : Option Stored). referred o b NoSuchMessage (AlreadyMarked n) (λ (m : Stored). served_if (retrieval p s.name m.class) (reply m))) under in
       ap (λ (r : Result Head Pick). sending_told command r (row_at s.marks (map message_of kept) n)) picked_among
       ∙ (ap (λ (m : Option MessageRow). sending_told command (head_found p s.name (at_number kept n) b) m) row
