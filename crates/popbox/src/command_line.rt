@@ -161,20 +161,23 @@ fn patience<'a>(alloc: Global) -> Result<Vec<Arg<'a>>, AllocError> {
     Ok(arguments)
 }
 
-/// `[--log] [--log-message-ids]`: what is logged.
+/// `[--log] [--log-message-ids] [--log-reads]`: what is logged.
 fn logging<'a>(alloc: Global) -> Result<Vec<Arg<'a>>, AllocError> {
     let log = "Writes a line for each event to standard error";
     let ids = "With --log: a deposit's line has the Message-ID of the message";
+    let reads = "With --log: a line for each RETR that begins to send a message";
     let arguments = vec![in alloc;
         flag(alloc, "log", log),
         flag(alloc, "log-message-ids", ids),
+        flag(alloc, "log-reads", reads),
     ]?;
     Ok(arguments)
 }
 
 /// `serve --store PATH --spool DIR [--listen IPV4] [--pop-port N] [--admin-port N] [--host NAME]
 /// [--idle N] [--wait N] [--login-seconds N] [--full-house-seconds N] [--slow-guesses]
-/// [--proxy-protocol] [--removals WHEN] [--turns N] [--log] [--log-message-ids] [--verbose]`.
+/// [--proxy-protocol] [--removals WHEN] [--turns N] [--log] [--log-message-ids] [--log-reads]
+/// [--verbose]`.
 fn serve<'a>(alloc: Global) -> Result<Command<'a>, AllocError> {
     let listen = option(
         alloc,

@@ -4,6 +4,7 @@
 //! here, and a line of that struct's `read`. An option of `serve` that a server's start tells in
 //! the log is a field of the journal's `Settings` in place of one here.
 
+use crate::version::IS_PROVED;
 use causes::STANDARD_INPUT;
 use clap::ArgMatches;
 use journal::Settings;
@@ -175,9 +176,11 @@ impl<'a> ServeOptions<'a> {
     }
 }
 
-/// The options of `serve` that say how clients are served and what is logged.
+/// Whether this popbox is proved, and the options of `serve` that say how clients are served and
+/// what is logged.
 fn settings_of(found: &ArgMatches<'_>) -> Option<Settings> {
     Some(Settings {
+        is_proved: IS_PROVED,
         removals: removals_of(found)?,
         idle: found.get_one("idle")?,
         wait: found.get_one("wait")?,
@@ -186,6 +189,7 @@ fn settings_of(found: &ArgMatches<'_>) -> Option<Settings> {
         slow_guesses: found.get_flag("slow-guesses"),
         proxy_protocol: found.get_flag("proxy-protocol"),
         message_ids: found.get_flag("log-message-ids"),
+        reads: found.get_flag("log-reads"),
     })
 }
 

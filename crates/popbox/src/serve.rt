@@ -227,6 +227,7 @@ fn serve_turns<'a, V: Vault, W: Wire + Peers + Drop>(
     links.set_full_house_seconds(u64::from(settings.full_house_seconds));
     links.set_slow_guesses(settings.slow_guesses);
     let mut clock = ServerClock::start(rt, watch)?;
+    let journal = journal.with_reads(settings.reads);
     let mut listener = NotedListener::new(journal);
     serve_while(
         &mut links,
