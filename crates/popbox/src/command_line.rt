@@ -3,6 +3,8 @@
 use crate::version::{FOOT, VERSION};
 use clap::builder::ValueParser;
 use clap::{Arg, ArgAction, ArgMatches, Command, value_parser};
+use converse::Fault;
+use creds::HostName;
 use session::Removals;
 use std::alloc::{AllocError, Global};
 
@@ -37,6 +39,24 @@ pub fn removals_of(options: &ArgMatches<'_>) -> Removals {
     match options.get_str("removals") {
         Some("quit") => Removals::JudgedAtQuit,
         _ => Removals::JudgedAtDele,
+    }
+}
+
+/// `--admin-site NAME`: the administration's site.
+fn admin_site<'a>(alloc: Global) -> Arg<'a> {
+    let help = "There only requests to this host or machine, and of no other site's page, are done";
+    option(alloc, "admin-site", "NAME", help)
+}
+
+/// The administration's site, if there is one. Its fault is `BadHost`: the name isn't of the form
+/// of a host's.
+pub fn site_of(options: &ArgMatches<'_>) -> Result<Option<HostName>, Fault> {
+    let Some(name) = options.get_str("admin-site") else {
+        return Ok(None);
+    };
+    match HostName::read(name.as_bytes()) {
+        Some(site) => Ok(Some(site)),
+        None => Err(Fault::BadHost),
     }
 }
 
@@ -186,9 +206,10 @@ fn logging<'a>(alloc: Global) -> Result<Vec<Arg<'a>>, AllocError> {
     Ok(arguments)
 }
 
-/// `serve --store PATH --spool DIR [--listen IPV4] [--pop-port N] [--admin-port N] [--host NAME]
-/// [--idle N] [--wait N] [--login-seconds N] [--full-house-seconds N] [--slow-guesses]
-/// [--proxy-protocol] [--removals WHEN] [--turns N] [--log] [--log-message-ids] [--verbose]`.
+/// `serve --store PATH --spool DIR [--listen IPV4] [--pop-port N] [--admin-port N]
+/// [--admin-site NAME] [--host NAME] [--idle N] [--wait N] [--login-seconds N]
+/// [--full-house-seconds N] [--slow-guesses] [--proxy-protocol] [--removals WHEN] [--turns N]
+/// [--log] [--log-message-ids] [--verbose]`.
 fn serve<'a>(alloc: Global) -> Result<Command<'a>, AllocError> {
     let listen = option(
         alloc,
@@ -216,6 +237,7 @@ fn serve<'a>(alloc: Global) -> Result<Command<'a>, AllocError> {
         listen.default_value("127.0.0.1"),
         port.default_value("1110").value_parser(value_parser!(u16)),
         admin.default_value("1111").value_parser(value_parser!(u16)),
+        admin_site(alloc),
         host(alloc),
         removals(alloc),
         turns.value_parser(value_parser!(u64)),

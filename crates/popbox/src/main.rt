@@ -16,7 +16,7 @@ use causes::{
 };
 use clap::ArgMatches;
 use clap::error::ErrorKind;
-use command_line::{is_verbose, make_command, removals_of};
+use command_line::{is_verbose, make_command, removals_of, site_of};
 use converse::check_policy::{check_policy, write_policy};
 use converse::script::{ScriptFault, read_script};
 use converse::{Fault, Flushed, Noted, tell_fault};
@@ -289,6 +289,9 @@ fn run_serve<E: Write>(
         }
         return Ok(1);
     };
+    if site_of(options).is_err() {
+        return Ok(tell_bad_site(err, options));
+    }
     let port = options.get_one::<u16>("pop-port").unwrap_or(1110);
     let boot = milliseconds(rt)?;
     note_store(rt, options);
@@ -307,6 +310,20 @@ fn run_serve<E: Write>(
         Ok(ran) => ran,
         Err(unopened) => Ok(tell_unopened(rt, err, options, unopened)),
     }
+}
+
+/// Tells that the name of the administration's site hasn't the form of a host's. Gives the exit
+/// status.
+fn tell_bad_site<E: Write>(err: &mut E, options: &ArgMatches<'_>) -> u8 {
+    let name = options.get_str("admin-site").unwrap_or("");
+    let _ = writeln!(err, "popbox: bad site");
+    if is_verbose(options) {
+        let _ = writeln!(
+            err,
+            "why: --admin-site {name:?}: a host's name, 1 to 64 of a-z, 0-9, . and -, as localhost"
+        );
+    }
+    1
 }
 
 /// The milliseconds since 1970. Its fault is `NoClock`, where the system doesn't tell the time.

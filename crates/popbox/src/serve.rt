@@ -1,5 +1,5 @@
 //! `popbox serve`: clients over the network.
-use crate::command_line::{is_verbose, removals_of};
+use crate::command_line::{is_verbose, removals_of, site_of};
 use clap::ArgMatches;
 use converse::{Fault, tell_fault};
 use journal::{
@@ -254,6 +254,7 @@ fn serve_turns<'a, V: Vault, W: Wire + Peers + Drop>(
     let full = options.get_one::<u32>("full-house-seconds").unwrap_or(0);
     links.set_full_house_seconds(u64::from(full));
     links.set_slow_guesses(options.get_flag("slow-guesses"));
+    links.set_site(site_of(options)?);
     let mut clock = ServerClock::start(rt, watch)?;
     let mut listener = NotedListener::new(journal);
     serve_while(
