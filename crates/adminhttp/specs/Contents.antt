@@ -8,8 +8,8 @@ use Rattle.office.specs.Seen.{answer_seen}
 use Rattle.adminhttp.specs.Responses.{answer_response, refusal_response, fault_response}
 use Rattle.adminhttp.specs.declared.refusal.Refusal.{Refusal}
 use Rattle.adminhttp.specs.declared.refusal.Refusal.TheVariants.{BadRequest, NotFound, NotAllowed}
-use Rattle.adminhttp.specs.declared.refusal.Refusal.TheVariants.{LengthRequired, TooLarge}
-use Rattle.adminhttp.specs.declared.refusal.Refusal.TheVariants.{StoreFailed, OutOfMemory}
+use Rattle.adminhttp.specs.declared.refusal.Refusal.TheVariants.{ForeignSite, LengthRequired}
+use Rattle.adminhttp.specs.declared.refusal.Refusal.TheVariants.{TooLarge, StoreFailed, OutOfMemory}
 use Rattle.adminhttp.specs.declared.content.Content.{Content}
 use Rattle.adminhttp.specs.declared.content.Content.TheVariants as content
 
@@ -39,6 +39,7 @@ without_lf line = take (length line - 1) line
 -- what a refusal is told as
 abbrev pub refusal_text : Refusal → List ℕ
 refusal_text BadRequest = codes "bad request"
+refusal_text ForeignSite = codes "another site's request"
 refusal_text NotFound = codes "not found"
 refusal_text (NotAllowed r) = codes "method not allowed"
 refusal_text LengthRequired = codes "length required"

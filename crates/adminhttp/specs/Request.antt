@@ -10,13 +10,15 @@ use Rattle.adminhttp.specs.Lines.{head_at, most_in_head}
 use Rattle.adminhttp.specs.Head.{IsHead, IsNoHead, head_text, behind_head}
 use Rattle.adminhttp.specs.Targets.{target_of}
 use Rattle.adminhttp.specs.Fields.{Header}
+use Rattle.adminhttp.specs.Sites.{Site, is_own}
 use Rattle.adminhttp.specs.Steps.{◌>>=◌, value_or}
 use Rattle.adminhttp.specs.Bodies.{body_of, without_line_end, credential_of, policy_of}
 use Rattle.adminhttp.specs.declared.route.Route.{Route}
 use Rattle.adminhttp.specs.declared.route.Route.TheVariants as route
 use Rattle.adminhttp.specs.declared.target.Target.{Target}
 use Rattle.adminhttp.specs.declared.target.Target.TheVariants as target
-use Rattle.adminhttp.specs.declared.refusal.Refusal.TheVariants.{BadRequest, NotFound, NotAllowed}
+use Rattle.adminhttp.specs.declared.refusal.Refusal.TheVariants.{BadRequest, ForeignSite}
+use Rattle.adminhttp.specs.declared.refusal.Refusal.TheVariants.{NotFound, NotAllowed}
 use Rattle.adminhttp.specs.declared.no_command.NoCommand.{NoCommand}
 use Rattle.adminhttp.specs.declared.no_command.NoCommand.TheVariants.{More, Bad, BadPolicy}
 use Rattle.adminhttp.specs.declared.request.Got.{Got}
@@ -91,24 +93,34 @@ asked_by method target headers behind = do
   found ← value_or (target_of target) NotFound
   asked_of found method headers behind
 
+-- the same, if the request is the site's own
+unfoldable pub asked_of_site : (site : Site) → (method target : List ℕ) → List Header
+    → (behind : List ℕ) → Asked
+asked_of_site site method target headers behind =
+    if is_own site headers then asked_by method target headers behind
+    else Err (Bad ForeignSite)
+
 -- a head that hasn't ended: more may come, up to 8,192 octets
 abbrev pub unended : List ℕ → NoCommand
 unended b = if nat_le (length b) most_in_head then More else Bad BadRequest
 
 -- the text of a head and the octets behind it give this
-abbrev pub HeadComesTo : (text behind : List ℕ) → Asked → Type 0
-HeadComesTo text behind asked =
-    ((h : RequestHead) × IsHead text h × (asked ≡ asked_by h.method h.target (map name_and_value h.fields) behind))
+abbrev pub HeadComesTo : (site : Site) → (text behind : List ℕ) → Asked → Type 0
+HeadComesTo site text behind asked =
+    ((h : RequestHead) × IsHead text h
+    × (asked ≡ asked_of_site site h.method h.target (map name_and_value h.fields) behind))
     ⊎ (IsNoHead text × (asked ≡ Err (Bad BadRequest)))
 
 -- octets give this; `place` is their head's, where it has ended
-abbrev pub ComesTo : List ℕ → (place : Option (ℕ × ℕ)) → Asked → Type 0
-ComesTo b None asked = asked ≡ Err (unended b)
-ComesTo b (Some place) asked = HeadComesTo (head_text b place) (behind_head b place) asked
+abbrev pub ComesTo : (site : Site) → List ℕ → (place : Option (ℕ × ℕ)) → Asked → Type 0
+ComesTo site b None asked = asked ≡ Err (unended b)
+ComesTo site b (Some place) asked =
+    HeadComesTo site (head_text b place) (behind_head b place) asked
 
--- the octets of a request give this
-abbrev pub IsRequest : List ℕ → Asked → Type 0
-IsRequest b asked = ComesTo b (head_at b) asked
+-- The octets of a request give this. If the administration has a site, a request that isn't its own
+-- is refused, whatever it asks.
+abbrev pub IsRequest : (site : Site) → List ℕ → Asked → Type 0
+IsRequest site b asked = ComesTo site b (head_at b) asked
 
 -- what the code returns as a request's meaning; None at want of memory
 abbrev pub asked_in : Got → Option Asked

@@ -8,7 +8,7 @@ use Rattle.office.specs.Answers.{Answer, body_line, body_of}
 use Rattle.adminhttp.specs.declared.route.Route.{Route}
 use Rattle.adminhttp.specs.declared.route.Route.TheVariants.{Maildrops, Maildrop, Clerk, Policy, Groups, Sessions, Session, Explain}
 use Rattle.adminhttp.specs.declared.refusal.Refusal.{Refusal}
-use Rattle.adminhttp.specs.declared.refusal.Refusal.TheVariants.{BadRequest, NotFound, NotAllowed, LengthRequired, TooLarge, StoreFailed, OutOfMemory}
+use Rattle.adminhttp.specs.declared.refusal.Refusal.TheVariants.{BadRequest, ForeignSite, NotFound, NotAllowed, LengthRequired, TooLarge, StoreFailed, OutOfMemory}
 
 -- the head of a response: its status with the reason, further header lines, and the length of its
 -- body
@@ -79,6 +79,8 @@ allow_line r = codes "Allow: " ++ methods_of r ++ codes "\r\n"
 -- the response to a refusal
 unfoldable pub refusal_response : Refusal → List ℕ
 refusal_response BadRequest = response_text (codes "400 Bad Request") [] (codes "bad request\n")
+refusal_response ForeignSite =
+    response_text (codes "403 Forbidden") [] (codes "another site's request\n")
 refusal_response NotFound = response_text (codes "404 Not Found") [] (codes "not found\n")
 refusal_response (NotAllowed r) = response_text (codes "405 Method Not Allowed") (allow_line r) (codes "method not allowed\n")
 refusal_response LengthRequired = response_text (codes "411 Length Required") [] (codes "length required\n")

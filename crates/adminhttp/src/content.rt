@@ -88,6 +88,7 @@ fn code_of_refusal(refusal: Refusal) -> &'static str
 {
     match refusal {
         Refusal::BadRequest => "400",
+        Refusal::ForeignSite => "403",
         Refusal::NotFound => "404",
         Refusal::NotAllowed(_) => "405",
         Refusal::LengthRequired => "411",
@@ -186,6 +187,7 @@ fn refusal_line(alloc: Global, refusal: Refusal) -> Result<Option<String>, Alloc
 {
     match refusal {
         Refusal::BadRequest => word(alloc, "bad request"),
+        Refusal::ForeignSite => word(alloc, "another site's request"),
         Refusal::NotFound => word(alloc, "not found"),
         Refusal::NotAllowed(_) => word(alloc, "method not allowed"),
         Refusal::LengthRequired => word(alloc, "length required"),

@@ -31,6 +31,12 @@ fn removals<'a>(alloc: Global) -> Arg<'a> {
         .value_parser(ValueParser::Names(&["dele", "quit"]))
 }
 
+/// `--admin-site NAME`: the administration's site.
+fn admin_site<'a>(alloc: Global) -> Arg<'a> {
+    let help = "There only requests to this host or machine, and of no other site's page, are done";
+    option(alloc, "admin-site", "NAME", help)
+}
+
 /// `--store PATH`: the file of the store.
 fn store<'a>(alloc: Global, help: &'a str) -> Arg<'a> {
     option(alloc, "store", "PATH", help)
@@ -174,10 +180,10 @@ fn logging<'a>(alloc: Global) -> Result<Vec<Arg<'a>>, AllocError> {
     Ok(arguments)
 }
 
-/// `serve --store PATH --spool DIR [--listen IPV4] [--pop-port N] [--admin-port N] [--host NAME]
-/// [--idle N] [--wait N] [--login-seconds N] [--full-house-seconds N] [--slow-guesses]
-/// [--proxy-protocol] [--removals WHEN] [--turns N] [--log] [--log-message-ids] [--log-reads]
-/// [--verbose]`.
+/// `serve --store PATH --spool DIR [--listen IPV4] [--pop-port N] [--admin-port N]
+/// [--admin-site NAME] [--host NAME] [--idle N] [--wait N] [--login-seconds N]
+/// [--full-house-seconds N] [--slow-guesses] [--proxy-protocol] [--removals WHEN] [--turns N]
+/// [--log] [--log-message-ids] [--log-reads] [--verbose]`.
 fn serve<'a>(alloc: Global) -> Result<Command<'a>, AllocError> {
     let listen = option(
         alloc,
@@ -205,6 +211,7 @@ fn serve<'a>(alloc: Global) -> Result<Command<'a>, AllocError> {
         listen.default_value("127.0.0.1"),
         port.default_value("1110").value_parser(value_parser!(u16)),
         admin.default_value("1111").value_parser(value_parser!(u16)),
+        admin_site(alloc),
         host(alloc),
         removals(alloc),
         turns.value_parser(value_parser!(u64)),

@@ -291,6 +291,9 @@ fn run_serve<E: Write>(
         }
         return Ok(1);
     };
+    if options.site().is_err() {
+        return Ok(tell_bad_site(err, options));
+    }
     let boot = milliseconds(rt)?;
     note_store(rt, options);
     if let Err(status) = prepare(rt, path, is_verbose, err) {
@@ -307,6 +310,20 @@ fn run_serve<E: Write>(
         Ok(ran) => ran,
         Err(status) => Ok(status),
     }
+}
+
+/// Tells that the name of the administration's site hasn't the form of a host's. Gives the exit
+/// status.
+fn tell_bad_site<E: Write>(err: &mut E, options: &ServeOptions<'_>) -> u8 {
+    let name = options.admin_site.unwrap_or("");
+    let _ = writeln!(err, "popbox: bad site");
+    if options.is_verbose {
+        let _ = writeln!(
+            err,
+            "why: --admin-site {name:?}: a host's name, 1 to 64 of a-z, 0-9, . and -, as localhost"
+        );
+    }
+    1
 }
 
 /// The milliseconds since 1970. Its fault is `NoClock`, where the system doesn't tell the time.

@@ -7,6 +7,8 @@
 use crate::version::IS_PROVED;
 use causes::STANDARD_INPUT;
 use clap::ArgMatches;
+use converse::Fault;
+use creds::HostName;
 use journal::Settings;
 use review::Format;
 use session::Removals;
@@ -150,6 +152,8 @@ pub struct ServeOptions<'a> {
     pub listen: &'a str,
     pub pop_port: u16,
     pub admin_port: u16,
+    /// The host's name of the administration's site, as it was written.
+    pub admin_site: Option<&'a str>,
     pub host: &'a str,
     /// After how many turns it ends; without them it goes on.
     pub turns: Option<u64>,
@@ -167,12 +171,25 @@ impl<'a> ServeOptions<'a> {
             listen: found.get_str("listen")?,
             pop_port: found.get_one("pop-port")?,
             admin_port: found.get_one("admin-port")?,
+            admin_site: found.get_str("admin-site"),
             host: found.get_str("host")?,
             turns: found.get_one("turns"),
             log: found.get_flag("log"),
             settings: settings_of(found)?,
             is_verbose: found.get_flag("verbose"),
         })
+    }
+
+    /// The administration's site, if there is one. Its fault is `BadHost`: the name isn't of the
+    /// form of a host's.
+    pub fn site(&self) -> Result<Option<HostName>, Fault> {
+        let Some(name) = self.admin_site else {
+            return Ok(None);
+        };
+        match HostName::read(name.as_bytes()) {
+            Some(site) => Ok(Some(site)),
+            None => Err(Fault::BadHost),
+        }
     }
 }
 

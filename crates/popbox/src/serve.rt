@@ -226,6 +226,7 @@ fn serve_turns<'a, V: Vault, W: Wire + Peers + Drop>(
     links.set_login_seconds(u64::from(settings.login_seconds));
     links.set_full_house_seconds(u64::from(settings.full_house_seconds));
     links.set_slow_guesses(settings.slow_guesses);
+    links.set_site(options.site()?);
     let mut clock = ServerClock::start(rt, watch)?;
     let journal = journal.with_reads(settings.reads);
     let mut listener = NotedListener::new(journal);

@@ -163,7 +163,7 @@ module _ {V W S H : Type 0} (Holds : V → Contents → Type 0) (IsClean : V →
       → WasTold Heard l1 l2 []
       → Part Holds IsClean Faults Asked o2 w3 o3 w4 (WithHeard Holds IsClean Heard o2 l2 o3 l3 (Also (WereServed Holds IsClean o2 o3 (settings links) now n0 freed polling n1 seats2 seats2) (PollsBy freed polling)))
       → (freed ≡ true → polling ≡ true) → (polling ≡ true → polled ≡ true)
-      → Part Holds IsClean Faults Asked o3 w4 o4 w5 (Also (DidApart Holds IsClean o3 o4 (HeardApart Heard l3 l4 (λ B L. HadHttpTurns now B L held links_then.requests.exchanges.items))) (PollsBy false links_then.requests.poll_now))
+      → Part Holds IsClean Faults Asked o3 w4 o4 w5 (Also (DidApart Holds IsClean o3 o4 (HeardApart Heard l3 l4 (λ B L. HadHttpTurns links.site now B L held links_then.requests.exchanges.items))) (PollsBy false links_then.requests.poll_now))
       → ((c : ℕ) → waited_of now (newcomer c n0) ≡ waited_of now (newcomer c links.clients.newcomers.newcomers.items))
       → ((c : ℕ) (n : Newcomer) → newcomer c links.clients.newcomers.newcomers.items ≡ Some n → IsSettled now (Some n) (newcomer c n1))
       → (AllHaveSeats links → All (IsComer now links.clients.newcomers.newcomers.items n1) (filter_map seat_of acc.facts.came))

@@ -22,6 +22,7 @@ use Rattle.serving.specs.declared.links.Links.{Links}
 -- logged in have seats; and that the administration's links are few, and none of them is over.
 pub record LeavesAsFound (now : ℕ) (links links_then : Links) : Type 0 where
   pub set : settings links_then ≡ settings links
+  pub site : links_then.site ≡ links.site
   pub seated : AllHaveSeats links → AllHaveSeats links_then
   pub few : AreFew links → AreFew links_then
   pub ongoing : AllGoOn now links_then

@@ -53,6 +53,7 @@ returns-clause-serves g c = λ T s clean.
     (record {
       log = links.log;
       x = b2.x;
+      of_site = s.of_site;
       stands = links.stands;
       admitted = λ before. before;
       grown = AsksNone;
@@ -60,12 +61,12 @@ returns-clause-serves g c = λ T s clean.
     })
     asked_clean in
     let b3 : Beside = record { acts = b.acts; admin = k.is.told; x = k.x } in
-    let answered = serves_asked Holds Tells T b2 _ _ _ _ _ _ links k in
+    let answered = serves_asked Holds Tells T b2 _ _ _ _ _ _ links _ k in
     let late = c.end_late_ones.ensures.serves T b3 answered late_clean in
     let closed = c.close_links.ensures.serves T b3 late late_clean in
     let tried = c.serve_spool.ensures.tried (trace_of T.base closed.log) b.acts closed.stands s.tells clean in
-    let serves = serves_tried Holds Tells g.S.Spool.tells T b3 _ _ _ _ _ _ closed c.taken_is_sent.ensures k.is.held tried in
-    subst (λ seats. Serves Holds Tells g.S.Spool.tells T c.serve_spool.new.office c.close_links.new.wire c.serve_spool.new.spool seats.items c.serve_requests.new.requests.exchanges.items) (sym c.serve_spool.ensures.keeps.seats) serves)
+    let serves = serves_tried Holds Tells g.S.Spool.tells T b3 _ _ _ _ _ _ _ closed c.taken_is_sent.ensures k.is.held k.of_site tried in
+    subst (λ seats. Serves Holds Tells g.S.Spool.tells T c.serve_spool.new.office c.close_links.new.wire c.serve_spool.new.spool seats.items c.serve_requests.new.requests.exchanges.items c.args.links.now.site) (sym c.serve_spool.ensures.keeps.seats) serves)
 
 pub returns-clause-clean : goal.returns-clause-clean
 returns-clause-clean g c = λ clean.
@@ -133,7 +134,8 @@ returns-clause-works g c = λ T s clean.
     let tried = subst (λ l. SpoolPart Holds IsClean g.V.Vault.faults g.S.Spool.asked o5 c.args.spool.now c.serve_spool.new.office c.serve_spool.new.spool (λ U given calls. IsSpoolTurn l c.serve_spool.new.links.last U given calls × (c.serve_spool.new.links.poll_now ≡ (c.close_links.new.links.poll_now || has_dealt calls)))) last c.serve_spool.ensures.works in
     let waits : ended.wait ≡ old.wait = ap (λ (s : Settings). s.wait) (c.end_late_ones.ensures.keeps.keeps.set ∙ (c.serve_links.ensures.keeps.keeps.set ∙ c.accept_links.ensures.comers.keeps.set)) in
     let seats_same = c.end_late_ones.ensures.keeps.seats ∙ c.serve_links.ensures.keeps.seats in
-    turn_done Holds IsClean g.V.Vault.faults Asked g.S.Spool.asked Heard T now links (record { clients = c.serve_spool.new.links; requests = c.serve_requests.new.requests })
+    turn_done Holds IsClean g.V.Vault.faults Asked g.S.Spool.asked Heard T now links
+    (record { clients = c.serve_spool.new.links; requests = c.serve_requests.new.requests; site = c.args.links.now.site })
     c.args.office.now o1 o2 o3 o4 o5 c.serve_spool.new.office
     c.args.wire.now w1 c.accept_links.new.wire w3 w4 w5 w6 c.args.spool.now c.serve_spool.new.spool c.args.listener.now l1 l2 l3 l4 l5
     seats2 a.0 c.accept_requests.new.requests.exchanges.items c.accept_requests.ensures.works.0 served.lock_released served.poll_now c.close_links.new.links.poll_now came.newcomers.newcomers.items served.newcomers.newcomers.items ended.newcomers.newcomers.items passed c.tell_idle_ones.ensures a.1 c.accept_requests.ensures.works.1 (told_same Heard l1 l2 c.accept_links.ensures.heard) turned c.serve_links.ensures.frees
@@ -157,7 +159,7 @@ returns-clause-few g c = λ few. (let a = c.accept_requests.ensures.few few in l
 pub returns-clause-short : goal.returns-clause-short
 returns-clause-short g c = λ T s clean short.
     (let w = returns-clause-works g c T s clean in
-    all_short T c.args.now c.args.links.now (record { clients = c.serve_spool.new.links; requests = c.serve_requests.new.requests }) w.given w.calls w.http short)
+    all_short T c.args.now c.args.links.now (record { clients = c.serve_spool.new.links; requests = c.serve_requests.new.requests; site = c.args.links.now.site }) w.given w.calls w.http short)
 
 pub returns-clause-seated : goal.returns-clause-seated
 returns-clause-seated g c = λ h.
