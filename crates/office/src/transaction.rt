@@ -162,14 +162,14 @@ fn answer_command<V: Vault>(
         Command::Uidl(None) => list_uids(alloc, session, output),
         Command::Retr(n) => {
             let readable = session.pick_for(*n, policy);
-            let told = Account::of_sending(MessageCommand::Retr, readable, named);
+            let told = Account::of_sending(MessageCommand::Retr, &readable, named);
             let answered = retrieve(alloc, vault, output, session, policy, *n);
             account.settle(told, &answered);
             answered
         }
         Command::Top(n, lines) => {
             let readable = session.pick_for(*n, policy);
-            let told = Account::of_sending(MessageCommand::Top, readable, named);
+            let told = Account::of_sending(MessageCommand::Top, &readable, named);
             let answered = top(alloc, vault, output, session, policy, *n, *lines);
             account.settle(told, &answered);
             answered
@@ -182,8 +182,8 @@ fn answer_command<V: Vault>(
 }
 
 /// Answers a line of a session: puts its reply, and sets or takes away marks. `account`, which
-/// tells nothing yet, becomes what the line did to the marks or to a message. A QUIT removes the marked messages;
-/// the caller then ends the session, which stays as it is, and gives its account.
+/// tells nothing yet, becomes what the line did to the marks or to a message. A QUIT removes the
+/// marked messages; the caller then ends the session, which stays as it is, and gives its account.
 pub(crate) fn answer<V: Vault>(
     alloc: Global,
     vault: &mut V,
