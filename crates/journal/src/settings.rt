@@ -1,8 +1,9 @@
 //! The options in force, as the line of a server's start tells them.
 ghost use Rattle.std.specs.Prelude.{◌≡◌, IfOk, string_bytes};
 ghost use Rattle.journal.specs.Settings.{yes_or_no, when_text, seconds_text, flags_text};
-ghost use Rattle.journal.specs.Settings.{settings_text};
+ghost use Rattle.journal.specs.Settings.{site_text, settings_text};
 
+use creds::HostName;
 use session::Removals;
 use std::alloc::{AllocError, Global};
 
@@ -18,6 +19,8 @@ pub struct Settings {
     pub slow_guesses: bool,
     pub proxy_protocol: bool,
     pub message_ids: bool,
+    /// The administration's site, if it has one.
+    pub admin_site: Option<HostName>,
 }
 
 /// An option that is set or isn't.
@@ -63,6 +66,19 @@ fn flags_text(alloc: Global, settings: &Settings) -> Result<String, AllocError>
     Ok(text)
 }
 
+/// The administration's site.
+fn site_text(alloc: Global, settings: &Settings) -> Result<String, AllocError>
+    ensures { IfOk result (λ text. string_bytes text ≡ site_text settings.now) }
+{
+    match settings.admin_site {
+        Some(site) => {
+            let text = format!(in alloc; " admin-site={site}")?;
+            Ok(text)
+        }
+        None => String::from_str(alloc, " admin-site=no"),
+    }
+}
+
 /// All of them, as values of a line. Its error is want of memory.
 pub fn settings_text(alloc: Global, settings: &Settings) -> Result<String, AllocError>
     ensures { IfOk result (λ text. string_bytes text ≡ settings_text settings.now) }
@@ -70,6 +86,7 @@ pub fn settings_text(alloc: Global, settings: &Settings) -> Result<String, Alloc
     let removals = when_word(settings.removals);
     let seconds = seconds_text(alloc, settings)?;
     let flags = flags_text(alloc, settings)?;
-    let text = format!(in alloc; " removals={removals}{seconds}{flags}")?;
+    let site = site_text(alloc, settings)?;
+    let text = format!(in alloc; " removals={removals}{seconds}{flags}{site}")?;
     Ok(text)
 }

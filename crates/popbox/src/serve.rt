@@ -90,6 +90,7 @@ fn settings_of(options: &ArgMatches<'_>) -> Settings {
         slow_guesses: options.get_flag("slow-guesses"),
         proxy_protocol: options.get_flag("proxy-protocol"),
         message_ids: options.get_flag("log-message-ids"),
+        admin_site: site_of(options).unwrap_or(None),
     }
 }
 
