@@ -1,12 +1,13 @@
 //! The line of what the office judged.
 ghost use Rattle.std.specs.Prelude.{◌≡◌, IfOk, Some, true, string_bytes};
 ghost use Rattle.journal.specs.Lines.{name_text as name_words, way_text, verdict_text};
-ghost use Rattle.journal.specs.Lines.{farewell_text, login_text as login_line};
+ghost use Rattle.journal.specs.Lines.{farewell_text, login_text as login_line, command_text};
+ghost use Rattle.journal.specs.Lines.{retr_text as retr_line, denied_text as denied_line};
 ghost use Rattle.journal.specs.Lines.{quit_text as quit_line, account_text, is_told};
 ghost use Rattle.journal.specs.Lines.{cause_text as cause_words, refusal_text as refusal_words};
 
-use creds::{LoginName, Name};
-use office::{Account, End, Removal, Verdict, Way};
+use creds::{LoginName, Name, Uid};
+use office::{Account, End, MessageCommand, MessageRow, Removal, Verdict, Way};
 use proxy::Refusal;
 use std::alloc::{AllocError, Global};
 
@@ -132,14 +133,52 @@ fn early_text(alloc: Global, who: &str) -> Result<String, AllocError>
     Ok(text)
 }
 
-/// Whether an account has a line.
-pub fn has_line(account: &Account) -> bool
-    ensures { result ≡ is_told account.now }
+/// A command that names a message.
+pub fn command_word(command: MessageCommand) -> &'static str
+    ensures { result.now ≡ command_text command }
+{
+    match command {
+        MessageCommand::Dele => "dele",
+        MessageCommand::Retr => "retr",
+        MessageCommand::Top => "top",
+    }
+}
+
+/// The line of a message that a RETR began to send.
+fn retr_text(alloc: Global, who: &str, message: MessageRow) -> Result<String, AllocError>
+    ensures { IfOk result (λ text. string_bytes text ≡ retr_line who.now message) }
+{
+    let MessageRow { uid, octets } = message;
+    let text = format!(in alloc; "event=retr {who} uid={uid} octets={octets}")?;
+    Ok(text)
+}
+
+/// The line of a command that a rule denied for a message.
+fn denied_text(
+    alloc: Global,
+    who: &str,
+    command: MessageCommand,
+    uid: Uid,
+    rule: Name,
+) -> Result<String, AllocError>
+    ensures { IfOk result (λ text. string_bytes text ≡ denied_line who.now command uid rule) }
+{
+    let command = command_word(command);
+    let text = format!(in alloc; "event=denied {who} command={command} uid={uid} rule={rule}")?;
+    Ok(text)
+}
+
+/// Whether an account may have a line: that of a RETR has one if `reads` says that each RETR is to
+/// have one.
+pub fn has_line(account: &Account, reads: bool) -> bool
+    ensures { result ≡ is_told reads account.now }
 {
     match account {
-        Account::Login(_, _, _) | Account::NoName => true,
+        Account::Login(_, _, _) | Account::NoName | Account::Denied(_, _, _) => true,
         Account::Quit(_) | Account::QuitBeforeLogin => true,
+        Account::Retrieved(_) => reads,
         Account::Nothing | Account::Marked | Account::Unmarked | Account::Ended(_) => false,
+        Account::Topped(_) => false,
     }
 }
 
@@ -153,9 +192,12 @@ pub fn line_of(alloc: Global, who: &str, account: &Account) -> Result<String, Al
         Account::NoName => nameless_text(alloc, who),
         Account::Quit(removal) => quit_text(alloc, who, removal),
         Account::QuitBeforeLogin => early_text(alloc, who),
+        Account::Retrieved(message) => retr_text(alloc, who, *message),
+        Account::Denied(command, uid, rule) => denied_text(alloc, who, *command, *uid, *rule),
         Account::Nothing | Account::Marked | Account::Unmarked | Account::Ended(_) => {
             Ok(String::new(alloc))
         }
+        Account::Topped(_) => Ok(String::new(alloc)),
     }
 }
 
@@ -171,12 +213,14 @@ pub fn cause_text(account: &Account) -> &'static str
         Account::Ended(End::SessionEnded) => " cause=\"session ended\"",
         Account::Ended(End::Idle) => " cause=idle",
         Account::Ended(End::TooLate) => " cause=\"too late to log in\"",
+        Account::Ended(End::FullHouse) => " cause=\"no login while all places were taken\"",
         Account::Login(_, _, Verdict::ThirdWrongCredential) => " cause=\"login failed, closing\"",
         Account::Login(_, _, Verdict::Accepted | Verdict::WrongCredential) => "",
         Account::Login(_, _, Verdict::Denied(_) | Verdict::NoSuchMaildrop) => "",
         Account::Login(_, _, Verdict::InUse | Verdict::StoreFailed) => "",
         Account::NoName | Account::Quit(_) | Account::QuitBeforeLogin => "",
         Account::Nothing | Account::Marked | Account::Unmarked => "",
+        Account::Retrieved(_) | Account::Topped(_) | Account::Denied(_, _, _) => "",
     }
 }
 

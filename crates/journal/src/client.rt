@@ -1,15 +1,18 @@
 //! The mail programs' connections, as the log tells of them.
 ghost use Rattle.std.specs.Prelude.{◌≡◌, ◌≢◌, ◌⊎◌, ◌<◌, ◌==◌, [], Some, None, IfOk, IfSome, map};
+ghost use Rattle.std.specs.Prelude.{true, false};
 ghost use Rattle.std.specs.Prelude.{find, position, length, string_bytes};
 ghost use Rattle.journal.specs.Lines.{cause_text as cause_words};
 ghost use Rattle.journal.specs.Sessions.{heard_after, heard_of, heard_by, is_in, is_number};
 ghost use Rattle.journal.specs.Sessions.{left_client, left_by, who_text, numbered_text};
 ghost use Rattle.journal.specs.Sessions.{client_text, held_text, holder_of, who_of, told_of};
 ghost use Rattle.journal.specs.Sessions.{loss_text, loss_of, lost_of};
-ghost use Rattle.journal.specs.Sessions.{waited_text, behind_account};
+ghost use Rattle.journal.specs.Sessions.{waited_text, behind_account, session_of, who_in};
+ghost use Rattle.journal.specs.Sessions.{is_new, gets_told, is_told_of};
 ghost use Rattle.journal.specs.declared.client.Client.{Client as AClient};
 
 use super::account_text::{cause_text, has_line, line_of};
+use super::denials::{Denial, Denials};
 use super::heard::Heard;
 use creds::{LoginName, Name};
 use office::{Account, Verdict};
@@ -29,6 +32,8 @@ pub(crate) struct Client {
     /// The connection's number, once it is opened.
     number: Option<u64>,
     heard: Heard,
+    /// Which of its denials have a line.
+    denials: Denials,
     /// Since when the line that is next has lain unread; `None` where none lies so.
     unread: Option<Instant>,
     /// For how many seconds the line that was read last had lain unread.
@@ -98,6 +103,28 @@ impl Client {
         who_text(alloc, self.number, self.address.as_str())
     }
 
+    /// The same, and its clerk and its maildrop.
+    fn session(&self, alloc: Global) -> Result<String, AllocError>
+        ensures { IfOk result (λ text. string_bytes text ≡ session_of self.now) }
+    {
+        let who = self.who(alloc)?;
+        let name = self.heard.behind_name(alloc)?;
+        let text = format!(in alloc; "{who}{name}")?;
+        Ok(text)
+    }
+
+    /// Who an account's line is about.
+    fn who_in(&self, alloc: Global, account: &Account) -> Result<String, AllocError>
+        ensures { IfOk result (λ text. string_bytes text ≡ who_in account.now self.now) }
+    {
+        match account {
+            Account::Retrieved(_) | Account::Denied(_, _, _) => self.session(alloc),
+            Account::Login(_, _, _) | Account::NoName | Account::QuitBeforeLogin => self.who(alloc),
+            Account::Quit(_) | Account::Topped(_) | Account::Marked => self.who(alloc),
+            Account::Unmarked | Account::Nothing | Account::Ended(_) => self.who(alloc),
+        }
+    }
+
     /// Keeps what an account says of the session, and the first cause of its end.
     fn take(&mut self, alloc: Global, account: &Account)
         ensures heard { self.new.heard ≡ heard_after account.now self.old.heard }
@@ -157,17 +184,69 @@ impl Client {
         }
     }
 
-    /// Takes an account. Its line, where it has one.
-    fn hear(&mut self, alloc: Global, account: &Account) -> Option<Result<String, AllocError>>
+    /// Whether an account is no denial, or one that gets a line. Its error is want of memory.
+    fn is_new(&mut self, account: &Account) -> Result<bool, AllocError>
+        ensures ok { IfOk result (λ it. it ≡ is_new account.now self.old.denials.told.items) }
+        ensures same { self.new ≡ record self.old { denials = self.new.denials } }
+    {
+        match account {
+            Account::Denied(command, uid, rule) => {
+                let denial = Denial {
+                    command: *command,
+                    uid: *uid,
+                    rule: *rule,
+                };
+                self.denials.take(denial)
+            }
+            Account::Login(_, _, _) | Account::NoName | Account::QuitBeforeLogin => Ok(true),
+            Account::Quit(_) | Account::Retrieved(_) | Account::Topped(_) => Ok(true),
+            Account::Marked | Account::Unmarked | Account::Nothing => Ok(true),
+            Account::Ended(_) => Ok(true),
+        }
+    }
+
+    /// An account's line, where it has one. If `reads`, a RETR has one.
+    fn line(
+        &mut self,
+        alloc: Global,
+        account: &Account,
+        reads: bool,
+    ) -> Option<Result<String, AllocError>>
+        ensures same { self.new ≡ record self.old { denials = self.new.denials } }
+        ensures line { IfSome result (λ line. IfOk line (λ text. string_bytes text
+            ≡ told_of account.now (Some self.old))) }
+        ensures told { IfSome result (λ line. IfOk line (λ _. gets_told reads account.now
+            self.old.denials.told.items ≡ true)) }
+        ensures silent { result ≡ None → gets_told reads account.now self.old.denials.told.items
+            ≡ false }
+    {
+        if !has_line(account, reads) {
+            return None;
+        }
+        let text = told(alloc, self, account);
+        match self.is_new(account) {
+            Ok(true) => Some(text),
+            Ok(false) => None,
+            Err(error) => Some(Err(error)),
+        }
+    }
+
+    /// Takes an account. Its line, where it has one. If `reads`, a RETR has one.
+    fn hear(
+        &mut self,
+        alloc: Global,
+        account: &Account,
+        reads: bool,
+    ) -> Option<Result<String, AllocError>>
         ensures heard { self.new.heard ≡ heard_after account.now self.old.heard }
         ensures line { IfSome result (λ line. IfOk line (λ text. string_bytes text
             ≡ told_of account.now (Some self.old))) }
+        ensures told { IfSome result (λ line. IfOk line (λ _. gets_told reads account.now
+            self.old.denials.told.items ≡ true)) }
+        ensures silent { result ≡ None → gets_told reads account.now self.old.denials.told.items
+            ≡ false }
     {
-        let line = if has_line(account) {
-            Some(told(alloc, self, account))
-        } else {
-            None
-        };
+        let line = self.line(alloc, account, reads);
         self.take(alloc, account);
         line
     }
@@ -181,6 +260,8 @@ impl Client {
             Account::Login(_, _, _) => waited_text(alloc, self.waited),
             Account::Quit(_) => self.heard.counts_text(alloc),
             Account::NoName | Account::Marked | Account::Unmarked => Ok(String::new(alloc)),
+            Account::Retrieved(_) | Account::Topped(_) => Ok(String::new(alloc)),
+            Account::Denied(_, _, _) => Ok(String::new(alloc)),
             Account::QuitBeforeLogin | Account::Nothing | Account::Ended(_) => {
                 Ok(String::new(alloc))
             }
@@ -217,6 +298,7 @@ impl Clients {
             address,
             number: None,
             heard: Heard::nothing(),
+            denials: Denials::none(alloc),
             unread: None,
             waited: 0,
             cause: String::new(alloc),
@@ -300,22 +382,26 @@ impl Clients {
         Some(connect_text(alloc, &self.clients[at]))
     }
 
-    /// Takes an account of a connection. Its line, where it has one.
+    /// Takes an account of a connection. Its line, where it has one. If `reads`, a RETR has one.
     pub fn hear(
         &mut self,
         alloc: Global,
         connection: u64,
         account: &Account,
+        reads: bool,
     ) -> Option<Result<String, AllocError>>
         ensures line { IfSome result (λ line. IfOk line (λ text. string_bytes text
             ≡ told_of account.now (find (λ (client : AClient). is_number connection client.number)
             (left_by account.now self.old.clients.items)))) }
+        ensures told { IfSome result (λ line. IfOk line (λ _. is_told_of reads account.now
+            (find (λ (client : AClient). is_number connection client.number)
+            (left_by account.now self.old.clients.items)) ≡ true)) }
         ensures heard { map heard_of self.new.clients.items ≡ heard_by connection account.now
             (left_by account.now self.old.clients.items) }
     {
         leave_by(&mut self.clients, account);
         match self.place_of(connection) {
-            Some(at) => self.clients[at].hear(alloc, account),
+            Some(at) => self.clients[at].hear(alloc, account, reads),
             None => None,
         }
     }
@@ -399,7 +485,7 @@ fn connect_text(alloc: Global, client: &Client) -> Result<String, AllocError> {
 fn told(alloc: Global, client: &Client, account: &Account) -> Result<String, AllocError>
     ensures { IfOk result (λ text. string_bytes text ≡ told_of account.now (Some client.now)) }
 {
-    let who = client.who(alloc)?;
+    let who = client.who_in(alloc, account)?;
     let line = line_of(alloc, who.as_str(), account)?;
     let behind = client.behind(alloc, account)?;
     let text = format!(in alloc; "{line}{behind}")?;

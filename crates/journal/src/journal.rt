@@ -40,13 +40,31 @@ impl Shared {
 pub struct Journal<'a> {
     rt: &'a HostRuntime,
     is_on: bool,
+    /// Whether each RETR has a line.
+    reads: bool,
     shared: &'a Shared,
 }
 
 impl<'a> Journal<'a> {
-    /// A journal that writes its lines, or drops them. It counts those that it lost.
+    /// A journal that writes its lines, or drops them. It counts those that it lost. A RETR has no
+    /// line.
     pub fn new(rt: &'a HostRuntime, is_on: bool, shared: &'a Shared) -> Journal<'a> {
-        Journal { rt, is_on, shared }
+        Journal {
+            rt,
+            is_on,
+            reads: false,
+            shared,
+        }
+    }
+
+    /// The same journal, which writes a line for each RETR too, or doesn't.
+    pub fn with_reads(self, reads: bool) -> Journal<'a> {
+        Journal {
+            rt: self.rt,
+            is_on: self.is_on,
+            reads,
+            shared: self.shared,
+        }
     }
 
     /// Whether lines are written.
@@ -230,7 +248,7 @@ impl Listener for Journal<'_> {
             self.note_removed(connection, removal);
         }
         let text = match self.shared.clients.try_borrow_mut() {
-            Ok(mut clients) => clients.hear(self.alloc(), connection, account),
+            Ok(mut clients) => clients.hear(self.alloc(), connection, account, self.reads),
             Err(_) => None,
         };
         self.note_some(text);

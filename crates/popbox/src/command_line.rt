@@ -2,10 +2,7 @@
 
 use crate::version::{FOOT, VERSION};
 use clap::builder::ValueParser;
-use clap::{Arg, ArgAction, ArgMatches, Command, value_parser};
-use converse::Fault;
-use creds::HostName;
-use session::Removals;
+use clap::{Arg, ArgAction, Command, value_parser};
 use std::alloc::{AllocError, Global};
 
 /// `--NAME VALUE`.
@@ -34,30 +31,10 @@ fn removals<'a>(alloc: Global) -> Arg<'a> {
         .value_parser(ValueParser::Names(&["dele", "quit"]))
 }
 
-/// When a command's removals are judged.
-pub fn removals_of(options: &ArgMatches<'_>) -> Removals {
-    match options.get_str("removals") {
-        Some("quit") => Removals::JudgedAtQuit,
-        _ => Removals::JudgedAtDele,
-    }
-}
-
 /// `--admin-site NAME`: the administration's site.
 fn admin_site<'a>(alloc: Global) -> Arg<'a> {
     let help = "There only requests to this host or machine, and of no other site's page, are done";
     option(alloc, "admin-site", "NAME", help)
-}
-
-/// The administration's site, if there is one. Its fault is `BadHost`: the name isn't of the form
-/// of a host's.
-pub fn site_of(options: &ArgMatches<'_>) -> Result<Option<HostName>, Fault> {
-    let Some(name) = options.get_str("admin-site") else {
-        return Ok(None);
-    };
-    match HostName::read(name.as_bytes()) {
-        Some(site) => Ok(Some(site)),
-        None => Err(Fault::BadHost),
-    }
 }
 
 /// `--store PATH`: the file of the store.
@@ -71,11 +48,6 @@ fn verbose<'a>(alloc: Global) -> Arg<'a> {
         .long("verbose")
         .action(ArgAction::SetTrue)
         .help("Says on standard error what a fault is about")
-}
-
-/// Whether a command is to say what its faults are about.
-pub fn is_verbose(options: &ArgMatches<'_>) -> bool {
-    options.get_flag("verbose")
 }
 
 /// A subcommand with these arguments and `--verbose`.
@@ -195,13 +167,15 @@ fn patience<'a>(alloc: Global) -> Result<Vec<Arg<'a>>, AllocError> {
     Ok(arguments)
 }
 
-/// `[--log] [--log-message-ids]`: what is logged.
+/// `[--log] [--log-message-ids] [--log-reads]`: what is logged.
 fn logging<'a>(alloc: Global) -> Result<Vec<Arg<'a>>, AllocError> {
     let log = "Writes a line for each event to standard error";
     let ids = "With --log: a deposit's line has the Message-ID of the message";
+    let reads = "With --log: a line for each RETR that begins to send a message";
     let arguments = vec![in alloc;
         flag(alloc, "log", log),
         flag(alloc, "log-message-ids", ids),
+        flag(alloc, "log-reads", reads),
     ]?;
     Ok(arguments)
 }
@@ -209,7 +183,7 @@ fn logging<'a>(alloc: Global) -> Result<Vec<Arg<'a>>, AllocError> {
 /// `serve --store PATH --spool DIR [--listen IPV4] [--pop-port N] [--admin-port N]
 /// [--admin-site NAME] [--host NAME] [--idle N] [--wait N] [--login-seconds N]
 /// [--full-house-seconds N] [--slow-guesses] [--proxy-protocol] [--removals WHEN] [--turns N]
-/// [--log] [--log-message-ids] [--verbose]`.
+/// [--log] [--log-message-ids] [--log-reads] [--verbose]`.
 fn serve<'a>(alloc: Global) -> Result<Command<'a>, AllocError> {
     let listen = option(
         alloc,

@@ -4,7 +4,7 @@ use Rattle.std.specs.Prelude.{⊤}
 use Rattle.std.specs.declared.net.ip_addr.IpAddr.{IpAddr}
 use Rattle.std.specs.declared.net.ip_addr.IpAddr.TheVariants.{V4, V6}
 use Rattle.std.specs.Net.Addr.{MatchIp, IsCanonicalOf, ipv4_bits}
-use Rattle.serving.specs.Guesses.{origin}
+use Rattle.serving.specs.Guesses.{origin, CountsBy}
 
 -- r is the canonical form of an address: an IPv4 address is its own
 pub origin_four : (address r : IpAddr) (n : ℕ) → MatchIp address (λ _. r ≡ address) (λ s. IsCanonicalOf s r) → n ≡ origin r
@@ -16,3 +16,8 @@ pub origin_six : (address r : IpAddr) (n : ℕ) → MatchIp address (λ _. r ≡
     → MatchIp address (λ _. ⊤) (λ s. (c : IpAddr) × IsCanonicalOf s c × (n ≡ origin c))
 origin_six (V4 f) r n h e = tt
 origin_six (V6 s) r n h e = (r, h, e)
+
+-- so it counts by this number
+pub counts_by : (address : IpAddr) (n : ℕ) → MatchIp address (λ f. n ≡ ipv4_bits f) (λ _. ⊤) → MatchIp address (λ _. ⊤) (λ s. (c : IpAddr) × IsCanonicalOf s c × (n ≡ origin c)) → CountsBy address n
+counts_by (V4 f) n four six = four
+counts_by (V6 s) n four six = six

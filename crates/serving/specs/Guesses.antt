@@ -5,7 +5,7 @@ use Rattle.std.specs.Prelude.{◌≡◌, ℕ, Bool, true, false, not, ◌&&◌, 
 use Rattle.std.specs.Prelude.{nat_le}
 use Rattle.std.specs.Prelude.{min, List, [], ◌∷◌, ◌++◌, length, drop, filter, find, slice_index}
 use Rattle.std.specs.Prelude.{Option, Some, None, if◌then◌else◌}
-use Rattle.std.specs.Net.Addr.{ipv4_bits, ipv6_segments}
+use Rattle.std.specs.Net.Addr.{ipv4_bits, ipv6_segments, IsCanonicalOf}
 use Rattle.std.specs.Str.{bytes_eq}
 use Rattle.creds.specs.declared.login_name.LoginName.{LoginName}
 use Rattle.std.specs.declared.net.ip_addr.IpAddr.{IpAddr}
@@ -24,6 +24,19 @@ network segments =
 abbrev pub origin : IpAddr → ℕ
 origin (V4 four) = ipv4_bits four
 origin (V6 six) = network (ipv6_segments six)
+
+-- an address counts by this number: an IPv4 address as itself, also if it is written as an IPv6 one
+abbrev pub CountsBy : IpAddr → (number : ℕ) → Type 0
+CountsBy (V4 four) number = number ≡ ipv4_bits four
+CountsBy (V6 six) number = (c : IpAddr) × IsCanonicalOf six c × (number ≡ origin c)
+
+-- By which number a client's guesses count: by none if guesses aren't slow, if the client is logged
+-- in, or if it isn't known from where it comes.
+abbrev pub IsOriginOf : (are_slow is_logged_in : Bool) → Option IpAddr → Option ℕ → Type 0
+IsOriginOf false is_logged_in address number = number ≡ None
+IsOriginOf true true address number = number ≡ None
+IsOriginOf true false None number = number ≡ None
+IsOriginOf true false (Some address) number = (n : ℕ) × (number ≡ Some n) × CountsBy address n
 
 -- ---- refusals
 
