@@ -1,5 +1,5 @@
 -- Whether a server is proved and its options in force, as the line of its start tells them.
-use Rattle.std.specs.Prelude.{ℕ, Bool, true, false, List, ◌++◌, codes}
+use Rattle.std.specs.Prelude.{ℕ, Bool, true, false, List, ◌++◌, codes, Option, Some, None}
 use Rattle.std.specs.Fmt.{decimal}
 use Rattle.session.specs.declared.removals.Removals.{Removals}
 use Rattle.session.specs.declared.removals.Removals.TheVariants as judged
@@ -30,8 +30,17 @@ flags_text s =
     ++ codes " log-message-ids=" ++ yes_or_no s.message_ids
     ++ codes " log-reads=" ++ yes_or_no s.reads
 
+-- a site's name, if there is one
+abbrev pub name_or_no : Option (List ℕ) → List ℕ
+name_or_no None = codes "no"
+name_or_no (Some name) = name
+
+-- the administration's site
+abbrev pub site_text : Settings → List ℕ
+site_text s = codes " admin-site=" ++ name_or_no s.admin_site
+
 -- all of them
 abbrev pub settings_text : Settings → List ℕ
 settings_text s =
     codes " proved=" ++ yes_or_no s.is_proved ++ codes " removals=" ++ when_text s.removals
-    ++ seconds_text s ++ flags_text s
+    ++ seconds_text s ++ flags_text s ++ site_text s

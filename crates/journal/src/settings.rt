@@ -1,8 +1,9 @@
 //! Whether the server is proved and its options in force, as the line of its start tells them.
 ghost use Rattle.std.specs.Prelude.{◌≡◌, IfOk, string_bytes};
 ghost use Rattle.journal.specs.Settings.{yes_or_no, when_text, seconds_text, flags_text};
-ghost use Rattle.journal.specs.Settings.{settings_text};
+ghost use Rattle.journal.specs.Settings.{site_text, settings_text};
 
+use creds::HostName;
 use session::Removals;
 use std::alloc::{AllocError, Global};
 
@@ -21,6 +22,8 @@ pub struct Settings {
     pub proxy_protocol: bool,
     pub message_ids: bool,
     pub reads: bool,
+    /// The administration's site, if it has one.
+    pub admin_site: Option<HostName>,
 }
 
 /// What is so or isn't.
@@ -67,6 +70,19 @@ fn flags_text(alloc: Global, settings: &Settings) -> Result<String, AllocError>
     Ok(text)
 }
 
+/// The administration's site.
+fn site_text(alloc: Global, settings: &Settings) -> Result<String, AllocError>
+    ensures { IfOk result (λ text. string_bytes text ≡ site_text settings.now) }
+{
+    match settings.admin_site {
+        Some(site) => {
+            let text = format!(in alloc; " admin-site={site}")?;
+            Ok(text)
+        }
+        None => String::from_str(alloc, " admin-site=no"),
+    }
+}
+
 /// All of them, as values of a line. Its error is want of memory.
 pub fn settings_text(alloc: Global, settings: &Settings) -> Result<String, AllocError>
     ensures { IfOk result (λ text. string_bytes text ≡ settings_text settings.now) }
@@ -75,6 +91,7 @@ pub fn settings_text(alloc: Global, settings: &Settings) -> Result<String, Alloc
     let removals = when_word(settings.removals);
     let seconds = seconds_text(alloc, settings)?;
     let flags = flags_text(alloc, settings)?;
-    let text = format!(in alloc; " proved={proved} removals={removals}{seconds}{flags}")?;
+    let site = site_text(alloc, settings)?;
+    let text = format!(in alloc; " proved={proved} removals={removals}{seconds}{flags}{site}")?;
     Ok(text)
 }

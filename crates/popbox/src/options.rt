@@ -193,6 +193,11 @@ impl<'a> ServeOptions<'a> {
     }
 }
 
+/// The administration's site, if there is one, and its name is of the form of a host's.
+fn site_of(found: &ArgMatches<'_>) -> Option<HostName> {
+    HostName::read(found.get_str("admin-site")?.as_bytes())
+}
+
 /// Whether this popbox is proved, and the options of `serve` that say how clients are served and
 /// what is logged.
 fn settings_of(found: &ArgMatches<'_>) -> Option<Settings> {
@@ -207,6 +212,7 @@ fn settings_of(found: &ArgMatches<'_>) -> Option<Settings> {
         proxy_protocol: found.get_flag("proxy-protocol"),
         message_ids: found.get_flag("log-message-ids"),
         reads: found.get_flag("log-reads"),
+        admin_site: site_of(found),
     })
 }
 

@@ -1,9 +1,11 @@
 //! Requests to an administration that has a site: which are its own, and which are refused.
 
+use crate::benches::{bench_over, request, turns};
 use adminhttp::{Got, Refusal, Request};
 use creds::HostName;
 use std::alloc::Global;
 use std::test::Fail;
+use vault::PlainVault;
 
 /// Header lines of requests that are the own of the site `page.test`.
 static OWN: [&str; 13] = [
@@ -138,5 +140,33 @@ fn faults_behind_the_site(rt: HostRuntime) -> Result<(), Fail> {
             "{line}"
         );
     }
+    Ok(())
+}
+
+/// What serving answers to a request of another site, and to one of its own that looks behind it.
+#[test]
+fn a_request_of_another_site_does_nothing(rt: HostRuntime) -> Result<(), Fail> {
+    let alloc = rt.alloc();
+    let mut bench = bench_over(alloc, PlainVault::new(alloc), 16)?;
+    bench.links.set_site(HostName::read(b"localhost"));
+    request(
+        &mut bench,
+        b"PUT /maildrops/sales HTTP/1.1\r\nHost: evil.test\r\n\r\n",
+    )?;
+    turns(&mut bench, 20, 0);
+    request(
+        &mut bench,
+        b"GET /maildrops HTTP/1.1\r\nHost: localhost\r\n\r\n",
+    )?;
+    turns(&mut bench, 20, 0);
+    assert!(rt; bench.wire.response(0) == Refusal::ForeignSite.bytes());
+    assert!(rt; bench.wire.response(1).starts_with(b"HTTP/1.1 200 OK\r\n"));
+    assert!(rt;
+        bench
+            .wire
+            .response(1)
+            .ends_with(b"Connection: close\r\n\r\n")
+    );
+    assert!(rt; bench.wire.is_request_closed(0) && bench.wire.is_request_closed(1));
     Ok(())
 }
