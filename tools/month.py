@@ -169,7 +169,8 @@ class Program:
     """A clerk's mail program for one maildrop, with a folder of its own: which messages lie in it,
     and which unique-ids it has seen."""
 
-    removes = False
+    # Whether it removes what it fetched; whether it forgets a unique-id that isn't listed any more.
+    removes = forgets = False
 
     def __init__(self, office, clerk, maildrop):
         self.office, self.clerk, self.maildrop = office, clerk, maildrop
@@ -225,6 +226,8 @@ class Program:
 
 class Mpop(Program):
     """Leaves all on the server, or removes what it fetched, and fetches what is new, into an mbox."""
+
+    forgets = True
 
     def fetch(self):
         kind, secret = self.office.secrets[self.clerk]
@@ -426,6 +429,8 @@ class Office:
         for uid in shown:
             told = program.seen.setdefault(uid, before[uid])
             wants(before[uid], told, f"{program.name}: {uid}, which it takes for known")
+        if program.forgets:
+            program.seen = {uid: before[uid] for uid in shown}
         for uid in shown:
             program.first.setdefault(uid, self.day)
         removable = {it for it in shown if program.removes and self.may(program, it, "remove")}
