@@ -46,9 +46,11 @@ abbrev pub Also : (Log → List Call → Type 0) → (List Call → Type 0) → 
     → Type 0
 Also Facts More given calls = Facts given calls × More calls
 
--- nobody is late who wasn't
+-- whoever is late was so before, by any number of seconds
 abbrev pub AreNoMoreLate : (now seconds : ℕ) → (newcomers newcomers_then : List Newcomer) → Type 0
-AreNoMoreLate now seconds newcomers newcomers_then = (c : ℕ) → is_late now seconds newcomers_then c ≡ true → is_late now seconds newcomers c ≡ true
+AreNoMoreLate now seconds newcomers newcomers_then = (c : ℕ)
+    → is_late now seconds newcomers_then c ≡ true
+    → (other : ℕ) → is_late now other newcomers c ≡ is_late now other newcomers_then c
 
 pub record WasGiven {V : Type 0} (Holds : V → Contents → Type 0) (IsClean : V → Type 0) (Faults : V → ℕ) (office office_then : Office V) (given : Log) : Type 0 where
   pub clean : IsClean (vault_of office_then) → IsClean (vault_of office)
