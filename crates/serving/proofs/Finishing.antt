@@ -167,7 +167,8 @@ module _ {V W S H : Type 0} (Holds : V → Contents → Type 0) (IsClean : V →
       → ((c : ℕ) → waited_of now (newcomer c n0) ≡ waited_of now (newcomer c links.clients.newcomers.newcomers.items))
       → ((c : ℕ) (n : Newcomer) → newcomer c links.clients.newcomers.newcomers.items ≡ Some n → IsSettled now (Some n) (newcomer c n1))
       → (AllHaveSeats links → All (IsComer now links.clients.newcomers.newcomers.items n1) (filter_map seat_of acc.facts.came))
-      → Giving Holds IsClean Faults o4 o5 (λ g. AreLateGone now (limit links (length seats2)) links.clients.newcomers.newcomers.items g × HasEndedLate Holds IsClean o4 o5 now (limit links (length seats2)) n1 n2 seats2 g
+      → Giving Holds IsClean Faults o4 o5
+      (λ g. AreLateGone now (limit links (length seats2)) links.clients.newcomers.newcomers.items g × HasEndedLate Holds IsClean o4 o5 now (limit links (length seats2)) n1 n2 seats2 g
       × WasTold Heard l4 l5 (late_ends now links.clients.newcomers.seconds links.clients.newcomers.newcomers.items g))
       → ((U : Trace) → StandsFor Holds o5 U → (c : ℕ) → is_open U c ≡ true → newcomer c links_then.clients.newcomers.newcomers.items ≡ newcomer c n2)
       → ((U : Trace) → StandsFor Holds o5 U → Asking Asked w5 w6 (λ calls. AreClosed U seats2 links_then.clients.seats.items calls × PollsBy polling polled calls × Releases links.clients.wait polled calls))
@@ -254,7 +255,8 @@ module _ {V W S H : Type 0} (Holds : V → Contents → Type 0) (IsClean : V →
       let P = HasCause seats2 C5 in
       let Q = HasCauseInTurn now links seats2 C5 in
       let by_cause : (g : Log) → All P g → All Q g = λ g h. All-weaker P Q (λ y p. inl p) g h in
-      let caused_z : All Q gz = All-weaker (IsLateGone now seconds newcomers) Q (λ y p. inr (timed_out now (length seats2) links.clients.newcomers.seconds links.clients.newcomers.full_house_seconds newcomers y p)) gz late.facts.0 in
+      let caused_z : All Q gz = All-weaker (IsLateGone now seconds newcomers) Q
+      (λ y p. inr (timed_out now (length seats2) links.clients.newcomers.seconds links.clients.newcomers.full_house_seconds newcomers y p)) gz late.facts.0 in
       let lq = served.facts.1.0.turns.of_seats.quiet in
       let rq = reqs.facts.0.quiet in
       let waits_x : waits cx ≡ [] = ap waits x.facts.0.calls_are ∙ waits_of (filter (is_shut_seat trace4) seats2) in

@@ -1,5 +1,6 @@
 -- Clients that are late, of those that haven't logged in.
-use Rattle.std.proofs.Common.{◌≡◌, ◌≤◌, ℕ, ◌-◌, ◌==◌, min, nat_le, Bool, true, false, not, ◌&&◌, List, [], ◌∷◌, ◌++◌, refl, sym, ◌∙◌, ap, arith, Some, None, Option, ⊎_elim, ◌⊎◌, inl, inr, subst, true≢false, eqb-true, eq-eqb, leb-true, if◌then◌else◌}
+use Rattle.std.proofs.Common.{◌≡◌, ◌≤◌, ℕ, ◌-◌, ◌==◌, min, nat_le, Bool, true, false, not, ◌&&◌, List, [], ◌∷◌, ◌++◌, refl, sym, ◌∙◌, ap, arith, Some, None, Option, ⊎_elim, ◌⊎◌}
+use Rattle.std.proofs.Common.{inl, inr, subst, true≢false, eqb-true, eq-eqb, leb-true, if◌then◌else◌}
 use Rattle.std.proofs.lemmas.Bool.{cases_Bool, leb-false}
 use Rattle.std.proofs.Math.Nat.{min-eq_left, min_comm}
 use Rattle.serving.specs.declared.newcomers.Newcomer.{Newcomer}
@@ -147,7 +148,8 @@ late_gone_one now seconds xs ys less (event.Admin command, m) h = absurd h
 late_gone_one now seconds xs ys less (event.Restart boot, m) h = absurd h
 
 -- why is heard alike
-same_end : (now seconds other : ℕ) (xs ys : List Newcomer) → AreNoMoreLate now seconds xs ys → (e : Event) (m : EventTag) → IsLateGone now seconds ys (e, m) → late_end now other ys e ≡ late_end now other xs e
+same_end : (now seconds other : ℕ) (xs ys : List Newcomer) → AreNoMoreLate now seconds xs ys → (e : Event) (m : EventTag)
+    → IsLateGone now seconds ys (e, m) → late_end now other ys e ≡ late_end now other xs e
 same_end now seconds other xs ys less (event.Gone c) m h = ap (λ b. (c, account.Ended (if b then end.TooLate else end.FullHouse)) ∷ []) (sym (less c h other))
 same_end now seconds other xs ys less (event.Start host boot idle) m h = refl
 same_end now seconds other xs ys less event.Connect m h = refl
@@ -158,7 +160,8 @@ same_end now seconds other xs ys less (event.Deposit d class id text) m h = refl
 same_end now seconds other xs ys less (event.Admin command) m h = refl
 same_end now seconds other xs ys less (event.Restart boot) m h = refl
 
-pub same_ends : (now seconds other : ℕ) (xs ys : List Newcomer) → AreNoMoreLate now seconds xs ys → (given : Log) → AreLateGone now seconds ys given → late_ends now other ys given ≡ late_ends now other xs given
+pub same_ends : (now seconds other : ℕ) (xs ys : List Newcomer) → AreNoMoreLate now seconds xs ys → (given : Log) → AreLateGone now seconds ys given
+    → late_ends now other ys given ≡ late_ends now other xs given
 same_ends now seconds other xs ys less [] a = refl
 same_ends now seconds other xs ys less ((e, m) ∷ given) a =
     let rest = same_ends now seconds other xs ys less given (All-tail (IsLateGone now seconds ys) (e, m) given a) in
@@ -196,12 +199,14 @@ late_smaller now a b ns c h =
     (cases_Bool (b == 0)))
     (cases_Bool (a == 0))
 
-late_limit : (full : Bool) (now a b : ℕ) (ns : List Newcomer) (c : ℕ) → is_late now (if full then smaller_limit a b else a) ns c ≡ true → (is_late now a ns c ≡ true) ⊎ ((full ≡ true) × (is_late now b ns c ≡ true))
+late_limit : (full : Bool) (now a b : ℕ) (ns : List Newcomer) (c : ℕ) → is_late now (if full then smaller_limit a b else a) ns c ≡ true
+    → (is_late now a ns c ≡ true) ⊎ ((full ≡ true) × (is_late now b ns c ≡ true))
 late_limit true now a b ns c h = ⊎_elim (λ (k : is_late now a ns c ≡ true). inl k) (λ (k : is_late now b ns c ≡ true). inr (refl, k)) (late_smaller now a b ns c h)
 late_limit false now a b ns c h = inl h
 
 -- whoever is late is so by its login seconds, or by those of a full house
-pub timed_out : (now taken a b : ℕ) (ns : List Newcomer) (x : Event × EventTag) → IsLateGone now (limit_by taken a b) ns x → IsLateGone now a ns x ⊎ ((is_full_house taken ≡ true) × IsLateGone now b ns x)
+pub timed_out : (now taken a b : ℕ) (ns : List Newcomer) (x : Event × EventTag) → IsLateGone now (limit_by taken a b) ns x
+    → IsLateGone now a ns x ⊎ ((is_full_house taken ≡ true) × IsLateGone now b ns x)
 timed_out now taken a b ns (event.Gone c, m) h = late_limit (is_full_house taken) now a b ns c h
 timed_out now taken a b ns (event.Start host boot idle, m) h = absurd h
 timed_out now taken a b ns (event.Connect, m) h = absurd h

@@ -197,7 +197,8 @@ module _ {V : Type 0} (Holds : V → Contents → Type 0) (IsClean : V → Type 
       subst (λ v. Giving Holds IsClean Faults o o1 (λ g. HasEndedLate Holds IsClean o o1 now seconds xs ys v g × M g)) (whole_front seats n k) a
 
 -- who went was late before, and what else is known of it by that
-pub late_both : {V : Type 0} (Holds : V → Contents → Type 0) (IsClean : V → Type 0) (Faults : V → ℕ) (now seconds seconds0 : ℕ) (xs ys zs : List Newcomer) (seats : List Seat) (o o1 : Office V) (M K : Log → Type 0) → seconds ≡ seconds0 → AreNoMoreLate now seconds0 xs ys
+pub late_both : {V : Type 0} (Holds : V → Contents → Type 0) (IsClean : V → Type 0) (Faults : V → ℕ) (now seconds seconds0 : ℕ)
+    (xs ys zs : List Newcomer) (seats : List Seat) (o o1 : Office V) (M K : Log → Type 0) → seconds ≡ seconds0 → AreNoMoreLate now seconds0 xs ys
     → ((g : Log) → AreLateGone now seconds0 ys g → M g → K g)
     → Giving Holds IsClean Faults o o1 (λ g. HasEndedLate Holds IsClean o o1 now seconds ys zs seats g × M g)
     → Giving Holds IsClean Faults o o1 (λ g. AreLateGone now seconds0 xs g × HasEndedLate Holds IsClean o o1 now seconds0 ys zs seats g × K g)

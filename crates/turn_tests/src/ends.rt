@@ -95,7 +95,15 @@ fn connect_all(alloc: Global, wire: &mut ScriptWire, count: usize) -> Result<(),
 
 #[test]
 fn idle_ones_are_heard(rt: HostRuntime) -> Result<(), Fail> {
-    let turns = [(1, 5), (1, 7), (0, 604), (0, 605), (0, 606), (0, 607), (0, 608)];
+    let turns = [
+        (1, 5),
+        (1, 7),
+        (0, 604),
+        (0, 605),
+        (0, 606),
+        (0, 607),
+        (0, 608),
+    ];
     let ends = ends_by(rt.alloc(), 0, 0, &turns)?;
     assert!(rt; ends.as_str() == "1 idle, 2 idle, ", "{ends}");
     Ok(())
@@ -109,8 +117,8 @@ fn late_ones_are_heard(rt: HostRuntime) -> Result<(), Fail> {
     Ok(())
 }
 
-/// The first one's four seconds are over while 64 are there. Then the house isn't full any more, and
-/// the others have their ten.
+/// The first one's four seconds are over while 64 are there. Then the house isn't full any more,
+/// and the others have their ten.
 #[test]
 fn end_in_a_full_house_is_heard(rt: HostRuntime) -> Result<(), Fail> {
     let turns = [(1, 5), (63, 8), (0, 8), (0, 9), (0, 12), (0, 17)];

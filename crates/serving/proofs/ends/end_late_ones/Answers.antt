@@ -59,7 +59,8 @@ loop-place-preserved g c =
       keeps = seats_then c.args.links.now k.links x.new.links k.invariant.keeps x.ensures.keeps;
       ends = ends_then now c.args.seconds c.args.links.now k.links x.new.links k.invariant.ends x.ensures.ends;
       works = late_step g.V.Vault.holds g.V.Vault.is_clean g.V.Vault.faults now c.args.seconds c.args.office.now k.office x.new.office n.newcomers.items k.links.newcomers.newcomers.items x.new.links.newcomers.newcomers.items c.args.links.now.seats.items k.links.seats.items k.place no_seat
-          (λ given. WasTold Heard l k.listener (late_ends now n.seconds n.newcomers.items given)) (λ given. WasTold Heard k.listener x.new.listener (late_ends now k.links.newcomers.seconds k.links.newcomers.newcomers.items given))
+          (λ given. WasTold Heard l k.listener (late_ends now n.seconds n.newcomers.items given))
+          (λ given. WasTold Heard k.listener x.new.listener (late_ends now k.links.newcomers.seconds k.links.newcomers.newcomers.items given))
           (λ given. WasTold Heard l x.new.listener (late_ends now n.seconds n.newcomers.items given)) (ap (λ v. v.items) k.invariant.keeps.seats) within k.invariant.ends.late
           (λ g1 g2 gone a b.
           late_told Heard now n.seconds n.newcomers.items l k.listener x.new.listener g1 g2 a
@@ -81,5 +82,7 @@ returns-clause-works g c =
     let k = c.loop-place in
     let n = c.args.links.now.newcomers in
     let done : length k.links.seats.items ≤ k.place = search rules in
-    late_whole g.V.Vault.holds g.V.Vault.is_clean g.V.Vault.faults c.args.now c.args.seconds c.args.office.now k.office n.newcomers.items k.links.newcomers.newcomers.items c.args.links.now.seats.items k.links.seats.items k.place (λ given. WasTold g.L.Listener.heard c.args.listener.now k.listener (late_ends c.args.now n.seconds n.newcomers.items given))
+    late_whole g.V.Vault.holds g.V.Vault.is_clean g.V.Vault.faults c.args.now c.args.seconds c.args.office.now k.office n.newcomers.items
+    k.links.newcomers.newcomers.items c.args.links.now.seats.items k.links.seats.items k.place
+    (λ given. WasTold g.L.Listener.heard c.args.listener.now k.listener (late_ends c.args.now n.seconds n.newcomers.items given))
     (ap (λ v. v.items) k.invariant.keeps.seats) done k.invariant.works
