@@ -15,7 +15,7 @@ use Rattle.vault.specs.declared.record.Receipt.{Receipt}
 use Rattle.vault.proofs.ListLemmas.{bytes_are}
 use Rattle.vault.specs.Calls.{text_under, has_grown, IsRefusal}
 use Rattle.vault.specs.Changes.{Contents, AreSound, head_of, heads, kept_in}
-use Rattle.converse.specs.Causes.{IsRefused, IsExportFault, IsExportEnd, IsCheckEnd}
+use Rattle.converse.specs.Causes.{IsRefused, IsExportFault, IsExportEnd}
 use Rattle.converse.specs.declared.fault.Fault.{Fault}
 use Rattle.converse.specs.declared.fault.Fault.TheVariants as fault
 use Rattle.converse.proofs.Clauses.{grown_since}
@@ -367,30 +367,3 @@ end_of D put written P fault.CannotPut h = h
 end_of D put written P fault.CannotWrite h = h
 end_of D put written P fault.Differs h = absurd h
 end_of D put written P fault.OutOfMemory h = h
-
-pub checked_end : (put written : Bool) (P : VaultFault → Type 0) (f : Fault) → IsExportFault put written P f → IsCheckEnd ⊥ f
-checked_end put written P fault.CannotRead h = tt
-checked_end put written P (fault.BadEvent n) h = tt
-checked_end put written P fault.BadHost h = tt
-checked_end put written P (fault.Store e) h = tt
-checked_end put written P (fault.Talk e) h = tt
-checked_end put written P (fault.NoPolicy e) h = tt
-checked_end put written P fault.NoClock h = tt
-checked_end put written P fault.CannotPut h = tt
-checked_end put written P fault.CannotWrite h = tt
-checked_end put written P fault.Differs h = absurd h
-checked_end put written P fault.OutOfMemory h = tt
-
--- so is one that says so in any case
-pub checked_any : (D : Type 0) (f : Fault) → IsCheckEnd ⊥ f → IsCheckEnd D f
-checked_any D fault.CannotRead h = tt
-checked_any D (fault.BadEvent n) h = tt
-checked_any D fault.BadHost h = tt
-checked_any D (fault.Store e) h = tt
-checked_any D (fault.Talk e) h = tt
-checked_any D (fault.NoPolicy e) h = tt
-checked_any D fault.NoClock h = tt
-checked_any D fault.CannotPut h = tt
-checked_any D fault.CannotWrite h = tt
-checked_any D fault.Differs h = absurd h
-checked_any D fault.OutOfMemory h = tt

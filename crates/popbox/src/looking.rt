@@ -1,17 +1,17 @@
 //! `popbox review-policy`: a policy is looked at before it is in force.
 
-use crate::options::{Input, ReviewPolicyOptions};
+use crate::options::ReviewPolicyOptions;
 use crate::stored::read_store;
 use causes::{Watched, tell_bad_policy, tell_refusal, tell_unread};
-use converse::Fault;
 use converse::review_policy::{
-    review_change, review_change_in_store, review_file, review_in_store,
+    review_alone, review_change, review_change_in_store, review_in_store,
 };
+use converse::{Fault, Noted};
 use creds::Name;
 use policy::Policy;
 use review::{Choice, exchanged, renamed};
 use std::alloc::Global;
-use std::io::{BufWriter, Read, Write};
+use std::io::{BufWriter, Write};
 use std::{fs, io, str};
 
 /// Runs `popbox review-policy`: prints to standard output what the policy of the named file means.
@@ -25,14 +25,14 @@ pub fn run_review<E: Write>(
         let _ = writeln!(err, "popbox: bad name");
         return Ok(1);
     };
-    let new = match read_new(rt, &options.new) {
+    let new = match options.new.read(rt) {
         Ok(text) => text,
         Err(error) => {
             return Ok(tell_unread(err, options.is_verbose, options.new.name(), &error));
         }
     };
     let Some(path) = options.against else {
-        return review_alone(rt, new.as_slice(), &choice, options, err);
+        return review_new(rt, new.as_slice(), &choice, options, err);
     };
     match fs::read(rt, path) {
         Ok(old) => review_both(
@@ -66,18 +66,8 @@ fn choice_of(options: &ReviewPolicyOptions<'_>) -> Option<Choice> {
     })
 }
 
-/// The octets of the new policy's file, or of standard input.
-fn read_new(rt: &HostRuntime, new: &Input<'_>) -> io::Result<Vec<u8>> {
-    if let Input::File(path) = *new {
-        return fs::read(rt, path);
-    }
-    let mut text = Vec::new(rt.alloc());
-    rt.reader().read_to_end(&mut text)?;
-    Ok(text)
-}
-
 /// Reviews a policy's text, beside the store that is named, where one is.
-fn review_alone<E: Write>(
+fn review_new<E: Write>(
     rt: &HostRuntime,
     new: &[u8],
     choice: &Choice,
@@ -86,11 +76,10 @@ fn review_alone<E: Write>(
 ) -> Result<u8, Fault> {
     let alloc: Global = rt.alloc();
     let out = BufWriter::new(alloc, io::writer(rt)).map_err(|_| Fault::OutOfMemory)?;
-    let mut out = Watched::new(out);
-    let mut rest = new;
+    let mut out = Noted::new(Watched::new(out));
     let Some(path) = options.store else {
-        let status = review_file(alloc, &mut rest, choice, &mut out, err);
-        tell_why(alloc, err, options, status, new, out.refusal());
+        let status = review_alone(alloc, new, choice, &mut out, err);
+        tell_why(alloc, err, options, status, new, out.inner.refusal());
         return Ok(status);
     };
     let stored = match read_store(rt, path, options.is_verbose, err) {
@@ -98,8 +87,8 @@ fn review_alone<E: Write>(
         Err(status) => return Ok(status),
     };
     let (before, kept) = (&stored.policy, &stored.kept);
-    let status = review_in_store(alloc, before, kept, &mut rest, choice, &mut out, err);
-    tell_why(alloc, err, options, status, new, out.refusal());
+    let status = review_in_store(alloc, before, kept, new, choice, &mut out, err);
+    tell_why(alloc, err, options, status, new, out.inner.refusal());
     Ok(status)
 }
 
@@ -115,27 +104,20 @@ fn review_both<E: Write>(
 ) -> Result<u8, Fault> {
     let alloc: Global = rt.alloc();
     let out = BufWriter::new(alloc, io::writer(rt)).map_err(|_| Fault::OutOfMemory)?;
-    let mut out = Watched::new(out);
-    let (mut first, mut rest) = (old, new);
+    let mut out = Noted::new(Watched::new(out));
     let status = match options.store {
-        None => review_change(alloc, &mut first, &mut rest, choice, &mut out, err),
+        None => review_change(alloc, old, new, choice, &mut out, err),
         Some(path) => match read_store(rt, path, options.is_verbose, err) {
-            Ok(stored) => review_change_in_store(
-                alloc,
-                &mut first,
-                &stored.kept,
-                &mut rest,
-                choice,
-                &mut out,
-                err,
-            ),
+            Ok(stored) => {
+                review_change_in_store(alloc, old, &stored.kept, new, choice, &mut out, err)
+            }
             Err(status) => return Ok(status),
         },
     };
     if options.is_verbose && status == 1 {
         let _ = tell_bad_policy(alloc, err, old_name, old);
     }
-    tell_why(alloc, err, options, status, new, out.refusal());
+    tell_why(alloc, err, options, status, new, out.inner.refusal());
     if options.is_verbose && status != 1 {
         tell_rules(alloc, err, old, new);
     }

@@ -464,59 +464,29 @@ impl Job for Serving<'_, '_> {
 }
 
 /// Runs `popbox check-policy`: prints to standard output how many rules the policy of the named
-/// file, or of standard input, has; by `--write` the policy as it is written.
+/// file, or of standard input, has; by `--write` the policy as it is written. The input is read
+/// first, to its end.
 fn run_check_policy<E: Write>(
     rt: &HostRuntime,
     options: &CheckPolicyOptions<'_>,
     err: &mut E,
 ) -> Result<u8, Fault> {
-    match options.file {
-        Input::Standard => check_input(rt, &mut rt.reader(), options, err),
-        Input::File(path) => match fs::open(rt, path) {
-            Ok(mut file) => check_input(rt, &mut file, options, err),
-            Err(error) => Ok(tell_unread(err, options.is_verbose, path, &error)),
-        },
-    }
-}
-
-/// Reads a policy, and prints how many rules it has, or by `--write` the policy.
-fn tell_policy<S: Read, W: Write, E: Write>(
-    alloc: Global,
-    options: &CheckPolicyOptions<'_>,
-    input: &mut S,
-    out: &mut W,
-    err: &mut E,
-) -> u8 {
-    if options.write {
-        write_policy(alloc, input, out, err)
-    } else {
-        check_policy(alloc, input, out, err)
-    }
-}
-
-/// Checks the policy that an input holds.
-fn check_input<S: Read, E: Write>(
-    rt: &HostRuntime,
-    input: &mut S,
-    options: &CheckPolicyOptions<'_>,
-    err: &mut E,
-) -> Result<u8, Fault> {
+    let (name, is_verbose) = (options.file.name(), options.is_verbose);
+    let text = match options.file.read(rt) {
+        Ok(text) => text,
+        Err(error) => return Ok(tell_unread(err, is_verbose, name, &error)),
+    };
     let alloc: Global = rt.alloc();
-    let mut out = BufWriter::new(alloc, io::writer(rt)).map_err(|_| Fault::OutOfMemory)?;
-    if !options.is_verbose {
-        return Ok(tell_policy(alloc, options, input, &mut out, err));
-    }
-    let name = options.file.name();
-    let mut text = Vec::new(alloc);
-    if let Err(error) = input.read_to_end(&mut text) {
-        return Ok(tell_unread(err, true, name, &error));
-    }
-    let mut out = Watched::new(out);
-    let mut rest = text.as_slice();
-    let status = tell_policy(alloc, options, &mut rest, &mut out, err);
-    if status != 0 {
+    let out = BufWriter::new(alloc, io::writer(rt)).map_err(|_| Fault::OutOfMemory)?;
+    let mut out = Noted::new(Watched::new(out));
+    let status = if options.write {
+        write_policy(alloc, text.as_slice(), &mut out, err)
+    } else {
+        check_policy(alloc, text.as_slice(), &mut out, err)
+    };
+    if is_verbose && status != 0 {
         let _ = tell_bad_policy(alloc, err, name, text.as_slice());
-        tell_refusal(err, "standard output", out.refusal());
+        tell_refusal(err, "standard output", out.inner.refusal());
     }
     Ok(status)
 }

@@ -12,6 +12,8 @@ use creds::HostName;
 use journal::Settings;
 use review::Format;
 use session::Removals;
+use std::io::Read;
+use std::{fs, io};
 
 /// What a command reads.
 #[derive(Clone, Copy)]
@@ -36,6 +38,16 @@ impl<'a> Input<'a> {
             Input::File(path) => path,
             Input::Standard => STANDARD_INPUT,
         }
+    }
+
+    /// Its octets, to its end.
+    pub fn read(&self, rt: &HostRuntime) -> io::Result<Vec<u8>> {
+        if let Input::File(path) = *self {
+            return fs::read(rt, path);
+        }
+        let mut octets = Vec::new(rt.alloc());
+        rt.reader().read_to_end(&mut octets)?;
+        Ok(octets)
     }
 }
 

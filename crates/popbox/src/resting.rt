@@ -255,7 +255,7 @@ fn check_over<A: Alter, E: Write>(
 ) -> Result<u8, Fault> {
     let alloc: Global = rt.alloc();
     let out = BufWriter::new(alloc, io::writer(rt)).map_err(|_| Fault::OutOfMemory)?;
-    let mut out = Watched::new(out);
+    let mut out = Noted::new(Watched::new(out));
     let file = StoreFile {
         version: VERSION as u64,
         octets,
@@ -263,7 +263,7 @@ fn check_over<A: Alter, E: Write>(
     let compared = !options.quick;
     let status = check_all(alloc, vault, compared, &file, &mut out, err);
     if options.is_verbose {
-        tell_refusal(err, "standard output", out.refusal());
+        tell_refusal(err, "standard output", out.inner.refusal());
     }
     Ok(status)
 }
@@ -285,6 +285,7 @@ fn export_over<A: Alter, E: Write>(
         is_settled: false,
         faults: 0,
         refusal: None,
+        taken: None,
     };
     let compared = !options.damaged;
     let status = export_from(alloc, vault, maildrop, compared, &mut folder, &mut out, err);
@@ -293,14 +294,25 @@ fn export_over<A: Alter, E: Write>(
             let store = options.store;
             let _ = writeln!(err, "why: {store}: it has no maildrop {maildrop}");
         }
-        tell_refusal(err, options.folder, folder.refusal);
+        tell_folder(err, &folder);
         tell_refusal(err, "standard output", out.inner.refusal());
     }
     Ok(status)
 }
 
-/// The folder at a path: whether it was synced behind the last file, how many of its calls failed,
-/// and what the system answered to the last of these.
+/// Tells which file of a folder was there already, or what else the system answered.
+fn tell_folder<E: Write>(err: &mut E, folder: &NamedFolder<'_>) {
+    let path = folder.path;
+    if let Some(error) = &folder.refusal {
+        let _ = match &folder.taken {
+            Some(name) => writeln!(err, "why: {path}/{name}: {error}"),
+            None => writeln!(err, "why: {path}: {error}"),
+        };
+    }
+}
+
+/// The folder at a path: whether it was synced after the last file, how many of its calls failed,
+/// what the system answered to the last of these, and which file's name was taken, if that was it.
 #[derive(Drop)]
 struct NamedFolder<'a> {
     rt: &'a HostRuntime,
@@ -308,6 +320,7 @@ struct NamedFolder<'a> {
     is_settled: bool,
     faults: u64,
     refusal: Option<io::Error>,
+    taken: Option<String>,
 }
 
 impl Folder for NamedFolder<'_> {
@@ -326,6 +339,7 @@ impl Folder for NamedFolder<'_> {
             Err(error) => {
                 self.faults = self.faults.saturating_add(1);
                 self.refusal = Some(error);
+                self.taken = taken_name(self.rt, self.path, name, &error);
                 Err(error)
             }
         }
@@ -344,6 +358,20 @@ impl Folder for NamedFolder<'_> {
             }
         }
     }
+}
+
+/// Which name in the folder at a path was taken, if a file was refused for that: its own, or that
+/// under which it is written.
+fn taken_name(rt: &HostRuntime, path: &str, name: &str, error: &io::Error) -> Option<String> {
+    if error.kind() != ErrorKind::AlreadyExists {
+        return None;
+    }
+    let whole = format!(in rt.alloc(); "{path}/{name}").ok()?;
+    let taken = match fs::symlink_metadata(rt, whole.as_str()) {
+        Ok(_) => name,
+        Err(_) => UNFINISHED,
+    };
+    String::from_str(rt.alloc(), taken).ok()
 }
 
 /// Waits until the names in the folder at a path are on the disk.
