@@ -1,37 +1,19 @@
 -- Rows of totals: which of them a change makes stale, and what they then stand for.
-use Rattle.std.proofs.Common.{◌≡◌, ℕ, ◌+◌, ◌<◌, ◌-◌, ◌^◌, Bool, true, false, ◌||◌, ◌⊎◌, List, [], ◌∷◌, ◌++◌, length, take, drop, set, get_or, min, map, suc, zero, refl, sym, ◌∙◌, ap, ap₂, subst, ⊎_elim, inl, inr, true≢false, add-one, append-nil, arith, cond}
+use Rattle.std.proofs.Common.{◌≡◌, ℕ, ◌<◌, ◌-◌, ◌^◌, Bool, true, false, ◌||◌, List, [], ◌∷◌, ◌++◌, length, drop, set, get_or, min, map, suc, zero, refl, sym, ◌∙◌, ap, ap₂, ⊎_elim, inl, inr, true≢false, append-nil, arith, cond}
 use Rattle.std.specs.Prelude.{filter, not, ◌&&◌, sum_by, if◌then◌else◌}
 use Rattle.std.specs.List.{list_any}
 use Rattle.std.specs.Str.{bytes_eq}
 use Rattle.std.proofs.lemmas.Bool.{cases_Bool, or_parts}
 use Rattle.std.proofs.lemmas.List.Elements.{filter-append}
-use Rattle.std.proofs.lemmas.List.Sums.{sum_by-cons}
 use Rattle.creds.specs.Names.{by_name, put_by_name, comes_before}
-use Rattle.vault.specs.declared.answer.Head.{Head}
 use Rattle.vault.specs.declared.answer.Total.{Total}
 use Rattle.vault.specs.declared.record.Keyed.{Keyed}
 use Rattle.vault.specs.Records.{is_one_of}
-use Rattle.vault.specs.Changes.{Contents, kept_in, head_of, heads, is_named, without_keys}
+use Rattle.vault.specs.Changes.{Contents, kept_in, is_named, without_keys}
 use Rattle.vault.specs.Plain.{capped_total}
-use Rattle.vault.proofs.ListLemmas.{In, length-map, any_of, bytes_same, bytes_are}
+use Rattle.vault.proofs.ListLemmas.{In, any_of, bytes_same, bytes_are}
 use Rattle.recent.specs.declared.totals.KeptTotal.{KeptTotal}
 use Rattle.recent.specs.Recalling.{fresh, stale_if, changed_in, counted_if, total_by}
-use Rattle.recent.specs.Counting.{summed}
-
--- ---- a total by heads
-
-sum_mapped : {A B : Type 0} (f : A → B) (g : B → ℕ) (xs : List A) → sum_by g (map f xs) ≡ sum_by (λ x. g (f x)) xs
-sum_mapped f g [] = refl
-sum_mapped f g (x ∷ xs) = sum_by-cons g (f x) (map f xs) ∙ ap (λ n. g (f x) + n) (sum_mapped f g xs) ∙ sym (sum_by-cons (λ y. g (f y)) x xs)
-
-abbrev total_with : List ℕ → (messages octets : ℕ) → Total
-total_with d n o = record { maildrop = d; messages = n; octets = min o (2 ^ 64 - 1) }
-
-pub summed_is : (d : List ℕ) (c : Contents) → summed d (heads d c) ≡ capped_total c.messages d
-summed_is d c =
-    let n = length-map head_of (kept_in d c.messages) in
-    let s = sum_mapped head_of (λ (h : Head). h.octets) (kept_in d c.messages) in
-    ap₂ (λ (n : ℕ) (o : ℕ). total_with d n o) n s
 
 -- ---- messages of other maildrops
 
@@ -141,20 +123,6 @@ pub same_at : {A B : Type 0} (f : A → B) (xs : List A) (i : ℕ) (d y : A) →
 same_at {A} {B} f [] i d y l e = absurd (omega (arith, l))
 same_at {A} {B} f (x ∷ xs) zero d y l e = ap (λ (z : B). z ∷ map f xs) e
 same_at {A} {B} f (x ∷ xs) (suc i) d y l e = ap (λ (zs : List B). f x ∷ zs) (same_at f xs i d y (omega (arith, l)) e)
-
--- a function applied to the elements one after another
-replaced : {A : Type 0} (f : A → A) (xs : List A) (i : ℕ) (d : A) → i < length xs
-    → set (map f (take i xs) ++ drop i xs) i (f (get_or (map f (take i xs) ++ drop i xs) i d)) ≡ map f (take (suc i) xs) ++ drop (suc i) xs
-replaced f [] i d h = absurd (omega arith)
-replaced f (x ∷ xs) zero d h = refl
-replaced f (x ∷ xs) (suc i) d h = ap (λ ys. f x ∷ ys) (replaced f xs i d (omega arith))
-
-pub replaced_at : {A : Type 0} (f : A → A) (xs ys : List A) (i : ℕ) (d y : A) → i < length xs → ys ≡ map f (take i xs) ++ drop i xs → y ≡ f (get_or ys i d)
-    → set ys i y ≡ map f (take (i + 1) xs) ++ drop (i + 1) xs
-replaced_at f xs ys i d y h e q =
-    let r : set ys i (f (get_or ys i d)) ≡ map f (take (suc i) xs) ++ drop (suc i) xs =
-    subst (λ zs. set zs i (f (get_or zs i d)) ≡ map f (take (suc i) xs) ++ drop (suc i) xs) (sym e) (replaced f xs i d h) in
-    rw (q, add-one) r
 
 -- ---- the maildrops of rows that fit are there
 

@@ -1,5 +1,5 @@
 -- What each statement leaves of the clerks, and what the rows tell of them.
-use Rattle.std.proofs.Common.{◌≡◌, ℕ, ℤ, ◌<◌, ◌≤◌, Bool, true, false, List, [], ◌∷◌, ◌++◌, length, Result, Ok, Err, refl, sym, ◌∙◌, ap, subst, cond, arith, true≢false, ⊎_elim}
+use Rattle.std.proofs.Common.{◌≡◌, ℕ, ℤ, ◌<◌, ◌≤◌, Bool, true, false, List, [], ◌∷◌, ◌++◌, length, Result, Ok, Err, refl, sym, ◌∙◌, ap, subst, cond, true≢false, ⊎_elim}
 use Rattle.std.specs.Prelude.{map, filter, min, not, bytes_eq, find, Option, Some, None, is_some, is_ok}
 use Rattle.std.specs.Option.{option_map}
 use Rattle.std.specs.List.{list_any, list_all}
@@ -13,11 +13,10 @@ use Rattle.vault.specs.declared.fault.VaultFault.{VaultFault}
 use Rattle.vault.specs.declared.fault.VaultFault.TheVariants as fault
 use Rattle.vault.specs.declared.record.Clerk as vault
 use Rattle.vault.specs.Records.{is_sound_clerk, is_sound_credential, credential_in, most_clerks}
-use Rattle.vault.specs.Changes.{Contents, AreSound, with_credential, with_clerk, without_clerk, with_clerks, with_messages, put_clerk_answer}
+use Rattle.vault.specs.Changes.{Contents, AreSound, with_credential, with_clerk, without_clerk, with_clerks, put_clerk_answer}
 use Rattle.vault.specs.Calls.{IsAnswer, put_result, IsCredential, drop_clerk_result}
-use Rattle.vault.proofs.DoneLemmas.{IsKept}
 use Rattle.vault.proofs.ListLemmas.{bytes_same, bytes_are, not_true, distinct-map, filter-map, map-append, length-map, found_none}
-use Rattle.vault.proofs.ClerkLemmas.{kept_with_clerk, kept_without_clerk}
+use Rattle.vault.proofs.ClerkLemmas.{sound_with_clerk, sound_without_clerk}
 use Rattle.mailsql.specs.declared.rows.Clerk.{Clerk}
 use Rattle.mailsql.specs.Rows.{Rows, is_clerk}
 use Rattle.mailsql.specs.Changes.{PutsClerk, DropsClerk}
@@ -88,56 +87,6 @@ is_there rows c name k = ap (λ (o : Option Clerk). is_some o) (found_rows rows 
 pub count_is : (rows : Rows) (c : Contents) (n most : ℕ) → Keeps rows c → n ≡ min (length rows.clerks) most → n ≡ min (length c.clerks) most
 count_is rows c n most k e = e ∙ ap (λ (m : ℕ). min m most) (length_permutation (map clerk_row c.clerks) rows.clerks k.clerks ∙ length-map clerk_row c.clerks)
 
--- ---- sound contents with other clerks
-
--- which messages lie in a store is no matter to its clerks
-pub without_messages : (c : Contents) → AreSound c → IsKept (with_messages [] c)
-without_messages c s =
-    let b = s.records in
-    record {
-      sound = record {
-        records = record {
-          clerks = b.clerks;
-          clerks_apart = b.clerks_apart;
-          clerks_fit = b.clerks_fit;
-          maildrops = b.maildrops;
-          maildrops_apart = b.maildrops_apart;
-          maildrops_fit = b.maildrops_fit;
-          messages = refl;
-          messages_apart = refl;
-          messages_fit = λ d. omega arith;
-          deposits = b.deposits;
-          ids_apart = b.ids_apart;
-          uids_apart = b.uids_apart;
-          policy = b.policy;
-        };
-        keys = refl;
-      };
-      keys = refl;
-    }
-
-sound_with : (c : Contents) (clerks : List vault.Clerk) → AreSound c → AreSound (with_clerks clerks (with_messages [] c)) → AreSound (with_clerks clerks c)
-sound_with c clerks s t =
-    let b = s.records in
-    record {
-      records = record {
-        clerks = t.records.clerks;
-        clerks_apart = t.records.clerks_apart;
-        clerks_fit = t.records.clerks_fit;
-        maildrops = b.maildrops;
-        maildrops_apart = b.maildrops_apart;
-        maildrops_fit = b.maildrops_fit;
-        messages = b.messages;
-        messages_apart = b.messages_apart;
-        messages_fit = b.messages_fit;
-        deposits = b.deposits;
-        ids_apart = b.ids_apart;
-        uids_apart = b.uids_apart;
-        policy = b.policy;
-      };
-      keys = s.keys;
-    }
-
 -- ---- the rows
 
 abbrev with_rows : List Clerk → Rows → Rows
@@ -169,7 +118,7 @@ pub keeps_dropped : (c : Contents) (name : List ℕ) (from to : Rows) → DropsC
 keeps_dropped c name from to change k =
     subst (λ (r : Rows). Keeps r (with_clerks (without_clerk name c.clerks) c)) (sym change)
     (keeps_clerks from c (without_clerk name c.clerks) (filter (λ x. not (is_clerk name x)) from.clerks) k (left_rows from c name k)
-    (sound_with c (without_clerk name c.clerks) k.sound (kept_without_clerk name (with_messages [] c) (without_messages c k.sound)).sound))
+    (sound_without_clerk name c k.sound))
 
 -- ---- a clerk in place of another, which stands in the contents where the other stood, and in the rows at the end
 
@@ -248,7 +197,7 @@ keeps_put c x r form sound answer ok from to change k =
     let after = with_clerk x.name x.credential c.clerks in
     subst (λ (rows : Rows). Keeps rows (with_clerks after c)) (sym change)
     (keeps_clerks from c after (filter (λ y. not (is_clerk x.name y)) from.clerks ++ clerk_row x ∷ []) k (put_rows from c x k)
-    (sound_with c after k.sound (kept_with_clerk x.name x.credential (with_messages [] c) r (without_messages c k.sound) form sound answer ok).sound))
+    (sound_with_clerk x.name x.credential c r k.sound form sound answer ok))
 
 -- a row from its columns
 pub row_made : (name text secret : List ℕ) (kind : ℤ) (given : Credential) → text ≡ name → kind ≡ kind_of given → secret ≡ secret_of given

@@ -12,7 +12,7 @@ use Rattle.vault.specs.declared.fault.VaultFault.TheVariants as fault
 use Rattle.vault.specs.declared.record.Receipt.{Receipt}
 use Rattle.vault.specs.Records.{is_one_of, receipts_of, receipt_of, class_count}
 use Rattle.vault.specs.Changes.{Contents, deposit_answered, known_or_conflict, is_full}
-use Rattle.vault.specs.Calls.{IsAnswer, IsRefusal, deposit_result, deposit_answer_in, present_in}
+use Rattle.vault.specs.Calls.{IsAnswer, deposit_result, deposit_answer_in, present_in}
 use Rattle.vault.proofs.ListLemmas.{find-filter}
 use Rattle.sqlite.specs.declared.error.Error.{Error}
 use Rattle.mailsql.specs.declared.rows.Count.{Count}
@@ -26,6 +26,7 @@ use Rattle.sqlvault.specs.Keeps.{Keeps, number_in, deposit_row}
 use Rattle.sqlvault.specs.Deposits.{PutsMessage, PutsReceipt, count_row, message_of}
 use Rattle.sqlvault.proofs.SmallLemmas.{lt-nat_le, le-nat_le, lt-nat_lt, below_64}
 use Rattle.sqlvault.proofs.PermutationLemmas.{find-map}
+use Rattle.sqlvault.proofs.HoldsLemmas.{same_answer}
 
 -- the count of a class is how many deposits it had
 pub count_seen : (rows : Rows) (c : Contents) (asked d named class : List ℕ) (found : Option Count) → Keeps rows c → asked ≡ d → named ≡ class → found ≡ find (is_count asked named) rows.counts
@@ -84,15 +85,6 @@ used rows c asked d named id row k e f is = some_receipt row (receipt_of id (rec
 pub unused : (rows : Rows) (c : Contents) (asked d named id : List ℕ) → Keeps rows c → asked ≡ d → named ≡ id → (let r : Option Deposit = None in r) ≡ find (is_deposit asked named) rows.deposits
     → receipt_of id (receipts_of d c.deposits) ≡ None
 unused rows c asked d named id k e f is = no_receipt (receipt_of id (receipts_of d c.deposits)) (is ∙ receipt_seen rows c asked d named id k e f)
-
-same_refusal : (A : Type 0) (e : VaultFault) → (let r : Result A VaultFault = Err e in IsRefusal r e)
-same_refusal A fault.Store = tt
-same_refusal A fault.NoMemory = tt
-same_refusal A e = refl
-
-same_answer : {A : Type 0} (r : Result A VaultFault) → IsAnswer r r
-same_answer {A} (Ok x) = refl
-same_answer {A} (Err e) = same_refusal A e
 
 pub judged_known : (c : Contents) (d class id text : List ℕ) (r : Receipt) (a : Result Deposited VaultFault) → is_one_of d c.maildrops ≡ true
     → receipt_of id (receipts_of d c.deposits) ≡ Some r → a ≡ deposit_result (known_or_conflict class text r) → IsAnswer (deposit_result (deposit_answer_in c d class id text)) a

@@ -7,7 +7,7 @@ use Rattle.sqlite.specs.Held.{Held, state}
 use Rattle.sqlite.specs.declared.error.Error.{Error}
 use Rattle.sqlite.specs.State.{State, HasCleanDisk, IsUnchanged, Survives}
 use Rattle.vault.specs.declared.fault.VaultFault.{VaultFault}
-use Rattle.vault.specs.Changes.{Contents}
+use Rattle.vault.specs.Changes.{Contents, AreSound}
 use Rattle.vault.specs.Calls.{IsDone}
 use Rattle.vault.specs.Stops.{IsOwn}
 use Rattle.mailsql.specs.Rows.{Rows, IsOurs, IsReady, HasTables, MayLeave, Changes, IsUndone}
@@ -21,6 +21,7 @@ use Rattle.sqlvault.specs.Transactions.{Begins, Undoes, Ends}
 use Rattle.sqlvault.specs.Stops.{LeavesHeld, LeavesOr}
 use Rattle.sqlvault.specs.Frame.{IsOk, IsMet, MadeOr, Rests, Looks, Learns, Turns, Acts, Writes}
 use Rattle.sqlvault.proofs.HoldsLemmas.{holds_unchanged, holds_undone, holds_changed, refused}
+use Rattle.sqlvault.proofs.HoldsLemmas.{answered_so}
 use Rattle.sqlvault.proofs.StayLemmas.{clean_before}
 use Rattle.sqlvault.proofs.StopLemmas.{not_own, or_said}
 use Rattle.sqlvault.proofs.WithinLemmas.{begun, leaves_on, makes, makes_after, step_ok, step_err}
@@ -87,6 +88,14 @@ looks_then a b = record {
       };
 }
 
+-- a look that met an error is answered by it
+pub looked_refused : {S A : Type 0} {Own : Type 0} {store : Ghosts S} {old new : Held S}
+    (expected : Result A VaultFault) (e : Error) → Looks store old new Own
+    → (c : Contents) → HasCleanDisk (state store new) → Holds (state store old) c
+    → IsDone (Holds (state store new)) c c expected (Err (fault_of e))
+looked_refused {store = store} {new = new} expected e look c clean h =
+    refused (Holds (state store new)) c c expected e (look.rests clean c h).held
+
 -- no query yet: a loop begins so
 pub looks_self : {S : Type 0} {Own : Type 0} (store : Ghosts S) (conn : Held S)
     → Looks store conn conn Own
@@ -134,6 +143,16 @@ learnt store old new (Err e) Seen Told same err s seen tell = record {
   looks = failed store old new err s;
   told = λ clean c h own. absurd own;
 }
+
+-- a look is answered by what it learnt of sound contents
+pub learns_answer : {S A : Type 0} {store : Ghosts S} {old new : Held S} {Told : Contents → Type 0}
+    (expected answered : Result A VaultFault) → Learns store old new ⊤ Told
+    → (c : Contents) → HasCleanDisk (state store new) → Holds (state store old) c
+    → (AreSound c → Told c → expected ≡ answered)
+    → IsDone (Holds (state store new)) c c expected answered
+learns_answer {store = store} {new = new} expected answered l c clean h is =
+    answered_so (Holds (state store new)) c expected answered
+    (is h.sound (l.told clean c h tt).1) (l.looks.rests clean c h).held
 
 -- two such parts, of which the first has its answer
 pub learns_then : {S : Type 0} {Own : Type 0} {store : Ghosts S} {old mid new : Held S}
@@ -658,5 +677,30 @@ commits_whole {store = store} {old = old} {first = first} {new = new} after r be
                 (λ Held. (y : Unit {0}) × IsDone Held c (after c) (Ok tt) (Ok y))
                 (state store new) c (λ Held held. (tt, record { answer = refl; held = held }))
                 (it.stop up left);
+          };
+    }
+
+-- a transaction that keeps the rows those of the contents only looks
+made_held : (Held : Contents → Type 0) (c : Contents) (r : Result (Unit {0}) Error)
+    → MadeOr r (λ H. H c) c Held → Held c
+made_held Held c (Ok x) held = held
+made_held Held c (Err e) held = held
+
+pub looks_committed : {S A : Type 0} {store : Ghosts S} {old first last new : Held S}
+    {Change : A → Rows → Rows → Type 0} {u : Unit {0}} {x : A} (r : Result (Unit {0}) Error)
+    → Begins store old first (Ok u) → Writes store first last Change (Ok x)
+    → ((c : Contents) (from to : Rows) → Keeps from c → Change x from to → Keeps to c)
+    → Ends store last new r → Looks store old new (IsOk r)
+looks_committed {store = store} {old = old} {first = first} {new = new} r begins part keeps ends =
+    record {
+      clean = λ clean. was_clean store old first begins.survives (part.clean (ends.clean clean));
+      rests = λ clean c h.
+          let it = ended_whole {new = new} (λ Held. Held c) r c begins part
+          (λ from to kept change. (c, keeps c from to kept change, λ Held held. held))
+          ends clean h in
+          record {
+            held = made_held (Holds (state store new)) c r it.done;
+            up = it.up;
+            stop = λ up left db may. elim (it.stop up left db may) [ inl was ↦ was | inr made ↦ made ];
           };
     }

@@ -1,5 +1,5 @@
 -- What each statement outside a transaction leaves of what is held, and how a refusal is answered.
-use Rattle.std.proofs.Common.{◌≡◌, inl, inr, Bool, true, false, cond, IsTrue, Result, Ok, Err, sym, ap, subst, ◌∙◌}
+use Rattle.std.proofs.Common.{◌≡◌, inl, inr, Bool, true, false, cond, IsTrue, Result, Ok, Err, refl, sym, ap, subst, ◌∙◌}
 use Rattle.std.specs.Prelude.{OnOk}
 use Rattle.sqlite.specs.Effect.{Database}
 use Rattle.sqlite.specs.declared.error.Error.{Error}
@@ -7,7 +7,7 @@ use Rattle.sqlite.specs.State.{State, IsUnchanged, IsRolledBack}
 use Rattle.vault.specs.declared.fault.VaultFault.{VaultFault}
 use Rattle.vault.specs.declared.fault.VaultFault.TheVariants as fault
 use Rattle.vault.specs.Changes.{Contents}
-use Rattle.vault.specs.Calls.{IsDone, IsRefusal}
+use Rattle.vault.specs.Calls.{IsAnswer, IsDone, IsRefusal}
 use Rattle.mailsql.specs.Rows.{Rows, rows_in, IsKept, HasTables, Changes, IsUndone}
 use Rattle.sqlvault.specs.Keeps.{Keeps}
 use Rattle.sqlvault.specs.Stands.{Holds}
@@ -69,6 +69,22 @@ met {A} expected e = go (is_memory e)
 -- so a call is done that met an error and changed nothing
 pub refused : {A : Type 0} (Held : Contents → Type 0) (before after : Contents) (expected : Result A VaultFault) (e : Error) → Held before → IsDone Held before after expected (Err (fault_of e))
 refused Held before after expected e h = record { answer = met expected e; held = h }
+
+-- ---- the expected answer
+
+same_refusal : (A : Type 0) (e : VaultFault) → (let r : Result A VaultFault = Err e in IsRefusal r e)
+same_refusal A fault.Store = tt
+same_refusal A fault.NoMemory = tt
+same_refusal A e = refl
+
+pub same_answer : {A : Type 0} (r : Result A VaultFault) → IsAnswer r r
+same_answer {A} (Ok x) = refl
+same_answer {A} (Err e) = same_refusal A e
+
+-- so a call is done that is answered as expected, and looks
+pub answered_so : {A : Type 0} (Held : Contents → Type 0) (c : Contents) (expected answered : Result A VaultFault) → expected ≡ answered → Held c → IsDone Held c c expected answered
+answered_so {A} Held c expected (Ok x) is h = record { answer = is; held = h }
+answered_so {A} Held c expected (Err e) is h = record { answer = subst (λ (r : Result A VaultFault). IsRefusal r e) (sym is) (same_refusal A e); held = h }
 
 -- ---- a result that is passed on
 

@@ -1,83 +1,22 @@
 -- What each statement leaves of the maildrops, and what the rows tell of them.
-use Rattle.std.proofs.Common.{◌≡◌, ℕ, ◌<◌, ◌≤◌, Bool, true, false, List, [], ◌∷◌, ◌++◌, length, Ok, Err, refl, sym, ◌∙◌, ap, subst, arith, length-append}
-use Rattle.std.specs.Prelude.{filter, min, not, bytes_eq, ◌==◌}
+use Rattle.std.proofs.Common.{◌≡◌, ℕ, ◌<◌, ◌≤◌, true, false, List, [], ◌∷◌, ◌++◌, length, Ok, Err, refl, sym, ◌∙◌, ap, subst, arith}
+use Rattle.std.specs.Prelude.{filter, min, ◌==◌}
 use Rattle.std.proofs.lemmas.Bool.Decides.{nat_tests}
-use Rattle.std.specs.List.{list_all}
-use Rattle.policy.specs.Policy.{are_distinct}
 use Rattle.creds.specs.Names.{is_name}
 use Rattle.vault.specs.declared.fault.VaultFault.TheVariants as fault
 use Rattle.vault.specs.declared.record.Message.{Message}
-use Rattle.vault.specs.Records.{Records, is_sound_message, is_one_of, most_maildrops}
-use Rattle.vault.specs.Changes.{Contents, AreSound, records_of, with_maildrop, without_maildrop, with_maildrops, kept_in}
+use Rattle.vault.specs.Records.{is_one_of, most_maildrops}
+use Rattle.vault.specs.Changes.{Contents, AreSound, with_maildrop, without_maildrop, with_maildrops, kept_in}
 use Rattle.vault.specs.Changes.{put_maildrop_answer, drop_answer}
 use Rattle.vault.specs.Calls.{IsMaildropAdded, IsMaildropDropped, put_result, drop_result, present_in}
-use Rattle.vault.proofs.ListLemmas.{all_last, all_weaker, all_filter, distinct_last, distinct_filter, filter_fits, filter_in, found, any_of, any_in, any_front, none_kept}
-use Rattle.vault.proofs.ListLemmas.{not_false, bytes_are, In, filter-map, length-map}
+use Rattle.vault.proofs.ListLemmas.{filter-map, length-map}
 use Rattle.vault.proofs.TotalLemmas.{present_is}
+use Rattle.vault.proofs.MaildropLemmas.{sound_with_maildrop, sound_without_maildrop}
 use Rattle.mailsql.specs.Rows.{Rows, has_name, is_in}
 use Rattle.mailsql.specs.declared.rows.Message as row
 use Rattle.mailsql.specs.Changes.{AddsMaildrop, DropsMaildrop}
 use Rattle.sqlvault.specs.Keeps.{Keeps, message_row}
 use Rattle.sqlvault.proofs.SmallLemmas.{lt-nat_le, le-nat_le}
-
--- ---- sound contents with other maildrops
-
-message_kept : (B : Records) (m : Message) (names : List (List ℕ)) → is_sound_message B m ≡ true → is_one_of m.maildrop names ≡ true
-    → is_sound_message (record B { maildrops = names }) m ≡ true
-message_kept B m names h i = grind arith
-
-in_maildrops : (B : Records) (m : Message) → is_sound_message B m ≡ true → is_one_of m.maildrop B.maildrops ≡ true
-in_maildrops B m h = grind arith
-
-sound_with : (c : Contents) (names : List (List ℕ)) → AreSound c → list_all is_name names ≡ true → are_distinct bytes_eq names ≡ true → length names ≤ most_maildrops
-    → ((m : Message) → In m (records_of c).messages → is_sound_message (records_of c) m ≡ true → is_one_of m.maildrop names ≡ true) → AreSound (with_maildrops names c)
-sound_with c names s a d f there =
-    let b = s.records in
-    record {
-      records = record {
-        clerks = b.clerks;
-        clerks_apart = b.clerks_apart;
-        clerks_fit = b.clerks_fit;
-        maildrops = a;
-        maildrops_apart = d;
-        maildrops_fit = f;
-        messages = all_weaker (is_sound_message (records_of c)) (is_sound_message (record (records_of c) { maildrops = names })) (records_of c).messages
-            (λ m i h. message_kept (records_of c) m names h (there m i h)) b.messages;
-        messages_apart = b.messages_apart;
-        messages_fit = b.messages_fit;
-        deposits = b.deposits;
-        ids_apart = b.ids_apart;
-        uids_apart = b.uids_apart;
-        policy = b.policy;
-      };
-      keys = s.keys;
-    }
-
-sound_added : (c : Contents) (name : List ℕ) → AreSound c → is_name name ≡ true → is_one_of name c.maildrops ≡ false → length c.maildrops < most_maildrops
-    → AreSound (with_maildrops (c.maildrops ++ name ∷ []) c)
-sound_added c name s form new room =
-    let b = s.records in
-    sound_with c (c.maildrops ++ name ∷ []) s (all_last is_name c.maildrops name b.maildrops form)
-    (distinct_last bytes_eq c.maildrops name b.maildrops_apart (λ x i. any_in (λ y. bytes_eq y name) c.maildrops x new i))
-    (simp length-append (omega arith))
-    (λ m i h. any_front (λ x. bytes_eq x m.maildrop) c.maildrops (name ∷ []) (in_maildrops (records_of c) m h))
-
-sound_dropped : (c : Contents) (name : List ℕ) → AreSound c → present_in name c ≡ 0 → AreSound (with_maildrops (without_maildrop name c.maildrops) c)
-sound_dropped c name s empty =
-    let b = s.records in
-    let others : List ℕ → Bool = λ d. not (bytes_eq d name) in
-    sound_with c (without_maildrop name c.maildrops) s (all_filter is_name others c.maildrops b.maildrops) (distinct_filter bytes_eq others c.maildrops b.maildrops_apart)
-    (omega (arith, filter_fits others c.maildrops, b.maildrops_fit)) still_there
-  where
-    its_own : (m : Message) (d : List ℕ) → bytes_eq d m.maildrop ≡ true → bytes_eq m.maildrop name ≡ false → not (bytes_eq d name) ≡ true
-    its_own m d e n = not_false (bytes_eq d name) (rw (bytes_are d m.maildrop e) n)
-
-    still_there : (m : Message) → In m (records_of c).messages → is_sound_message (records_of c) m ≡ true → is_one_of m.maildrop (without_maildrop name c.maildrops) ≡ true
-    still_there m i h =
-        let r = found (λ x. bytes_eq x m.maildrop) c.maildrops (in_maildrops (records_of c) m h) in
-        let n = none_kept (λ (x : Message). bytes_eq x.maildrop name) (records_of c).messages empty m i in
-        any_of (λ x. bytes_eq x m.maildrop) (without_maildrop name c.maildrops) r.0
-        (filter_in (λ d. not (bytes_eq d name)) c.maildrops r.0 r.1 (its_own m r.0 r.2 n)) r.2
 
 -- ---- the rows
 
@@ -104,14 +43,14 @@ pub keeps_added : (c : Contents) (name : List ℕ) → is_name name ≡ true →
     → (from to : Rows) → AddsMaildrop name from to → Keeps from c → Keeps to (with_maildrops (c.maildrops ++ name ∷ []) c)
 keeps_added c name form new room from to change k =
     subst (λ (r : Rows). Keeps r (with_maildrops (c.maildrops ++ name ∷ []) c)) (sym (change ∙ ap (λ (ns : List (List ℕ)). with_names (ns ++ name ∷ []) from) k.maildrops))
-    (keeps_names from c (c.maildrops ++ name ∷ []) k (sound_added c name k.sound form new room))
+    (keeps_names from c (c.maildrops ++ name ∷ []) k (sound_with_maildrop c name k.sound form new room))
 
 -- a name less, of a maildrop that is empty
 pub keeps_dropped : (c : Contents) (name : List ℕ) → present_in name c ≡ 0
     → (from to : Rows) → DropsMaildrop name from to → Keeps from c → Keeps to (with_maildrops (without_maildrop name c.maildrops) c)
 keeps_dropped c name empty from to change k =
     subst (λ (r : Rows). Keeps r (with_maildrops (without_maildrop name c.maildrops) c)) (sym (change ∙ ap (λ (ns : List (List ℕ)). with_names (without_maildrop name ns) from) k.maildrops))
-    (keeps_names from c (without_maildrop name c.maildrops) k (sound_dropped c name k.sound empty))
+    (keeps_names from c (without_maildrop name c.maildrops) k (sound_without_maildrop c name k.sound empty))
 
 -- ---- what the rows tell
 

@@ -1,5 +1,5 @@
 -- What a removal leaves.
-use Rattle.std.proofs.Common.{◌≡◌, inl, inr, ℕ, ◌<◌, ◌≤◌, ◌^◌, ℤ, Bool, true, false, not, cond, List, [], ◌∷◌, ◌++◌, length, map, refl, sym, ap, subst, ◌∙◌, arith, ⊎_elim}
+use Rattle.std.proofs.Common.{◌≡◌, inl, inr, ℕ, ◌<◌, ◌^◌, ℤ, Bool, true, false, not, cond, List, [], ◌∷◌, ◌++◌, map, refl, sym, ap, subst, ◌∙◌, arith, ⊎_elim}
 use Rattle.std.proofs.Common.{true≢false, w64}
 use Rattle.std.specs.Prelude.{◌&&◌, ◌||◌, ◌==◌, nat_lt, filter, flat_map}
 use Rattle.std.specs.Str.{bytes_eq}
@@ -10,15 +10,13 @@ use Rattle.std.proofs.lemmas.Bool.Decides.{nat_tests}
 use Rattle.std.proofs.Math.Facts.{to_z_inj}
 use Rattle.std.proofs.lemmas.List.Concat.{flat_map-cons}
 use Rattle.std.proofs.lemmas.List.Elements.{filter-append}
-use Rattle.std.proofs.lemmas.List.Folds.{list_all-map, list_any-append}
+use Rattle.std.proofs.lemmas.List.Folds.{list_any-append}
 use Rattle.sqlite_trees.proofs.ListLemmas.{IsPermutation-filter}
 use Rattle.policy.specs.Policy.{are_distinct}
 use Rattle.vault.specs.declared.record.Keyed.{Keyed}
-use Rattle.vault.specs.declared.record.Message as vault
-use Rattle.vault.specs.Records.{is_sound_message, same_message, in_maildrop}
-use Rattle.vault.specs.Changes.{Contents, AreSound, records_of, kept_in, is_named, without_keys, with_messages}
-use Rattle.vault.proofs.ListLemmas.{In, all_in, any_in, any_of, found, all_filter, distinct_filter, distinct-map, both_fit, length-map, list_any-map, not_true}
-use Rattle.vault.proofs.TotalLemmas.{in_maildrop_is}
+use Rattle.vault.specs.Changes.{Contents, is_named, without_keys, with_messages}
+use Rattle.vault.proofs.ListLemmas.{In, all_in, any_in, any_of, found, all_filter, list_any-map, not_true}
+use Rattle.vault.proofs.MailLemmas.{sound_filtered}
 use Rattle.mailsql.specs.declared.rows.Message.{Message}
 use Rattle.mailsql.specs.declared.rows.Sheet.{Sheet}
 use Rattle.mailsql.specs.Columns.{Rows}
@@ -139,37 +137,6 @@ module _ (key : ℕ) (d : List ℕ) (ms : List Keyed) (fits : key < 2 ^ 64) (low
       ap (is_it key d) (only_one ms x y.0 apart i y.1 same) ∙ sym (row_found y.0 y.1) ∙ both.0)
       (λ it. any_of p ms x i (rw (row_found x i, it, same_itself (row_key x.key)) refl))
 
--- ---- soundness
-
-fewer : (d : List ℕ) (p : Keyed → Bool) (ms : List Keyed) → length (in_maildrop d (map (λ (x : Keyed). x.message) (filter p ms))) ≤ length (in_maildrop d (map (λ (x : Keyed). x.message) ms))
-fewer d p ms = rw (in_maildrop_is d (filter p ms), in_maildrop_is d ms, length-map (λ (x : Keyed). x.message) (kept_in d (filter p ms)), length-map (λ (x : Keyed). x.message) (kept_in d ms))
-    (both_fit (λ (x : Keyed). bytes_eq x.message.maildrop d) p ms)
-
-sound_left : (c : Contents) (p : Keyed → Bool) → AreSound c → AreSound (with_messages (filter p c.messages) c)
-sound_left c p s =
-    let b = s.records in
-    let m : Keyed → vault.Message = λ (x : Keyed). x.message in
-    record {
-      records = record {
-        clerks = b.clerks;
-        clerks_apart = b.clerks_apart;
-        clerks_fit = b.clerks_fit;
-        maildrops = b.maildrops;
-        maildrops_apart = b.maildrops_apart;
-        maildrops_fit = b.maildrops_fit;
-        messages = list_all-map (is_sound_message (records_of c)) m (filter p c.messages)
-            ∙ all_filter (λ x. is_sound_message (records_of c) (m x)) p c.messages (sym (list_all-map (is_sound_message (records_of c)) m c.messages) ∙ b.messages);
-        messages_apart = distinct-map m same_message (filter p c.messages)
-            ∙ distinct_filter (λ x y. same_message (m x) (m y)) p c.messages (sym (distinct-map m same_message c.messages) ∙ b.messages_apart);
-        messages_fit = λ d. let f = fewer d p c.messages in let g = b.messages_fit d in omega (arith, f, g);
-        deposits = b.deposits;
-        ids_apart = b.ids_apart;
-        uids_apart = b.uids_apart;
-        policy = b.policy;
-      };
-      keys = distinct_filter (λ (x y : Keyed). x.key == y.key) p c.messages s.keys;
-    }
-
 -- ---- the rows
 
 -- the named messages are gone from the rows
@@ -203,30 +170,29 @@ one_removed d key rows after fits change c keeps =
       groups = keeps.groups;
       rules = keeps.rules;
       keys = all_filter (λ (x : Keyed). nat_lt x.key 18446744073709551616) stays c.messages keeps.keys;
-      sound = sound_left c stays keeps.sound;
+      sound = sound_filtered c stays keeps.sound;
     })
 
-joined : (a m n : Bool) → (not (a && m) && not (a && (n || false))) ≡ not (a && (m || n))
-joined true true n = refl
-joined true false true = refl
-joined true false false = refl
-joined false m n = refl
-
--- what the earlier keys named is gone, and then what this one names
-pub one_more : (d keys : List ℕ) (key : ℕ) (rows mid after : Rows) → key < 2 ^ 64 → Removed d keys rows mid → RemovesMessage (row_key key) d mid after → Removed d (keys ++ key ∷ []) rows after
-one_more d keys key rows mid after fits before change c keeps =
-    let both = one_removed d key mid after fits change (with_messages (without_keys d keys c.messages) c) (before c keeps) in
-    let p : Keyed → Bool = λ x. not (bytes_eq x.message.maildrop d && is_named keys x.key) in
-    let q : Keyed → Bool = λ x. not (is_it key d x) in
-    let e : filter q (filter p c.messages) ≡ without_keys d (keys ++ key ∷ []) c.messages = filter_twice p q c.messages
-    ∙ filter_alike (λ x. p x && q x) (λ (x : Keyed). not (bytes_eq x.message.maildrop d && is_named (keys ++ key ∷ []) x.key)) c.messages
-    (λ x i. joined (bytes_eq x.message.maildrop d) (is_named keys x.key) (key == x.key) ∙ ap (λ b. not (bytes_eq x.message.maildrop d && b)) (last_named x)) in
-    subst (λ ms. Keeps after (with_messages ms c)) e both
+-- what some keys named is gone, and what others named was gone before
+removed_both : (d keys done : List ℕ) (rows : Rows) (c : Contents) → Keeps rows (with_messages (without_keys d keys (without_keys d done c.messages)) c)
+    → Keeps rows (with_messages (without_keys d (keys ++ done) c.messages) c)
+removed_both d keys done rows c keeps =
+    let p : Keyed → Bool = λ x. not (bytes_eq x.message.maildrop d && is_named done x.key) in
+    let q : Keyed → Bool = λ x. not (bytes_eq x.message.maildrop d && is_named keys x.key) in
+    let e : filter q (filter p c.messages) ≡ without_keys d (keys ++ done) c.messages = filter_twice p q c.messages
+    ∙ filter_alike (λ x. p x && q x) (λ (x : Keyed). not (bytes_eq x.message.maildrop d && is_named (keys ++ done) x.key)) c.messages
+    (λ x i. either_gone (bytes_eq x.message.maildrop d) (is_named keys x.key) (is_named done x.key)
+    ∙ ap (λ b. not (bytes_eq x.message.maildrop d && b)) (sym (list_any-append (λ y. y == x.key) keys done))) in
+    subst (λ ms. Keeps rows (with_messages ms c)) e keeps
   where
-    or_nothing : (a b : Bool) → (a || b) ≡ (a || (b || false))
-    or_nothing true b = refl
-    or_nothing false true = refl
-    or_nothing false false = refl
+    either_gone : (a m n : Bool) → (not (a && n) && not (a && m)) ≡ not (a && (m || n))
+    either_gone true true true = refl
+    either_gone true true false = refl
+    either_gone true false true = refl
+    either_gone true false false = refl
+    either_gone false m n = refl
 
-    last_named : (x : Keyed) → (is_named keys x.key || (key == x.key)) ≡ is_named (keys ++ key ∷ []) x.key
-    last_named x = or_nothing (is_named keys x.key) (key == x.key) ∙ sym (list_any-append (λ y. y == x.key) keys (key ∷ []))
+-- what the later keys named is gone, and then what this one names
+pub one_before : (d keys : List ℕ) (key : ℕ) (rows mid after : Rows) → key < 2 ^ 64 → Removed d keys rows mid → RemovesMessage (row_key key) d mid after → Removed d (key ∷ keys) rows after
+one_before d keys key rows mid after fits before change c keeps = removed_both d (key ∷ []) keys after c
+    (one_removed d key mid after fits change (with_messages (without_keys d keys c.messages) c) (before c keeps))

@@ -1,28 +1,22 @@
 -- Totals as the rows tell them.
 use Rattle.std.proofs.Common.{◌≡◌, ℕ, ◌+◌, ◌-◌, ◌<◌, ◌≤◌, ◌^◌, min, List, [], ◌∷◌, ◌++◌, length, take, take_all, get_or, true, sym, ap, subst, ◌∙◌, arith}
-use Rattle.std.specs.Prelude.{map, sum_by, filter}
+use Rattle.std.specs.Prelude.{map, sum_by}
 use Rattle.std.proofs.lemmas.List.{take_more, get_or-map}
 use Rattle.std.proofs.lemmas.List.Sums.{sum_by_more}
 use Rattle.std.specs.List.{list_all}
 use Rattle.creds.specs.Names.{by_name, is_name}
 use Rattle.mailsql.specs.declared.rows.Message.{Message}
-use Rattle.mailsql.specs.Columns.{Rows}
-use Rattle.mailsql.specs.Rows.{is_in}
 use Rattle.vault.specs.declared.record.Keyed.{Keyed}
 use Rattle.vault.specs.Changes.{Contents, AreSound, kept_in, totals, records_of}
 use Rattle.vault.specs.declared.answer.Total.{Total}
 use Rattle.vault.specs.Plain.{capped_total}
-use Rattle.vault.proofs.ListLemmas.{filter-map, length-map}
+use Rattle.vault.proofs.ListLemmas.{length-map}
 use Rattle.vault.proofs.TotalLemmas.{totals_are}
-use Rattle.sqlvault.specs.Keeps.{Keeps, message_row}
+use Rattle.sqlvault.specs.Keeps.{message_row}
 use Rattle.sqlvault.proofs.SmallLemmas.{all_at}
 
 abbrev pub octets_in : Keyed → ℕ
 octets_in x = length x.message.text
-
--- the rows of a maildrop's messages
-pub rows_in_maildrop : (d : List ℕ) (rows : Rows) (c : Contents) → Keeps rows c → filter (is_in d) rows.messages ≡ map message_row (kept_in d c.messages)
-rows_in_maildrop d rows c keeps = ap (filter (is_in d)) keeps.messages ∙ filter-map message_row (is_in d) c.messages
 
 -- ---- their octets
 

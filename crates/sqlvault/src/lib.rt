@@ -4,6 +4,7 @@
 
 mod adopt;
 mod carry;
+mod checkpoint;
 mod clerks;
 mod deposit;
 mod groups;

@@ -1,16 +1,17 @@
 //! The heads of a maildrop's messages, and their removal.
-ghost use Rattle.std.specs.Prelude.{◌≡◌, ◌<◌, ◌^◌, Some, true, List, map, nat_lt, IfOk, IfErr};
+ghost use Rattle.std.specs.Prelude.{◌≡◌, ◌<◌, ◌^◌, Some, true, List, [], map, nat_lt, IfOk, IfErr};
 ghost use Rattle.std.specs.List.{list_all};
 ghost use Rattle.sqlite.specs.Held.{state};
 ghost use Rattle.sqlite.specs.State.{HasCleanDisk};
 ghost use Rattle.creds.specs.Names.{is_name};
 ghost use Rattle.mailsql.specs.Errors.{IsWantOfMemory};
 ghost use Rattle.vault.specs.declared.record.Keyed.{Keyed};
-ghost use Rattle.vault.specs.Changes.{Contents, head_of, without_keys, with_messages};
+ghost use Rattle.vault.specs.Changes.{Contents, head_of, kept_in, without_keys, with_messages};
 ghost use Rattle.vault.specs.Calls.{seen_as, AreHeads, AreRemoved};
 ghost use Rattle.sqlvault.specs.Keeps.{Keeps, message_row};
 ghost use Rattle.sqlvault.specs.Refusals.{answer_of};
-ghost use Rattle.sqlvault.specs.Frame.{IsMet, Looks, Acts, Writes};
+ghost use Rattle.sqlvault.specs.RowForms.{AreMailRows};
+ghost use Rattle.sqlvault.specs.Frame.{IsOk, IsMet, Looks, Learns, Acts, Writes};
 ghost use Rattle.sqlvault.specs.Stands.{Holds};
 
 use crate::maildrops::has_maildrop;
@@ -60,7 +61,39 @@ fn read_heads(alloc: Global, rows: &[Message]) -> Result<Vec<Head>, Error>
     Ok(heads)
 }
 
-/// The heads of a maildrop's messages, in order of arrival. Nothing is changed.
+/// The rows of a maildrop's messages, in order of arrival.
+pub(crate) fn rows_of<S: Alter>(
+    alloc: Global,
+    conn: &mut Connection<S>,
+    maildrop: &Name,
+) -> Result<Vec<Message>, Error>
+    ensures { Learns S.Store conn.old conn.new (IsOk result)
+        (λ c. IfOk result (λ rows. AreMailRows maildrop.now c rows.items)) }
+{
+    mail::heads(alloc, conn, maildrop.as_bytes())
+}
+
+/// The heads of a maildrop without messages.
+fn no_heads<S: Alter>(
+    alloc: Global,
+    conn: &mut Connection<S>,
+    maildrop: &Name,
+) -> Result<Vec<Head>, Refusal>
+    ensures done { (c : Contents) → HasCleanDisk (state S.Store conn.new)
+        → Holds (state S.Store conn.old) c → kept_in maildrop.now c.messages ≡ []
+        → AreHeads (Holds (state S.Store conn.new)) c maildrop.now
+        (seen_as (answer_of result) (λ v. v.items)) }
+    ensures looks { Looks S.Store conn.old conn.new (IsMet result) }
+{
+    match has_maildrop(conn, maildrop) {
+        Ok(true) => Ok(Vec::new(alloc)),
+        Ok(false) => Err(Refusal::Answered(VaultFault::NoMaildrop)),
+        Err(error) => Err(Refusal::Met(error)),
+    }
+}
+
+/// The heads of a maildrop's messages, in order of arrival. Nothing is changed. Only if there are
+/// none is the maildrop looked up.
 ///
 /// Answers [`VaultFault::NoMaildrop`] if the maildrop is missing, else the error that a query
 /// met.
@@ -74,18 +107,20 @@ pub(crate) fn heads<S: Alter>(
         maildrop.now (seen_as (answer_of result) (λ v. v.items)) }
     ensures looks { Looks S.Store conn.old conn.new (IsMet result) }
 {
-    match has_maildrop(conn, maildrop) {
-        Ok(true) => {}
-        Ok(false) => return Err(Refusal::Answered(VaultFault::NoMaildrop)),
-        Err(error) => return Err(Refusal::Met(error)),
-    }
-    match mail::heads(alloc, conn, maildrop.as_bytes()) {
-        Ok(rows) => Ok(read_heads(alloc, rows.as_slice())?),
+    match rows_of(alloc, conn, maildrop) {
+        Ok(rows) => {
+            if rows.is_empty() {
+                no_heads(alloc, conn, maildrop)
+            } else {
+                Ok(read_heads(alloc, rows.as_slice())?)
+            }
+        }
         Err(error) => Err(Refusal::Met(error)),
     }
 }
 
-/// Removes each of the messages, inside a transaction.
+/// Removes each of the messages, inside a transaction, the last one first: so what is left of a
+/// page of the store needn't move.
 fn remove_all<S: Alter>(
     conn: &mut Connection<S>,
     maildrop: &Name,
@@ -95,8 +130,11 @@ fn remove_all<S: Alter>(
         (λ _ before after. (c : Contents) → Keeps before c
         → Keeps after (with_messages (without_keys maildrop.now keys.now c.messages) c)) result }
 {
-    for key in keys {
-        match mail::remove_message(conn, key.number().cast_signed(), maildrop.as_bytes()) {
+    let mut left = keys.len();
+    while left > 0 {
+        left -= 1;
+        let key = keys[left].number().cast_signed();
+        match mail::remove_message(conn, key, maildrop.as_bytes()) {
             Ok(()) => {}
             Err(error) => return Err(error),
         }

@@ -11,7 +11,7 @@ ghost use Rattle.sqlvault.specs.Refusals.{answer_of, count_after, open_fault};
 
 use crate::adopt::settle;
 use crate::refusal::{Refusal, fault_of, tell};
-use crate::{clerks, deposit, mail, maildrops, pages, receipts, rules, totals};
+use crate::{checkpoint, clerks, deposit, mail, maildrops, pages, receipts, rules, totals};
 use creds::{Credential, DepositId, Name};
 use mailtext::MailText;
 use policy::Policy;
@@ -305,6 +305,20 @@ impl<S: Alter> SqlVault<S> {
         ensures looks { Looks S.Store self.old.conn self.new.conn (IsOwn result) }
     {
         let answer = receipts::receipts(self.alloc, &mut self.conn);
+        self.told(answer)
+    }
+
+    /// Has SQLite copy its log into the database file, if the log has 1,000 pages or more. SQLite
+    /// does so before the next write; this is one, which changes nothing, for a time when nobody
+    /// waits. If the log is shorter, that is a commit for nothing.
+    ///
+    /// Answers [`VaultFault::NoMemory`] if memory was refused, and [`VaultFault::Store`], which is
+    /// counted, if SQLite refused a statement for another cause.
+    pub fn checkpoint(&mut self) -> Result<(), VaultFault>
+        ensures counted { CountsFaults self.old.faults self.new.faults result }
+        ensures looks { Looks S.Store self.old.conn self.new.conn (IsOwn result) }
+    {
+        let answer = checkpoint::checkpoint(&mut self.conn);
         self.told(answer)
     }
 

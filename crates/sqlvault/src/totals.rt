@@ -14,10 +14,11 @@ ghost use Rattle.sqlvault.specs.Refusals.{answer_of};
 ghost use Rattle.sqlvault.specs.Frame.{IsOk, IsMet, Looks};
 ghost use Rattle.sqlvault.specs.Stands.{Holds};
 
+use crate::mail::rows_of;
 use crate::refusal::{Refusal, unreadable};
 use creds::Name;
+use mailsql::maildrops;
 use mailsql::rows::Message;
-use mailsql::{mail, maildrops};
 use sqlite::{Alter, Connection, Error};
 use sqlite_value::value::Bytes;
 use std::alloc::Global;
@@ -80,7 +81,7 @@ fn total_of<S: Alter>(alloc: Global, conn: &mut Connection<S>, name: &Name) -> R
         → IfOk result (λ total. total ≡ capped_total c.messages name.now) }
     ensures looks { Looks S.Store conn.old conn.new (IsOk result) }
 {
-    match mail::heads(alloc, conn, name.as_bytes()) {
+    match rows_of(alloc, conn, name) {
         Ok(rows) => Ok(Total {
             maildrop: *name,
             messages: rows.len() as u64,

@@ -106,23 +106,24 @@ added_sound c name given s form g new room =
     both : (a b : Bool) → a ≡ true → b ≡ true → (a && b) ≡ true
     both a b e f = rw (e, f) refl
 
-pub kept_with_clerk : (name : List ℕ) (given : Credential) (c : Contents) (r : Result Bool VaultFault) → IsKept c → is_name name ≡ true → is_sound_credential given ≡ true
-    → IsAnswer (put_result (put_clerk_answer name c.clerks)) r → is_ok r ≡ true → IsKept (with_clerks (with_clerk name given c.clerks) c)
-kept_with_clerk name given c r h form g a ok = ⊎_elim
-    (λ (e : is_some (credential_in name c.clerks) ≡ true). rw e (record { sound = replaced_sound c name given h.sound g; keys = h.keys }))
-    (λ (e : is_some (credential_in name c.clerks) ≡ false). rw e (record {
-      sound = added_sound c name given h.sound form g e (had_room (is_some (credential_in name c.clerks)) (length c.clerks) most_clerks r e a ok);
-      keys = h.keys;
-    }))
+pub sound_with_clerk : (name : List ℕ) (given : Credential) (c : Contents) (r : Result Bool VaultFault) → AreSound c → is_name name ≡ true → is_sound_credential given ≡ true
+    → IsAnswer (put_result (put_clerk_answer name c.clerks)) r → is_ok r ≡ true → AreSound (with_clerks (with_clerk name given c.clerks) c)
+sound_with_clerk name given c r s form g a ok = ⊎_elim
+    (λ (e : is_some (credential_in name c.clerks) ≡ true). rw e (replaced_sound c name given s g))
+    (λ (e : is_some (credential_in name c.clerks) ≡ false). rw e (added_sound c name given s form g e (had_room (is_some (credential_in name c.clerks)) (length c.clerks) most_clerks r e a ok)))
     (cases_Bool (is_some (credential_in name c.clerks)))
 
-pub kept_without_clerk : (name : List ℕ) (c : Contents) → IsKept c → IsKept (with_clerks (without_clerk name c.clerks) c)
-kept_without_clerk name c h =
-    let b = h.sound.records in
+pub kept_with_clerk : (name : List ℕ) (given : Credential) (c : Contents) (r : Result Bool VaultFault) → IsKept c → is_name name ≡ true → is_sound_credential given ≡ true
+    → IsAnswer (put_result (put_clerk_answer name c.clerks)) r → is_ok r ≡ true → IsKept (with_clerks (with_clerk name given c.clerks) c)
+kept_with_clerk name given c r h form g a ok = record { sound = sound_with_clerk name given c r h.sound form g a ok; keys = h.keys }
+
+pub sound_without_clerk : (name : List ℕ) (c : Contents) → AreSound c → AreSound (with_clerks (without_clerk name c.clerks) c)
+sound_without_clerk name c s =
+    let b = s.records in
     let others : Clerk → Bool = λ x. not (bytes_eq x.name name) in
-    record {
-      sound = sound_with_clerks c (without_clerk name c.clerks) h.sound (all_filter is_sound_clerk others c.clerks b.clerks)
-          (distinct_filter (λ (x y : Clerk). bytes_eq x.name y.name) others c.clerks b.clerks_apart)
-          (omega (arith, filter_fits others c.clerks, b.clerks_fit));
-      keys = h.keys;
-    }
+    sound_with_clerks c (without_clerk name c.clerks) s (all_filter is_sound_clerk others c.clerks b.clerks)
+    (distinct_filter (λ (x y : Clerk). bytes_eq x.name y.name) others c.clerks b.clerks_apart)
+    (omega (arith, filter_fits others c.clerks, b.clerks_fit))
+
+pub kept_without_clerk : (name : List ℕ) (c : Contents) → IsKept c → IsKept (with_clerks (without_clerk name c.clerks) c)
+kept_without_clerk name c h = record { sound = sound_without_clerk name c h.sound; keys = h.keys }

@@ -61,13 +61,13 @@ three_parts a b c h = let s = and_parts (a && b) c h in let t = and_parts a b s.
 
 -- ---- how many deposits of a class
 
-counted_last : (class d : List ℕ) (rs : List Receipt) (r : Receipt)
+pub counted_last : (class d : List ℕ) (rs : List Receipt) (r : Receipt)
     → class_count class (receipts_of d (rs ++ r ∷ [])) ≡ class_count class (receipts_of d rs) + class_count class (receipts_of d (r ∷ []))
 counted_last class d rs r =
     ap (λ xs. class_count class xs) (filter-append (λ (x : Receipt). bytes_eq x.maildrop d) rs (r ∷ []))
     ∙ sum_by-append (λ (x : Receipt). cond (bytes_eq x.class class) 1 0) (receipts_of d rs) (receipts_of d (r ∷ []))
 
-counted_own : (r : Receipt) → class_count r.class (receipts_of r.maildrop (r ∷ [])) ≡ 1
+pub counted_own : (r : Receipt) → class_count r.class (receipts_of r.maildrop (r ∷ [])) ≡ 1
 counted_own r = rw (bytes_same r.maildrop, bytes_same r.class) refl
 
 -- one more deposit counts for its own class and maildrop alone
@@ -234,46 +234,53 @@ fits_last d m ms f room = rw (filter-append (λ (x : Message). bytes_eq x.maildr
 new_key : (key n : ℕ) → nat_le key n ≡ true → (key == (n + 1)) ≡ false
 new_key key n h = grind (arith, nat_tests)
 
-pub kept_with_deposit : (c : Contents) (d class id text : List ℕ) (k : ℕ) → IsKept c → IsNew c d class id k → HaveForms d class id text
-    → IsKept (with_deposit (length (c.deposits ++ receipt_for d class id text k ∷ [])) (message_for d class text k) (receipt_for d class id text k) c)
-kept_with_deposit c d class id text k h n forms =
-    let s = h.sound in
+-- a key that no message has
+pub sound_with_deposit : (c : Contents) (d class id text : List ℕ) (k key : ℕ) → AreSound c → IsNew c d class id k → HaveForms d class id text
+    → ((x : Keyed) → In x c.messages → (x.key == key) ≡ false)
+    → AreSound (with_deposit key (message_for d class text k) (receipt_for d class id text k) c)
+sound_with_deposit c d class id text k key s n forms others =
     let b = s.records in
     let r = receipt_for d class id text k in
     let m = message_for d class text k in
-    let key = length (c.deposits ++ r ∷ []) in
     let keyed : Keyed = record { key = key; message = m } in
     let after = with_deposit key m r c in
     let B = records_of after in
     let old = (records_of c).messages in
     let is : B.messages ≡ old ++ m ∷ [] = map-append (λ (x : Keyed). x.message) c.messages (keyed ∷ []) in
-    let longer : key ≡ length c.deposits + 1 = length-append c.deposits (r ∷ []) in
     record {
-      sound = record {
-        records = record {
-          clerks = b.clerks;
-          clerks_apart = b.clerks_apart;
-          clerks_fit = b.clerks_fit;
-          maildrops = b.maildrops;
-          maildrops_apart = b.maildrops_apart;
-          maildrops_fit = b.maildrops_fit;
-          messages = subst (λ (ms : List Message). list_all (is_sound_message B) ms ≡ true) (sym is)
-              (all_last (is_sound_message B) old m
-              (all_weaker (is_sound_message (records_of c)) (is_sound_message B) old (λ x i. message_kept c after r x refl refl) b.messages)
-              (new_message c d class id text k n forms));
-          messages_apart = subst (λ (ms : List Message). are_distinct same_message ms ≡ true) (sym is)
-              (distinct_last same_message old m b.messages_apart (other_message c d class id text k s n));
-          messages_fit = λ e. subst (λ (ms : List Message). length (in_maildrop e ms) ≤ most_messages) (sym is) (fits_last e m old b.messages_fit n.room);
-          deposits = all_last (is_sound_receipt B) c.deposits r
-              (all_weaker (is_sound_receipt (records_of c)) (is_sound_receipt B) c.deposits (λ q i. receipt_kept c r q B refl n.few) b.deposits)
-              (new_receipt c d class id text k B refl n forms);
-          ids_apart = distinct_last same_id c.deposits r b.ids_apart (other_id c d class id text k n);
-          uids_apart = distinct_last same_uid c.deposits r b.uids_apart (other_uid c d class id text k s n);
-          policy = b.policy;
-        };
-        keys = distinct_last (λ (x y : Keyed). x.key == y.key) c.messages keyed s.keys
-            (λ x i. rw longer (new_key x.key (length c.deposits) (all_in (λ (x : Keyed). nat_le x.key (length c.deposits)) c.messages x h.keys i)));
+      records = record {
+        clerks = b.clerks;
+        clerks_apart = b.clerks_apart;
+        clerks_fit = b.clerks_fit;
+        maildrops = b.maildrops;
+        maildrops_apart = b.maildrops_apart;
+        maildrops_fit = b.maildrops_fit;
+        messages = subst (λ (ms : List Message). list_all (is_sound_message B) ms ≡ true) (sym is)
+            (all_last (is_sound_message B) old m
+            (all_weaker (is_sound_message (records_of c)) (is_sound_message B) old (λ x i. message_kept c after r x refl refl) b.messages)
+            (new_message c d class id text k n forms));
+        messages_apart = subst (λ (ms : List Message). are_distinct same_message ms ≡ true) (sym is)
+            (distinct_last same_message old m b.messages_apart (other_message c d class id text k s n));
+        messages_fit = λ e. subst (λ (ms : List Message). length (in_maildrop e ms) ≤ most_messages) (sym is) (fits_last e m old b.messages_fit n.room);
+        deposits = all_last (is_sound_receipt B) c.deposits r
+            (all_weaker (is_sound_receipt (records_of c)) (is_sound_receipt B) c.deposits (λ q i. receipt_kept c r q B refl n.few) b.deposits)
+            (new_receipt c d class id text k B refl n forms);
+        ids_apart = distinct_last same_id c.deposits r b.ids_apart (other_id c d class id text k n);
+        uids_apart = distinct_last same_uid c.deposits r b.uids_apart (other_uid c d class id text k s n);
+        policy = b.policy;
       };
+      keys = distinct_last (λ (x y : Keyed). x.key == y.key) c.messages keyed s.keys others;
+    }
+
+pub kept_with_deposit : (c : Contents) (d class id text : List ℕ) (k : ℕ) → IsKept c → IsNew c d class id k → HaveForms d class id text
+    → IsKept (with_deposit (length (c.deposits ++ receipt_for d class id text k ∷ [])) (message_for d class text k) (receipt_for d class id text k) c)
+kept_with_deposit c d class id text k h n forms =
+    let key = length (c.deposits ++ receipt_for d class id text k ∷ []) in
+    let keyed : Keyed = record { key = key; message = message_for d class text k } in
+    let longer : key ≡ length c.deposits + 1 = length-append c.deposits (receipt_for d class id text k ∷ []) in
+    record {
+      sound = sound_with_deposit c d class id text k key h.sound n forms
+          (λ x i. rw longer (new_key x.key (length c.deposits) (all_in (λ (x : Keyed). nat_le x.key (length c.deposits)) c.messages x h.keys i)));
       keys = all_last (λ (x : Keyed). nat_le x.key key) c.messages keyed
           (all_weaker (λ (x : Keyed). nat_le x.key (length c.deposits)) (λ (x : Keyed). nat_le x.key key) c.messages (λ x i t. still_le x.key (length c.deposits) key t (omega arith)) h.keys)
           (le_test key key (omega arith));
@@ -291,25 +298,27 @@ never_new true u uid h = cc
 never_new false u uid h = cc
 
 accepted_as : (o : Option Receipt) (full : Bool) (class text : List ℕ) (next : ℕ) (uid : Uid) → deposit_result (deposit_answered o class text full next) ≡ Ok (stored.New uid)
-    → (o ≡ None) × (full ≡ false) × (uid.k ≡ next)
+    → (o ≡ None) × (full ≡ false) × (uid.k ≡ next) × (uid.class ≡ class)
 accepted_as (Some r) full class text next uid h =
     absurd (never_new (bytes_eq r.class class && bytes_eq r.digest (text_digest text)) (record { class = r.class; k = r.k }) uid h)
 accepted_as None true class text next uid h = absurd (cc)
 accepted_as None false class text next uid h =
     let u : Uid = record { class = class; k = next } in
     let e : u ≡ uid = cc in
-    (refl, refl, ap (λ (x : Uid). x.k) (sym e))
+    (refl, refl, ap (λ (x : Uid). x.k) (sym e), ap (λ (x : Uid). x.class) (sym e))
 
 below : (m n : ℕ) → nat_le m n ≡ false → n < m
 below m n h = grind (arith, nat_tests)
 
-judged_new : (c : Contents) (d class id text : List ℕ) (uid : Uid) → deposit_result (deposit_answer_in c d class id text) ≡ Ok (stored.New uid) → IsNew c d class id uid.k
+-- a deposit that is answered with a new unique-id is new, and the unique-id is of its class
+pub judged_new : (c : Contents) (d class id text : List ℕ) (uid : Uid) → deposit_result (deposit_answer_in c d class id text) ≡ Ok (stored.New uid)
+    → IsNew c d class id uid.k × (uid.class ≡ class)
 judged_new c d class id text uid h =
     let rs = receipts_of d c.deposits in
     let p = there_or_not (is_one_of d c.maildrops) (present_in d c) rs class id text uid h in
     let q = accepted_as (receipt_of id rs) (is_full (present_in d c) rs class) class text (class_count class rs + 1) uid p.1 in
     let f = or_parts (nat_le most_messages (present_in d c)) (nat_le most_deposits (class_count class rs)) q.1 in
-    record { there = p.0; new = q.0; room = below most_messages (present_in d c) f.0; few = below most_deposits (class_count class rs) f.1; next = q.2 }
+    (record { there = p.0; new = q.0; room = below most_messages (present_in d c) f.0; few = below most_deposits (class_count class rs) f.1; next = q.2 }, q.3)
 
 refusal_is : (expected : Result Deposited VaultFault) (e : VaultFault) → Err e ≡ expected → IsRefusal expected e
 refusal_is expected fault.Store h = tt
@@ -348,7 +357,7 @@ deposit_accepted d class id text k v c next uid s h forms j e =
     let is : next ≡ with_deposit (length (c.deposits ++ r ∷ [])) (message_for d class text uid.k) r c =
     e ∙ ap (λ (x : Contents). with_deposit (length (x.deposits ++ r ∷ [])) (message_for d class text uid.k) r x) same in
     let judged = judged_in d class id text k c (Ok (stored.New uid)) same j in
-    let kept = kept_with_deposit c d class id text uid.k (record { sound = h.sound; keys = h.keys }) (judged_new c d class id text uid (sym judged)) forms in
+    let kept = kept_with_deposit c d class id text uid.k (record { sound = h.sound; keys = h.keys }) (judged_new c d class id text uid (sym judged)).0 forms in
     record {
       answer = answer_is (deposit_result (deposit_answer_in c d class id text)) (Ok (stored.New uid)) judged;
       held = (length (c.deposits ++ r ∷ []), record { same = sym is; sound = kept.sound; keys = kept.keys });

@@ -15,7 +15,8 @@ fewer : (d : List ℕ) (p : Keyed → Bool) (ms : List Keyed) → length (in_mai
 fewer d p ms = rw (in_maildrop_is d (filter p ms), in_maildrop_is d ms, length-map (λ (x : Keyed). x.message) (kept_in d (filter p ms)), length-map (λ (x : Keyed). x.message) (kept_in d ms))
     (both_fit (λ (x : Keyed). bytes_eq x.message.maildrop d) p ms)
 
-sound_filtered : (c : Contents) (p : Keyed → Bool) → AreSound c → AreSound (with_messages (filter p c.messages) c)
+-- sound contents stay so with fewer messages
+pub sound_filtered : (c : Contents) (p : Keyed → Bool) → AreSound c → AreSound (with_messages (filter p c.messages) c)
 sound_filtered c p s =
     let b = s.records in
     let m : Keyed → Message = λ (x : Keyed). x.message in

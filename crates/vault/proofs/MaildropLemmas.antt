@@ -30,7 +30,7 @@ message_kept B m names h i = grind arith
 in_maildrops : (B : Records) (m : Message) → is_sound_message B m ≡ true → is_one_of m.maildrop B.maildrops ≡ true
 in_maildrops B m h = grind arith
 
-sound_with_maildrop : (c : Contents) (name : List ℕ) → AreSound c → is_name name ≡ true → is_one_of name c.maildrops ≡ false → length c.maildrops < most_maildrops
+pub sound_with_maildrop : (c : Contents) (name : List ℕ) → AreSound c → is_name name ≡ true → is_one_of name c.maildrops ≡ false → length c.maildrops < most_maildrops
     → AreSound (with_maildrops (c.maildrops ++ name ∷ []) c)
 sound_with_maildrop c name s form new room =
     let b = s.records in
@@ -77,7 +77,7 @@ kept_with_maildrop name c r h form a ok = ⊎_elim
 
 -- ---- dropping a maildrop
 
-sound_without_maildrop : (c : Contents) (name : List ℕ) → AreSound c → present_in name c ≡ 0 → AreSound (with_maildrops (without_maildrop name c.maildrops) c)
+pub sound_without_maildrop : (c : Contents) (name : List ℕ) → AreSound c → present_in name c ≡ 0 → AreSound (with_maildrops (without_maildrop name c.maildrops) c)
 sound_without_maildrop c name s empty =
     let b = s.records in
     let others : List ℕ → Bool = λ d. not (bytes_eq d name) in

@@ -1,7 +1,7 @@
 -- One row more is done.
 use Rattle.std.proofs.Common.{arith}
 use Rattle.recent.specs.Recalling.{changed_in}
-use Rattle.recent.proofs.Sums.{replaced_at}
+use Rattle.vault.proofs.ClerkLemmas.{replaced_at}
 use Rattle.recent.proofs.totals.mark_all.Goals as goal
 
 pub loop-row-preserved : goal.loop-row-preserved

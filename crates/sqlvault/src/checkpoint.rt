@@ -1,0 +1,41 @@
+//! Copying the write-ahead log into the database file.
+ghost use Rattle.mailsql.specs.Changes.{PutsMetaRow};
+ghost use Rattle.sqlvault.specs.Keeps.{our_meta_row};
+ghost use Rattle.sqlvault.specs.Frame.{IsMet, Looks, Writes};
+
+use crate::refusal::Refusal;
+use crate::transaction::{begin, end, undo};
+use crate::version::NEWEST;
+use mailsql::meta;
+use sqlite::{Alter, Connection, Error};
+
+/// Writes the version row anew, inside a transaction.
+fn rewrite_version<S: Alter>(conn: &mut Connection<S>) -> Result<(), Error>
+    ensures { Writes S.Store conn.old conn.new (λ _. PutsMetaRow our_meta_row) result }
+{
+    match meta::put_meta_row(conn, b"popbox", NEWEST) {
+        Ok(()) => Ok(()),
+        Err(error) => Err(error),
+    }
+}
+
+/// Commits a write that changes nothing: before it, as before any, SQLite copies a long log into
+/// the database file.
+///
+/// Answers the error that a statement met.
+pub(crate) fn checkpoint<S: Alter>(conn: &mut Connection<S>) -> Result<(), Refusal>
+    ensures { Looks S.Store conn.old conn.new (IsMet result) }
+{
+    match begin(conn) {
+        Ok(()) => {}
+        Err(error) => return Err(Refusal::Met(error)),
+    }
+    match rewrite_version(conn) {
+        Ok(()) => {}
+        Err(error) => return Err(Refusal::Met(undo(conn, error))),
+    }
+    match end(conn) {
+        Ok(()) => Ok(()),
+        Err(error) => Err(Refusal::Met(error)),
+    }
+}
