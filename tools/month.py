@@ -225,7 +225,7 @@ class Program:
 
 
 class Mpop(Program):
-    """Leaves all on the server, or removes what it fetched, and fetches what is new, into an mbox."""
+    """Fetches what is new into an mbox, and leaves all on the server, or removes what it fetched."""
 
     forgets = True
 
