@@ -234,8 +234,8 @@ impl SocketWire {
         }
     }
 
-    /// Gives a stream a free place, which keeps its other end, and its port's next number; `None` if
-    /// no place is free, or the system won't watch it.
+    /// Gives a stream a free place, which keeps its other end, and its port's next number; `None`
+    /// if no place is free, or the system won't watch it.
     fn seat(&mut self, port: Port, mut stream: TcpStream, peer: SocketAddr) -> Option<Link>
         ensures next { IfSome result (λ link. link.number ≡ count_at port self.old.counts) }
         ensures place { IfSome result (λ link. HasPlace self.new.places.items port link peer) }
