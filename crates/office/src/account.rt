@@ -261,14 +261,14 @@ impl Account {
     /// names, and whether that may be read.
     pub(crate) fn of_sending(
         command: MessageCommand,
-        readable: Result<Head, Pick>,
+        readable: &Result<Head, Pick>,
         named: Option<MessageRow>,
     ) -> Account
-        ensures { result ≡ sending_told command readable named }
+        ensures { result ≡ sending_told command readable.now named }
     {
         match readable {
             Ok(_) => of_doing(command, named),
-            Err(Pick::Denied(rule)) => of_denial(command, named, rule),
+            Err(Pick::Denied(rule)) => of_denial(command, named, *rule),
             Err(Pick::NoSuch | Pick::Deleted) => Account::Nothing,
         }
     }

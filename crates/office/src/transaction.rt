@@ -162,14 +162,14 @@ fn answer_command<V: Vault>(
         Command::Uidl(None) => list_uids(alloc, session, output),
         Command::Retr(n) => {
             let readable = session.pick_for(*n, policy);
-            let told = Account::of_sending(MessageCommand::Retr, readable, named);
+            let told = Account::of_sending(MessageCommand::Retr, &readable, named);
             let answered = retrieve(alloc, vault, output, session, policy, *n);
             account.settle(told, &answered);
             answered
         }
         Command::Top(n, lines) => {
             let readable = session.pick_for(*n, policy);
-            let told = Account::of_sending(MessageCommand::Top, readable, named);
+            let told = Account::of_sending(MessageCommand::Top, &readable, named);
             let answered = top(alloc, vault, output, session, policy, *n, *lines);
             account.settle(told, &answered);
             answered

@@ -65,11 +65,11 @@ returns-in-Retr-clause-account g c other fresh = rw c.in-Retr.is (if_ok_so _ c.r
     retrieved_so d p s kept lies _ w _ _ (c.of_sending-told.ensures ∙ ap₂ (sending_told to.Retr) c.pick_for-readable.ensures names) so))
 
 pub returns-in-Top-clause-account : goal.returns-in-Top-clause-account
-returns-in-Top-clause-account g c other fresh = rw c.in-Top.is (if_ok_so _ c.top-answered.result c.settle.ensures.ok (λ w so d kept lies.
+returns-in-Top-clause-account g c other fresh = rw c.in-Top.is (if_ok_so _ c.top-answered.result c.settle-in-Top.ensures.ok (λ w so d kept lies.
     let p = c.args.policy.now in
     let s = c.args.session.now in
     let names = rw c.in-Top.is at c.message_named-named.ensures in
-    topped_so d p s kept lies _ w _ _ _ (c.of_sending-told.ensures ∙ ap₂ (sending_told to.Top) c.pick_for-readable.ensures names) so))
+    topped_so d p s kept lies _ w _ _ _ (c.of_sending-told-in-Top.ensures ∙ ap₂ (sending_told to.Top) c.pick_for-readable-in-Top.ensures names) so))
 
 pub returns-in-List-None-clause-account : goal.returns-in-List-None-clause-account
 returns-in-List-None-clause-account g c other fresh =
