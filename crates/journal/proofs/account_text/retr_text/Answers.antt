@@ -6,5 +6,6 @@ use Rattle.journal.proofs.account_text.retr_text.Goals as goal
 
 pub returns : goal.returns
 returns c =
-    let h : string_bytes c.in_ok-text.text ≡ codes "event=retr " ++ (c.args.who.now ++ (codes " uid=" ++ (uid_text c.args.message.uid ++ (codes " octets=" ++ decimal c.args.message.octets)))) = c.in_ok-text.ensures.ok in
+    let h : string_bytes c.in_ok-text.text
+    ≡ codes "event=retr " ++ (c.args.who.now ++ (codes " uid=" ++ (uid_text c.args.message.uid ++ (codes " octets=" ++ decimal c.args.message.octets)))) = c.in_ok-text.ensures.ok in
     rw h (simp append_assoc)
