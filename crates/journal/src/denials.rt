@@ -1,5 +1,5 @@
 //! Which denials of a connection have a line in the log.
-ghost use Rattle.std.specs.Prelude.{◌≡◌, ◌∷◌, ◌++◌, [], true, false, IfOk, OnErr};
+ghost use Rattle.std.specs.Prelude.{◌≡◌, ◌∷◌, ◌++◌, [], true, false, IfOk};
 ghost use Rattle.journal.specs.Counts.{is_uid, is_command, is_of, is_same, is_among, gets_a_line};
 
 use super::account_text::command_word;
@@ -54,7 +54,9 @@ pub(crate) struct Denials {
 
 impl Denials {
     /// No denial has a line.
-    pub fn none(alloc: Global) -> Denials {
+    pub fn none(alloc: Global) -> Denials
+        ensures { result.told.items ≡ [] }
+    {
         Denials {
             told: Vec::new(alloc),
         }
@@ -68,13 +70,12 @@ impl Denials {
     }
 
     /// Takes a denial. Whether it gets a line: no denial of the same command, message and rule has
-    /// one, and fewer than 64 have one. Its error is want of memory; then it has none.
+    /// one, and fewer than 64 have one. Its error is want of memory.
     pub fn take(&mut self, denial: Denial) -> Result<bool, AllocError>
         ensures ok { IfOk result (λ told. told ≡ gets_a_line denial self.old.told.items) }
         ensures taken { IfOk result (λ told. told ≡ true
             → self.new.told.items ≡ self.old.told.items ++ denial ∷ []) }
         ensures kept { IfOk result (λ told. told ≡ false → self.new ≡ self.old) }
-        ensures err { OnErr result (self.new ≡ self.old) }
     {
         if self.told.len() >= MOST_DENIALS {
             return Ok(false);
