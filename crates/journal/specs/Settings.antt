@@ -30,17 +30,13 @@ flags_text s =
     ++ codes " log-message-ids=" ++ yes_or_no s.message_ids
     ++ codes " log-reads=" ++ yes_or_no s.reads
 
--- a site's name, if there is one
-abbrev pub name_or_no : Option (List ℕ) → List ℕ
-name_or_no None = codes "no"
-name_or_no (Some name) = name
-
--- the administration's site
-abbrev pub site_text : Settings → List ℕ
-site_text s = codes " admin-site=" ++ name_or_no s.admin_site
+-- the administration's site, if it has one
+abbrev pub site_text : Option (List ℕ) → List ℕ
+site_text None = codes " admin-site=no"
+site_text (Some name) = codes " admin-site=" ++ name
 
 -- all of them
 abbrev pub settings_text : Settings → List ℕ
 settings_text s =
     codes " proved=" ++ yes_or_no s.is_proved ++ codes " removals=" ++ when_text s.removals
-    ++ seconds_text s ++ flags_text s ++ site_text s
+    ++ seconds_text s ++ flags_text s ++ site_text s.admin_site

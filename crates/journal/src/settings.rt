@@ -1,5 +1,5 @@
 //! Whether the server is proved and its options in force, as the line of its start tells them.
-ghost use Rattle.std.specs.Prelude.{◌≡◌, IfOk, string_bytes};
+ghost use Rattle.std.specs.Prelude.{◌≡◌, IfOk, Some, string_bytes};
 ghost use Rattle.journal.specs.Settings.{yes_or_no, when_text, seconds_text, flags_text};
 ghost use Rattle.journal.specs.Settings.{site_text, settings_text};
 
@@ -70,17 +70,22 @@ fn flags_text(alloc: Global, settings: &Settings) -> Result<String, AllocError>
     Ok(text)
 }
 
-/// The administration's site.
-fn site_text(alloc: Global, settings: &Settings) -> Result<String, AllocError>
-    ensures { IfOk result (λ text. string_bytes text ≡ site_text settings.now) }
+/// The administration's site, if it has one.
+fn site_text(alloc: Global, site: Option<HostName>) -> Result<String, AllocError>
+    ensures { IfOk result (λ text. string_bytes text ≡ site_text site) }
 {
-    match settings.admin_site {
-        Some(site) => {
-            let text = format!(in alloc; " admin-site={site}")?;
-            Ok(text)
-        }
+    match site {
         None => String::from_str(alloc, " admin-site=no"),
+        Some(name) => named_text(alloc, name),
     }
+}
+
+/// The site of this name.
+fn named_text(alloc: Global, name: HostName) -> Result<String, AllocError>
+    ensures { IfOk result (λ text. string_bytes text ≡ site_text (Some name)) }
+{
+    let text = format!(in alloc; " admin-site={name}")?;
+    Ok(text)
 }
 
 /// All of them, as values of a line. Its error is want of memory.
@@ -91,7 +96,7 @@ pub fn settings_text(alloc: Global, settings: &Settings) -> Result<String, Alloc
     let removals = when_word(settings.removals);
     let seconds = seconds_text(alloc, settings)?;
     let flags = flags_text(alloc, settings)?;
-    let site = site_text(alloc, settings)?;
+    let site = site_text(alloc, settings.admin_site)?;
     let text = format!(in alloc; " proved={proved} removals={removals}{seconds}{flags}{site}")?;
     Ok(text)
 }

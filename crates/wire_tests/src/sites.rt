@@ -78,20 +78,31 @@ fn is_done(alloc: Global, site: &Option<HostName>, headers: &str) -> bool {
     )
 }
 
-/// Whether it is refused as another site's, and is without a site done.
+/// Whether a request line with these header lines is refused so.
+fn is_refused(
+    alloc: Global,
+    site: &Option<HostName>,
+    line: &str,
+    headers: &str,
+    refusal: Refusal,
+) -> bool {
+    match ask(alloc, site, line, headers) {
+        Got::Bad(told) => told == refusal,
+        _ => false,
+    }
+}
+
+/// Whether such a request is refused as another site's, and is done without a site.
 fn is_foreign(alloc: Global, site: &Option<HostName>, headers: &str) -> bool {
-    is_done(alloc, &None, headers)
-        && matches!(
-            ask(alloc, site, "PUT /maildrops/sales", headers),
-            Got::Bad(Refusal::ForeignSite)
-        )
+    let line = "PUT /maildrops/sales";
+    is_done(alloc, &None, headers) && is_refused(alloc, site, line, headers, Refusal::ForeignSite)
 }
 
 #[test]
 fn requests_of_the_site(rt: HostRuntime) -> Result<(), Fail> {
     let site = HostName::read(b"page.test");
     for headers in &OWN {
-        assert!(rt; is_done(rt.alloc(), &site, headers), "{headers}");
+        assert!(rt; is_done(rt.alloc(), &site, *headers), "{headers}");
     }
     Ok(())
 }
@@ -100,7 +111,7 @@ fn requests_of_the_site(rt: HostRuntime) -> Result<(), Fail> {
 fn requests_to_other_hosts(rt: HostRuntime) -> Result<(), Fail> {
     let site = HostName::read(b"page.test");
     for headers in &OTHER_HOSTS {
-        assert!(rt; is_foreign(rt.alloc(), &site, headers), "{headers}");
+        assert!(rt; is_foreign(rt.alloc(), &site, *headers), "{headers}");
     }
     Ok(())
 }
@@ -109,7 +120,7 @@ fn requests_to_other_hosts(rt: HostRuntime) -> Result<(), Fail> {
 fn requests_of_other_pages(rt: HostRuntime) -> Result<(), Fail> {
     let site = HostName::read(b"localhost");
     for headers in &OTHER_PAGES {
-        assert!(rt; is_foreign(rt.alloc(), &site, headers), "{headers}");
+        assert!(rt; is_foreign(rt.alloc(), &site, *headers), "{headers}");
     }
     Ok(())
 }
@@ -124,19 +135,16 @@ static FAULTS: [(&str, Refusal); 3] = [
 /// Whether a request line has this fault if it is the site's own, and else is refused as another's.
 fn is_judged_behind_the_site(alloc: Global, line: &str, fault: Refusal) -> bool {
     let site = HostName::read(b"localhost");
-    let own = ask(alloc, &site, line, "Host: localhost\r\n");
-    let other = ask(alloc, &site, line, "Host: evil.test\r\n");
-    match (own, other) {
-        (Got::Bad(first), Got::Bad(second)) => first == fault && second == Refusal::ForeignSite,
-        _ => false,
-    }
+    let foreign = Refusal::ForeignSite;
+    is_refused(alloc, &site, line, "Host: localhost\r\n", fault)
+        && is_refused(alloc, &site, line, "Host: evil.test\r\n", foreign)
 }
 
 #[test]
 fn faults_behind_the_site(rt: HostRuntime) -> Result<(), Fail> {
     for (line, fault) in &FAULTS {
         assert!(rt;
-            is_judged_behind_the_site(rt.alloc(), line, *fault),
+            is_judged_behind_the_site(rt.alloc(), *line, *fault),
             "{line}"
         );
     }
