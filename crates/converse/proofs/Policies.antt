@@ -8,7 +8,7 @@ use Rattle.converse.specs.Causes.{IsPolicyEnd}
 use Rattle.converse.specs.PolicyFile.{IsFaultOf, IsFaultOfEither, IsPolicyText, IsNoPolicyText}
 
 -- a cause is one still where more failed
-ended_still : (Is Also : PolicyFault → Type 0) (written more : Bool) → ((e : PolicyFault) → Is e → Also e) → (written ≡ true → more ≡ true)
+pub ended_still : (Is Also : PolicyFault → Type 0) (written more : Bool) → ((e : PolicyFault) → Is e → Also e) → (written ≡ true → more ≡ true)
     → (f : Fault) → IsPolicyEnd Is written f → IsPolicyEnd Also more f
 ended_still Is Also written more p w fault.CannotRead h = absurd h
 ended_still Is Also written more p w (fault.BadEvent n) h = absurd h

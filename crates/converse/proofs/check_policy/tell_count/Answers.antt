@@ -50,3 +50,6 @@ returns-clause-ok g c = (
   c.in_ok-read_octets.ensures.ok,
   subst (λ (text : List ℕ). Writes (g.W.Sink.seen c.args.out.now) (g.W.Sink.seen c.write_text.new.out) text) (counted_line _ _ _ _ c.as_bytes.ensures.value c.in_ok-line.ensures c.len-count.ensures.value) c.in_ok-write_text.ensures.ok,
 )
+
+pub returns-clause-flushed : goal.returns-clause-flushed
+returns-clause-flushed g c = c.in_ok-write_text.ensures.flushed

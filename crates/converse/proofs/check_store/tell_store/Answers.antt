@@ -72,3 +72,6 @@ returns-in_err-write_text-clause-why g c =
     let P : VaultFault → Type 0 = IsRefusedCheck g.V.Vault.holds g.V.Vault.is_clean g.V.Vault.faults c.args.vault.now c.put_store.new.vault (AreKnown c.args.clerks.now) in
     handed_as c.from_residual-in_err-write_text.result _ (IsCheckEnd D written P) c.from_residual-in_err-write_text.ensures.1
     (subst (IsCheckEnd D written P) (sym c.in_err-write_text.ensures.cause.0) c.in_err-write_text.ensures.cause.1)
+
+pub returns-then-are_intact-clause-flushed : goal.returns-then-are_intact-clause-flushed
+returns-then-are_intact-clause-flushed g c = c.in_ok-write_text.ensures.flushed

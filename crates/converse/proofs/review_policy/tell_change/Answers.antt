@@ -67,3 +67,6 @@ returns-clause-part g c =
       c.in_ok-policy.ensures.ok,
       subst (λ (text : List ℕ). WritesPart (g.W.Sink.seen c.args.out.now) (g.W.Sink.seen c.write_text.new.out) text) text_is c.in_ok-write_text.ensures.part,
     )
+
+pub returns-clause-flushed : goal.returns-clause-flushed
+returns-clause-flushed g c = λ one. c.in_ok-write_text.ensures.flushed

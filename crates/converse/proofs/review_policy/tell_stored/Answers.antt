@@ -41,3 +41,6 @@ returns-clause-part g c = inr (
   c.in_ok-policy.ensures.ok,
   subst (λ (text : List ℕ). WritesPart (g.W.Sink.seen c.args.out.now) (g.W.Sink.seen c.write_text.new.out) text) (c.deref.ensures.value ∙ c.in_ok-review.ensures.text) c.in_ok-write_text.ensures.part,
 )
+
+pub returns-clause-flushed : goal.returns-clause-flushed
+returns-clause-flushed g c = λ one. c.in_ok-write_text.ensures.flushed
