@@ -18,6 +18,6 @@ pub returns-in-Err-NoPolicy : goal.returns-in-Err-NoPolicy
 returns-in-Err-NoPolicy c =
     let known : unescaped c.args.text.now ≡ Some c.in-Some.octets.items = rw c.in-Some.is at c.in_ok-octets.ensures.is in
     let is : IsFaultOf c.as_slice.result.now c.in-Err-NoPolicy.fault =
-        subst (λ (r : Result Policy Fault). IfErr r (IsPolicyEnd (IsFaultOf c.as_slice.result.now) false)) (c.in-Err-NoPolicy.is ∙ ap Err c.in-Err-NoPolicy.field-0-is)
-        c.read_octets.ensures.cause in
+    subst (λ (r : Result Policy Fault). IfErr r (IsPolicyEnd (IsFaultOf c.as_slice.result.now) false)) (c.in-Err-NoPolicy.is ∙ ap Err c.in-Err-NoPolicy.field-0-is)
+    c.read_octets.ensures.cause in
     ap (λ (o : Option ScriptLine). ok_or o 1) (policy_joined _ _ _ _ known c.as_slice.ensures.value (policy_fault _ _ is))
