@@ -245,8 +245,8 @@ class Getmail(Program):
     """Removes by age what it fetched, into a Maildir.
 
     getmail 6.18.11 forks for each message, and if the child ends before it waits for it, it waits a
-    minute, calls that a failure, and fetches the message again at its next run: what it says so of
-    may be in its Maildir twice."""
+    minute and calls that a failure. Then it is called again, and a message of which it said so may
+    be in its Maildir twice."""
 
     removes, after, again = True, 10, 0
 
