@@ -44,12 +44,12 @@ more_to_come : IsRequest None (codes "bad\r\n") (Err More)
 unfolding empty_lines through_empty_line
 more_to_come = refl
 
--- ---- what is behind a head
+-- ---- what is after a head
 
 abbrev length_is : List ℕ → Header
 length_is value = (codes "Content-Length", value)
 
--- what a method asks of a target, with these headers and octets behind the head
+-- what a method asks of a target, with these headers and octets after the head
 abbrev asks : (method target : List ℕ) → List Header → List ℕ → Asked
 asks method target headers behind = asked_by method target headers behind
 

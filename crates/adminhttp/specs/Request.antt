@@ -28,7 +28,7 @@ use Rattle.adminhttp.specs.declared.request.Got.TheVariants as got
 abbrev pub Asked : Type 0
 Asked = Result AdminCommand NoCommand
 
--- this command, where the method is GET, which is the route's only one
+-- this command, if the method is GET, which is the route's only one
 abbrev pub by_get : Route → (method : List ℕ) → AdminCommand → Asked
 by_get r method command = if bytes_eq method (codes "GET") then Ok command else Err (Bad (NotAllowed r))
 
@@ -74,7 +74,7 @@ unfoldable pub session_asked : (number : ℕ) → (method : List ℕ) → Asked
 session_asked number method =
     if bytes_eq method (codes "DELETE") then Ok (EndSession number) else Err (Bad (NotAllowed route.Session))
 
--- what a method gives on a target: a refusal where the route doesn't have it, then the body's
+-- what a method gives on a target: a refusal if the route doesn't have it, then the body's
 -- faults
 abbrev pub asked_of : Target → (method : List ℕ) → List Header → (behind : List ℕ) → Asked
 asked_of target.Maildrops method headers behind = by_get route.Maildrops method ListMaildrops
@@ -87,7 +87,7 @@ asked_of (target.Session number) method headers behind = session_asked number me
 asked_of (target.Explain clerk maildrop class action) method headers behind =
     by_get route.Explain method (Explain clerk maildrop class action)
 
--- what a head and the octets behind it give
+-- what a head and the octets after it give
 unfoldable pub asked_by : (method target : List ℕ) → List Header → (behind : List ℕ) → Asked
 asked_by method target headers behind = do
   found ← value_or (target_of target) NotFound
@@ -104,14 +104,14 @@ asked_of_site site method target headers behind =
 abbrev pub unended : List ℕ → NoCommand
 unended b = if nat_le (length b) most_in_head then More else Bad BadRequest
 
--- the text of a head and the octets behind it give this
+-- the text of a head and the octets after it give this
 abbrev pub HeadComesTo : (site : Site) → (text behind : List ℕ) → Asked → Type 0
 HeadComesTo site text behind asked =
     ((h : RequestHead) × IsHead text h
     × (asked ≡ asked_of_site site h.method h.target (map name_and_value h.fields) behind))
     ⊎ (IsNoHead text × (asked ≡ Err (Bad BadRequest)))
 
--- octets give this; `place` is their head's, where it has ended
+-- octets give this; `place` is their head's, if it has ended
 abbrev pub ComesTo : (site : Site) → List ℕ → (place : Option (ℕ × ℕ)) → Asked → Type 0
 ComesTo site b None asked = asked ≡ Err (unended b)
 ComesTo site b (Some place) asked =

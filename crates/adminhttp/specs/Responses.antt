@@ -17,7 +17,7 @@ response_head status further octets =
     codes "HTTP/1.1 " ++ status ++ codes "\r\nContent-Type: text/plain\r\n" ++ further
     ++ codes "Content-Length: " ++ decimal octets ++ codes "\r\nConnection: close\r\n\r\n"
 
--- a response: its head, which tells the length of its body, and the body
+-- a response: its head, which gives the length of its body, and the body
 unfoldable pub response_text : (status further body : List ℕ) → List ℕ
 response_text status further body = response_head status further (length body) ++ body
 

@@ -1,4 +1,4 @@
-//! Refusals, and the fixed responses that tell them.
+//! Refusals, and their fixed responses.
 
 use crate::route::Route;
 

@@ -48,12 +48,12 @@ pub record Puts {V : Type 0} (Holds : V → Contents → Type 0) (IsClean : V �
 pub counts_on : (a b d : ℕ) → a ≤ b → b ≤ d → a ≤ d
 counts_on a b d p q = omega (arith, p, q)
 
--- a folder that refused is told as want of memory, or its count grew
+-- a folder that refused is reported as want of memory, or its count grew
 pub put_cause : (failed written : Bool) (P : VaultFault → Type 0) (f : Fault) → (f ≡ fault.CannotPut) ⊎ (f ≡ fault.OutOfMemory) → failed ≡ true → IsExportFault failed written P f
 put_cause failed written P f (inl e) g = subst (IsExportFault failed written P) (sym e) g
 put_cause failed written P f (inr e) g = subst (IsExportFault failed written P) (sym e) tt
 
--- a cause is one still where more failed
+-- a cause is one still if more failed
 pub cause_still : (put more written further : Bool) (P Q : VaultFault → Type 0) → (put ≡ true → more ≡ true) → (written ≡ true → further ≡ true) → ((e : VaultFault) → P e → Q e)
     → (f : Fault) → IsExportFault put written P f → IsExportFault more further Q f
 cause_still put more written further P Q p w q fault.CannotRead h = absurd h
@@ -80,7 +80,7 @@ refused_since there first before now l vault.NotOurs h = absurd h
 refused_since there first before now l vault.OldVersion h = absurd h
 refused_since there first before now l vault.NoClerk h = absurd h
 
--- what is there isn't told as missing
+-- what is there isn't reported as missing
 pub refused_there : (there counted : Bool) (e : VaultFault) → IsRefused true counted e → IsRefused there counted e
 refused_there there counted vault.NoMaildrop h = absurd (true≢false h)
 refused_there there counted vault.Conflict h = absurd h
@@ -179,7 +179,7 @@ front_then (x ∷ xs) ys (t ∷ text) e f =
 pub whole_text : (xs text : List ℕ) (n : ℕ) → n ≡ length text → IsFront xs text → n ≤ length xs → xs ≡ text
 whole_text xs text n e f l = f ∙ take_all (length xs) text (omega (arith, e, l))
 
--- the next octets stand behind the front that was read
+-- the next octets stand after the front that was read
 pub front_more : (old new more ys text : List ℕ) (from : ℕ) → from ≡ length old → new ≡ old ++ more → more ≡ ys → ys ≡ take (length ys) (drop from text)
     → IsFront old text → IsFront new text
 front_more old new more ys text from at is same next front =

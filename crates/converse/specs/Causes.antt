@@ -1,4 +1,4 @@
--- Which fault a run tells for the fault that it met.
+-- Which fault a run reports for the fault that it met.
 use Rattle.std.specs.Prelude.{◌≡◌, ℕ, ⊤, Bool, true, false, List, Option, Err, IsOk}
 use Rattle.creds.specs.Names.{is_host}
 use Rattle.policy.specs.declared.fault.PolicyFault.{PolicyFault}
@@ -38,7 +38,7 @@ IsWhyNot text host (BadEvent n) = script_of text ≡ Err n
 IsWhyNot text host BadHost = IsOk (script_of text) × (is_host host ≡ false)
 IsWhyNot text host _ = ⊥
 
--- one of these faults is told: its line, or a beginning of it
+-- one of these faults is printed: its line, or a beginning of it
 abbrev pub Tells : (before after : Option (List ℕ)) → (Fault → Type 0) → Type 0
 Tells before after Is = (fault : Fault) × Is fault × PrintsPart before after (fault_line fault)
 
@@ -50,7 +50,7 @@ IsRefused there counted vault.Store = counted ≡ true
 IsRefused there counted vault.NoMemory = ⊤
 IsRefused there counted _ = ⊥
 
--- a store refuses an export, whatever it held: so it is where the store is clean still
+-- a store refuses an export, whatever it held: so it is if the store is clean still
 abbrev pub IsRefusedExport : {V : Type 0} (Holds : V → Contents → Type 0) (IsClean : V → Type 0)
     (Faults : V → ℕ) (before now : V) (maildrop : List ℕ) → VaultFault → Type 0
 IsRefusedExport Holds IsClean Faults before now maildrop fault =
@@ -64,8 +64,8 @@ IsRefusedRead Holds IsClean Faults before now IsThere fault =
     (c : Contents) → Holds before c → IsClean now → IsThere c
     → IsRefused true (has_grown (Faults before) (Faults now)) fault
 
--- why an export ends: a file can't be put only where a call of the folder failed, and its line
--- can't be written only where one of the writer did; or the store refuses, or memory ran out
+-- why an export ends: a file can't be put only if a call of the folder failed, and its line
+-- can't be written only if one of the writer did; or the store refuses, or memory ran out
 abbrev pub IsExportFault : (put written : Bool) (Refuses : VaultFault → Type 0) → Fault → Type 0
 IsExportFault put written Refuses CannotPut = put ≡ true
 IsExportFault put written Refuses CannotWrite = written ≡ true

@@ -18,7 +18,7 @@ TellsReviewPart choice text before now =
     (policy : Policy) × IsPolicyText text policy
     × WritesPart before now (review_text choice text policy)
 
--- 3 where a decision differs, else 0
+-- 3 if a decision differs, else 0
 abbrev pub status_of : (differ : Bool) → ℕ
 status_of true = 3
 status_of false = 0

@@ -20,7 +20,7 @@ use std::str;
 /// Prints `ok, N rules` of a policy's text to `out`, which is flushed.
 ///
 /// Gives the exit status, 0 or 1. A fault has status 1 and its text on `err`: of a text that is no
-/// policy its first fault, `NotToml` also where it isn't UTF-8. Faults are found in the order: the
+/// policy its first fault, `NotToml` even if it isn't UTF-8. Faults are found in the order: the
 /// policy has a fault, memory runs out, `out` refuses octets. Before the last of them nothing is on
 /// `out`; then a beginning of the line may be.
 pub fn check_policy<W: Sink, E: Write>(alloc: Global, octets: &[u8], out: &mut W, err: &mut E) -> u8
@@ -117,7 +117,7 @@ pub(crate) fn read_octets(alloc: Global, octets: &[u8]) -> Result<Policy, Fault>
     }
 }
 
-/// The line that tells how many rules there are.
+/// The line that says how many rules there are.
 fn count_line(alloc: Global, count: usize) -> Result<String, AllocError>
     ensures { IfOk result (λ line. string_bytes line ≡ line_of count) }
 {

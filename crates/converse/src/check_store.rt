@@ -1,4 +1,4 @@
-//! `popbox check`: tells what lies in a store.
+//! `popbox check`: prints what is in a store.
 
 ghost use Rattle.std.specs.Prelude.{◌≡◌, ◌≤◌, ◌++◌, ◌⊎◌, [], true, false, length, sum_by, is_some};
 ghost use Rattle.std.specs.Prelude.{IfOk, IfErr, OnOk, List, Option};

@@ -68,7 +68,7 @@ fn tell_review<W: Sink>(
 /// Prints the review of the policy that a text spells against that of an older text to `out`,
 /// which is flushed.
 ///
-/// Gives the exit status: 0 where no decision differs, 3 where one does, and 1 at a fault, as
+/// Gives the exit status: 0 if no decision differs, 3 if one does, and 1 at a fault, as
 /// `review_alone` tells it. The older text's fault is found first.
 pub fn review_change<W: Sink, E: Write>(
     alloc: Global,

@@ -1,4 +1,4 @@
--- The text of the log's lines that tell an account: what the office judged of a client's line.
+-- The text of the log's lines for an account: what the office judged of a client's line.
 -- `who` are the connection and the client's address, as each line has them.
 use Rattle.std.specs.Prelude.{ℕ, Bool, true, false, ◌==◌, List, [], ◌∷◌, ◌++◌}
 use Rattle.std.specs.Prelude.{Option, Some, None, codes, if◌then◌else◌}
@@ -108,7 +108,7 @@ is_told reads account.Unmarked = false
 is_told reads (account.Topped message) = false
 is_told reads (account.Ended cause) = false
 
--- why a connection ended, as the line of its end tells it, where the account says so
+-- why a connection ended, as the line of its end says it, if the account says so
 abbrev pub cause_text : Account → List ℕ
 cause_text (account.Ended end.Gone) = codes " cause=gone"
 cause_text (account.Ended end.NoMemory) = codes " cause=\"out of memory\""
@@ -148,7 +148,7 @@ refusal_text refused.NoMemory = codes " cause=\"out of memory\""
 abbrev pub most_on_a_line : ℕ
 most_on_a_line = 32
 
--- a unique-id behind a comma
+-- a unique-id after a comma
 abbrev pub behind_comma : Uid → List ℕ
 behind_comma uid = codes "," ++ uid_text uid
 
@@ -161,7 +161,7 @@ uids_text (uid ∷ uids) = uid_text uid ++ flat_map behind_comma uids
 abbrev pub comma_at : ℕ → List ℕ
 comma_at n = if n == 0 then [] else codes ","
 
--- the unique-id at a place of a line, where there is one
+-- the unique-id at a place of a line, if there is one
 abbrev pub uid_words : ℕ → Option Uid → List ℕ
 uid_words n None = []
 uid_words n (Some uid) = comma_at n ++ uid_text uid

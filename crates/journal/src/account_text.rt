@@ -29,7 +29,7 @@ pub(crate) fn name_text(alloc: Global, name: LoginName) -> Result<String, AllocE
     Ok(text)
 }
 
-/// How a login was judged, as a line tells it: by the reply's own words.
+/// How a login was judged, as a line says it: by the reply's own words.
 fn judged_text(alloc: Global, verdict: Verdict) -> Result<String, AllocError>
     ensures { IfOk result (λ text. string_bytes text ≡ verdict_text verdict) }
 {
@@ -57,7 +57,7 @@ fn judged_text(alloc: Global, verdict: Verdict) -> Result<String, AllocError>
     }
 }
 
-/// A login that a rule denied, as a line tells it.
+/// A login that a rule denied, as a line says it.
 fn denial_text(alloc: Global, rule: Name) -> Result<String, AllocError>
     ensures { IfOk result (λ text. string_bytes text ≡ verdict_text (Verdict.Denied rule)) }
 {
@@ -65,7 +65,7 @@ fn denial_text(alloc: Global, rule: Name) -> Result<String, AllocError>
     Ok(text)
 }
 
-/// The farewell of a session, as a line tells it.
+/// The farewell of a session, as a line says it.
 fn bye_text(alloc: Global, is_done: bool, denied: Option<Name>) -> Result<String, AllocError>
     ensures { IfOk result (λ text. string_bytes text ≡ farewell_text is_done denied) }
 {
@@ -78,7 +78,7 @@ fn bye_text(alloc: Global, is_done: bool, denied: Option<Name>) -> Result<String
     }
 }
 
-/// The farewell where a rule kept a message.
+/// The farewell if a rule kept a message.
 fn kept_text(alloc: Global, rule: Name) -> Result<String, AllocError>
     ensures { IfOk result (λ text. string_bytes text ≡ farewell_text true (Some rule)) }
 {
@@ -182,7 +182,7 @@ pub fn has_line(account: &Account, reads: bool) -> bool
     }
 }
 
-/// An account's line, behind the connection and the client's address; without text for one that has
+/// An account's line, after the connection and the client's address; without text for one that has
 /// none.
 pub fn line_of(alloc: Global, who: &str, account: &Account) -> Result<String, AllocError>
     ensures { IfOk result (λ text. string_bytes text ≡ account_text who.now account.now) }
@@ -201,7 +201,7 @@ pub fn line_of(alloc: Global, who: &str, account: &Account) -> Result<String, Al
     }
 }
 
-/// Why a connection ended, as the line of its end tells it; without text for an account that
+/// Why a connection ended, as the line of its end says it; without text for an account that
 /// doesn't say so.
 pub fn cause_text(account: &Account) -> &'static str
     ensures { result.now ≡ cause_words account.now }

@@ -1,4 +1,4 @@
-//! The mail programs' connections, as the log tells of them.
+//! The mail programs' connections, as the log has them.
 ghost use Rattle.std.specs.Prelude.{◌≡◌, ◌≢◌, ◌⊎◌, ◌<◌, ◌==◌, [], Some, None, IfOk, IfSome, map};
 ghost use Rattle.std.specs.Prelude.{true, false};
 ghost use Rattle.std.specs.Prelude.{find, position, length, string_bytes};
@@ -25,7 +25,7 @@ use std::time::Instant;
 #[derive(Drop)]
 pub(crate) struct Client {
     link: Link,
-    /// From where it came, where that is known.
+    /// From where it came, if that is known.
     ip: Option<IpAddr>,
     /// The same, as the log writes it.
     address: String,
@@ -38,7 +38,7 @@ pub(crate) struct Client {
     unread: Option<Instant>,
     /// For how many seconds the line that was read last had lain unread.
     waited: u64,
-    /// Why it ends, as its line tells it: the first cause that was heard, or empty.
+    /// Why it ends, as its line says it: the first cause that was heard, or empty.
     cause: String,
 }
 
@@ -96,7 +96,7 @@ fn loss_text(alloc: Global, who: &str, session: &str, cause: &str) -> Result<Str
 }
 
 impl Client {
-    /// The connection's number, where it was opened, and the client's address.
+    /// The connection's number, if it was opened, and the client's address.
     fn who(&self, alloc: Global) -> Result<String, AllocError>
         ensures { IfOk result (λ text. string_bytes text ≡ who_of self.now) }
     {
@@ -171,7 +171,7 @@ impl Client {
         loss_text(alloc, who.as_str(), session.as_str(), self.cause.as_str())
     }
 
-    /// The values of a line that tells of its session.
+    /// The values of a line about its session.
     fn holder(&self, alloc: Global) -> Result<String, AllocError>
         ensures { IfOk result (λ text. string_bytes text ≡ holder_of (Some self.now)) }
     {
@@ -284,7 +284,7 @@ impl Clients {
     }
 
     /// A link came, from this address, also as the log writes it. Its error is want of memory: then
-    /// the log doesn't tell of this link.
+    /// the log doesn't mention this link.
     pub fn come(
         &mut self,
         link: Link,
@@ -370,7 +370,7 @@ impl Clients {
         }
     }
 
-    /// A link got a connection. Its line, where the link is known.
+    /// A link got a connection. Its line, if the link is known.
     pub fn open(
         &mut self,
         alloc: Global,
@@ -417,7 +417,7 @@ impl Clients {
             .position(|client| client.heard.is_in_maildrop(maildrop))
     }
 
-    /// Who is in a maildrop, as values of a line; empty where that isn't known.
+    /// Who is in a maildrop, as values of a line; empty if that isn't known.
     pub fn holder(&self, alloc: Global, maildrop: &Name) -> Result<String, AllocError>
         ensures { IfOk result (λ text. string_bytes text ≡ holder_of
             (find (λ (client : AClient). is_in maildrop.now client.heard)
@@ -429,7 +429,7 @@ impl Clients {
         }
     }
 
-    /// A link is closed. Its line, where nobody quit on it.
+    /// A link is closed. Its line, if nobody quit on it.
     pub fn close(&mut self, alloc: Global, link: Link) -> Option<Result<String, AllocError>>
         ensures line { IfSome result (λ line. IfOk line (λ text. string_bytes text
             ≡ lost_of (find (λ (client : AClient). client.link.number == link.number)

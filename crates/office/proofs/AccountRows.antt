@@ -26,11 +26,11 @@ use Rattle.office.proofs.Sample.{W, Step, Give, shows, run, run_judged_at_quit, 
 abbrev line : List ℕ → Tag → Act × Tag
 line octets t = (Line 1896 (cutting.Line octets), t)
 
--- the connection of RFC 1939's example, with these lines behind its opening
+-- the connection of RFC 1939's example, with these lines after its opening
 abbrev opened : List (Act × Tag)
 opened = (Open 1896, Done) ∷ (Restart 697170952 (codes "dbc.mtview.ca.us") JudgedAtDele, Done) ∷ []
 
--- the account of a line behind these acts
+-- the account of a line after these acts
 abbrev account_behind : List (Act × Tag) → List ℕ → Tag → Account
 account_behind acts octets t = acts_account W (told W acts) (line octets t ∷ [])
 

@@ -149,7 +149,7 @@ line_so B G c k d t old j user_is x w may =
 -- ---- events in which no line acts
 
 module _ (B : Records) (G : List Entry) where
-  -- the line behind a taking of all
+  -- the line after a taking of all
   pub all_taken : (left serving closing : Bool) (c : ℕ) (t : Tag) (next x : Option Cut) → left ≡ false → closing ≡ false → next ≡ x
       → acts_account B G (acts_of_took left serving closing c t next) ≡ acts_account B G (line_act c t x)
   all_taken left serving closing c t next x all on is = rw (all, on, is) refl

@@ -86,7 +86,7 @@ verdict (Says RemovalFailed) = None
 verdict Silence = None
 verdict (Answers answer) = None
 
--- the account of a login that was judged, where one was, under a name
+-- the account of a login that was judged, if one was, under a name
 abbrev pub login_told : Option Verdict → Way → Option LoginName → Account
 login_told (Some judged) by (Some name) = account.Login name by judged
 login_told _ by name = account.Nothing
@@ -235,7 +235,7 @@ abbrev pub outcome_told : Outcome → Account
 outcome_told (Answered answer) = answer_told answer
 outcome_told _ = account.Nothing
 
--- The account of an event that shows this tag: why it ended its connection, where no line did; or
+-- The account of an event that shows this tag: why it ended its connection, if no line did; or
 -- that of its acts.
 abbrev pub account_at : Trace → Event → Tag → Account
 account_at T (event.Gone c) t = account.Ended end.Gone

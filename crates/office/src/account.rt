@@ -53,13 +53,13 @@ pub struct Removal {
     pub marked: usize,
     /// The marked messages that the policy let the clerk remove, by their unique-ids.
     pub removed: Removed,
-    /// The rule that kept the lowest numbered of the other marked messages, where one did.
+    /// The rule that kept the lowest numbered of the other marked messages, if one did.
     pub denied: Option<Name>,
-    /// Whether they were removed: all of them; or none, where the store failed.
+    /// Whether they were removed: all of them; or none, if the store failed.
     pub is_done: bool,
 }
 
-/// Why an event ended a connection, where no line did.
+/// Why an event ended a connection, if no line did.
 #[derive(Clone, Copy)]
 pub enum End {
     /// The client went, or was sent away.
@@ -146,7 +146,7 @@ fn was_done(outcome: LineOutcome) -> bool
     }
 }
 
-/// The account of a login that was judged, where one was, under a name.
+/// The account of a login that was judged, if one was, under a name.
 fn of_login(judged: Option<Verdict>, by: Way, user: Option<LoginName>) -> Account
     ensures { result ≡ login_told judged by user }
 {

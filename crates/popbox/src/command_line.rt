@@ -42,7 +42,7 @@ fn store<'a>(alloc: Global, help: &'a str) -> Arg<'a> {
     option(alloc, "store", "PATH", help)
 }
 
-/// `--verbose`: what a fault is about is told too.
+/// `--verbose`: what a fault is about is printed too.
 fn verbose<'a>(alloc: Global) -> Arg<'a> {
     Arg::new(alloc, "verbose")
         .long("verbose")

@@ -48,7 +48,7 @@ pub fn run_review<E: Write>(
     }
 }
 
-/// What the review is about; `None` where `--clerk` or `--maildrop` isn't a name.
+/// What the review is about; `None` if `--clerk` or `--maildrop` isn't a name.
 fn choice_of(options: &ReviewPolicyOptions<'_>) -> Option<Choice> {
     let clerk = match options.clerk {
         Some(text) => Some(Name::read(text.as_bytes())?),
@@ -66,7 +66,7 @@ fn choice_of(options: &ReviewPolicyOptions<'_>) -> Option<Choice> {
     })
 }
 
-/// Reviews a policy's text, beside the store that is named, where one is.
+/// Reviews a policy's text, beside the store that is named, if one is.
 fn review_new<E: Write>(
     rt: &HostRuntime,
     new: &[u8],
@@ -92,7 +92,7 @@ fn review_new<E: Write>(
     Ok(status)
 }
 
-/// Reviews a policy's text against the old one's, beside the store that is named, where one is.
+/// Reviews a policy's text against the old one's, beside the store that is named, if one is.
 fn review_both<E: Write>(
     rt: &HostRuntime,
     old_name: &str,
@@ -124,7 +124,7 @@ fn review_both<E: Write>(
     Ok(status)
 }
 
-/// Tells by `--verbose` what a fault of the new policy's text, or of standard output, is about.
+/// Prints by `--verbose` what a fault of the new policy's text, or of standard output, is about.
 fn tell_why<E: Write>(
     alloc: Global,
     err: &mut E,
@@ -139,7 +139,7 @@ fn tell_why<E: Write>(
     }
 }
 
-/// Tells which rules of the new policy say what a rule of another name said in the old one, which
+/// Prints which rules of the new policy say what a rule of another name said in the old one, which
 /// rules are gone, and which are new.
 fn tell_rules<E: Write>(alloc: Global, err: &mut E, old: &[u8], new: &[u8]) {
     let (Some(old), Some(new)) = (policy_of(alloc, old), policy_of(alloc, new)) else {

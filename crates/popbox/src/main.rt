@@ -37,10 +37,10 @@ use std::{env, fs, io};
 use store_file::{is_log_alone, make_file, tell_readers};
 use vault::{PlainVault, Vault, VaultFault};
 
-/// The exit status where the command line can't be read.
+/// The exit status if the command line can't be read.
 const UNREADABLE: u8 = 2;
 
-/// The last line on standard error where the command line can't be read.
+/// The last line on standard error if the command line can't be read.
 const VERBOSE: &str = "With '--verbose' behind a command, a fault is told with what it is about.";
 
 fn main(rt: HostRuntime) -> ExitCode {
@@ -164,7 +164,7 @@ fn replaying<'a, S: Read, W: Write>(
     }
 }
 
-/// Runs a script as `replay_from` does, and tells what a fault is about, and how many events
+/// Runs a script as `replay_from` does, and prints what a fault is about, and how many events
 /// failed. It keeps the script until the last event is done.
 fn replay_verbosely<S: Read + Drop, W: Write + Drop, E: Write>(
     rt: &HostRuntime,
@@ -195,8 +195,8 @@ fn replay_verbosely<S: Read + Drop, W: Write + Drop, E: Write>(
     Ok(left.status)
 }
 
-/// Tells what the system answered to a script, where it refused; or which of its lines isn't an
-/// event, and why. Of a script whose lines all are it tells nothing.
+/// Prints what the system answered to a script, if it refused; or which of its lines isn't an
+/// event, and why. Of a script whose lines all are it prints nothing.
 fn tell_script<R, E: Write>(alloc: Global, err: &mut E, name: &str, script: &Keeping<R>) {
     if script.refusal().is_some() {
         tell_refusal(err, name, script.refusal());
@@ -253,7 +253,7 @@ fn talking<'a, S: Read, W: Write>(
     }
 }
 
-/// Has one conversation as `run_talk` does, and tells what a fault is about.
+/// Has one conversation as `run_talk` does, and prints what a fault is about.
 fn talk_verbosely<E: Write>(
     rt: &HostRuntime,
     boot: u64,
@@ -326,7 +326,7 @@ fn tell_bad_site<E: Write>(err: &mut E, options: &ServeOptions<'_>) -> u8 {
     1
 }
 
-/// The milliseconds since 1970. Its fault is `NoClock`, where the system doesn't tell the time.
+/// The milliseconds since 1970. Its fault is `NoClock`, if the system doesn't give the time.
 fn milliseconds(clock: &impl Clock) -> Result<u64, Fault> {
     let Ok(now) = clock.since_1970() else {
         return Err(Fault::NoClock);
@@ -375,7 +375,7 @@ fn do_job<J: Job + Drop, E: Write>(
 
 /// Does a job as `do_job` does, over the store at a path that was prepared. The store is closed at
 /// the end. What was done is in the file or in its log by then, so a failure to close loses nothing
-/// and isn't told.
+/// and isn't printed.
 fn do_prepared<J: Job + Drop, E: Write>(
     rt: &HostRuntime,
     job: J,
@@ -401,7 +401,7 @@ fn do_prepared<J: Job + Drop, E: Write>(
     }
 }
 
-/// A job over the store in the file at a path, before which it is told who else may read the file.
+/// A job over the store in the file at a path, before which it prints who else may read the file.
 #[derive(Drop)]
 struct OverStore<'a, J> {
     rt: &'a HostRuntime,

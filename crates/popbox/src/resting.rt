@@ -67,7 +67,7 @@ pub fn run_check<E: Write>(
     }
 }
 
-/// How many octets a store's file has. Where there is none, or it is no database, that is told, and
+/// How many octets a store's file has. If there is none, or it is no database, that is printed, and
 /// an `Err` is the exit status: an opening would make a file, or write a first page or a log.
 pub fn look_at<E: Write>(
     rt: &HostRuntime,
@@ -157,7 +157,7 @@ fn run_errand<E: Write>(
     Ok(tell_closed(rt, err, is_verbose, path, &closed))
 }
 
-/// Tells why a store isn't opened. Gives the exit status.
+/// Prints why a store isn't opened. Gives the exit status.
 pub fn tell_closed<E: Write>(
     rt: &HostRuntime,
     err: &mut E,

@@ -18,7 +18,7 @@ use std::net::{Ipv4Addr, SocketAddr};
 use std::time::Instant;
 use vault::{Total, Vault, VaultFault};
 
-/// Notes, where there is a log, that the store is about to be opened, and how large its files are.
+/// Notes, if there is a log, that the store is about to be opened, and how large its files are.
 pub fn note_store(rt: &HostRuntime, options: &ServeOptions<'_>) {
     let shared = Shared::new(rt.alloc());
     let journal = Journal::new(rt, options.log, &shared);
@@ -71,7 +71,7 @@ pub fn serve_over<V: Vault, E: Write>(
     }
 }
 
-/// What a store holds, maildrop by maildrop, where there is a log that tells of it.
+/// What a store holds, maildrop by maildrop, if there is a log that has it.
 fn totals_of<V: Vault>(vault: &mut V, journal: &Journal<'_>) -> Option<Vec<Total>> {
     if !journal.is_on() {
         return None;
@@ -148,7 +148,7 @@ fn serve<'a, V: Vault, E: Write>(
     status
 }
 
-/// Tells that the store's files aren't those any more that the server has open. Gives the exit
+/// Prints that the store's files aren't those any more that the server has open. Gives the exit
 /// status.
 fn tell_loss<E: Write>(
     err: &mut E,
@@ -171,7 +171,7 @@ struct ServerClock<'a> {
     rt: &'a HostRuntime,
     start: Instant,
     watch: &'a StoreWatch<'a>,
-    /// The system told no time.
+    /// The system gave no time.
     is_broken: bool,
 }
 

@@ -149,7 +149,7 @@ text_no_more headers e = by (list_any (is_named (codes "transfer-encoding")) hea
   by true e = cc
   by false e = only_no_more (values_of (codes "content-length") headers) e
 
--- a step that doesn't wait for more, and one behind it
+-- a step that doesn't wait for more, and one after it
 behind_step : {A B : Type 0} {P : Type 0} (r : Result A Unread) (f : A → Result B Unread) → (r ≡ Err More → P) → ((a : A) → r ≡ Ok a → f a ≡ Err More → P) → (r >>= f) ≡ Err More → P
 behind_step (Ok a) f stop go e = go a refl e
 behind_step (Err x) f stop go e = stop (ap (λ y. Err y) (ap stop_in e))

@@ -36,7 +36,7 @@ module _ (B : Records) (L : Log) (G : List Entry) (d class id text : List ℕ) w
   deposit_mark Failed = refl
   deposit_mark NoMemory = refl
 
--- what a spool was told, where a test says whether a thing was done
+-- what a spool was told, if a test says whether a thing was done
 pub filed_if : (n : FileName) (text : List ℕ) (d : Disposal) (before : List FileAct) (act : FileAct) (b : Bool) → disposed n d ≡ act ∷ []
     → IsFiled n text d before (if b then (before ++ WasRead n text ∷ []) ++ act ∷ [] else before ++ WasRead n text ∷ [])
 filed_if n text d before act true e = inr (ap (λ xs. (before ++ WasRead n text ∷ []) ++ xs) (sym e))

@@ -92,7 +92,7 @@ module _ {H : Type 0} (Heard : H → List Hearing → Type 0) where
   pub told_still : (l l1 l2 : H) (h : List Hearing) → WasTold Heard l l1 h → WasTold Heard l1 l2 [] → WasTold Heard l l2 h
   told_still l l1 l2 h a b = subst (WasTold Heard l l2) (append-nil h) (told_then l l1 l2 h [] a b)
 
-  -- the connection of a seat is open behind a moment, or was ended by it
+  -- the connection of a seat is open after a moment, or was ended by it
   pub idle_open : (l : H) (T : Trace) (q : Seat) → is_open_seat T q ≡ true → WasTold Heard l l (idle_ends T (q ∷ []))
   idle_open l T q e = subst (WasTold Heard l l) (sym (ap (map idle_end) (shut_not T q [] e))) (told_none l)
 
@@ -122,11 +122,11 @@ module _ {H : Type 0} (Heard : H → List Hearing → Type 0) where
   late_heard now seconds other other_then xs ys less is l l1 g gone a =
       subst (WasTold Heard l l1) (ap (λ n. late_ends now n ys g) is ∙ same_ends now seconds other xs ys less g gone) a
 
-  -- of what was done behind a log
+  -- of what was done after a log
   pub apart_then : (l l1 l2 : H) (B : Records) (L g1 g2 : Log) → WasTold Heard l l1 (heard_of_all B L g1) → WasTold Heard l1 l2 (heard_of_all B (g1 ++ L) g2) → WasTold Heard l l2 (heard_of_all B L (g2 ++ g1))
   apart_then l l1 l2 B L g1 g2 a b = subst (WasTold Heard l l2) (sym (heard_joined B L g1 g2)) (told_then l l1 l2 (heard_of_all B L g1) (heard_of_all B (g1 ++ L) g2) a b)
 
-  -- behind it no event was given
+  -- after it no event was given
   pub apart_still : (l l1 : H) (B : Records) (L g1 g2 : Log) → g2 ≡ [] → WasTold Heard l l1 (heard_of_all B L g1) → WasTold Heard l l1 (heard_of_all B L (g2 ++ g1))
   apart_still l l1 B L g1 g2 none a = subst (λ g. WasTold Heard l l1 (heard_of_all B L (g ++ g1))) (sym none) a
 

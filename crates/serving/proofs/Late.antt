@@ -55,7 +55,7 @@ others_of c d (x ∷ xs) ne =
     (cases_Bool (x.connection == c)))
     (cases_Bool (x.connection == d))
 
--- one more is found where nobody was, or isn't
+-- one more is found if nobody was, or isn't
 pub one_more : (c : ℕ) (n : Newcomer) (xs : List Newcomer) → (newcomer c (xs ++ n ∷ []) ≡ newcomer c xs) ⊎ (newcomer c (xs ++ n ∷ []) ≡ Some n)
 one_more c n [] =
     ⊎_elim

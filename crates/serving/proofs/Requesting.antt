@@ -113,7 +113,7 @@ one_first e = cc
 one_rest : {A : Type 0} {x y : A} {xs ys : List A} → x ∷ xs ≡ y ∷ ys → xs ≡ ys
 one_rest e = cc
 
--- which commands' events there are behind one that is no command's
+-- which commands' events there are after one that is no command's
 no_command : (L : Log) (e : Event) (m : EventTag) → (IsCommand e → ⊥) → (newer older : Log) (command : AdminCommand) (m2 : EventTag) → (e, m) ∷ L ≡ newer ++ (event.Admin command, m2) ∷ older
     → (newer2 : Log) × (L ≡ newer2 ++ (event.Admin command, m2) ∷ older)
 no_command L e m none [] older command m2 is = absurd (none (subst IsCommand (sym (ap (λ (p : Event × EventTag). p.0) (one_first is))) tt))

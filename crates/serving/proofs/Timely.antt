@@ -62,7 +62,7 @@ prompt_so now seconds xs c h = ap (λ b. not (seconds == 0) && b) h ∙ and_fals
 late_same : (now seconds : ℕ) (xs ys : List Newcomer) (c : ℕ) → newcomer c ys ≡ newcomer c xs → is_late now seconds xs c ≡ true → is_late now seconds ys c ≡ true
 late_same now seconds xs ys c e h = ap (λ n. not (seconds == 0) && is_late_by now seconds n) e ∙ h
 
--- whoever is late is late by who was noted, where that is noted still
+-- whoever is late is late by who was noted, if that is noted still
 pub late_kept : (now seconds : ℕ) (xs ys : List Newcomer) (c : ℕ) → ((n : Newcomer) → newcomer c xs ≡ Some n → newcomer c ys ≡ Some n) → is_late now seconds xs c ≡ true → is_late now seconds ys c ≡ true
 late_kept now seconds xs ys c keeps h = by (newcomer c xs) refl where
   by : (m : Option Newcomer) → newcomer c xs ≡ m → is_late now seconds ys c ≡ true
@@ -71,7 +71,7 @@ late_kept now seconds xs ys c keeps h = by (newcomer c xs) refl where
       absurd (true≢false (sym h ∙ k))
   by (Some n) is = late_same now seconds xs ys c (keeps n is ∙ sym is) h
 
--- who is noted stays so behind others
+-- who is noted stays so after others
 pub found_first : (c : ℕ) (n : Newcomer) (xs ys : List Newcomer) → newcomer c xs ≡ Some n → newcomer c (xs ++ ys) ≡ Some n
 found_first c n [] ys h = cc
 found_first c n (x ∷ xs) ys h =

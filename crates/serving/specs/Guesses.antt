@@ -1,4 +1,4 @@
--- Logins that were refused, and those that are kept back behind them: an address counts by a number,
+-- Logins that were refused, and those that are kept back after them: an address counts by a number,
 -- its origin, and a list has the last refusal of each origin and login name, the oldest refusal
 -- first.
 use Rattle.std.specs.Prelude.{◌≡◌, ℕ, Bool, true, false, not, ◌&&◌, ◌+◌, ◌-◌, ◌*◌, ◌==◌, nat_lt}
@@ -62,13 +62,13 @@ abbrev pub holds_back : (now : ℕ) → Option Refusal → Bool
 holds_back now None = false
 holds_back now (Some r) = nat_lt (now - r.at) r.seconds
 
--- for how many seconds a refusal at this moment does, by the refusal before it: 1 where none was
+-- for how many seconds a refusal at this moment does, by the refusal before it: 1 if none was
 -- within ten minutes, and else twice as many as that one, at most 15
 abbrev pub next_seconds : (now : ℕ) → Option Refusal → ℕ
 next_seconds now None = 1
 next_seconds now (Some r) = if nat_le 600 (now - r.at) then 1 else min (r.seconds * 2) 15
 
--- one refusal fewer, where 1,024 are there: the oldest goes
+-- one refusal fewer, if 1,024 are there: the oldest goes
 abbrev pub with_room : List Refusal → List Refusal
 with_room refusals = if nat_le 1024 (length refusals) then drop 1 refusals else refusals
 

@@ -29,7 +29,7 @@ abbrev pub heard_by : AdminCommand → Account → List Hearing
 heard_by (EndSession c) told = (c, told) ∷ []
 heard_by _ told = []
 
--- of an event: its account, where it is a client's or ends a session
+-- of an event: its account, if it is a client's or ends a session
 abbrev pub heard_of : Trace → Event → EventTag → List Hearing
 heard_of T (event.Bytes c piece) m = (c, account_of T (event.Bytes c piece) m) ∷ []
 heard_of T (event.Took c octets) m = (c, account_of T (event.Took c octets) m) ∷ []
@@ -37,7 +37,7 @@ heard_of T (event.Gone c) m = (c, account_of T (event.Gone c) m) ∷ []
 heard_of T (event.Admin command) m = heard_by command (account_of T (event.Admin command) m)
 heard_of T e m = []
 
--- of events behind an older log, in their order
+-- of events after an older log, in their order
 abbrev pub heard_of_all : Records → (older given : Log) → List Hearing
 heard_of_all B older [] = []
 heard_of_all B older ((e, m) ∷ given) =
@@ -66,7 +66,7 @@ late_ends now seconds newcomers ((e, m) ∷ given) =
 abbrev pub idle_end : Seat → Hearing
 idle_end s = (s.connection, account.Ended end.Idle)
 
--- of each seat whose connection isn't open behind a moment
+-- of each seat whose connection isn't open after a moment
 abbrev pub idle_ends : (after : Trace) → List Seat → List Hearing
 idle_ends after seats = map idle_end (filter (is_shut_seat after) seats)
 
@@ -77,7 +77,7 @@ pub record WasTold {H : Type 0} (Heard : H → List Hearing → Type 0) (listene
     (more : List Hearing) : Type 0 where
   pub is : (before : List Hearing) → Heard listener before → Heard listener_then (before ++ more)
 
--- what is heard of these events, behind any log for which the office stands
+-- what is heard of these events, after any log for which the office stands
 pub record WasHeard {V H : Type 0} (Holds : V → Contents → Type 0) (IsClean : V → Type 0)
     (Heard : H → List Hearing → Type 0) (office : Office V) (listener : H)
     (office_then : Office V) (listener_then : H) (given : Log) : Type 0 where
@@ -94,7 +94,7 @@ WithHeard Holds IsClean Heard office listener office_then listener_then Facts gi
     WasHeard Holds IsClean Heard office listener office_then listener_then given
     × Facts given calls
 
--- the same of what was done behind a log
+-- the same of what was done after a log
 abbrev pub HeardApart : {H : Type 0} (Heard : H → List Hearing → Type 0)
     (listener listener_then : H) (Did : Records → Log → Log → List Call → Type 0)
     → Records → Log → Log → List Call → Type 0

@@ -16,7 +16,7 @@ use Rattle.serving.specs.Works.{AreCaused}
 use Rattle.serving.specs.HttpTurns.{GoesOnAt}
 use Rattle.serving.specs.HttpWorks.{ComesTo, IsToldOf, HasToldAll, HadHttpTurns}
 
--- This was done behind any log for which the office stands, and the clients' links and openings
+-- This was done after any log for which the office stands, and the clients' links and openings
 -- were left alone.
 pub record DidApart {V : Type 0} (Holds : V → Contents → Type 0) (IsClean : V → Type 0)
     (office office_then : Office V) (Did : Records → Log → Log → List Call → Type 0)
@@ -64,7 +64,7 @@ HadTurnAt site now place stays held held_then B L given calls =
     HadHttpTurns site now B L (take 1 (drop place held))
     (take (if stays then 1 else 0) (drop place held_then)) given calls
 
--- What follows of a response was written once or more, and where that doesn't go on nothing more
+-- What follows of a response was written once or more, and if that doesn't go on nothing more
 -- can be written for now.
 pub record Tells (e e_then : Exchange) (times octets : ℕ) (goes : Bool) (calls : List Call)
     : Type 0 where

@@ -23,7 +23,7 @@ use Rattle.serving.specs.declared.links.Links.{Links}
 
 -- ---- links that come
 
--- So many links came, one after the other: each is held behind the others, or closed at once, where
+-- So many links came, one after the other: each is held after the others, or closed at once, if
 -- as many are held as may be, or memory for it was refused.
 pub data HaveComeForAdmin (now : ℕ) : (held held_then : List Exchange) → (came : ℕ) → List Call
     → Type 0 where
@@ -40,7 +40,7 @@ pub data HaveComeForAdmin (now : ℕ) : (held held_then : List Exchange) → (ca
       → HaveComeForAdmin now held held_then (suc came)
       (Accepted Admin (Some link) ∷ Closed Admin link ∷ calls)
 
--- They came until none waited, or, where it goes on, so many or more had come.
+-- They came until none waited, or, if it goes on, so many or more had come.
 pub record HasAcceptedForAdmin (now most : ℕ) (goes : Bool) (held held_then : List Exchange)
     (calls : List Call) : Type 0 where
   pub came : ℕ
@@ -51,7 +51,7 @@ pub record HasAcceptedForAdmin (now most : ℕ) (goes : Bool) (held held_then : 
 
 -- ---- what is read of a request
 
--- the octets of the response, where there is one
+-- the octets of the response, if there is one
 abbrev pub response_of : Exchange → Option (List ℕ)
 response_of e = option_map octets_of e.response
 
@@ -129,7 +129,7 @@ pub record IsToldOf (e e_then : Exchange) (times octets : ℕ) (calls : List Cal
   pub writes : AreWritesOf e.link e.response e.written calls e_then.written
   -- nothing is written on a link that is over
   pub idle : e.is_over ≡ true → calls ≡ []
-  -- it is over from now on exactly where its response is whole, or a write told its end
+  -- it is over from now on exactly if its response is whole, or a write told its end
   pub over : e_then.is_over ≡
       (e.is_over || (is_whole e_then.response e_then.written || list_any told_its_end calls))
   pub times_are : times ≤ length calls
@@ -201,7 +201,7 @@ pub record HttpWorks (T : Trace) (now : ℕ) (links links_then : Links) (given :
 abbrev pub most_asked : ℕ
 most_asked = 1056768
 
--- so many were read, where there is no response yet
+-- so many were read, if there is no response yet
 abbrev pub IsShort : Exchange → Type 0
 IsShort e = IfNone e.response (length e.read.items < most_asked)
 

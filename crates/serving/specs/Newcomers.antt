@@ -93,7 +93,7 @@ abbrev pub settled_in : (connection : ℕ) → (lies_unread : Bool) → (now : �
     → List Newcomer
 settled_in connection lies now newcomers = map (settled_if connection lies now) newcomers
 
--- one more, where it is noted
+-- one more, if it is noted
 abbrev pub noted : (is_noted : Bool) → (connection now : ℕ) → List Newcomer → List Newcomer
 noted false connection now newcomers = newcomers
 noted true connection now newcomers =
@@ -115,7 +115,7 @@ AreSeatedAt links = HaveSeats links.newcomers.newcomers.items links.seats.items
 abbrev pub AllHaveSeats : Links → Type 0
 AllHaveSeats links = AreSeatedAt links.clients
 
--- a seat's connection is noted with this moment, where it wasn't noted before
+-- a seat's connection is noted with this moment, if it wasn't noted before
 abbrev pub IsNewlyNoted : (now : ℕ) → (newcomers newcomers_then : List Newcomer) → Seat → Type 0
 IsNewlyNoted now newcomers newcomers_then s = newcomer s.connection newcomers ≡ None
     → newcomer s.connection newcomers_then

@@ -37,7 +37,7 @@ abbrev pub PollsBy : (polled polled_then : Bool) → List Call → Type 0
 PollsBy polled polled_then calls =
     polled_then ≡ true → (polled || has_moved calls) ≡ true
 
--- it doesn't wait where these calls moved something, if logins wait for locks
+-- it doesn't wait if these calls moved something, if logins wait for locks
 abbrev pub Releases : (wait : ℕ) (poll_now : Bool) → List Call → Type 0
 Releases wait poll_now calls = (wait == 0) ≡ false → has_moved calls ≡ true → poll_now ≡ true
 
@@ -56,7 +56,7 @@ pub record WasGiven {V : Type 0} (Holds : V → Contents → Type 0) (IsClean : 
   pub clean : IsClean (vault_of office_then) → IsClean (vault_of office)
   pub stands : (B : Records) (L : Log) → StandsFor Holds office (trace_of B L) → IsClean (vault_of office_then) → StandsFor Holds office_then (trace_of B (given ++ L))
   pub admitted : (B : Records) (L : Log) → StandsFor Holds office (trace_of B L) → IsClean (vault_of office_then) → AreNewlyAdmitted B L given
-  -- the count of faults never falls, and an event failed only where it grew
+  -- the count of faults never falls, and an event failed only if it grew
   pub counted : Faults (vault_of office) ≤ Faults (vault_of office_then)
   pub failed : (B : Records) (L : Log) → StandsFor Holds office (trace_of B L) → IsClean (vault_of office_then) → list_any is_failed given ≡ true
       → has_grown (Faults (vault_of office)) (Faults (vault_of office_then)) ≡ true

@@ -30,7 +30,7 @@ use Rattle.serving.specs.declared.requests.Exchange.{Exchange}
 
 -- ---- responses
 
--- the response to a command that was given behind this log, by what its event showed; want of memory may stand in place of an answer's
+-- the response to a command that was given after this log, by what its event showed; want of memory may stand in place of an answer's
 abbrev pub IsAnswer : Records → Log → AdminCommand → Tag → (response : List ℕ) → Type 0
 IsAnswer B L command Done response =
     (response ≡ answer_response (administered B (history (trace_of B L)) command)) ⊎ (response ≡ refusal_response OutOfMemory)
@@ -38,7 +38,7 @@ IsAnswer B L command Failed response = response ≡ refusal_response StoreFailed
 IsAnswer B L command NoMemory response = response ≡ refusal_response OutOfMemory
 
 -- A response to what was read from a link: that of its refusal, or of its policy's fault; or that of its command, whose own event stands in the
--- log behind so many others (`place`). Want of memory may stand in place of each.
+-- log after so many others (`place`). Want of memory may stand in place of each.
 pub data IsResponse (site : Site) (B : Records) (L : Log) (read : List ℕ) : (place : Option ℕ) → (response : List ℕ) → Type 0 where
   ToRefusal : (refusal : Refusal) → IsRequest site read (Err (Bad refusal)) → IsResponse site B L read None (refusal_response refusal)
   ToFault : (fault : PolicyFault) → IsRequest site read (Err (BadPolicy fault)) → IsResponse site B L read None (fault_response fault)
@@ -87,7 +87,7 @@ IsKept told x number read None written = (told.read number ≡ read) × (x.respo
 IsKept told x number read (Some response) written =
     (x.response number ≡ Some (octets_of response)) × (told.written number ≡ take written (octets_of response))
 
--- a link that is held was accepted, and isn't over where it isn't known to be
+-- a link that is held was accepted, and isn't over if it isn't known to be
 pub record IsHeld (told : Told) (x : Exchanges) (e : Exchange) : Type 0 where
   pub accepted : e.link.number < told.accepted
   pub live : e.is_over ≡ false → told.over e.link.number ≡ false
@@ -161,7 +161,7 @@ AllStillAnswer Tells wire held wire_then held_then =
     (x : Exchanges) (B : Records) (start : ℕ) (L : Log) (pop : Told) → IsAnswering Tells x B start L pop wire (λ told x. AreHeld told x held)
     → IsAnswering Tells x B start L pop wire_then (λ told x. AreHeld told x held_then)
 
--- and while requests are read, where the store is clean
+-- and while requests are read, if the store is clean
 abbrev pub StillAsked : {V W : Type 0} (Holds : V → Contents → Type 0) (IsClean : V → Type 0) (Tells : W → ToldOfPorts → Type 0)
     (site : Site) (office : Office V) (wire : W) (e : Exchange) (office_then : Office V) (wire_then : W) (e_then : Exchange) → Type 0
 StillAsked Holds IsClean Tells site office wire e office_then wire_then e_then =
@@ -186,7 +186,7 @@ IsToldBy (outcome.Answered answer) response = (response ≡ answer_response answ
 IsToldBy outcome.NoMemory response = response ≡ refusal_response OutOfMemory
 IsToldBy _ response = response ≡ refusal_response StoreFailed
 
--- what comes of a request whose octets were read, behind a log: which log, which place the command's event has, and which response
+-- what comes of a request whose octets were read, after a log: which log, which place the command's event has, and which response
 pub data IsGiven (site : Site) (B : Records) (L : Log) (read : List ℕ) : Log → (place : Option ℕ) → (response : Option (List ℕ)) → Type 0 where
   -- the request isn't whole
   NotYet : IsRequest site read (Err More) → IsGiven site B L read L None None

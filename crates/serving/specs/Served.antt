@@ -32,7 +32,7 @@ abbrev pub given_by : Log → ℕ → List ℕ
 given_by [] c = []
 given_by ((e, m) ∷ L) c = given_after e m (next_number L) c (given_by L c)
 
--- ---- links and their connections: `owner` has the connection of each link's number, None where it got none
+-- ---- links and their connections: `owner` has the connection of each link's number, None if it got none
 
 abbrev pub Owners : Type 0
 Owners = ℕ → Option ℕ
@@ -147,7 +147,7 @@ pub record IsServing {V W : Type 0} (Holds : V → Contents → Type 0) (Tells :
   -- as many openings were asked for as links came
   pub adds : Adds owner T.base T.log log beside told.accepted
 
--- it still does, where the store is clean
+-- it still does, if the store is clean
 abbrev pub StillServes : {V W : Type 0} (Holds : V → Contents → Type 0) (IsClean : V → Type 0) (Tells : W → ToldOfPorts → Type 0)
     (office : Office V) (wire : W) (seats these : List Seat) (office_then : Office V) (wire_then : W) (seats_then these_then : List Seat) → Type 0
 StillServes Holds IsClean Tells office wire seats these office_then wire_then seats_then these_then =

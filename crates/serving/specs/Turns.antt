@@ -30,7 +30,7 @@ use Rattle.serving.specs.declared.newcomers.Newcomer.{Newcomer}
 use Rattle.serving.specs.Late.{HasLived, IsInTime, IsNotedSince, IsCountedOn}
 use Rattle.office.specs.Trace.{is_open}
 
--- how long a turn waits: not at all where more can be done at once
+-- how long a turn waits: not at all if more can be done at once
 abbrev pub millis_of : Links → ℕ
 millis_of links = if links.clients.poll_now || links.requests.poll_now then 0 else 1000
 
@@ -151,21 +151,21 @@ pub record Works {V W S H : Type 0} (Holds : V → Contents → Type 0) (Faults 
   pub came : List Came
   pub seats : List Seat
   pub stands : StandsFor Holds office_then (trace_of T.base (given ++ T.log))
-  -- the store's count of faults never falls, and an event failed only where it grew
+  -- the store's count of faults never falls, and an event failed only if it grew
   pub counted : Faults (vault_of office) ≤ Faults (vault_of office_then)
   pub failed : list_any is_failed given ≡ true → has_grown (Faults (vault_of office)) (Faults (vault_of office_then)) ≡ true
   pub asked : WasAsked Asked wire wire_then calls
   pub asked_files : (before : List FileCall) → AskedFiles spool before → AskedFiles spool_then (before ++ file_calls)
   pub is : IsTurn T (trace_of T.base (given ++ T.log)) now links links_then came seats given calls
   pub files : IsFileTurn T links links_then given file_calls
-  -- behind a file that was removed or renamed the next turn doesn't wait
+  -- after a file that was removed or renamed the next turn doesn't wait
   pub dealt : has_dealt file_calls ≡ true → millis_of links_then ≡ 0
-  -- nor, where logins wait for locks, behind a session that ended, or a link whose connection did
+  -- nor, if logins wait for locks, after a session that ended, or a link whose connection did
   pub frees : is.freed ≡ true → millis_of links_then ≡ 0
   pub releases : (links.clients.wait == 0) ≡ false
       → list_any (is_shut_seat (trace_of T.base (given ++ T.log))) seats ≡ true
       → millis_of links_then ≡ 0
-  -- where nothing moved, no session ended and no file was dealt with, the next turn waits
+  -- if nothing moved, no session ended and no file was dealt with, the next turn waits
   pub rests : has_moved calls ≡ false → is.freed ≡ false → has_dealt file_calls ≡ false
       → millis_of links_then ≡ 1000
   pub http : HttpWorks T now links links_then given calls

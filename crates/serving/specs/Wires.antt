@@ -67,7 +67,7 @@ is_live t k = nat_lt k t.accepted && not (t.over k)
 abbrev pub more_at : (number : ℕ) (more : List ℕ) → (ℕ → List ℕ) → ℕ → List ℕ
 more_at number more octets k = if k == number then octets k ++ more else octets k
 
--- one number is over from now on, where it is now
+-- one number is over from now on, if it is now
 abbrev pub over_at : (number : ℕ) (now : Bool) → (ℕ → Bool) → ℕ → Bool
 over_at number now over k = if now && k == number then true else over k
 
@@ -140,7 +140,7 @@ IsAccepted Tells port t (Some link) = (link.number ≡ (told_at port t).accepted
 abbrev pub Addresses : Type 0
 Addresses = Port → Link → Option IpAddr
 
--- the number that was opened, where one was
+-- the number that was opened, if one was
 abbrev pub opened_by : Outcome → Option ℕ
 opened_by (outcome.Opened c) = Some c
 opened_by _ = None

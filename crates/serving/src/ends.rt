@@ -21,8 +21,8 @@ use crate::wire::{Port, Wire};
 use office::{Account, End, Event, Office};
 use vault::Vault;
 
-/// Tells the listener that the connection of one seat was idle for too long, where it isn't open
-/// behind a moment.
+/// Tells the listener that the connection of one seat was idle for too long, if it isn't open
+/// after a moment.
 fn tell_idle<V: Vault, L: Listener>(
     office: &Office<V>,
     listener: &mut L,
@@ -42,7 +42,7 @@ fn tell_idle<V: Vault, L: Listener>(
 }
 
 /// Tells the listener of each connection that a moment ended: between turns that of each seat is
-/// open, so one that isn't open right behind the moment was ended by it.
+/// open, so one that isn't open right after the moment was ended by it.
 pub(crate) fn tell_idle_ones<V: Vault, L: Listener>(
     office: &Office<V>,
     listener: &mut L,
@@ -151,7 +151,7 @@ pub(crate) fn end_late_ones<V: Vault, W: Wire, L: Listener>(
     }
 }
 
-/// Closes the link of one seat where its connection ended, and removes the seat. Returns whether
+/// Closes the link of one seat if its connection ended, and removes the seat. Returns whether
 /// the seat stays: then the connections of it and of all seats before it are open.
 fn close_seat<V: Vault, W: Wire>(
     office: &Office<V>,

@@ -83,7 +83,7 @@ impl Links {
         self.clients.wait = seconds.min(MOST_WAIT);
     }
 
-    /// Gives each client that comes from now on so many seconds for its login, at most 600. Where
+    /// Gives each client that comes from now on so many seconds for its login, at most 600. If
     /// its link was accepted so long ago and it hasn't logged in, its connection is ended and the
     /// link closed, at the end of a turn. The seconds in which its login lies unread, for a lock or
     /// after a refusal, don't count. Links begin with 0: the office's idle time alone counts.
@@ -140,7 +140,7 @@ impl Links {
         self.clients.wait
     }
 
-    /// How many seconds each client has for its login; 0 where it has all that the office gives.
+    /// How many seconds each client has for its login; 0 if it has all that the office gives.
     pub fn login_seconds(&self) -> u64
         ensures { result ≡ (settings self.now).login_seconds }
     {
@@ -191,7 +191,7 @@ pub(crate) struct Clients {
     pub(crate) poll_now: bool,
     /// For how many seconds a login waits for its maildrop's lock.
     pub(crate) wait: u64,
-    /// Where logins wait: a session ended while this turn served the links. No further login is
+    /// If logins wait: a session ended while this turn served the links. No further login is
     /// read in it, so that in the next turn those who wait are tried by number.
     pub(crate) lock_released: bool,
     /// Who hasn't logged in, and how long each may take.

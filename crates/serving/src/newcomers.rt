@@ -148,7 +148,7 @@ impl Newcomers {
     }
 
     /// Notes a connection whose link was accepted at this moment. Whether there was room: there is
-    /// where each that is noted has a seat, and a seat is free.
+    /// if each that is noted has a seat, and a seat is free.
     pub(crate) fn note(&mut self, connection: u64, now: u64) -> bool
         ensures seconds { self.new.seconds ≡ self.old.seconds }
         ensures full { self.new.full_house_seconds ≡ self.old.full_house_seconds }

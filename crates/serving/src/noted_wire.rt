@@ -40,7 +40,7 @@ impl<W: Wire> NotedWire<W> {
         }
     }
 
-    /// The next link of the wire inside, where it has the port's next number.
+    /// The next link of the wire inside, if it has the port's next number.
     fn accept_next(&mut self, port: Port) -> Option<Link>
         ensures next { IfSome result (λ link. link.number ≡ count_at port self.old.counts) }
         ensures counts { self.new.counts ≡ counted_with port result self.old.counts }

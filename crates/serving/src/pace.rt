@@ -52,8 +52,8 @@ pub(crate) struct Part {
     pub(crate) login: Option<LoginName>,
 }
 
-/// By which number a client's guesses count: by none where guesses aren't slow, where the client is
-/// logged in, or where its address isn't known.
+/// By which number a client's guesses count: by none if guesses aren't slow, if the client is
+/// logged in, or if its address isn't known.
 fn origin_at<V: Vault, W: Wire>(
     office: &Office<V>,
     wire: &W,
@@ -170,7 +170,7 @@ fn first_newline(piece: &[u8]) -> Option<usize>
     piece.iter().position(|octet| *octet == b'\n')
 }
 
-/// How many octets the first line of a piece has, with its LF; all, where it has none.
+/// How many octets the first line of a piece has, with its LF; all, if it has none.
 fn first_line(piece: &[u8]) -> usize
     ensures value { result ≡ first_line_of piece.now }
     ensures some { 0 < length piece.now → 0 < result }

@@ -334,7 +334,7 @@ fn take_piece<V: Vault, L: Listener>(
     );
 }
 
-/// Reads a piece of a request that isn't whole. The exchange is over where the link is at its end
+/// Reads a piece of a request that isn't whole. The exchange is over if the link is at its end
 /// or broken.
 fn read_request<V: Vault, W: Wire, L: Listener>(
     alloc: Global,
@@ -365,7 +365,7 @@ fn read_request<V: Vault, W: Wire, L: Listener>(
     }
 }
 
-/// Writes once of a response. How many octets were taken. The exchange is over where nothing is
+/// Writes once of a response. How many octets were taken. The exchange is over if nothing is
 /// left, or the link is broken.
 fn write_some<W: Wire>(wire: &mut W, exchange: &mut Exchange) -> usize
     ensures works { AsksApart W.asked wire.old wire.new
@@ -424,7 +424,7 @@ fn write_response<W: Wire>(wire: &mut W, exchange: &mut Exchange) -> bool
 }
 
 /// Reads of a request, and writes of its response. Whether more can be written at once. The
-/// exchange is over where its link was accepted 60 seconds ago or more.
+/// exchange is over if its link was accepted 60 seconds ago or more.
 fn serve_exchange<V: Vault, W: Wire, L: Listener>(
     alloc: Global,
     office: &mut Office<V>,
@@ -452,7 +452,7 @@ fn serve_exchange<V: Vault, W: Wire, L: Listener>(
     write_response(wire, exchange)
 }
 
-/// Serves the link at one place, and closes it where its exchange is over. Whether it stays.
+/// Serves the link at one place, and closes it if its exchange is over. Whether it stays.
 fn serve_place<V: Vault, W: Wire, L: Listener>(
     office: &mut Office<V>,
     wire: &mut W,
@@ -519,7 +519,7 @@ pub(crate) fn serve_requests<V: Vault, W: Wire, L: Listener>(
     }
 }
 
-/// Accepts a link of the administration; or closes it, where eight are open or memory for it was
+/// Accepts a link of the administration; or closes it, if eight are open or memory for it was
 /// refused.
 /// Whether one came.
 fn accept_request<W: Wire>(wire: &mut W, requests: &mut Requests, now: u64) -> bool

@@ -25,7 +25,7 @@ pub trait Clock {
     /// `gave c answers`: c gave these answers, the newest last.
     ghost gave: { Self → List (Option ℕ) → Type 0 };
 
-    /// The moment of the next turn, in whole seconds; `None` where no further turn is to be done.
+    /// The moment of the next turn, in whole seconds; `None` if no further turn is to be done.
     fn moment(&mut self) -> Option<u64>
         ensures called { (a : List (Option ℕ)) → gave self.old a
             → gave self.new (a ++ result ∷ []) };

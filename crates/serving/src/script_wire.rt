@@ -18,7 +18,7 @@ pub struct ScriptWire {
     requests: ScriptLinks,
     /// From where the clients come, in the order in which they are accepted.
     addresses: Vec<IpAddr>,
-    /// Behind its octets each link is at its end; else nothing more comes for now.
+    /// After its octets each link is at its end; else nothing more comes for now.
     ends: bool,
     /// How many reads and writes there were.
     calls: u64,
@@ -65,7 +65,7 @@ impl ScriptWire {
     }
 
     /// From where the clients come, in the order in which they are accepted. Until then, and of
-    /// those behind the last of these, no address is known.
+    /// those after the last of these, no address is known.
     pub fn set_addresses(&mut self, addresses: Vec<IpAddr>)
         ensures addresses { self.new.addresses ≡ addresses }
         ensures clients { self.new.clients ≡ self.old.clients }
@@ -140,7 +140,7 @@ impl ScriptWire {
         self.clients.strayed || self.requests.strayed
     }
 
-    /// The fault that comes in place of this read or write, where one does.
+    /// The fault that comes in place of this read or write, if one does.
     fn next_stop(&mut self) -> Option<Stop>
         ensures clients { self.new.clients ≡ self.old.clients }
         ensures requests { self.new.requests ≡ self.old.requests }

@@ -81,7 +81,7 @@ struct Place {
     /// The port and the number of the link that has it, or had it last.
     port: Port,
     number: u64,
-    /// That of the link; `None` where the place is free, or its link is broken or closed.
+    /// That of the link; `None` if the place is free, or its link is broken or closed.
     stream: Option<TcpStream>,
     /// Its other end, as the system told it when the link was accepted.
     peer: Option<SocketAddr>,
@@ -101,7 +101,7 @@ pub struct SocketWire {
     poll: Poll,
     events: Events,
     door: Door,
-    /// That for the administration, where there is one.
+    /// That for the administration, if there is one.
     admin_door: Option<Door>,
     places: Vec<Place>,
     /// How many links were accepted at each port: the number of its next one.
@@ -176,7 +176,7 @@ fn is_same_port(one: Port, other: Port) -> bool
 }
 
 impl SocketWire {
-    /// Listens for clients at an address, and tells the port: that of the address, or where this is
+    /// Listens for clients at an address, and tells the port: that of the address, or if this is
     /// 0 one that the system chose.
     pub fn bind<R: Net>(rt: &R, alloc: Global, at: SocketAddr) -> io::Result<(SocketWire, u16)> {
         let poll = Poll::new(rt)?;
@@ -309,7 +309,7 @@ impl Place {
         counted(self.ahead.read(buffer), room)
     }
 
-    /// Shows what the next read gives. `Later` where there is no memory to look; where there is
+    /// Shows what the next read gives. `Later` if there is no memory to look; if there is
     /// none to keep what came, the link is broken.
     fn look(&mut self, buffer: &mut [u8]) -> Io
         ensures within { IsWithin (length buffer.old) result }
@@ -349,7 +349,7 @@ impl Place {
         came
     }
 
-    /// Reads the socket, where octets may have come.
+    /// Reads the socket, if octets may have come.
     fn read_stream(&mut self, buffer: &mut [u8]) -> Io
         ensures within { IsWithin (length buffer.old) result }
         ensures ahead { self.new.ahead ≡ self.old.ahead }

@@ -44,14 +44,14 @@ fn pass_time<V: Vault, W: Wire>(office: &mut Office<V>, wire: &mut W, millis: u3
     let _ = office.step(Event::Tick(now));
 }
 
-/// How many milliseconds a turn waits at most: none where more can be done at once.
+/// How many milliseconds a turn waits at most: none if more can be done at once.
 fn millis_for(links: &Links) -> u32
     ensures { result ≡ millis_of links.now }
 {
     if links.poll_now() { 0 } else { MOST_MILLIS }
 }
 
-/// One turn: waits for at most a second, and not at all where more can be done at once; tells the
+/// One turn: waits for at most a second, and not at all if more can be done at once; tells the
 /// office the moment, in seconds; accepts the links that came, at most 64 at each port; serves each
 /// client's link, and then each link of the administration; ends the clients that took too long to
 /// log in; closes the links whose connections ended; and tries one file of the spool. The listener

@@ -58,7 +58,7 @@ pub trait Wire {
         ensures called { (a : List Call) → asked self.old a
             → asked self.new (a ++ Waited millis ∷ []) };
 
-    /// Accepts the next link that came at a port; `None` where none waits, or where it can't be
+    /// Accepts the next link that came at a port; `None` if none waits, or if it can't be
     /// accepted now.
     fn accept(&mut self, port: Port) -> Option<Link>
         ensures told { (t : ToldOfPorts) → tells self.old t
@@ -67,7 +67,7 @@ pub trait Wire {
             → asked self.new (a ++ Accepted port result ∷ []) };
 
     /// Shows in the front of the buffer what comes next on a link, and reads nothing: the next read
-    /// gives these octets first. `Later` also where there is no memory to look.
+    /// gives these octets first. `Later` even if there is no memory to look.
     fn look(&mut self, port: Port, link: Link, buffer: &mut [u8]) -> Io
         ensures within { IsWithin (length buffer.old) result }
         ensures told { (t : ToldOfPorts) → tells self.old t → tells self.new t }
@@ -93,7 +93,7 @@ pub trait Wire {
         ensures called { (a : List Call) → asked self.old a
             → asked self.new (a ++ Wrote port link result (counted result octets.now) ∷ []) };
 
-    /// The address that a link came from; `None` where it isn't known.
+    /// The address that a link came from; `None` if it isn't known.
     fn address(&self, port: Port, link: Link) -> Option<IpAddr>
         ensures { result ≡ address_of self.now port link };
 

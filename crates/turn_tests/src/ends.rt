@@ -6,7 +6,7 @@ use serving::{Asked, Link, Listener, ScriptSpool, ScriptWire, Stop, serve_turn};
 use std::alloc::{AllocError, Global};
 use std::test::Fail;
 
-/// Each connection that ended where no line ended it, and why, in their order.
+/// Each connection that ended if no line ended it, and why, in their order.
 #[derive(Drop)]
 struct Ends {
     alloc: Global,

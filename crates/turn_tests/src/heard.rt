@@ -92,7 +92,7 @@ fn denied_text(
     format!(in alloc; "denied {command} {uid} {rule}")
 }
 
-/// An account; empty where no line was judged. Of the office that reckons all is taken at once, so
+/// An account; empty if no line was judged. Of the office that reckons all is taken at once, so
 /// that a connection may end at another event.
 fn account_text(alloc: Global, account: &Account) -> Result<String, AllocError> {
     match account {
@@ -119,7 +119,7 @@ impl Heard {
         }
     }
 
-    /// Keeps an account, where something was judged.
+    /// Keeps an account, if something was judged.
     fn keep(&mut self, connection: u64, account: &Account) -> Result<(), AllocError> {
         let text = account_text(self.alloc, account)?;
         if text.is_empty() {

@@ -54,7 +54,7 @@ impl RandomWire {
         if self.is_calm { usize::MAX } else { size }
     }
 
-    /// What comes in place of the next read or write of a link, where it doesn't go well.
+    /// What comes in place of the next read or write of a link, if it doesn't go well.
     fn stop(&mut self, place: usize) -> Option<Io> {
         let number = self.chance.below(400);
         if self.is_calm {

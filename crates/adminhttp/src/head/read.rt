@@ -31,7 +31,7 @@ fn parse_head(text: &[u8], headers: &mut [HeaderSpan]) -> Option<RequestSpans>
 
 /// The head of a request, whose headers' spans are put into `headers`.
 ///
-/// [`NoCommand::More`] where it hasn't ended in at most 8,192 octets; [`Refusal::BadRequest`] where
+/// [`NoCommand::More`] if it hasn't ended in at most 8,192 octets; [`Refusal::BadRequest`] if
 /// it hasn't in more, or is no head of at most 64 headers.
 pub fn read_head<'b>(octets: &'b [u8], headers: &mut [HeaderSpan]) -> Result<Head<'b>, NoCommand>
     requires { length headers.old ≡ most_headers }

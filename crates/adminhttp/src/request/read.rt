@@ -78,7 +78,7 @@ fn ask_of_site(
     ask_by(alloc, head, headers)
 }
 
-/// The command that a head and what is behind it ask.
+/// The command that a head and what is after it ask.
 #[tactic(auto, unfolding(crate::specs::Request::asked_by))]
 fn ask_by(alloc: Global, head: &Head<'_>, headers: &[HeaderSpan]) -> Result<AdminCommand, NoCommand>
     requires within { LieIn head.now headers.now }

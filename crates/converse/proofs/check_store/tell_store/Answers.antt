@@ -9,7 +9,7 @@ use Rattle.converse.proofs.Exporting.{cause_still, end_of}
 use Rattle.converse.proofs.TextWriting.{handed_as}
 use Rattle.converse.proofs.check_store.tell_store.Goals as goal
 
--- what was put behind nothing
+-- what was put after nothing
 put_alone : (lent items before text : List ℕ) → lent ≡ items → items ≡ before ++ text → before ≡ [] → lent ≡ text
 put_alone lent items before text is put none = is ∙ put ∙ ap (λ (xs : List ℕ). xs ++ text) none
 
