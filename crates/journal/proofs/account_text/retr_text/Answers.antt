@@ -1,13 +1,15 @@
-use Rattle.std.proofs.Common.{◌≡◌, ◌++◌, append_assoc, codes}
+use Rattle.std.proofs.Common.{◌≡◌, ◌++◌, ◌∙◌, append_assoc, codes, List, ℕ}
 use Rattle.std.specs.Prelude.{string_bytes}
 use Rattle.std.specs.Fmt.{decimal}
 use Rattle.creds.specs.Uid.{uid_text}
 use Rattle.journal.specs.Lines.{retr_text}
 use Rattle.journal.proofs.account_text.retr_text.Goals as goal
 
+joined : (p w u i o d : List ℕ) → p ++ (w ++ (u ++ (i ++ (o ++ d)))) ≡ p ++ w ++ u ++ i ++ o ++ d
+joined p w u i o d = simp append_assoc
+
 pub returns : goal.returns
 returns c =
-    let h : string_bytes c.in_ok-text.text
+    let made : string_bytes c.in_ok-text.text
     ≡ codes "event=retr " ++ (c.args.who.now ++ (codes " uid=" ++ (uid_text c.args.message.uid ++ (codes " octets=" ++ decimal c.args.message.octets)))) = c.in_ok-text.ensures.ok in
-    let made : string_bytes c.in_ok-text.text ≡ retr_text c.args.who.now c.args.message = rw h (simp append_assoc) in
-    made
+    made ∙ joined (codes "event=retr ") c.args.who.now (codes " uid=") (uid_text c.args.message.uid) (codes " octets=") (decimal c.args.message.octets)
