@@ -7,11 +7,11 @@ use Rattle.vault.specs.Calls.{has_grown}
 use Rattle.vault.specs.Changes.{Contents}
 use Rattle.sqlvault.specs.Clerks.{clerk_names}
 use Rattle.sqlvault.specs.Stands.{Holds}
-use Rattle.converse.specs.Causes.{IsRefused, IsRefusedOf}
+use Rattle.converse.specs.Causes.{IsExportEnd, IsRefused, IsRefusedOf}
 use Rattle.converse.specs.Checked.{store_text, AreKnown}
 use Rattle.converse.specs.Streams.{Writes, WritesPart, writes_failed}
 use Rattle.converse.specs.Texts.{against, differing}
-use Rattle.converse.proofs.Exporting.{counts_on}
+use Rattle.converse.proofs.Exporting.{counts_on, look_refused, refused_since}
 use Rattle.converse.proofs.Refusals.{clerks_known, refused_all}
 use Rattle.jobs.specs.Checks.{held_against}
 use Rattle.jobs.proofs.CheckLemmas.{exports_still}
@@ -105,4 +105,40 @@ returns-in-Ok-clerk_names-clause-why g c = λ one.
           (counts_on _ _ _ c.in-Ok.ensures.counted c.in-Ok-clerk_names.ensures.looks.counted.kept) e (w d found.held clean))
           told.0 told.1,
       told.2,
+    )
+
+pub returns-in-Err-clause-why : goal.returns-in-Err-clause-why
+returns-in-Err-clause-why g c = λ one.
+    let f0 = c.args.vault.now.faults in
+    let f1 = c.texts_of.new.vault.faults in
+    let E : Type 0 = (d : Contents) → Holds (state g.S.Store c.args.vault.now.conn) d → HasCleanDisk (state g.S.Store c.texts_of.new.vault.conn)
+    → (differing (held_against c.args.compared d) d ≡ [] → ⊥)
+    × Writes (g.W.Sink.seen c.args.out.now) (g.W.Sink.seen c.args.out.now) (store_text c.args.file.now d (clerk_names d.clerks) (held_against c.args.compared d)) in
+    let Q : VaultFault → Type 0 = λ e. (d : Contents) → Holds (state g.S.Store c.args.vault.now.conn) d → HasCleanDisk (state g.S.Store c.texts_of.new.vault.conn)
+    → IsRefused true (has_grown f0 f1) e in
+    let written = writes_failed (g.W.Sink.seen c.args.out.now) (g.W.Sink.seen c.args.out.now) in (
+      c.from.result,
+      subst (IsExportEnd E false written Q) (sym c.from.ensures) c.in-Err.ensures.cause,
+      c.tell_fault.ensures.line,
+    )
+
+pub returns-clause-why : goal.returns-clause-why
+returns-clause-why g c = λ one.
+    let f0 = c.args.vault.now.faults in
+    let f1 = c.texts_of.new.vault.faults in
+    let f2 = c.clerk_names.new.self.faults in
+    let E : Type 0 = (d : Contents) → Holds (state g.S.Store c.args.vault.now.conn) d → HasCleanDisk (state g.S.Store c.clerk_names.new.self.conn)
+    → (differing (held_against c.args.compared d) d ≡ [] → ⊥)
+    × Writes (g.W.Sink.seen c.args.out.now) (g.W.Sink.seen c.args.out.now) (store_text c.args.file.now d (clerk_names d.clerks) (held_against c.args.compared d)) in
+    let Q : VaultFault → Type 0 = λ e. (d : Contents) → Holds (state g.S.Store c.args.vault.now.conn) d → HasCleanDisk (state g.S.Store c.clerk_names.new.self.conn)
+    → IsRefused true (has_grown f0 f2) e in
+    let written = writes_failed (g.W.Sink.seen c.args.out.now) (g.W.Sink.seen c.args.out.now) in (
+      c.from-in-Err-clerk_names.result,
+      subst (IsExportEnd E false written Q) (sym c.from-in-Err-clerk_names.ensures) (λ d h clean.
+          let k1 = c.in-Err-clerk_names.ensures.looks.clean clean in
+          refused_since true f0 f1 f2 c.in-Ok.ensures.counted c.in-Err-clerk_names.fault
+          (look_refused true (has_grown f1 f2) (clerk_names d.clerks) c.in-Err-clerk_names.fault
+          (c.in-Err-clerk_names.ensures.done d (c.in-Ok.ensures.held d h k1) clean).answer
+          (λ e. c.in-Err-clerk_names.ensures.looks.counted.cause (ap Err e)))),
+      c.tell_fault-in-Err-clerk_names.ensures.line,
     )
