@@ -166,10 +166,10 @@ class Server:
         """The body of the response to a request of the administration."""
         return self.ask(method, path, body)[1]
 
-    def ask(self, method, path, body=None):
+    def ask(self, method, path, body=None, headers=()):
         """The status of the response too."""
         line = http.client.HTTPConnection("127.0.0.1", self.admin, timeout=REPLY)
-        line.request(method, path, body)
+        line.request(method, path, body, dict(headers))
         response = line.getresponse()
         answer = response.status, response.read().decode()
         line.close()

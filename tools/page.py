@@ -51,7 +51,7 @@ class Site:
         self.runs, self.keep = {}, f"{folder}/policies"
         os.mkdir(self.keep)
         with open(f"{folder}/serve.log", "wb") as log:
-            self.server = Server(program, folder, "--log", stderr=log)
+            self.server = Server(program, folder, "--log", "--admin-site", "localhost", stderr=log)
         self.admin = self.server.admin
         self.get, self.put = self.asks("GET"), self.asks("PUT")
 

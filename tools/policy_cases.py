@@ -1,5 +1,6 @@
 """The cases of tools/check-scripts of popbox-set-policy."""
 
+import concurrent.futures
 import os
 import re
 
@@ -257,9 +258,28 @@ def set_policy_replaces_only_what_was_looked_at(place):
         wants((status, decision(server)), (0, "deny by rule default\n"))
 
 
-# A diff, after which another policy is in force.
+# A program, after which another policy is in force.
 OTHER_SETS = """REAL "$@"
 curl -s -X PUT --data-binary '# None' http://127.0.0.1:{}/policy >/dev/null"""
+
+
+@case
+def one_of_two_set_policies_at_once_sets(place):
+    told = "popbox-set-policy: another policy is in force (nothing was changed)"
+    new, kept = write(place, READ_ONLY), f"{place.folder}/kept"
+    with office(place) as server:
+        with open(f"{place.folder}/looked", "w", encoding="utf-8") as file:
+            file.write(server.administer("GET", "/policy"))
+        words = (place, server, "--yes", "--over", file.name, new)
+        with concurrent.futures.ThreadPoolExecutor() as both:
+            ran = [both.submit(set_policy, *words) for _ in range(2)]
+            wants(sorted(it.result()[0] for it in ran), [0, 3])
+        wants(len(os.listdir(f"{kept}/port-{server.admin}")), 1)
+        # Another sets one while this waits for the lock.
+        place.stand_in("flock", OTHER_SETS.format(server.admin))
+        status, _, why, after = set_policy(place, server, "--yes", write(place, POLICY))
+        wants((status, why.splitlines()[-1], after), (3, told, ""))
+        wants(len(os.listdir(f"{kept}/port-{server.admin}")), 1)
 
 
 @case

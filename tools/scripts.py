@@ -108,7 +108,7 @@ def make_store(place, texts):
 @contextlib.contextmanager
 def office(place, texts=()):
     """A server with the maildrops `orders`, which has these messages, and `sales`."""
-    server = Server(place.program, place.folder)
+    server = Server(place.program, place.folder, "--admin-site", "localhost")
     try:
         for path in ("orders", "sales"):
             server.administer("PUT", f"/maildrops/{path}")

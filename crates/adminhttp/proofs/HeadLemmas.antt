@@ -1,4 +1,4 @@
--- The octets of a head and behind it.
+-- The octets of a head and after it.
 use Rattle.std.proofs.Common.{◌≡◌, ℕ, ◌+◌, ◌<◌, ◌≤◌, List, length, take, drop, arith}
 use Rattle.std.proofs.lemmas.List.{length-take}
 

@@ -1,6 +1,7 @@
 pub mod LineLemmas
 pub mod HeadLemmas
 pub mod FieldLemmas
+pub mod SiteLemmas
 pub mod RouteLemmas
 pub mod BodyLemmas
 pub mod RefusalTexts

@@ -15,7 +15,7 @@ pub counting_zero : (o : Option ℕ) → option_map (λ n. 0 + n) o ≡ o
 counting_zero None = refl
 counting_zero (Some n) = ap Some (omega arith)
 
--- a text with an element at i is that element and what stands behind it
+-- a text with an element at i is that element and what stands after it
 shown : (xs : List ℕ) (i : ℕ) → i < length xs → drop i xs ≡ get_or xs i 0 ∷ drop (i + 1) xs
 shown xs i h = drop_more xs i 0 h
 
@@ -52,7 +52,7 @@ head_none fresh xs i h = rw (drop_of_length-le xs h)
 abbrev both : Bool → ℕ → ℕ → ℕ
 both u m n = if u then m else n
 
--- the first empty line, and those behind it
+-- the first empty line, and those after it
 pub empty_lines_more : (xs : List ℕ) → empty_lines xs ≡ empty_line xs + empty_lines (drop (empty_line xs) xs)
 unfolding empty_lines
 empty_lines_more [] = refl

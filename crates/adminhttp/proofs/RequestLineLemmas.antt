@@ -14,11 +14,13 @@ use Rattle.adminhttp.specs.Fields.{Header}
 use Rattle.adminhttp.specs.Bodies.{body_of, without_line_end, credential_of, policy_of}
 use Rattle.adminhttp.specs.Steps.{◌>>=◌, value_or}
 use Rattle.adminhttp.specs.Targets.{target_of}
-use Rattle.adminhttp.specs.Request.{Asked, asked_by, asked_of, clerk_put, policy_put, maildrop_asked, clerk_asked, policy_asked, session_asked, ComesTo, HeadComesTo}
+use Rattle.adminhttp.specs.Request.{Asked, asked_by, asked_of_site, asked_of, clerk_put, policy_put, maildrop_asked, clerk_asked, policy_asked, session_asked, ComesTo, HeadComesTo}
 use Rattle.adminhttp.specs.RequestLines.{by, line_of, method_of, line_in, IsLineAt}
 use Rattle.adminhttp.specs.Laws.{CommandHasItsLine}
 use Rattle.adminhttp.specs.declared.no_command.NoCommand.{NoCommand}
-use Rattle.adminhttp.specs.declared.refusal.Refusal.TheVariants.{NotFound, BadRequest}
+use Rattle.adminhttp.specs.declared.no_command.NoCommand.TheVariants.{Bad}
+use Rattle.adminhttp.specs.Sites.{Site, is_own}
+use Rattle.adminhttp.specs.declared.refusal.Refusal.TheVariants.{ForeignSite, NotFound, BadRequest}
 use Rattle.adminhttp.specs.declared.target.Target.{Target}
 use Rattle.adminhttp.specs.declared.target.Target.TheVariants as target
 use Rattle.adminhttp.specs.declared.target.Target.TheVariants.{Clerk}
@@ -114,13 +116,22 @@ line_asked : (m t : List ℕ) (headers : List Header) (behind : List ℕ) (c : A
 unfolding asked_by
 line_asked m t headers behind c h = line_by_target (target_of t) m headers behind c h
 
-at_head : (text behind : List ℕ) (c : AdminCommand) (place : ℕ × ℕ) (b : List ℕ) → HeadComesTo (head_text b place) behind (Ok c) → IsLineAt b (Some place) (Some (line_of c))
-at_head text behind c place b (inl x) = inl (x.0, x.1, line_asked x.0.method x.0.target (map name_and_value x.0.fields) behind c x.2)
-at_head text behind c place b (inr x) = absurd (cc x.1)
+line_served : (own : Bool) (m t : List ℕ) (headers : List Header) (behind : List ℕ) (c : AdminCommand) → Ok c ≡ cond own (asked_by m t headers behind) (Err (Bad ForeignSite))
+    → Some (line_of c) ≡ line_in m t
+line_served true m t headers behind c h = line_asked m t headers behind c h
+line_served false m t headers behind c h = absurd (cc h)
 
-at_place : (b : List ℕ) (place : Option (ℕ × ℕ)) (c : AdminCommand) → ComesTo b place (Ok c) → IsLineAt b place (Some (line_of c))
-at_place b None c h = absurd (cc h)
-at_place b (Some place) c h = at_head b (behind_head b place) c place b h
+line_of_site : (site : Site) (m t : List ℕ) (headers : List Header) (behind : List ℕ) (c : AdminCommand) → Ok c ≡ asked_of_site site m t headers behind → Some (line_of c) ≡ line_in m t
+unfolding asked_of_site
+line_of_site site m t headers behind c h = line_served (is_own site headers) m t headers behind c h
+
+at_head : (site : Site) (text behind : List ℕ) (c : AdminCommand) (place : ℕ × ℕ) (b : List ℕ) → HeadComesTo site (head_text b place) behind (Ok c) → IsLineAt b (Some place) (Some (line_of c))
+at_head site text behind c place b (inl x) = inl (x.0, x.1, line_of_site site x.0.method x.0.target (map name_and_value x.0.fields) behind c x.2)
+at_head site text behind c place b (inr x) = absurd (cc x.1)
+
+at_place : (site : Site) (b : List ℕ) (place : Option (ℕ × ℕ)) (c : AdminCommand) → ComesTo site b place (Ok c) → IsLineAt b place (Some (line_of c))
+at_place site b None c h = absurd (cc h)
+at_place site b (Some place) c h = at_head site b (behind_head b place) c place b h
 
 pub command_has_its_line : CommandHasItsLine
-command_has_its_line b command h = at_place b (head_at b) command h
+command_has_its_line site b command h = at_place site b (head_at b) command h

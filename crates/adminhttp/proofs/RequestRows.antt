@@ -20,7 +20,7 @@ use Rattle.adminhttp.specs.Lines.{empty_lines, through_empty_line, head_at}
 use Rattle.adminhttp.specs.Targets.{target_of}
 use Rattle.adminhttp.specs.Fields.{Header, body_length}
 use Rattle.adminhttp.specs.Bodies.{body_of, without_line_end, credential_of}
-use Rattle.adminhttp.specs.Request.{Asked, IsRequest, asked_by, clerk_put, policy_put, maildrop_asked, clerk_asked, policy_asked, session_asked}
+use Rattle.adminhttp.specs.Request.{Asked, IsRequest, asked_by, asked_of_site, clerk_put, policy_put, maildrop_asked, clerk_asked, policy_asked, session_asked}
 
 -- ---- heads
 
@@ -40,16 +40,16 @@ returns_before_an_end : head_at (codes "a\r\r\n\r\r\n\n") ≡ Some (0, 8)
 unfolding empty_lines through_empty_line
 returns_before_an_end = refl
 
-more_to_come : IsRequest (codes "bad\r\n") (Err More)
+more_to_come : IsRequest None (codes "bad\r\n") (Err More)
 unfolding empty_lines through_empty_line
 more_to_come = refl
 
--- ---- what is behind a head
+-- ---- what is after a head
 
 abbrev length_is : List ℕ → Header
 length_is value = (codes "Content-Length", value)
 
--- what a method asks of a target, with these headers and octets behind the head
+-- what a method asks of a target, with these headers and octets after the head
 abbrev asks : (method target : List ℕ) → List Header → List ℕ → Asked
 asks method target headers behind = asked_by method target headers behind
 
@@ -141,6 +141,6 @@ is_head = record {
   fields = All-nil IsField;
 }
 
-maildrops : IsRequest (codes "\r\nGET /maildrops HTTP/1.1\r\n\r\nwhatever") (Ok ListMaildrops)
-unfolding empty_lines through_empty_line httparse_on_literals asked_by target_of
+maildrops : IsRequest None (codes "\r\nGET /maildrops HTTP/1.1\r\n\r\nwhatever") (Ok ListMaildrops)
+unfolding empty_lines through_empty_line httparse_on_literals asked_of_site asked_by target_of
 maildrops = inl (head, ((is_head, refl), lit≤ tt), refl)

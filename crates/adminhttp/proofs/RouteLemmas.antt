@@ -1,4 +1,4 @@
--- Where a path has the parts of a route, the router finds that route.
+-- If a path has the parts of a route, the router finds that route.
 use Rattle.std.proofs.Common.{◌≡◌, ◌≢◌, ℕ, zero, suc, ◌+◌, ◌-◌, ◌<◌, ◌≤◌, List, [], ◌∷◌, ◌++◌, length, drop, take, Option, Some, None, Bool, true, false, not, cond, ◌&&◌, ltb, refl, sym, ap, ◌∙◌, arith, nat_eq, ◌==◌, length-append, lt-ltb, lit<}
 use Rattle.std.proofs.lemmas.Bool.Decides.{nat_tests}
 use Rattle.std.proofs.lemmas.Bool.{false≢true}

@@ -192,7 +192,7 @@ on_explain text h =
     ∙ ap (option_map value_of) (hits (codes "/explain/") route_rows (h.a ++ slash ∷ (h.b ++ slash ∷ (h.c ++ slash ∷ h.d))) _
     (four_parts _ h.a h.b h.c h.d h.first h.second h.third h.fourth))
 
--- where a path begins with a word, and what follows names something, the route of that word is found
+-- if a path begins with a word, and what follows names something, the route of that word is found
 begun : (word path : List ℕ) (f : List ℕ → Option Target) (found : Target) (r : Route)
     → ((rest : List ℕ) → f rest ≡ Some found → found_by (word ++ rest) ≡ Some r)
     → (behind word path >>= f) ≡ Some found → found_by path ≡ Some r

@@ -20,7 +20,7 @@ use Rattle.adminhttp.specs.declared.no_command.NoCommand.TheVariants.{More, BadP
 abbrev pub first_octets : (n : ℕ) → List ℕ → Result (List ℕ) NoCommand
 first_octets n octets = if nat_le n (length octets) then Ok (take n octets) else Err More
 
--- the body: as many of the octets behind the head as its length says
+-- the body: as many of the octets after the head as its length says
 unfoldable pub body_of : List Header → (behind : List ℕ) → Result (List ℕ) NoCommand
 body_of headers behind = do
   n ← body_length headers

@@ -23,7 +23,7 @@ IsNoHead text = (h : RequestHead) → ReadsRequest text h [] → most_headers < 
 abbrev pub head_text : List ℕ → ℕ × ℕ → List ℕ
 head_text b place = take place.1 (drop place.0 b)
 
--- the octets behind a head at a place
+-- the octets after a head at a place
 abbrev pub behind_head : List ℕ → ℕ × ℕ → List ℕ
 behind_head b place = drop (place.0 + place.1) b
 

@@ -1,19 +1,23 @@
 -- Laws over every request.
 use Rattle.std.specs.Prelude.{◌≡◌, ℕ, List, Some, Ok}
 use Rattle.office.specs.Answers.{AdminCommand}
+use Rattle.adminhttp.specs.Sites.{Site}
 use Rattle.adminhttp.specs.Request.{Asked, IsRequest}
 use Rattle.adminhttp.specs.RequestLines.{line_of, IsLine}
 
 -- the same octets come to one thing at most
 abbrev pub HasOneMeaning : Type 0
-HasOneMeaning = (b : List ℕ) (first second : Asked) → IsRequest b first → IsRequest b second → first ≡ second
+HasOneMeaning =
+    (site : Site) (b : List ℕ) (first second : Asked) → IsRequest site b first
+    → IsRequest site b second → first ≡ second
 
 -- a request that gives a command has that command's line
 abbrev pub CommandHasItsLine : Type 0
 CommandHasItsLine =
-    (b : List ℕ) (command : AdminCommand) → IsRequest b (Ok command)
+    (site : Site) (b : List ℕ) (command : AdminCommand) → IsRequest site b (Ok command)
     → IsLine b (Some (line_of command))
 
 -- any octets come to something
 abbrev pub HasMeaning : Type 0
-HasMeaning = (b : List ℕ) → ((asked : Asked) → ¬ IsRequest b asked) → ⊥
+HasMeaning =
+    (site : Site) (b : List ℕ) → ((asked : Asked) → ¬ IsRequest site b asked) → ⊥

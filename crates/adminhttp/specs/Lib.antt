@@ -4,6 +4,7 @@ pub mod Head
 pub mod Targets
 pub mod Rows
 pub mod Fields
+pub mod Sites
 pub mod Bodies
 pub mod Request
 pub mod Responses

@@ -10,13 +10,15 @@ use Rattle.adminhttp.specs.Lines.{head_at, most_in_head}
 use Rattle.adminhttp.specs.Head.{IsHead, IsNoHead, head_text, behind_head}
 use Rattle.adminhttp.specs.Targets.{target_of}
 use Rattle.adminhttp.specs.Fields.{Header}
+use Rattle.adminhttp.specs.Sites.{Site, is_own}
 use Rattle.adminhttp.specs.Steps.{◌>>=◌, value_or}
 use Rattle.adminhttp.specs.Bodies.{body_of, without_line_end, credential_of, policy_of}
 use Rattle.adminhttp.specs.declared.route.Route.{Route}
 use Rattle.adminhttp.specs.declared.route.Route.TheVariants as route
 use Rattle.adminhttp.specs.declared.target.Target.{Target}
 use Rattle.adminhttp.specs.declared.target.Target.TheVariants as target
-use Rattle.adminhttp.specs.declared.refusal.Refusal.TheVariants.{BadRequest, NotFound, NotAllowed}
+use Rattle.adminhttp.specs.declared.refusal.Refusal.TheVariants.{BadRequest, ForeignSite}
+use Rattle.adminhttp.specs.declared.refusal.Refusal.TheVariants.{NotFound, NotAllowed}
 use Rattle.adminhttp.specs.declared.no_command.NoCommand.{NoCommand}
 use Rattle.adminhttp.specs.declared.no_command.NoCommand.TheVariants.{More, Bad, BadPolicy}
 use Rattle.adminhttp.specs.declared.request.Got.{Got}
@@ -26,7 +28,7 @@ use Rattle.adminhttp.specs.declared.request.Got.TheVariants as got
 abbrev pub Asked : Type 0
 Asked = Result AdminCommand NoCommand
 
--- this command, where the method is GET, which is the route's only one
+-- this command, if the method is GET, which is the route's only one
 abbrev pub by_get : Route → (method : List ℕ) → AdminCommand → Asked
 by_get r method command = if bytes_eq method (codes "GET") then Ok command else Err (Bad (NotAllowed r))
 
@@ -72,7 +74,7 @@ unfoldable pub session_asked : (number : ℕ) → (method : List ℕ) → Asked
 session_asked number method =
     if bytes_eq method (codes "DELETE") then Ok (EndSession number) else Err (Bad (NotAllowed route.Session))
 
--- what a method gives on a target: a refusal where the route doesn't have it, then the body's
+-- what a method gives on a target: a refusal if the route doesn't have it, then the body's
 -- faults
 abbrev pub asked_of : Target → (method : List ℕ) → List Header → (behind : List ℕ) → Asked
 asked_of target.Maildrops method headers behind = by_get route.Maildrops method ListMaildrops
@@ -85,30 +87,40 @@ asked_of (target.Session number) method headers behind = session_asked number me
 asked_of (target.Explain clerk maildrop class action) method headers behind =
     by_get route.Explain method (Explain clerk maildrop class action)
 
--- what a head and the octets behind it give
+-- what a head and the octets after it give
 unfoldable pub asked_by : (method target : List ℕ) → List Header → (behind : List ℕ) → Asked
 asked_by method target headers behind = do
   found ← value_or (target_of target) NotFound
   asked_of found method headers behind
 
+-- the same, if the request is the site's own
+unfoldable pub asked_of_site : (site : Site) → (method target : List ℕ) → List Header
+    → (behind : List ℕ) → Asked
+asked_of_site site method target headers behind =
+    if is_own site headers then asked_by method target headers behind
+    else Err (Bad ForeignSite)
+
 -- a head that hasn't ended: more may come, up to 8,192 octets
 abbrev pub unended : List ℕ → NoCommand
 unended b = if nat_le (length b) most_in_head then More else Bad BadRequest
 
--- the text of a head and the octets behind it give this
-abbrev pub HeadComesTo : (text behind : List ℕ) → Asked → Type 0
-HeadComesTo text behind asked =
-    ((h : RequestHead) × IsHead text h × (asked ≡ asked_by h.method h.target (map name_and_value h.fields) behind))
+-- the text of a head and the octets after it give this
+abbrev pub HeadComesTo : (site : Site) → (text behind : List ℕ) → Asked → Type 0
+HeadComesTo site text behind asked =
+    ((h : RequestHead) × IsHead text h
+    × (asked ≡ asked_of_site site h.method h.target (map name_and_value h.fields) behind))
     ⊎ (IsNoHead text × (asked ≡ Err (Bad BadRequest)))
 
--- octets give this; `place` is their head's, where it has ended
-abbrev pub ComesTo : List ℕ → (place : Option (ℕ × ℕ)) → Asked → Type 0
-ComesTo b None asked = asked ≡ Err (unended b)
-ComesTo b (Some place) asked = HeadComesTo (head_text b place) (behind_head b place) asked
+-- octets give this; `place` is their head's, if it has ended
+abbrev pub ComesTo : (site : Site) → List ℕ → (place : Option (ℕ × ℕ)) → Asked → Type 0
+ComesTo site b None asked = asked ≡ Err (unended b)
+ComesTo site b (Some place) asked =
+    HeadComesTo site (head_text b place) (behind_head b place) asked
 
--- the octets of a request give this
-abbrev pub IsRequest : List ℕ → Asked → Type 0
-IsRequest b asked = ComesTo b (head_at b) asked
+-- The octets of a request give this. If the administration has a site, a request that isn't its own
+-- is refused, whatever it asks.
+abbrev pub IsRequest : (site : Site) → List ℕ → Asked → Type 0
+IsRequest site b asked = ComesTo site b (head_at b) asked
 
 -- what the code returns as a request's meaning; None at want of memory
 abbrev pub asked_in : Got → Option Asked

@@ -70,20 +70,20 @@ line_of (office.Explain clerk maildrop class action) = by Get (Explain clerk mai
 
 -- ---- of octets
 
--- the method that is spelled so; None where no route has it
+-- the method that is spelled so; None if no route has it
 abbrev pub method_of : List ℕ → Option Method
 method_of text =
     if bytes_eq text (codes "GET") then Some Get
     else if bytes_eq text (codes "PUT") then Some Put
     else if bytes_eq text (codes "DELETE") then Some Delete else None
 
--- the line of a head; None where its target names nothing, or no route has its method
+-- the line of a head; None if its target names nothing, or no route has its method
 abbrev pub line_in : (method target : List ℕ) → Option RequestLine
 line_in method target =
     option_and_then (λ named. option_map (λ asked. by asked named) (method_of method))
     (target_of target)
 
--- octets whose head, at this place, has this line; None where they have no head
+-- octets whose head, at this place, has this line; None if they have no head
 abbrev pub IsLineAt : List ℕ → (place : Option (ℕ × ℕ)) → Option RequestLine → Type 0
 IsLineAt b None line = line ≡ None
 IsLineAt b (Some place) line =

@@ -8,7 +8,7 @@ use Rattle.office.specs.Answers.{Answer, body_line, body_of}
 use Rattle.adminhttp.specs.declared.route.Route.{Route}
 use Rattle.adminhttp.specs.declared.route.Route.TheVariants.{Maildrops, Maildrop, Clerk, Policy, Groups, Sessions, Session, Explain}
 use Rattle.adminhttp.specs.declared.refusal.Refusal.{Refusal}
-use Rattle.adminhttp.specs.declared.refusal.Refusal.TheVariants.{BadRequest, NotFound, NotAllowed, LengthRequired, TooLarge, StoreFailed, OutOfMemory}
+use Rattle.adminhttp.specs.declared.refusal.Refusal.TheVariants.{BadRequest, ForeignSite, NotFound, NotAllowed, LengthRequired, TooLarge, StoreFailed, OutOfMemory}
 
 -- the head of a response: its status with the reason, further header lines, and the length of its
 -- body
@@ -17,7 +17,7 @@ response_head status further octets =
     codes "HTTP/1.1 " ++ status ++ codes "\r\nContent-Type: text/plain\r\n" ++ further
     ++ codes "Content-Length: " ++ decimal octets ++ codes "\r\nConnection: close\r\n\r\n"
 
--- a response: its head, which tells the length of its body, and the body
+-- a response: its head, which gives the length of its body, and the body
 unfoldable pub response_text : (status further body : List ℕ) → List ℕ
 response_text status further body = response_head status further (length body) ++ body
 
@@ -79,6 +79,8 @@ allow_line r = codes "Allow: " ++ methods_of r ++ codes "\r\n"
 -- the response to a refusal
 unfoldable pub refusal_response : Refusal → List ℕ
 refusal_response BadRequest = response_text (codes "400 Bad Request") [] (codes "bad request\n")
+refusal_response ForeignSite =
+    response_text (codes "403 Forbidden") [] (codes "another site's request\n")
 refusal_response NotFound = response_text (codes "404 Not Found") [] (codes "not found\n")
 refusal_response (NotAllowed r) = response_text (codes "405 Method Not Allowed") (allow_line r) (codes "method not allowed\n")
 refusal_response LengthRequired = response_text (codes "411 Length Required") [] (codes "length required\n")

@@ -15,7 +15,7 @@ abbrev pub map_ok : {A B E : Type 0} → (A → B) → Result A E → Result B E
 map_ok f (Ok x) = Ok (f x)
 map_ok f (Err e) = Err e
 
--- the value, or this refusal where there is none
+-- the value, or this refusal if there is none
 abbrev pub value_or : {A : Type 0} → Option A → Refusal → Result A NoCommand
 value_or (Some value) refusal = Ok value
 value_or None refusal = Err (Bad refusal)

@@ -20,11 +20,11 @@ None >>= f = None
 abbrev pub is_slash : ℕ → Bool
 is_slash b = b == 47
 
--- the part before the first slash, and what stands behind that slash
+-- the part before the first slash, and what stands after that slash
 abbrev pub first_part : List ℕ → Option (List ℕ × List ℕ)
 first_part text = option_map (λ at. (before_first is_slash text, drop (at + 1) text)) (position is_slash text)
 
--- what stands behind this beginning of a path
+-- what stands after this beginning of a path
 abbrev pub behind : (word : List ℕ) → List ℕ → Option (List ℕ)
 behind word path = if starts_with nat_eq path word then Some (drop (length word) path) else None
 
@@ -55,7 +55,7 @@ target_on route.Sessions path = alone (codes "/sessions") Sessions path
 target_on route.Session path = behind (codes "/sessions/") path >>= λ part. option_map Session (number_of part)
 target_on route.Explain path = behind (codes "/explain/") path >>= explained
 
--- the same, where there is a route
+-- the same, if there is a route
 abbrev pub found_on : Option Route → List ℕ → Option Target
 found_on None path = None
 found_on (Some r) path = target_on r path
@@ -74,6 +74,6 @@ target_among (r ∷ more) path = first_of (target_on r path) (target_among more 
 abbrev pub routes : List Route
 routes = route.Maildrops ∷ route.Maildrop ∷ route.Clerk ∷ route.Policy ∷ route.Groups ∷ route.Sessions ∷ route.Session ∷ route.Explain ∷ []
 
--- what a path names; None where it is of no route, or one of its parts hasn't its form
+-- what a path names; None if it is of no route, or one of its parts hasn't its form
 unfoldable pub target_of : List ℕ → Option Target
 target_of path = target_among routes path

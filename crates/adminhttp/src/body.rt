@@ -15,7 +15,7 @@ use policy::{Policy, PolicyFault};
 use std::alloc::Global;
 use std::str;
 
-/// The body that follows a head, or why there is none: its length isn't told, is too great or
+/// The body that follows a head, or why there is none: its length isn't given, is too great or
 /// isn't of its form, or more octets are to come.
 #[tactic(auto, unfolding(crate::specs::Bodies::body_of))]
 pub fn read_body<'b>(head: &Head<'b>, headers: &[HeaderSpan]) -> Result<&'b [u8], NoCommand>
@@ -45,7 +45,7 @@ pub fn without_line_end(text: &[u8]) -> &[u8]
 }
 
 /// The credential that a clerk's body spells: `apop` or `pass`, a space, and the secret or the
-/// password. `None` where it isn't of that form.
+/// password. `None` if it isn't of that form.
 #[tactic(auto, unfolding(crate::specs::Bodies::credential_of))]
 pub fn read_credential(clerk: &Name, text: &[u8]) -> Option<Credential>
     ensures { result ≡ credential_of clerk.now text.now }

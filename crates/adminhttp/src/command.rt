@@ -60,7 +60,7 @@ pub fn read_command(
     }
 }
 
-/// The command, where the method is GET, which is the route's only one.
+/// The command, if the method is GET, which is the route's only one.
 fn by_get(route: Route, method: &[u8], command: AdminCommand) -> Result<AdminCommand, NoCommand>
     ensures { map_ok command_seen result ≡ by_get route method.now (command_seen command) }
 {

@@ -1,4 +1,4 @@
-//! What a response tells, as a log tells it: its status code, and the line of its body.
+//! What a response says, as a log has it: its status code, and the line of its body.
 
 ghost use Rattle.std.specs.Prelude.{◌≡◌, ◌++◌, IfOk, option_map, string_bytes, Some, codes};
 ghost use Rattle.std.specs.Fmt.{decimal};
@@ -16,7 +16,7 @@ use office::Answer;
 use policy::{Decision, PolicyFault};
 use std::alloc::{AllocError, Global};
 
-/// What a response tells.
+/// What a response says.
 #[derive(Clone, Copy)]
 pub enum Content<'a> {
     /// The answer to a command.
@@ -40,7 +40,7 @@ impl Content<'_> {
         }
     }
 
-    /// The line of the response's body, without its LF; `None` where it is rows or a policy. An
+    /// The line of the response's body, without its LF; `None` if it is rows or a policy. An
     /// `Err` is want of memory.
     pub fn line(&self, alloc: Global) -> Result<Option<String>, AllocError>
         ensures { IfOk result (λ line. option_map string_bytes line ≡ line_told self.now) }
@@ -88,6 +88,7 @@ fn code_of_refusal(refusal: Refusal) -> &'static str
 {
     match refusal {
         Refusal::BadRequest => "400",
+        Refusal::ForeignSite => "403",
         Refusal::NotFound => "404",
         Refusal::NotAllowed(_) => "405",
         Refusal::LengthRequired => "411",
@@ -96,7 +97,7 @@ fn code_of_refusal(refusal: Refusal) -> &'static str
     }
 }
 
-/// The line of an answer's body; `None` where it is rows or a policy.
+/// The line of an answer's body; `None` if it is rows or a policy.
 fn answer_line(alloc: Global, answer: &Answer) -> Result<Option<String>, AllocError>
     ensures { IfOk result (λ line. option_map string_bytes line
         ≡ line_of_answer (answer_seen answer.now)) }
@@ -180,12 +181,13 @@ fn decision_line(alloc: Global, decision: Decision) -> Result<Option<String>, Al
     }
 }
 
-/// What a refusal is told as.
+/// What a refusal is logged as.
 fn refusal_line(alloc: Global, refusal: Refusal) -> Result<Option<String>, AllocError>
     ensures { IfOk result (λ line. option_map string_bytes line ≡ Some (refusal_text refusal)) }
 {
     match refusal {
         Refusal::BadRequest => word(alloc, "bad request"),
+        Refusal::ForeignSite => word(alloc, "another site's request"),
         Refusal::NotFound => word(alloc, "not found"),
         Refusal::NotAllowed(_) => word(alloc, "method not allowed"),
         Refusal::LengthRequired => word(alloc, "length required"),

@@ -18,7 +18,7 @@ use httparse::spans::HeaderSpan;
 pub const MAX_BODY: usize = 1_048_576;
 
 /// Whether a header has this name, which is given in small letters, in letters of either case.
-fn has_name(text: &[u8], header: &HeaderSpan, word: &[u8]) -> bool
+pub fn has_name(text: &[u8], header: &HeaderSpan, word: &[u8]) -> bool
     requires within { IsHeaderWithin (length text.now) header.now }
     requires small { map to_ascii_lowercase word.now ≡ word.now }
     ensures { result ≡ is_named word.now (header_bytes text.now header.now) }
@@ -74,14 +74,14 @@ fn length_field<'t>(text: &'t [u8], headers: &[HeaderSpan]) -> Result<&'t [u8], 
 }
 
 /// Whether these are decimal digits.
-fn are_digits(value: &[u8]) -> bool
+pub fn are_digits(value: &[u8]) -> bool
     ensures { result ≡ list_all is_ascii_digit value.now }
 {
     value.iter().all(|b| b.is_ascii_digit())
 }
 
 /// The number that decimal digits write, at most 1,048,576.
-fn read_digits(digits: &[u8]) -> Option<usize>
+pub fn read_digits(digits: &[u8]) -> Option<usize>
     requires { IsTrue (list_all is_ascii_digit digits.now) }
     ensures { result ≡ (if nat_le (digits_value 10 digits.now) MAX_BODY then Some
         (digits_value 10 digits.now) else None) }

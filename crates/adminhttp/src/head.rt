@@ -22,7 +22,7 @@ pub struct Head<'b> {
     pub target: &'b [u8],
     /// How many headers there are.
     pub headers: usize,
-    /// The octets behind the head.
+    /// The octets after the head.
     pub behind: &'b [u8],
 }
 

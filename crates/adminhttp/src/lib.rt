@@ -17,6 +17,7 @@ mod request_line;
 mod responses;
 mod route;
 mod router;
+mod sites;
 mod target;
 
 pub use content::Content;

@@ -3,7 +3,7 @@
 ghost use Rattle.std.specs.Prelude.{◌≡◌, ◌+◌, ◌≤◌, length, true, IfSome, if◌then◌else◌};
 ghost use Rattle.adminhttp.specs.Lines.{empty_line, empty_lines, through_empty_line};
 
-/// The octets of the empty line that a text begins with, LF or CR LF; 0 where it begins with none.
+/// The octets of the empty line that a text begins with, LF or CR LF; 0 if it begins with none.
 fn empty_line_len(text: &[u8]) -> usize
     ensures value { result ≡ empty_line text.now }
     ensures within { result ≤ length text.now }
@@ -31,7 +31,7 @@ pub fn empty_lines_len(octets: &[u8]) -> usize
     at
 }
 
-/// The same where the text stands at the beginning of a line, as `fresh` says; else 0.
+/// The same if the text stands at the beginning of a line, as `fresh` says; else 0.
 fn end_len(fresh: bool, text: &[u8]) -> usize
     ensures value { result ≡ (if fresh then empty_line text.now else 0) }
     ensures within { result ≤ length text.now }
@@ -39,7 +39,7 @@ fn end_len(fresh: bool, text: &[u8]) -> usize
     if fresh { empty_line_len(text) } else { 0 }
 }
 
-/// How many octets a head has, its empty line with them; `None` where none has come.
+/// How many octets a head has, its empty line with them; `None` if none has come.
 pub fn head_len(octets: &[u8]) -> Option<usize>
     ensures value { result ≡ through_empty_line true octets.now }
     ensures within { IfSome result (λ n. n ≤ length octets.now) }

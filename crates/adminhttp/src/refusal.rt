@@ -1,4 +1,4 @@
-//! Refusals, and the fixed responses that tell them.
+//! Refusals, and their fixed responses.
 
 use crate::route::Route;
 
@@ -7,6 +7,8 @@ use crate::route::Route;
 pub enum Refusal {
     /// 400: the head, a body's length or a clerk's body isn't of its form.
     BadRequest,
+    /// 403: the administration has a site, and the request isn't its own.
+    ForeignSite,
     /// 404: the target is of no route, or one of its parts hasn't its form.
     NotFound,
     /// 405: the route doesn't have this method.

@@ -14,7 +14,7 @@ pub struct Request;
 pub enum Got {
     /// More octets are to come.
     More,
-    /// The request is refused; where several causes hold, for the first in order.
+    /// The request is refused; if several causes hold, for the first in order.
     Bad(Refusal),
     /// The body of PUT on the policy is no policy, for this cause (never want of memory).
     BadPolicy(PolicyFault),

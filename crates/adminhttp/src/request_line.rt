@@ -37,7 +37,7 @@ impl Method {
         }
     }
 
-    /// The method that is spelled so; `None` where no route has it.
+    /// The method that is spelled so; `None` if no route has it.
     fn read(text: &[u8]) -> Option<Method>
         ensures { result ≡ method_of text.now }
     {
@@ -95,7 +95,7 @@ impl RequestLine {
         }
     }
 
-    /// The line of a request's octets; `None` where their head hasn't ended or is none, its target
+    /// The line of a request's octets; `None` if their head hasn't ended or is none, its target
     /// names nothing, or no route has its method. An `Err` is want of memory.
     pub fn read(alloc: Global, octets: &[u8]) -> Result<Option<RequestLine>, AllocError>
         ensures { IfOk result (IsLine octets.now) }

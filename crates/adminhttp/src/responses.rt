@@ -28,7 +28,7 @@ pub fn policy_response(alloc: Global, fault: &PolicyFault) -> Result<Vec<u8>, Al
     respond(alloc, "400 Bad Request", body.as_bytes())
 }
 
-/// The line that tells a policy's fault.
+/// The line of a policy's fault.
 fn fault_line(alloc: Global, fault: PolicyFault) -> Result<String, AllocError>
     ensures { IfOk result (λ line. string_bytes line ≡ body_line (text_of_fault fault)) }
 {

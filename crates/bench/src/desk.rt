@@ -10,7 +10,7 @@ use vault::Vault;
 pub trait Desk {
     /// Does an event. Answers the number of the connection that it opens, and 0 for other events.
     ///
-    /// Gives `fault` where the event isn't done, or where it is a deposit that isn't new.
+    /// Gives `fault` if the event isn't done, or if it is a deposit that isn't new.
     fn perform(&mut self, event: Event<'_>, fault: Fault) -> Result<u64, Fault>;
 
     /// The octets that a connection is owed.
@@ -38,7 +38,7 @@ impl<V: Vault> Desk for Office<V> {
     }
 }
 
-/// Opens an office over a vault. Gives the vault back where it isn't opened.
+/// Opens an office over a vault. Gives the vault back if it isn't opened.
 pub fn opened<V: Vault>(alloc: Global, vault: V) -> Result<Office<V>, (Fault, V)> {
     let Some(limits) = Limits::new(600) else {
         return Err((Fault::Opening, vault));

@@ -2,7 +2,7 @@
 //! prints its times; without a number it prints nothing.
 //!
 //! - `texts OCTETS`: keeping, sending and reading message texts.
-//! - `rules COUNT`: a policy of that many rules. `groups COUNT`: the same, where all rules are
+//! - `rules COUNT`: a policy of that many rules. `groups COUNT`: the same, if all rules are
 //!   about 100 groups of 200 members. `copies COUNT`: holds that many policies of 1,000 rules, so
 //!   that their memory can be seen from outside.
 //! - `sheets OCTETS [FILE]`: the tables of a store in memory, or in a file that isn't there yet.
@@ -59,7 +59,7 @@ fn run(rt: &HostRuntime, what: &str, count: u32, over: &str, path: &str) -> Resu
     }
 }
 
-/// The word, or an empty one where there is none.
+/// The word, or an empty one if there is none.
 fn said(word: &Option<String>) -> &str {
     match word {
         Some(word) => word.as_str(),

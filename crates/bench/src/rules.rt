@@ -36,7 +36,7 @@ fn members_text(alloc: Global) -> Result<String, AllocError> {
     Ok(text)
 }
 
-/// Puts 100 groups, the most that a policy may have, behind a text, each of the same 200 members.
+/// Puts 100 groups, the most that a policy may have, after a text, each of the same 200 members.
 fn put_groups(alloc: Global, text: &mut String) -> Result<(), AllocError> {
     let members = members_text(alloc)?;
     for n in 0..MAX_GROUPS {
@@ -121,7 +121,7 @@ fn tell(
     tell_decisions(rt, policy, "nobody")
 }
 
-/// Reads a policy, and prints how many microseconds its uses take. `None` where the text is no
+/// Reads a policy, and prints how many microseconds its uses take. `None` if the text is no
 /// policy.
 fn measure_text(rt: &(impl Print + AllocGlobal + Clock), text: &str) -> io::Result<Option<Policy>> {
     let start = Instant::now(rt)?;

@@ -110,7 +110,7 @@ pub fn measure(
     }
 }
 
-/// Runs a measure over the tables of a store in a file, or in memory where the path is empty.
+/// Runs a measure over the tables of a store in a file, or in memory if the path is empty.
 pub fn measure_tables(rt: &HostRuntime, job: Job, count: u32, path: &str) -> Result<(), Fault> {
     if path == "" {
         return run_over(rt, SqlVault::in_memory(rt.alloc())?, job, count).0;

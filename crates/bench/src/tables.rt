@@ -11,7 +11,7 @@ pub trait Tables {
     /// Answers its key.
     fn write_message(&mut self, text: &[u8], octets: u32) -> Result<i64, Error>;
 
-    /// How many octets the message's sheet at a place has; 0 where there is none.
+    /// How many octets the message's sheet at a place has; 0 if there is none.
     fn sheet_octets(&mut self, alloc: Global, key: i64, place: i64) -> Result<u64, Error>;
 
     /// Writes two clerks, a group of both, a rule, a count and a deposit.

@@ -8,16 +8,16 @@ use std::alloc::Global;
 use std::io;
 use std::io::Write;
 
-/// What a field of a line is, by which the form that it must have is told.
+/// What a field of a line is, which says the form that it must have.
 #[derive(Clone, Copy)]
 enum Kind {
     Number,
     Name,
     Id,
     Action,
-    /// The rest of a line, with escapes. It is never told.
+    /// The rest of a line, with escapes. It is never printed.
     Text,
-    /// A text that stands for a clerk's secret or password. It is never told.
+    /// A text that stands for a clerk's secret or password. It is never printed.
     Secret,
 }
 
@@ -79,7 +79,7 @@ fn with_fields(words: &'static str, fields: &'static [(&'static str, Kind)]) -> 
     Row { words, fields }
 }
 
-/// Tells why a script's line isn't an event; nothing where it is one. Lines are counted from 1.
+/// Prints why a script's line isn't an event; nothing if it is one. Lines are counted from 1.
 pub fn tell_bad_line<E: Write>(
     alloc: Global,
     err: &mut E,
@@ -102,7 +102,7 @@ pub fn tell_bad_line<E: Write>(
     writeln!(err)
 }
 
-/// The word that a line begins with; behind `maildrop` and `clerk` the next one too.
+/// The word that a line begins with; after `maildrop` and `clerk` the next one too.
 fn first_words(line: &[u8]) -> &[u8] {
     let is_pair = line.starts_with(b"maildrop ") || line.starts_with(b"clerk ");
     let mut words = line.split(|octet| *octet == b' ');
@@ -117,7 +117,7 @@ fn first_words(line: &[u8]) -> &[u8] {
 }
 
 /// Tells the word of this place, counted from 0, by the field of the form that it is. Of a form that
-/// has a TEXT no word is told: where a field is left out, it is one of that text.
+/// has a TEXT no word is printed: if a field is left out, it is one of that text.
 fn tell_word<E: Write>(err: &mut E, row: Row, line: &[u8], place: usize) -> io::Result<()> {
     tell_form(err, row)?;
     let words = count_of(row.words);
@@ -153,13 +153,13 @@ fn text_from(line: &[u8], place: usize) -> Option<&[u8]> {
     Some(rest)
 }
 
-/// What stands behind the first space.
+/// What stands after the first space.
 fn behind_space(text: &[u8]) -> Option<&[u8]> {
     let at = text.iter().position(|octet| *octet == b' ')?;
     text.get(at.saturating_add(1)..)
 }
 
-/// Tells the form that a line must have.
+/// Prints the form that a line must have.
 fn tell_form<E: Write>(err: &mut E, row: Row) -> io::Result<()> {
     write!(err, "`{}", row.words)?;
     for (field, _) in row.fields {
@@ -185,7 +185,7 @@ fn form_text(kind: Kind) -> &'static str {
     }
 }
 
-/// Tells the form that a field must have, and not its value.
+/// Prints the form that a field must have, and not its value.
 fn tell_untold<E: Write>(err: &mut E, field: &str, kind: Kind) -> io::Result<()> {
     match kind {
         Kind::Text => {
@@ -200,7 +200,7 @@ fn tell_untold<E: Write>(err: &mut E, field: &str, kind: Kind) -> io::Result<()>
 }
 
 /// Tells the first word of what stands at a field's place, and what is wrong with it: the form that
-/// it must have, or that more stands behind the last field.
+/// it must have, or that more stands after the last field.
 fn tell_field<E: Write>(
     err: &mut E,
     field: &str,
@@ -218,10 +218,10 @@ fn tell_field<E: Write>(
     }
 }
 
-/// How many octets of a value are told at most.
+/// How many octets of a value are printed at most.
 const MOST: usize = 64;
 
-/// Tells a value with the escapes of scripts; of a long value its first octets.
+/// Prints a value with the escapes of scripts; of a long value its first octets.
 pub(super) fn tell_value<E: Write>(err: &mut E, value: &[u8]) -> io::Result<()> {
     write!(err, "`")?;
     match value.get(..MOST) {

@@ -8,7 +8,7 @@ use std::io::Write;
 use std::{io, str};
 use toml::{Table, Value};
 
-/// Tells why octets aren't a policy; nothing where they are one.
+/// Prints why octets aren't a policy; nothing if they are one.
 pub fn tell_bad_policy<E: Write>(
     alloc: Global,
     err: &mut E,
@@ -49,7 +49,7 @@ fn line_at(octets: &[u8], place: usize) -> usize {
     line
 }
 
-/// Tells a fault of a policy whose text is TOML.
+/// Prints a fault of a policy whose text is TOML.
 fn tell_fault_in<E: Write>(
     err: &mut E,
     name: &str,
@@ -83,7 +83,7 @@ fn tell_fault_in<E: Write>(
     }
 }
 
-/// Tells a fault of the policy as a whole.
+/// Prints a fault of the policy as a whole.
 fn tell_whole<E: Write>(err: &mut E, name: &str, placed: PlacedFault) -> io::Result<()> {
     match placed.fault {
         PolicyFault::NotToml => {
@@ -105,7 +105,7 @@ fn table_at<'a>(table: &'a Table, list: &str, number: usize) -> Option<&'a Table
     values.get(number.checked_sub(1)?)?.as_table()
 }
 
-/// The key that a place is; empty where it is none by its name.
+/// The key that a place is; empty if it is none by its name.
 fn key_at(place: Place) -> &'static str {
     match place {
         Place::Groups => "group",
@@ -121,7 +121,7 @@ fn key_at(place: Place) -> &'static str {
     }
 }
 
-/// Tells the key of a group's or a rule's table that has a fault.
+/// Prints the key of a group's or a rule's table that has a fault.
 fn tell_in<E: Write>(
     err: &mut E,
     table: &Table,
@@ -150,7 +150,7 @@ fn tell_in<E: Write>(
     }
 }
 
-/// The form that a value of this place must have, where it has this fault.
+/// The form that a value of this place must have, if it has this fault.
 fn form_at(placed: PlacedFault) -> &'static str {
     match (placed.fault, placed.place) {
         (PolicyFault::UnknownGroup(_), _) => "and no group has this name",
@@ -163,7 +163,7 @@ fn form_at(placed: PlacedFault) -> &'static str {
     }
 }
 
-/// Tells the key that a table lacks, or the one that none of its kind has.
+/// Prints the key that a table lacks, or the one that none of its kind has.
 fn tell_keys<E: Write>(err: &mut E, one: &Table, place: Place, keys: &str) -> io::Result<()> {
     match place {
         Place::Stray(_) => {
@@ -175,7 +175,7 @@ fn tell_keys<E: Write>(err: &mut E, one: &Table, place: Place, keys: &str) -> io
     }
 }
 
-/// Tells the key of this place in a table.
+/// Prints the key of this place in a table.
 fn tell_stray<E: Write>(err: &mut E, table: &Table, place: Place) -> io::Result<()> {
     let Place::Stray(at) = place else {
         return Ok(());
@@ -186,7 +186,7 @@ fn tell_stray<E: Write>(err: &mut E, table: &Table, place: Place) -> io::Result<
     }
 }
 
-/// Tells what is wrong with a group's members.
+/// Prints what is wrong with a group's members.
 fn tell_members<E: Write>(err: &mut E, group: &Table, place: Place) -> io::Result<()> {
     let Some(members) = members_of(group) else {
         let form = "and not an array of 1 to 200 names";
@@ -216,7 +216,7 @@ fn members_of(group: &Table) -> Option<&[Value]> {
     Some(group.get("members")?.as_array()?)
 }
 
-/// Tells the item of this place.
+/// Prints the item of this place.
 fn tell_item<E: Write>(err: &mut E, items: &[Value], at: usize) -> io::Result<()> {
     match items.get(at) {
         Some(item) => tell_setting(err, item),
@@ -224,7 +224,7 @@ fn tell_item<E: Write>(err: &mut E, items: &[Value], at: usize) -> io::Result<()
     }
 }
 
-/// Tells which earlier group or rule has the name of this one.
+/// Prints which earlier group or rule has the name of this one.
 fn tell_double<E: Write>(err: &mut E, table: &Table, list: &str, one: &Table) -> io::Result<()> {
     let text = text_at(one, "name");
     write!(err, "`name` is ")?;
@@ -250,7 +250,7 @@ fn first_of_name(table: &Table, list: &str, name: &str) -> Option<usize> {
     None
 }
 
-/// The text at a key; empty where there is none.
+/// The text at a key; empty if there is none.
 fn text_at<'a>(table: &'a Table, key: &str) -> &'a str {
     match table.get(key) {
         Some(value) => value.as_str().unwrap_or(""),
@@ -258,7 +258,7 @@ fn text_at<'a>(table: &'a Table, key: &str) -> &'a str {
     }
 }
 
-/// Tells the value at a key of a group or rule, and the form that it must have.
+/// Prints the value at a key of a group or rule, and the form that it must have.
 fn tell_of_key<E: Write>(err: &mut E, table: &Table, key: &str, form: &str) -> io::Result<()> {
     write!(err, "`{key}` is ")?;
     if let Some(value) = table.get(key) {
@@ -267,7 +267,7 @@ fn tell_of_key<E: Write>(err: &mut E, table: &Table, key: &str, form: &str) -> i
     writeln!(err, ", {form}")
 }
 
-/// Tells a value: a text itself, of any other value its type.
+/// Prints a value: a text itself, of any other value its type.
 fn tell_setting<E: Write>(err: &mut E, value: &Value) -> io::Result<()> {
     match value {
         Value::String(text) => tell_value(err, text.as_bytes()),

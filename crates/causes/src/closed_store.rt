@@ -12,7 +12,7 @@ use vault::VaultFault;
 /// How many megabytes an opening takes beside the largest table, at most.
 const BESIDE: u64 = 16;
 
-/// Tells why the store at a path was refused with a fault.
+/// Prints why the store at a path was refused with a fault.
 pub fn tell_closed_store<E: Write>(
     rt: &HostRuntime,
     err: &mut E,
@@ -41,7 +41,7 @@ pub fn tell_closed_store<E: Write>(
     }
 }
 
-/// Tells why the files of a store can't be opened.
+/// Prints why the files of a store can't be opened.
 fn tell_unopened<E: Write>(err: &mut E, path: &str, error: OpenError) -> io::Result<()> {
     match error {
         OpenError::Busy => {
@@ -69,7 +69,7 @@ fn tell_size<E: Write>(rt: &HostRuntime, err: &mut E, path: &str) -> io::Result<
     )
 }
 
-/// How many octets the file at a path has; 0 where there is none.
+/// How many octets the file at a path has; 0 if there is none.
 fn octets_of(rt: &HostRuntime, path: &str) -> u64 {
     match fs::metadata(rt, path) {
         Ok(metadata) => metadata.len(),
@@ -101,7 +101,7 @@ pub fn tell_tables<S: Alter, E: Write>(
     }
 }
 
-/// Tells what has the name of a table of ours, in a database without our version row.
+/// Prints what has the name of a table of ours, in a database without our version row.
 fn tell_taken<E: Write>(err: &mut E, taken: Option<Taken>) -> io::Result<()> {
     let (kind, table) = match taken {
         Some(Taken::Table(table)) => ("table", table),
@@ -116,7 +116,7 @@ fn tell_taken<E: Write>(err: &mut E, taken: Option<Taken>) -> io::Result<()> {
     )
 }
 
-/// Tells why a database with our table `meta` is no store.
+/// Prints why a database with our table `meta` is no store.
 fn tell_meta_rows<S: Alter, E: Write>(
     alloc: Global,
     err: &mut E,
@@ -141,7 +141,7 @@ fn tell_meta_rows<S: Alter, E: Write>(
     }
 }
 
-/// Tells of a version that is unknown here.
+/// Prints that a version is unknown here.
 fn tell_unknown<E: Write>(err: &mut E, found: i64) -> io::Result<()> {
     if found > NEWEST {
         writeln!(
@@ -156,7 +156,7 @@ fn tell_unknown<E: Write>(err: &mut E, found: i64) -> io::Result<()> {
     }
 }
 
-/// Tells which of the tables or the rows of a store of this version isn't ours.
+/// Prints which of the tables or the rows of a store of this version isn't ours.
 fn tell_contents<S: Alter, E: Write>(
     alloc: Global,
     err: &mut E,
@@ -192,7 +192,7 @@ fn name_of(table: OurTable) -> &'static str {
     }
 }
 
-/// Tells of a table that a store of its version has, and that is missing, or has other columns or
+/// Reports a table that a store of its version has, and that is missing, or has other columns or
 /// keys.
 fn tell_lacked<E: Write>(err: &mut E, table: OurTable) -> io::Result<()> {
     let name = name_of(table);
@@ -202,7 +202,7 @@ fn tell_lacked<E: Write>(err: &mut E, table: OurTable) -> io::Result<()> {
     )
 }
 
-/// Tells which part of the rows of our tables isn't sound.
+/// Prints which part of the rows of our tables isn't sound.
 fn tell_rows<S: Alter, E: Write>(
     alloc: Global,
     err: &mut E,
@@ -215,7 +215,7 @@ fn tell_rows<S: Alter, E: Write>(
     }
 }
 
-/// Tells of a part of the rows that isn't sound, by its tables.
+/// Reports a part of the rows that isn't sound, by its tables.
 fn tell_part<E: Write>(err: &mut E, part: Part) -> io::Result<()> {
     match part {
         Part::Clerks => tell_unsound(err, "table `clerks`"),
@@ -227,12 +227,12 @@ fn tell_part<E: Write>(err: &mut E, part: Part) -> io::Result<()> {
     }
 }
 
-/// Tells of tables with a row that is no sound record.
+/// Reports tables with a row that is no sound record.
 fn tell_unsound<E: Write>(err: &mut E, tables: &str) -> io::Result<()> {
     writeln!(err, "a row of its {tables} is no sound record")
 }
 
-/// Tells of tables with a row that is no sound record by itself, or with those of the others.
+/// Reports tables with a row that is no sound record by itself, or with those of the others.
 fn tell_joined<E: Write>(err: &mut E, tables: &str) -> io::Result<()> {
     writeln!(
         err,

@@ -32,7 +32,7 @@ impl<R> Keeping<R> {
         self.refusal
     }
 
-    /// Keeps its error, where that isn't a signal that broke in.
+    /// Keeps its error, if that isn't a signal that broke in.
     fn keep_refusal(&mut self, error: Error) {
         if error.kind() != ErrorKind::Interrupted {
             self.refusal = Some(error);

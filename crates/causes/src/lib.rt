@@ -22,7 +22,7 @@ pub use watched::Watched;
 /// What faults call standard input.
 pub const STANDARD_INPUT: &str = "standard input";
 
-/// Tells that a file, or standard input, can't be opened or read. Gives the exit status.
+/// Prints that a file, or standard input, can't be opened or read. Gives the exit status.
 pub fn tell_unread<E: Write>(err: &mut E, is_verbose: bool, name: &str, error: &Error) -> u8
     ensures { result ≡ 1 }
 {
@@ -33,14 +33,14 @@ pub fn tell_unread<E: Write>(err: &mut E, is_verbose: bool, name: &str, error: &
     status
 }
 
-/// Tells what the system answered to standard input or output, where it refused.
+/// Prints what the system answered to standard input or output, if it refused.
 pub fn tell_refusal<E: Write>(err: &mut E, name: &str, refusal: Option<Error>) {
     if let Some(error) = refusal {
         let _ = writeln!(err, "why: {name}: {error}");
     }
 }
 
-/// Tells the form of a host's name, where this is none.
+/// Prints the form of a host's name, if this is none.
 pub fn tell_host<E: Write>(err: &mut E, host: &str) {
     if HostName::read(host.as_bytes()).is_none() {
         let _ = writeln!(

@@ -86,7 +86,7 @@ module _ (B : Records) (c : ℕ) (past : List (Act × Tag)) (octets written : Li
   takes k lends count first before now h (outcome.Ignored r) is cause = taken_on k lends count first before now h (outcome.Ignored r) is cause refl
   takes k lends count first before now h (outcome.Answered a) is cause = taken_on k lends count first before now h (outcome.Answered a) is cause refl
 
-  -- where something is lent, the conversation goes on
+  -- if something is lent, the conversation goes on
   pub taking : (first now : ℕ) → Midway first now B c past octets written L → 0 < n → n ≤ length lent → IsLent (rest (trace_of B L) c) lent → IsTaking B c past octets written n lent L
   taking first now m some fits is = ⊎_elim
       (λ (g : GoesOn B c past octets written L). record { on = g; some = some; fits = fits; is = is })
@@ -160,7 +160,7 @@ refused_as (Err y) e h = ap (λ z. Err z) h
 pub not_ok : {A E : Type 0} (r : Result A E) (e : E) (a : A) → r ≡ Err e → r ≡ Ok a → ⊥
 not_ok r e a p q = cc
 
--- ---- where nothing is owed
+-- ---- if nothing is owed
 
 ready_if : (b : Bool) (r : List ℕ) → b ≡ true → r ≡ [] → (b && is_empty r) ≡ true
 ready_if b r e f = rw (e, f) refl
@@ -198,7 +198,7 @@ one_taken c older L n m w = one_more c older L (event.Took c n, m) (eq-eqb c c r
 pub one_gone : (c : ℕ) (older L : Log) (m : EventTag) → Extends c older L → Extends c older ((event.Gone c, m) ∷ L)
 one_gone c older L m w = one_more c older L (event.Gone c, m) (eq-eqb c c refl) w
 
--- what a turn of writing says where it wrote nothing, and where it wrote something
+-- what a turn of writing says if it wrote nothing, and if it wrote something
 pub none_written : {A : Type 0} (b : Bool) (P Q : A → Type 0) (L : A) → b ≡ false → cond b (P L) (Q L) → Q L
 none_written true P Q L e h = cc
 none_written false P Q L e h = h

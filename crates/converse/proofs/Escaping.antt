@@ -9,7 +9,7 @@ use Rattle.std.specs.Prelude.{option_map}
 use Rattle.creds.specs.Names.{is_printable}
 use Rattle.converse.specs.Escapes.{escape, escaped, by_digits, led, unescaped, IsReadBack}
 
--- octets in front of the octets of a rest, where that has octets
+-- octets in front of the octets of a rest, if that has octets
 abbrev pub behind : List ℕ → Option (List ℕ) → Option (List ℕ)
 behind before rest = option_map (λ octets. before ++ octets) rest
 

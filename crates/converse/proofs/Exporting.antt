@@ -15,7 +15,7 @@ use Rattle.vault.specs.declared.record.Receipt.{Receipt}
 use Rattle.vault.proofs.ListLemmas.{bytes_are}
 use Rattle.vault.specs.Calls.{text_under, has_grown, IsRefusal}
 use Rattle.vault.specs.Changes.{Contents, AreSound, head_of, heads, kept_in}
-use Rattle.converse.specs.Causes.{IsRefused, IsExportFault, IsExportEnd, IsCheckEnd}
+use Rattle.converse.specs.Causes.{IsRefused, IsExportFault, IsExportEnd}
 use Rattle.converse.specs.declared.fault.Fault.{Fault}
 use Rattle.converse.specs.declared.fault.Fault.TheVariants as fault
 use Rattle.converse.proofs.Clauses.{grown_since}
@@ -48,12 +48,12 @@ pub record Puts {V : Type 0} (Holds : V → Contents → Type 0) (IsClean : V �
 pub counts_on : (a b d : ℕ) → a ≤ b → b ≤ d → a ≤ d
 counts_on a b d p q = omega (arith, p, q)
 
--- a folder that refused is told as want of memory, or its count grew
+-- a folder that refused is reported as want of memory, or its count grew
 pub put_cause : (failed written : Bool) (P : VaultFault → Type 0) (f : Fault) → (f ≡ fault.CannotPut) ⊎ (f ≡ fault.OutOfMemory) → failed ≡ true → IsExportFault failed written P f
 put_cause failed written P f (inl e) g = subst (IsExportFault failed written P) (sym e) g
 put_cause failed written P f (inr e) g = subst (IsExportFault failed written P) (sym e) tt
 
--- a cause is one still where more failed
+-- a cause is one still if more failed
 pub cause_still : (put more written further : Bool) (P Q : VaultFault → Type 0) → (put ≡ true → more ≡ true) → (written ≡ true → further ≡ true) → ((e : VaultFault) → P e → Q e)
     → (f : Fault) → IsExportFault put written P f → IsExportFault more further Q f
 cause_still put more written further P Q p w q fault.CannotRead h = absurd h
@@ -80,7 +80,7 @@ refused_since there first before now l vault.NotOurs h = absurd h
 refused_since there first before now l vault.OldVersion h = absurd h
 refused_since there first before now l vault.NoClerk h = absurd h
 
--- what is there isn't told as missing
+-- what is there isn't reported as missing
 pub refused_there : (there counted : Bool) (e : VaultFault) → IsRefused true counted e → IsRefused there counted e
 refused_there there counted vault.NoMaildrop h = absurd (true≢false h)
 refused_there there counted vault.Conflict h = absurd h
@@ -179,7 +179,7 @@ front_then (x ∷ xs) ys (t ∷ text) e f =
 pub whole_text : (xs text : List ℕ) (n : ℕ) → n ≡ length text → IsFront xs text → n ≤ length xs → xs ≡ text
 whole_text xs text n e f l = f ∙ take_all (length xs) text (omega (arith, e, l))
 
--- the next octets stand behind the front that was read
+-- the next octets stand after the front that was read
 pub front_more : (old new more ys text : List ℕ) (from : ℕ) → from ≡ length old → new ≡ old ++ more → more ≡ ys → ys ≡ take (length ys) (drop from text)
     → IsFront old text → IsFront new text
 front_more old new more ys text from at is same next front =
@@ -367,30 +367,3 @@ end_of D put written P fault.CannotPut h = h
 end_of D put written P fault.CannotWrite h = h
 end_of D put written P fault.Differs h = absurd h
 end_of D put written P fault.OutOfMemory h = h
-
-pub checked_end : (put written : Bool) (P : VaultFault → Type 0) (f : Fault) → IsExportFault put written P f → IsCheckEnd ⊥ f
-checked_end put written P fault.CannotRead h = tt
-checked_end put written P (fault.BadEvent n) h = tt
-checked_end put written P fault.BadHost h = tt
-checked_end put written P (fault.Store e) h = tt
-checked_end put written P (fault.Talk e) h = tt
-checked_end put written P (fault.NoPolicy e) h = tt
-checked_end put written P fault.NoClock h = tt
-checked_end put written P fault.CannotPut h = tt
-checked_end put written P fault.CannotWrite h = tt
-checked_end put written P fault.Differs h = absurd h
-checked_end put written P fault.OutOfMemory h = tt
-
--- so is one that says so in any case
-pub checked_any : (D : Type 0) (f : Fault) → IsCheckEnd ⊥ f → IsCheckEnd D f
-checked_any D fault.CannotRead h = tt
-checked_any D (fault.BadEvent n) h = tt
-checked_any D fault.BadHost h = tt
-checked_any D (fault.Store e) h = tt
-checked_any D (fault.Talk e) h = tt
-checked_any D (fault.NoPolicy e) h = tt
-checked_any D fault.NoClock h = tt
-checked_any D fault.CannotPut h = tt
-checked_any D fault.CannotWrite h = tt
-checked_any D fault.Differs h = absurd h
-checked_any D fault.OutOfMemory h = tt

@@ -21,5 +21,6 @@ pub mod Stopping
 pub mod Exporting
 pub mod Checking
 mod Reasons
-pub mod Forming
 pub mod Sifting
+pub mod Refusals
+mod Policies

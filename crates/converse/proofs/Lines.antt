@@ -1,4 +1,4 @@
--- Lines that act, one behind another, and those of a stream that goes on.
+-- Lines that act, one after another, and those of a stream that goes on.
 use Rattle.std.proofs.Common.{◌≡◌, ℕ, suc, ◌<◌, ◌≤◌, Bool, true, false, ◌&&◌, cond, List, [], ◌∷◌, ◌++◌, length, map, refl, sym, ◌∙◌, ap, arith, slice_get, Some, ◌==◌, drop}
 use Rattle.std.specs.List.{zip}
 use Rattle.popline.specs.Cutting.{Cut, cut_of, cut, pieces, onto_first, has_newline}
@@ -145,7 +145,7 @@ fit_append B c ((x, t) ∷ lines) last H =
 -- ---- those of a stream
 
 module _ (B : Records) (c : ℕ) (octets : List ℕ) (tags : List Tag) (old : List (Act × Tag)) where
-  -- octets that come behind change nothing of what acted
+  -- octets that come after change nothing of what acted
   pub spoken_on : (piece : List ℕ) → length tags ≤ length (cut octets) → spoken B c (octets ++ piece) tags old ≡ spoken B c octets tags old
   spoken_on piece some =
       let f = further octets piece in
@@ -169,7 +169,7 @@ module _ (B : Records) (c : ℕ) (octets : List ℕ) (tags : List Tag) (old : Li
       ap (λ lines. tags_fit B c lines (opened_on c old)) (zip_next (cut octets) tags x t there)
       ∙ (fit_append B c (zip (cut octets) tags) ((x, t) ∷ []) (opened_on c old) ∙ rw (fit, on, may) refl)
 
-  -- where no line goes on, further tags change nothing
+  -- if no line goes on, further tags change nothing
   pub spoken_past : (more : List Tag) → goes_on (told B (spoken B c octets tags old)) c ≡ false → length tags ≤ length (cut octets)
       → spoken B c octets (tags ++ more) old ≡ spoken B c octets tags old
   spoken_past more off some =

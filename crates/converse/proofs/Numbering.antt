@@ -1,4 +1,4 @@
--- A script's fault is told by the number of its first line of no form.
+-- A script's fault is reported by the number of its first line of no form.
 use Rattle.std.proofs.Common.{◌≡◌, ℕ, ◌+◌, ◌==◌, ◌||◌, Bool, true, false, not, cond, List, [], ◌∷◌, Option, Some, None, Result, Ok, Err, refl, sym, ap, ◌∙◌}
 use Rattle.std.proofs.lemmas.Iterator.Adapters.{position_from-zero}
 use Rattle.std.specs.Prelude.{option_map, ok_or, is_some}

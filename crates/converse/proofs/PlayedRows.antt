@@ -58,7 +58,7 @@ no_policy : PlaysLine (point connected (1 ∷ [])) (NoPolicy NotToml) (codes "an
 unfolding digits
 no_policy = record { sent = codes "answer NotToml\n"; told = None; acts = (refl, refl); text = refl; left = refl }
 
--- a connection that ended is told behind the outcome
+-- a connection that ended is printed after the outcome
 going : PlaysLine (point greeted (1 ∷ [])) (Does (event.Gone 1)) (codes "done\nended 1\n") (point left [])
 unfolding digits
 going = record { sent = []; told = Some outcome.Done; acts = (record { tag = Done; may = refl; is = refl }, refl, refl); text = refl; left = refl }
@@ -86,6 +86,6 @@ three_lines = (
 stopped_before : PlaysInPart (point start []) (Does event.Connect ∷ Drains 1 ∷ Does (event.Gone 1) ∷ []) connected
 stopped_before = inr (point connected (1 ∷ []), codes "opened 1\n", opening, inl (begun_none connected (Drains 1)))
 
--- and behind it
+-- and after it
 stopped_behind : PlaysInPart (point start []) (Does event.Connect ∷ Drains 1 ∷ Does (event.Gone 1) ∷ []) greeted
 stopped_behind = inr (point connected (1 ∷ []), codes "opened 1\n", opening, inl (begun_acted connected (Drains 1) draining.told draining.sent greeted draining.acts))

@@ -209,7 +209,7 @@ module _ {V : Type 0} (Holds : V → Contents → Type 0) (new : Office V) (T : 
     is = (record { sent = h.printed; told = None; acts = h.is.0; text = sym (append-nil h.printed); left = refl }, h.is.1);
   }
 
-  -- a line whose outcome is told
+  -- a line whose outcome is printed
   pub line_some : (line : ScriptLine) (o : Outcome) (before during after : Option (List ℕ)) (known left : List ℕ) (h : ComesTo Holds new before during (WithCause first now T (Acts T line (Some o))))
       → Appends during after (told_text h.trace known (Some o)) → left ≡ still_known h.trace known (Some o)
       → ComesTo Holds new before after (WithCause first now T (λ printed U. PlaysLine (point T known) line printed (point U left)))
@@ -261,7 +261,7 @@ asked (Err n) = []
 pub same_lines : (r : Result (List ScriptLine) ℕ) (a b : List ScriptLine) → r ≡ Ok a → r ≡ Ok b → a ≡ b
 same_lines r a b p q = ap asked (sym p ∙ q)
 
--- where a text is a script, what is said of a text that is none holds
+-- if a text is a script, what is said of a text that is none holds
 pub no_fault : (known : Option (List ℕ)) (lines : List ScriptLine) (A : Type 0) → IfSome known (λ text. script_of text ≡ Ok lines) → IfSome known (λ text. IsErr (script_of text) → A)
 no_fault None lines A h = tt
 no_fault (Some text) lines A h = λ err. (let none = subst IsErr h err in cc)

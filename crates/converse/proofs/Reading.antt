@@ -63,7 +63,7 @@ policy_joined known octets read asked is same sets = sym (ap (option_map policy_
 abbrev pub is_lf : ℕ → Bool
 is_lf b = b == 10
 
--- the lines behind a LF, if there was one
+-- the lines after a LF, if there was one
 abbrev pub lines_behind : Option (List ℕ) → List (List ℕ)
 lines_behind None = []
 lines_behind (Some text) = slice_split is_lf text
@@ -99,7 +99,7 @@ ok_more : (asks rest whole : Result (List ScriptLine) ℕ) (before after : List 
 ok_more (Ok asked) rest whole before after is h = ap (λ xs. asks_then (Ok xs) rest) is ∙ sym (then_then before asked rest) ∙ h
 ok_more (Err n) rest whole before after is h = absurd is
 
--- what a text asks for is what its first line does, and what stands behind that
+-- what a text asks for is what its first line does, and what stands after that
 first_asks : (n : ℕ) (text line : List ℕ) (rest : Option (List ℕ)) → (line, rest) ≡ cut_at is_lf text → rest_asks n (Some text) ≡ asks_then (line_asks n line) (rest_asks (n + 1) rest)
 first_asks n text line rest cut = cut_asks n text ∙ ap (λ (c : List ℕ × Option (List ℕ)). asks_then (line_asks n c.0) (rest_asks (n + 1) c.1)) (sym cut)
 

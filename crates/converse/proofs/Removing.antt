@@ -66,7 +66,7 @@ stopped : (a b : Bool) → b ≡ true → (a && not b) ≡ false
 stopped true b e = rw e refl
 stopped false b e = refl
 
--- behind a QUIT no line acts
+-- after a QUIT no line acts
 ends : (B : Records) (c : ℕ) (x : Cut) (t : Tag) (H : List (Act × Tag)) (q : ℕ) → quits (Line c x) t ≡ Some q → goes_on (told B ((Line c x, t) ∷ H)) c ≡ false
 ends B c x t H q e =
     let h : is_quit (reading x) ≡ true = quit_of c (is_quit (reading x)) (is_done t) q e in

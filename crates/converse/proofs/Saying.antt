@@ -122,7 +122,7 @@ module _ (B : Records) (c : ℕ) (old : List (Act × Tag)) where
   spoke_on octets written piece tags H s =
       record { lines = lines_on octets written piece tags H s.lines; ample = s.ample; count = s.count; here = s.here }
 
-  -- the next line acts, where all before it is written
+  -- the next line acts, if all before it is written
   pub lines_line : (octets written : List ℕ) (tags : List Tag) (H : List (Act × Tag)) → Spoke B c old octets written tags H → (x : Cut) (t : Tag) → closing (told B H) c ≡ false
       → length (sent (told B H) c) ≤ length written → slice_get (cut octets) (length tags) ≡ Some x → may_be B (told B H) c x t ≡ true
       → LinesActed B c old octets written (tags ++ t ∷ []) ((Line c x, t) ∷ H)
@@ -150,7 +150,7 @@ module _ (B : Records) (c : ℕ) (old : List (Act × Tag)) where
         here = line_here B c H x t kept ∙ s.here;
       }
 
-  -- behind such a line something is owed
+  -- after such a line something is owed
   pub line_owes : (octets written : List ℕ) (tags : List Tag) (H : List (Act × Tag)) → Spoke B c old octets written tags H → (x : Cut) (t : Tag) → is_no_memory t ≡ false
       → length written < length (sent (told B ((Line c x, t) ∷ H)) c)
   line_owes octets written tags H s x t kept =

@@ -61,7 +61,7 @@ module _ {V : Type 0} (Holds : V → Contents → Type 0) (faults : V → ℕ) (
   pub so_by : {before : ℕ} (o : Office V) (T : Trace) (c : ℕ) (P Q : Log → Type 0) → ((L : Log) → P L → Q L) → StandsSo Holds faults before o T c P → StandsSo Holds faults before o T c Q
   so_by o T c P Q f w = record { log = w.log; stands = w.stands; own = w.own; caused = w.caused; so = f w.log w.so }
 
-  -- what comes of writing more, where so much was written
+  -- what comes of writing more, if so much was written
   pub wrote_then : (old mid new : Office V) (c : ℕ) (held holds : Writing) (turns : ℕ) (s : WroteSoFar old mid c held holds turns) (more : List ℕ)
       (P : (before : ℕ) → Trace → (octets written : List ℕ) → Log → Type 0) → (IsClean (vault_of new) → IsClean (vault_of mid))
       → ((before : ℕ) (T : Trace) (octets written : List ℕ) → before ≤ faults (vault_of mid) → IsClean (vault_of new)
@@ -76,7 +76,7 @@ module _ {V : Type 0} (Holds : V → Contents → Type 0) (faults : V → ℕ) (
   pub so_with : {before : ℕ} (o : Office V) (T : Trace) (c : ℕ) (P Q : Log → Type 0) → ((L : Log) → StandsFor Holds o (trace_of T.base L) → P L → Q L) → StandsSo Holds faults before o T c P → StandsSo Holds faults before o T c Q
   so_with o T c P Q f w = record { log = w.log; stands = w.stands; own = w.own; caused = w.caused; so = f w.log w.stands w.so }
 
-  -- what comes of writing, where so much was read and written
+  -- what comes of writing, if so much was read and written
   pub talked_then : (old mid new : Office V) (c : ℕ) (was_left left : Reading) (held holds : Writing) (turns : ℕ) (s : TalkedSoFar old mid c was_left left held holds turns) (more : List ℕ)
       (P : (before : ℕ) → Trace → (octets written : List ℕ) → Log → Type 0) → (IsClean (vault_of new) → IsClean (vault_of mid))
       → ((before : ℕ) (T : Trace) (octets written : List ℕ) → before ≤ faults (vault_of mid) → IsClean (vault_of new)

@@ -100,12 +100,12 @@ pub at_faults : {A E V : Type 0} (r : Result A E) (Holds : V → Contents → Ty
 at_faults (Ok x) Holds old new IsClean first now Is h = tt
 at_faults (Err e) Holds old new IsClean first now Is h = h
 
--- what holds in any case holds where a call came to its end
+-- what holds in any case holds if a call came to its end
 pub on_any : {A E P : Type 0} (r : Result A E) → P → OnOk r P
 on_any (Ok x) p = p
 on_any (Err e) p = tt
 
--- what follows from two clauses over every trace, where a call came to its end
+-- what follows from two clauses over every trace, if a call came to its end
 pub at_ok : {A E V : Type 0} (r : Result A E) (Holds : V → Contents → Type 0) (old mid : Office V) (IsClean : Type 0) (P Q Is : Trace → Type 0)
     → ((T : Trace) → StandsFor Holds mid T → OnOk r (P T)) → ((T : Trace) → StandsFor Holds mid T → OnOk r (Q T))
     → ((T : Trace) → StandsFor Holds old T → IsClean → ((U : Trace) → StandsFor Holds mid U → P U) → ((U : Trace) → StandsFor Holds mid U → Q U) → Is T)

@@ -79,7 +79,7 @@ flushed_anyway flushed (Err fault.TooManyConnections) h = tt
 flushed_anyway flushed (Err fault.NoMemory) h = tt
 flushed_anyway flushed (Err fault.Endless) h = tt
 
--- where nothing isn't lent, something is
+-- if nothing isn't lent, something is
 pub some_lent : (b : Bool) (xs : List ℕ) → b ≡ false → b ≡ (length xs == 0) → 0 < length xs
 some_lent b [] e f = absurd (cc)
 some_lent b (x ∷ xs) e f = omega (arith)

@@ -21,7 +21,7 @@ marking = codes "APOP ann/orders 34a3e97880fea19f455051f180c63e15\nDELE 1\n"
 abbrev line : List ℕ → Act × Tag
 line text = (Line 1 (cutting.Line text), Done)
 
--- a reader that ends behind a mark: three replies, and the connection is gone
+-- a reader that ends after a mark: three replies, and the connection is gone
 three_replies : Talks W 1 marking (replies (codes "+OK POP3 server ready <1.7@h.test>" ∷ codes "+OK maildrop has 4 messages (80 octets)" ∷ codes "+OK message 1 deleted" ∷ []))
     (Unit {0}) start ((Gone 1, Done) ∷ line (codes "DELE 1") ∷ line (codes "APOP ann/orders 34a3e97880fea19f455051f180c63e15") ∷ (Open 1, Done) ∷ start)
 unfolding digits login_name decode_pairs md5 M.digest_bytes M.hash_after M.compress M.rounds M.block_words
@@ -40,7 +40,7 @@ nothing_removed : removed_last W (left_unless_closing W 1 (spoken W 1 marking (D
 unfolding digits login_name decode_pairs md5 M.digest_bytes M.hash_after M.compress M.rounds M.block_words
 nothing_removed = refl
 
--- what comes behind a QUIT is dropped
+-- what comes after a QUIT is dropped
 behind_a_quit : spoken W 1 (codes "QUIT\nNOOP\n") (Done ∷ Done ∷ []) start ≡ line (codes "QUIT") ∷ (Open 1, Done) ∷ start
 behind_a_quit = refl
 
@@ -72,7 +72,7 @@ in_the_midst = record {
   replies = refl;
 }
 
--- a reader that fails behind half a line: what was read is answered
+-- a reader that fails after half a line: what was read is answered
 behind_half_a_line : BreaksOffReading W 1 (codes "NOOP\nCA") (replies (codes "+OK POP3 server ready <1.7@h.test>" ∷ codes "-ERR wrong state" ∷ [])) start
     ((Gone 1, Done) ∷ line (codes "NOOP") ∷ (Open 1, Done) ∷ start)
 unfolding digits

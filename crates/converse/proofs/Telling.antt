@@ -5,7 +5,7 @@ use Rattle.std.proofs.KnownBytes.{Appends-trans}
 use Rattle.std.specs.Io.KnownBytes.{Appends}
 use Rattle.converse.specs.Told.{led_by}
 
--- some text was printed, and it is the whole where the rest follows
+-- some text was printed, and it is the whole if the rest follows
 pub record Told (before now : Option (List ℕ)) (rest whole : List ℕ) : Type 0 where
   pub text : List ℕ
   pub appended : Appends before now text

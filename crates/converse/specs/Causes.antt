@@ -1,6 +1,7 @@
--- Which fault a run tells for the fault that it met.
+-- Which fault a run reports for the fault that it met.
 use Rattle.std.specs.Prelude.{◌≡◌, ℕ, ⊤, Bool, true, false, List, Option, Err, IsOk}
 use Rattle.creds.specs.Names.{is_host}
+use Rattle.policy.specs.declared.fault.PolicyFault.{PolicyFault}
 use Rattle.office.specs.declared.office.OpenFault.{OpenFault}
 use Rattle.office.specs.declared.office.OpenFault.TheVariants as opening
 use Rattle.vault.specs.declared.fault.VaultFault.{VaultFault}
@@ -13,7 +14,7 @@ use Rattle.converse.specs.declared.script.ScriptFault.TheVariants as script
 use Rattle.converse.specs.declared.fault.Fault.{Fault}
 use Rattle.converse.specs.declared.fault.Fault.TheVariants.{CannotRead, BadEvent, BadHost, Store}
 use Rattle.converse.specs.declared.fault.Fault.TheVariants.{CannotPut, CannotWrite, Differs}
-use Rattle.converse.specs.declared.fault.Fault.TheVariants.{OutOfMemory}
+use Rattle.converse.specs.declared.fault.Fault.TheVariants.{NoPolicy, OutOfMemory}
 use Rattle.converse.specs.Printed.{PrintsPart}
 use Rattle.converse.specs.Script.{script_of}
 use Rattle.converse.specs.Told.{fault_line}
@@ -37,7 +38,7 @@ IsWhyNot text host (BadEvent n) = script_of text ≡ Err n
 IsWhyNot text host BadHost = IsOk (script_of text) × (is_host host ≡ false)
 IsWhyNot text host _ = ⊥
 
--- one of these faults is told: its line, or a beginning of it
+-- one of these faults is printed: its line, or a beginning of it
 abbrev pub Tells : (before after : Option (List ℕ)) → (Fault → Type 0) → Type 0
 Tells before after Is = (fault : Fault) × Is fault × PrintsPart before after (fault_line fault)
 
@@ -49,7 +50,7 @@ IsRefused there counted vault.Store = counted ≡ true
 IsRefused there counted vault.NoMemory = ⊤
 IsRefused there counted _ = ⊥
 
--- a store refuses an export, whatever it held: so it is where the store is clean still
+-- a store refuses an export, whatever it held: so it is if the store is clean still
 abbrev pub IsRefusedExport : {V : Type 0} (Holds : V → Contents → Type 0) (IsClean : V → Type 0)
     (Faults : V → ℕ) (before now : V) (maildrop : List ℕ) → VaultFault → Type 0
 IsRefusedExport Holds IsClean Faults before now maildrop fault =
@@ -63,8 +64,8 @@ IsRefusedRead Holds IsClean Faults before now IsThere fault =
     (c : Contents) → Holds before c → IsClean now → IsThere c
     → IsRefused true (has_grown (Faults before) (Faults now)) fault
 
--- why an export ends: a file can't be put only where a call of the folder failed, and its line
--- can't be written only where one of the writer did; or the store refuses, or memory ran out
+-- why an export ends: a file can't be put only if a call of the folder failed, and its line
+-- can't be written only if one of the writer did; or the store refuses, or memory ran out
 abbrev pub IsExportFault : (put written : Bool) (Refuses : VaultFault → Type 0) → Fault → Type 0
 IsExportFault put written Refuses CannotPut = put ≡ true
 IsExportFault put written Refuses CannotWrite = written ≡ true
@@ -78,7 +79,28 @@ abbrev pub IsExportEnd : (differ : Type 0) (put written : Bool) (Refuses : Vault
 IsExportEnd differ put written Refuses Differs = differ
 IsExportEnd differ put written Refuses fault = IsExportFault put written Refuses fault
 
--- why a check of a store ends: that messages differ is told only where this holds
-abbrev pub IsCheckEnd : (differ : Type 0) → Fault → Type 0
-IsCheckEnd differ Differs = differ
-IsCheckEnd differ _ = ⊤
+-- why the check or the review of policies' texts ends: with the first fault of one; or what is
+-- printed can't be written, only if a call of the writer failed; or memory ran out
+abbrev pub IsPolicyEnd : (IsFirst : PolicyFault → Type 0) (written : Bool) → Fault → Type 0
+IsPolicyEnd IsFirst written (NoPolicy fault) = IsFirst fault
+IsPolicyEnd IsFirst written CannotWrite = written ≡ true
+IsPolicyEnd IsFirst written OutOfMemory = ⊤
+IsPolicyEnd IsFirst written _ = ⊥
+
+-- why a store refuses to tell of clerks, who are known or not: one of them isn't there; or as it
+-- refuses a look at what is there
+abbrev pub IsRefusedOf : (known : Type 0) (counted : Bool) → VaultFault → Type 0
+IsRefusedOf known counted vault.NoClerk = ¬ known
+IsRefusedOf known counted fault = IsRefused true counted fault
+
+-- it refuses a check of these
+abbrev pub IsRefusedCheck : {V : Type 0} (Holds : V → Contents → Type 0) (IsClean : V → Type 0)
+    (Faults : V → ℕ) (before now : V) (AreKnown : Contents → Type 0) → VaultFault → Type 0
+IsRefusedCheck Holds IsClean Faults before now AreKnown fault =
+    (c : Contents) → Holds before c → IsClean now
+    → IsRefusedOf (AreKnown c) (has_grown (Faults before) (Faults now)) fault
+
+-- why a check of a store ends: as an export, but that it puts no file
+abbrev pub IsCheckEnd : (differ : Type 0) (written : Bool) (Refuses : VaultFault → Type 0)
+    → Fault → Type 0
+IsCheckEnd differ written Refuses fault = IsExportEnd differ false written Refuses fault

@@ -1,8 +1,8 @@
 -- What a check prints of a store.
-use Rattle.std.specs.Prelude.{ℕ, ◌-◌, ◌^◌, min, List, [], ◌∷◌, ◌++◌, length, sum_by, Option, None}
-use Rattle.std.specs.Prelude.{Some, codes}
+use Rattle.std.specs.Prelude.{◌≡◌, ℕ, ◌-◌, ◌^◌, min, true, List, [], ◌∷◌, ◌++◌, length, sum_by}
+use Rattle.std.specs.Prelude.{Option, None, Some, is_some, codes}
 use Rattle.std.specs.Fmt.{decimal}
-use Rattle.std.specs.List.{flat_map}
+use Rattle.std.specs.List.{All, flat_map}
 use Rattle.creds.specs.declared.credential.Credential.{Credential}
 use Rattle.creds.specs.declared.credential.Credential.TheVariants.{Apop, Pass}
 use Rattle.vault.specs.declared.answer.Total.{Total}
@@ -23,6 +23,10 @@ kind_text (Pass digest) = codes "pass"
 abbrev pub kind_in : Option Credential → List ℕ
 kind_in None = []
 kind_in (Some credential) = kind_text credential
+
+-- these are names of clerks
+abbrev pub AreKnown : (names : List (List ℕ)) → Contents → Type 0
+AreKnown names c = All (λ name. is_some (credential_in name c.clerks) ≡ true) names
 
 -- of the file: the version of its tables and how many octets it has with its log
 abbrev pub file_lines : StoreFile → List ℕ

@@ -34,7 +34,7 @@ pub record Spoke (B : Records) (c : ℕ) (old : List (Act × Tag)) (octets writt
   pub count : acted (told B H) c ≡ length tags
   pub here : connected (told B H) c ≡ true
 
--- these octets were read and these written; where all replies are written, and no line closed the connection, every line acted
+-- these octets were read and these written; if all replies are written, and no line closed the connection, every line acted
 pub record GoesOn (B : Records) (c : ℕ) (old : List (Act × Tag)) (octets written : List ℕ) (L : Log) : Type 0 where
   pub tags : List Tag
   pub heard : stream L c ≡ octets

@@ -21,11 +21,11 @@ escaped octets = flat_map escape octets
 
 -- ---- read
 
--- an octet before the octets that a rest stands for; none where the rest has no form
+-- an octet before the octets that a rest stands for; none if the rest has no form
 abbrev pub led : ℕ → Option (List ℕ) → Option (List ℕ)
 led b rest = option_map (λ octets. b ∷ octets) rest
 
--- the octets that a TEXT stands for; none where a `\` begins no escape
+-- the octets that a TEXT stands for; none if a `\` begins no escape
 abbrev mutual
   pub unescaped : List ℕ → Option (List ℕ)
   unescaped [] = Some []

@@ -28,7 +28,7 @@ file_of x = record { name = file_name x.message.class x.message.k; octets = x.me
 abbrev pub files_of : (against : Option (List Receipt)) → (maildrop : List ℕ) → Contents → List File
 files_of rs d c = map file_of (intact_in rs d c)
 
--- a folder, where it tells its files, took these behind those that it had taken
+-- a folder, if it tells its files, took these after those that it had taken
 abbrev pub Takes : (before after : Option (List File)) → List File → Type 0
 Takes None after files = ⊤
 Takes (Some had) None files = ⊥

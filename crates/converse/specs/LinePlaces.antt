@@ -1,4 +1,4 @@
--- Which word of a script's line is at fault, where the line is of no form. Words are counted from
+-- Which word of a script's line is at fault, if the line is of no form. Words are counted from
 -- 0, with one space between them; the last field of a form has all that is left of the line. It is
 -- the first word that isn't there, or else the first, in the order of Script, without its form.
 use Rattle.std.specs.Prelude.{ℕ, Bool, is_some, List, Option, Some, None, codes, Result, Ok, Err}
@@ -15,7 +15,7 @@ abbrev pub by_two : (missing : ℕ) → (List ℕ → List ℕ → ℕ) → Opti
 by_two missing by None = missing
 by_two missing by (Some fields) = by fields.0 fields.1
 
--- `C N`, behind `took`, and `C TEXT`, behind `bytes`
+-- `C N`, after `took`, and `C TEXT`, after `bytes`
 abbrev pub number_first : (rest : List ℕ) → ℕ
 number_first rest =
     by_two 2 (λ number text. if is_some (number_of number) then 2 else 1) (two_fields rest)
@@ -35,26 +35,26 @@ abbrev pub first_of_four : (first second third : Bool) → ℕ
 first_of_four first second third =
     if first then (if second then (if third then 4 else 3) else 2) else 1
 
--- `MAILDROP CLASS ID TEXT`, behind `deposit`
+-- `MAILDROP CLASS ID TEXT`, after `deposit`
 abbrev pub deposit_place : (rest : List ℕ) → ℕ
 deposit_place rest =
     by_four (lacks_from rest) (λ fields. first_of_four (is_some (name_of fields.0))
     (is_some (name_of fields.1)) (is_some (deposit_id_of fields.2))) (four_fields rest)
 
--- `CLERK MAILDROP CLASS ACTION`, behind `explain`
+-- `CLERK MAILDROP CLASS ACTION`, after `explain`
 abbrev pub explain_place : (rest : List ℕ) → ℕ
 explain_place rest =
     by_four (lacks_from rest) (λ fields. first_of_four (is_some (name_of fields.0))
     (is_some (name_of fields.1)) (is_some (name_of fields.2))) (four_fields rest)
 
--- `NAME TEXT`, behind `clerk apop` and `clerk pass`: the TEXT's escapes come first
+-- `NAME TEXT`, after `clerk apop` and `clerk pass`: the TEXT's escapes come first
 abbrev pub secret_place : (rest : List ℕ) → ℕ
 secret_place rest =
     by_two 3 (λ clerk text.
     if is_some (unescaped text) then (if is_some (name_of clerk) then 3 else 2) else 3)
     (two_fields rest)
 
--- behind `clerk`
+-- after `clerk`
 abbrev pub clerk_place : (rest : List ℕ) → ℕ
 clerk_place rest =
     by_two 2 (λ word rest.
@@ -64,7 +64,7 @@ clerk_place rest =
     else if bytes_eq word (codes "show") then 2
     else 1) (two_fields rest)
 
--- behind `maildrop`
+-- after `maildrop`
 abbrev pub maildrop_place : (rest : List ℕ) → ℕ
 maildrop_place rest =
     by_two 2 (λ word name.
@@ -72,7 +72,7 @@ maildrop_place rest =
     else if bytes_eq word (codes "drop") then 2
     else 1) (two_fields rest)
 
--- of a command: its field; or else the word, where no command goes on behind it
+-- of a command: its field; or else the word, if no command goes on after it
 abbrev pub command_place : (keyword rest : List ℕ) → ℕ
 command_place keyword rest =
     if bytes_eq keyword (codes "maildrop") then maildrop_place rest
@@ -91,7 +91,7 @@ number_place keyword rest =
     else if bytes_eq keyword (codes "restart") then 1
     else command_place keyword rest
 
--- by its keyword and what stands behind that
+-- by its keyword and what stands after that
 abbrev pub text_place : (keyword rest : List ℕ) → ℕ
 text_place keyword rest =
     if bytes_eq keyword (codes "bytes") then number_first rest

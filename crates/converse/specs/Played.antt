@@ -24,7 +24,7 @@ lent_at T c = take most_lent (rest T c)
 abbrev pub owed_by : Trace → ℕ → ℕ
 owed_by T c = length (lent_at T c)
 
--- what is printed where a client takes the first n of the octets that it is lent: nothing where n is 0 or more than these
+-- what is printed if a client takes the first n of the octets that it is lent: nothing if n is 0 or more than these
 abbrev pub taken_text : (c : ℕ) (lent : List ℕ) (n : ℕ) → List ℕ
 taken_text c lent n = if n == 0 || nat_lt (length lent) n then [] else sent_line c (take n lent)
 
@@ -51,12 +51,12 @@ AreTakings c T [] = ⊤
 AreTakings c T (o ∷ os) =
     AreTakings c T os × (0 < owed_by (drained c T os) c) × IsOutcome (drained c T os) (owed_by (drained c T os)) (Took c (owed_by (drained c T os) c)) o
 
--- the last outcome; `done` where there was no taking
+-- the last outcome; `done` if there was no taking
 abbrev pub last_of : List Outcome → Outcome
 last_of [] = Done
 last_of (o ∷ os) = o
 
--- what is printed of them: one line, and none where there was no taking
+-- what is printed of them: one line, and none if there was no taking
 abbrev pub drained_text : ℕ → Trace → List Outcome → List ℕ
 drained_text c T [] = []
 drained_text c T (o ∷ os) = sent_line c (drained_octets c T (o ∷ os))
@@ -73,7 +73,7 @@ TakesAll T c o printed U = (outcomes : List Outcome) × Takes T c outcomes o U �
 
 -- ---- lines
 
--- What a line does to T: what is printed before an outcome is told, that outcome, and the trace behind it. A text that is no policy is no event.
+-- What a line does to T: what is printed before an outcome is told, that outcome, and the trace after it. A text that is no policy is no event.
 abbrev pub Acts : Trace → ScriptLine → Option Outcome → (printed : List ℕ) → Trace → Type 0
 Acts T (Does e) (Some o) printed U = IsOutcome T (owed_by T) e o
     × (U ≡ given T e (event_tag_of o)) × (printed ≡ sent_before T e)
@@ -81,12 +81,12 @@ Acts T (Drains c) (Some o) printed U = (outcomes : List Outcome) × Takes T c ou
 Acts T (NoPolicy f) None printed U = (U ≡ T) × (printed ≡ no_policy_line f)
 Acts T _ _ printed U = ⊥
 
--- the connections that were opened and not yet told as ended, with one that an outcome opened
+-- the connections that were opened and not yet printed as ended, with one that an outcome opened
 abbrev pub known_with : Outcome → List ℕ → List ℕ
 known_with (Opened c) known = known ++ c ∷ []
 known_with _ known = known
 
--- what is told of an outcome: its lines, and behind them each of these connections that ended
+-- what is printed of an outcome: its lines, and after them each of these connections that ended
 abbrev pub told_text : Trace → (known : List ℕ) → Option Outcome → List ℕ
 told_text U known None = []
 told_text U known (Some o) = outcome_lines o ++ ended_lines (filter (has_ended U) (known_with o known))
@@ -96,7 +96,7 @@ abbrev pub still_known : Trace → (known : List ℕ) → Option Outcome → Lis
 still_known U known None = known
 still_known U known (Some o) = filter (is_open U) (known_with o known)
 
--- where a run stands: its trace, and the connections that were opened and not yet told as ended
+-- where a run stands: its trace, and the connections that were opened and not yet printed as ended
 pub record Point : Type 0 where
   pub trace : Trace
   pub known : List ℕ
@@ -147,7 +147,7 @@ abbrev pub failures : Log → ℕ
 failures [] = 0
 failures ((e, m) ∷ L) = (if is_failed m then 1 else 0) + failures L
 
--- an event that U has beyond T failed only where the store's count of faults grew
+-- an event that U has beyond T failed only if the store's count of faults grew
 abbrev pub Caused : (before now : ℕ) → Trace → Trace → Type 0
 Caused before now T U = failures T.log < failures U.log → has_grown before now ≡ true
 
@@ -173,7 +173,7 @@ pub record Reaches {V : Type 0} (Holds : V → Contents → Type 0) (o : Office 
   pub caused : Caused before now T trace
 
 -- The first lines were played from T (perhaps all, perhaps none), and at most one more was begun; an
--- event failed only where the store's count of faults grew from `first` to `now`.
+-- event failed only if the store's count of faults grew from `first` to `now`.
 pub record RunsInPart (first now : ℕ) (T : Trace) (lines : List ScriptLine) (U : Trace) : Type 0 where
   pub plays : PlaysInPart (point T []) lines U
   pub caused : Caused first now T U
@@ -184,7 +184,7 @@ pub record HasRunInPart {V : Type 0} (Holds : V → Contents → Type 0) (new : 
   pub keeps : Keeps (Holds new) trace
   pub runs : RunsInPart first now T lines trace
 
--- all lines were played from T: what they print was printed, and an event failed only where the
+-- all lines were played from T: what they print was printed, and an event failed only if the
 -- store's count of faults grew from `first` to `now`
 pub record Runs (first now : ℕ) (before after : Option (List ℕ)) (T : Trace)
     (lines : List ScriptLine) (U : Trace) : Type 0 where

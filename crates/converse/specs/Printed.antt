@@ -1,4 +1,4 @@
--- What is printed where a writer refuses in the middle.
+-- What is printed if a writer refuses in the middle.
 use Rattle.std.specs.Prelude.{◌≡◌, ℕ, List, ◌++◌, Option}
 use Rattle.std.specs.Io.KnownBytes.{Appends}
 

@@ -47,19 +47,19 @@ None >>= f = None
 
 -- ---- fields
 
--- the octets before the first `end`, and those behind it
+-- the octets before the first `end`, and those after it
 abbrev pub cut_at : (ends : ℕ → Bool) → List ℕ → List ℕ × Option (List ℕ)
 cut_at ends text = (before_first ends text, option_map (λ at. drop (at + 1) text) (position ends text))
 
--- the first field, and what stands behind the space that ends it
+-- the first field, and what stands after the space that ends it
 abbrev pub cut_field : List ℕ → List ℕ × Option (List ℕ)
 cut_field text = cut_at (λ b. b == 32) text
 
--- both, where there is a space
+-- both, if there is a space
 abbrev pub two_fields : List ℕ → Option (List ℕ × List ℕ)
 two_fields text = option_map (λ rest. ((cut_field text).0, rest)) (cut_field text).1
 
--- three fields, and what stands behind the space that ends the third
+-- three fields, and what stands after the space that ends the third
 abbrev pub four_fields : List ℕ → Option (List ℕ × List ℕ × List ℕ × List ℕ)
 four_fields text = do
   first ← two_fields text
@@ -80,7 +80,7 @@ word_line keyword =
 
 -- ---- lines without a TEXT
 
--- `C N`, behind `took`
+-- `C N`, after `took`
 abbrev pub took_line : List ℕ → Option ScriptLine
 took_line rest = do
   fields ← two_fields rest
@@ -88,7 +88,7 @@ took_line rest = do
   count ← number_of fields.1
   Some (Does (Took number count))
 
--- `add NAME` or `drop NAME`, behind `maildrop`
+-- `add NAME` or `drop NAME`, after `maildrop`
 abbrev pub maildrop_command : List ℕ → Option AdminCommand
 maildrop_command rest = do
   fields ← two_fields rest
@@ -96,7 +96,7 @@ maildrop_command rest = do
       else if bytes_eq fields.0 (codes "drop") then option_map DropMaildrop (name_of fields.1)
       else None
 
--- `CLERK MAILDROP CLASS ACTION`, behind `explain`
+-- `CLERK MAILDROP CLASS ACTION`, after `explain`
 abbrev pub explain_command : List ℕ → Option AdminCommand
 explain_command rest = do
   fields ← four_fields rest
@@ -106,7 +106,7 @@ explain_command rest = do
   action ← action_of fields.3
   Some (Explain clerk maildrop class action)
 
--- a command by its keyword and what stands behind that
+-- a command by its keyword and what stands after that
 abbrev pub command_of : (keyword rest : List ℕ) → Option AdminCommand
 command_of keyword rest =
     if bytes_eq keyword (codes "maildrop") then maildrop_command rest
@@ -127,7 +127,7 @@ number_line keyword rest =
 
 -- ---- lines with a TEXT
 
--- `C TEXT`, behind `bytes`
+-- `C TEXT`, after `bytes`
 abbrev pub bytes_line : List ℕ → Option ScriptLine
 bytes_line rest = do
   fields ← two_fields rest
@@ -135,7 +135,7 @@ bytes_line rest = do
   octets ← unescaped fields.1
   Some (Does (Bytes number octets))
 
--- `MAILDROP CLASS ID TEXT`, behind `deposit`
+-- `MAILDROP CLASS ID TEXT`, after `deposit`
 abbrev pub deposit_line : List ℕ → Option ScriptLine
 deposit_line rest = do
   fields ← four_fields rest
@@ -145,7 +145,7 @@ deposit_line rest = do
   text ← unescaped fields.3
   Some (Does (Deposit maildrop class id text))
 
--- `NAME TEXT`, behind `clerk apop` and `clerk pass`
+-- `NAME TEXT`, after `clerk apop` and `clerk pass`
 abbrev pub secret_of_clerk : List ℕ → Option (List ℕ × List ℕ)
 secret_of_clerk rest = do
   fields ← two_fields rest
@@ -154,7 +154,7 @@ secret_of_clerk rest = do
   secret ← secret_of octets
   Some (clerk, secret)
 
--- `apop NAME TEXT`, `pass NAME TEXT`, `drop NAME` or `show NAME`, behind `clerk`
+-- `apop NAME TEXT`, `pass NAME TEXT`, `drop NAME` or `show NAME`, after `clerk`
 abbrev pub clerk_command : List ℕ → Option AdminCommand
 clerk_command rest = do
   fields ← two_fields rest
@@ -173,7 +173,7 @@ set_or_fault (Err fault) = NoPolicy fault
 abbrev pub policy_line : List ℕ → ScriptLine
 policy_line octets = if is_utf8 octets then set_or_fault (rules_of octets) else NoPolicy NotToml
 
--- a line by its keyword and what stands behind that
+-- a line by its keyword and what stands after that
 abbrev pub text_line : (keyword rest : List ℕ) → Option ScriptLine
 text_line keyword rest =
     if bytes_eq keyword (codes "bytes") then bytes_line rest
@@ -184,12 +184,12 @@ text_line keyword rest =
 
 -- ---- scripts
 
--- a line by its keyword and what stands behind that, if something does
+-- a line by its keyword and what stands after that, if something does
 abbrev pub line_by : List ℕ × Option (List ℕ) → Option ScriptLine
 line_by (keyword, None) = word_line keyword
 line_by (keyword, Some rest) = text_line keyword rest
 
--- what a line without its LF asks for; none where it is of no form
+-- what a line without its LF asks for; none if it is of no form
 abbrev pub line_of : List ℕ → Option ScriptLine
 line_of text = line_by (cut_field text)
 
@@ -198,7 +198,7 @@ abbrev pub is_skipped : List ℕ → Bool
 is_skipped [] = true
 is_skipped (b ∷ bs) = b == 35
 
--- what line n asks for: nothing where it is skipped; its number where it is of no form
+-- what line n asks for: nothing if it is skipped; its number if it is of no form
 abbrev pub line_asks : (n : ℕ) → List ℕ → Result (List ScriptLine) ℕ
 line_asks n line = if is_skipped line then Ok [] else ok_or (option_map (λ asked. asked ∷ []) (line_of line)) n
 
@@ -217,13 +217,13 @@ lines_ask n (line ∷ lines) = asks_then (line_asks n line) (lines_ask (n + 1) l
 abbrev pub script_of : List ℕ → Result (List ScriptLine) ℕ
 script_of text = lines_ask 1 (slice_split (λ b. b == 10) text)
 
--- ---- the line that a fault is told by
+-- ---- the line that a fault is reported by
 
 -- a line is skipped, or it has a form
 abbrev pub has_form : List ℕ → Bool
 has_form line = is_skipped line || is_some (line_of line)
 
--- the number that a script's fault is told by
+-- the number that a script's fault is reported by
 abbrev pub number_told : Result (List ScriptLine) ℕ → Option ℕ
 number_told (Ok asked) = None
 number_told (Err n) = Some n

@@ -3,13 +3,13 @@ use Rattle.std.specs.Prelude.{◌≡◌, ℕ, ◌<◌, ◌≤◌, Bool, true, fa
 use Rattle.std.specs.Io.KnownBytes.{Appends, Consumes, IsAtEnd}
 use Rattle.vault.specs.Calls.{has_grown}
 
--- of a source: what it gave, what it will give, where that is known, and how many of its calls failed
+-- of a source: what it gave, what it will give, if that is known, and how many of its calls failed
 pub record Reading : Type 0 where
   pub given : List ℕ
   pub left : Option (List ℕ)
   pub faults : ℕ
 
--- of a sink: what it took, whether all of that is flushed, what it holds, where that is known, and
+-- of a sink: what it took, whether all of that is flushed, what it holds, if that is known, and
 -- how many of its calls failed
 pub record Writing : Type 0 where
   pub taken : List ℕ
@@ -43,7 +43,7 @@ reads_failed before now = has_grown before.faults now.faults
 abbrev pub writes_failed : (before now : Writing) → Bool
 writes_failed before now = has_grown before.faults now.faults
 
--- A read gave as many of the room's first octets as it answered, none only at the end or where there was no room; or it failed, and gave none.
+-- A read gave as many of the room's first octets as it answered, none only at the end or if there was no room; or it failed, and gave none.
 abbrev pub HasRead : {E : Type 0} → (before now : Reading) → Result ℕ E → (room : List ℕ) → Type 0
 HasRead before now answer room =
     MatchResult answer (λ n. Reads before now (take n room) × (n ≡ 0 → 0 < length room → IsAtEnd now.left)) (λ _. Reads before now [] × (reads_failed before now ≡ true))
@@ -57,7 +57,7 @@ HasWritten before now answer octets =
 abbrev pub HasFlushed : {E : Type 0} → (before now : Writing) → Result Unit E → Type 0
 HasFlushed before now answer = MatchResult answer (λ _. Writes before now []) (λ _. Writes before now [] × (writes_failed before now ≡ true))
 
--- What a write took is held back until a flush. Where it failed, that is as it was before.
+-- What a write took is held back until a flush. If it failed, that is as it was before.
 abbrev pub HoldsBack : {E : Type 0} → (before now : Writing) → Result ℕ E → Type 0
 HoldsBack before now answer =
     MatchResult answer (λ _. now.flushed ≡ false) (λ _. now.flushed ≡ before.flushed)

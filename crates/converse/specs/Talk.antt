@@ -32,18 +32,18 @@ acted_on B c ((x, t) ∷ lines) H = if goes_on (told B H) c then acted_on B c li
 abbrev pub spoken : Records → ℕ → (octets : List ℕ) → List Tag → List (Act × Tag) → List (Act × Tag)
 spoken B c octets tags H = acted_on B c (zip (cut octets) tags) (opened_on c H)
 
--- it is gone, where no line closed it
+-- it is gone, if no line closed it
 abbrev pub left_unless_closing : Records → ℕ → List (Act × Tag) → List (Act × Tag)
 left_unless_closing B c H = if closing (told B H) c then H else (Gone c, Done) ∷ H
 
--- the connection is gone, where it was still open with so many octets of its replies taken
+-- the connection is gone, if it was still open with so many octets of its replies taken
 abbrev pub left_if_open : Records → ℕ → (taken : ℕ) → List (Act × Tag) → List (Act × Tag)
 left_if_open B c taken H =
     if is_open_by (connected (told B H) c) (closing (told B H) c) (drop taken (sent (told B H) c)) then (Gone c, Done) ∷ H else H
 
 -- ---- which tags its lines may show, and what was said last
 
--- the store may refuse a line only where it is asked
+-- the store may refuse a line only if it is asked
 abbrev pub may_be : Records → List Entry → ℕ → Cut → Tag → Bool
 may_be B G c x Failed = line_may_fail B G c x
 may_be B G c x _ = true
@@ -75,7 +75,7 @@ pub record NeverBegins (octets written : List ℕ) (old new : List (Act × Tag))
   pub unread : octets ≡ []
   pub replies : written ≡ []
 
--- All was heard and answered: each line of the octets that were read acted, through the one that closed the connection; where none
+-- All was heard and answered: each line of the octets that were read acted, through the one that closed the connection; if none
 -- did, the reader told its end, and the connection is gone. What was written is what the history sends.
 pub record Talks (B : Records) (c : ℕ) (octets written : List ℕ) (AtEnd : Type 0) (old new : List (Act × Tag)) : Type 0 where
   pub tags : List Tag
@@ -99,7 +99,7 @@ pub record TalksInPart (B : Records) (c : ℕ) (octets written : List ℕ) (old 
   -- something of the message is left
   pub left : length written < length (sent (told B new) c)
 
--- A fault broke it off after it began: some of the lines acted, and a beginning of the replies was written; where the connection was then
+-- A fault broke it off after it began: some of the lines acted, and a beginning of the replies was written; if the connection was then
 -- still open, it is gone. `lacked` says that the fault was want of memory; else no line met it.
 pub record BreaksOff (B : Records) (c : ℕ) (octets written : List ℕ) (lacked : Bool) (old new : List (Act × Tag)) : Type 0 where
   pub tags : List Tag
@@ -122,11 +122,11 @@ pub record BreaksOffReading (B : Records) (c : ℕ) (octets written : List ℕ) 
 
 -- ---- what a conversation does to the records
 
--- with the connection's end behind them, where it is among the acts
+-- with the connection's end after them, if it is among the acts
 abbrev pub perhaps_gone : ℕ → (ends : Bool) → List (Act × Tag) → List (Act × Tag)
 perhaps_gone c ends H = if ends then (Gone c, Done) ∷ H else H
 
--- what an act removes from the history before it: something only where it is a QUIT that was done in a session
+-- what an act removes from the history before it: something only if it is a QUIT that was done in a session
 abbrev pub taken_by_quit : Records → List Entry → Option ℕ → List Message
 taken_by_quit B G None = []
 taken_by_quit B G (Some c) = removed_by (in_session G c) (λ name. to_remove class_of (in_force B G) name (marks G c) (view B G c))
@@ -140,7 +140,7 @@ removed_last B ((a, t) ∷ H) = taken_by_quit B (told B H) (quits a t)
 abbrev pub without_messages : List Message → Records → Records
 without_messages ms B = record { clerks = B.clerks; maildrops = B.maildrops; messages = without B.messages ms; deposits = B.deposits; policy = B.policy }
 
--- the records after a conversation are the old ones without what its QUIT removed, or the old ones where there was no QUIT; the
+-- the records after a conversation are the old ones without what its QUIT removed, or the old ones if there was no QUIT; the
 -- connection's end removes nothing
 abbrev pub RemovesByQuitAlone : Type 0
 RemovesByQuitAlone = (B : Records) (c : ℕ) (octets : List ℕ) (tags : List Tag) (H : List (Act × Tag)) (ends : Bool)

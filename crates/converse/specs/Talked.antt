@@ -19,7 +19,7 @@ use Rattle.converse.specs.Talk.{NeverBegins, Talks, TalksInPart, BreaksOff, Brea
 abbrev pub trace_of : Records → Log → Trace
 trace_of B L = record { base = B; log = L }
 
--- an event of connection c, behind its opening
+-- an event of connection c, after its opening
 abbrev pub is_own : ℕ → Event × EventTag → Bool
 is_own c (event.Bytes number piece, m) = number == c
 is_own c (event.Took number octets, m) = number == c
@@ -42,7 +42,7 @@ pub record StandsSo {V : Type 0} (Holds : V → Contents → Type 0) (faults : V
   pub caused : Caused before (faults (vault_of o)) T (trace_of T.base log)
   pub so : P log
 
--- a fault of the source, or of the sink, comes only where a call of it failed
+-- a fault of the source, or of the sink, comes only if a call of it failed
 abbrev pub HasFailed : (reads writes : Bool) → TalkFault → Type 0
 HasFailed reads writes fault.Read = reads ≡ true
 HasFailed reads writes fault.Write = writes ≡ true
@@ -50,7 +50,7 @@ HasFailed reads writes fault.TooManyConnections = ⊤
 HasFailed reads writes fault.NoMemory = ⊤
 HasFailed reads writes fault.Endless = ⊤
 
--- where a conversation came to its end, or a read failed, all that was written is flushed
+-- if a conversation came to its end, or a read failed, all that was written is flushed
 abbrev pub IsFlushedBy : Result Unit TalkFault → (flushed : Bool) → Type 0
 IsFlushedBy (Ok done) flushed = flushed ≡ true
 IsFlushedBy (Err fault.Read) flushed = flushed ≡ true
@@ -77,7 +77,7 @@ abbrev pub Leaves : Records → ℕ → Log → (List (Act × Tag) → Type 0) �
 Leaves B c L P = (is_open (trace_of B L) c ≡ false) × P (acts (trace_of B L))
 
 -- By what `talk` answered over an office that stood for T: what is said of the log of the trace for which it stands now. `AtEnd` says
--- that the reader told its end, and `grown` that the store's count of faults grew.
+-- that the reader gave its end, and `grown` that the store's count of faults grew.
 abbrev pub ComesOut : (AtEnd : Type 0) (grown : Bool) → Trace → ℕ → (octets written : List ℕ) → Result Unit TalkFault → Log → Type 0
 ComesOut AtEnd grown T c octets written (Ok done) L =
     Leaves T.base c L (λ new. Talks T.base c octets written AtEnd (acts T) new ⊎ (TalksInPart T.base c octets written (acts T) new × (grown ≡ true)))

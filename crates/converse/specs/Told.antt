@@ -28,11 +28,11 @@ fault_text CannotWrite = codes "cannot write"
 fault_text Differs = codes "texts differ from their digests"
 fault_text OutOfMemory = codes "out of memory"
 
--- the line on standard error that tells a fault
+-- the line of a fault on standard error
 abbrev pub fault_line : Fault → List ℕ
 fault_line f = codes "popbox: " ++ fault_text f ++ codes "\n"
 
--- the line on standard output that tells how many rules there are
+-- the line on standard output that says how many rules there are
 abbrev pub count_line : ℕ → List ℕ
 count_line n = codes "ok, " ++ decimal n ++ codes " rules\n"
 
@@ -59,7 +59,7 @@ answer_lines (b ∷ bs) = led_by (codes "answer ") true (b ∷ bs)
 abbrev pub no_policy_line : PolicyFault → List ℕ
 no_policy_line f = codes "answer " ++ policy_fault_text f ++ codes "\n"
 
--- the lines that tell an outcome
+-- the lines of an outcome
 abbrev pub outcome_lines : Outcome → List ℕ
 outcome_lines (outcome.Opened n) = codes "opened " ++ decimal n ++ codes "\n"
 outcome_lines outcome.Done = codes "done\n"
@@ -68,7 +68,7 @@ outcome_lines outcome.NoMemory = codes "no memory\n"
 outcome_lines (outcome.Ignored reason) = codes "ignored: " ++ reason_name reason ++ codes "\n"
 outcome_lines (outcome.Answered answer) = answer_lines (body_of answer)
 
--- the line that tells what a connection was sent
+-- the line that says what a connection was sent
 abbrev pub sent_line : (c : ℕ) (octets : List ℕ) → List ℕ
 sent_line c octets = codes "sent " ++ decimal c ++ codes " " ++ escaped octets ++ codes "\n"
 
@@ -78,7 +78,7 @@ sent_line c octets = codes "sent " ++ decimal c ++ codes " " ++ escaped octets +
 abbrev pub has_ended : Trace → ℕ → Bool
 has_ended T c = not (is_open T c)
 
--- the line that tells that a connection ended
+-- the line that says that a connection ended
 abbrev pub ended_line : ℕ → List ℕ
 ended_line c = codes "ended " ++ decimal c ++ codes "\n"
 

@@ -1,24 +1,26 @@
-//! `popbox check`: tells what lies in a store.
+//! `popbox check`: prints what is in a store.
 
-ghost use Rattle.std.specs.Prelude.{◌≡◌, ◌≤◌, ◌++◌, ◌⊎◌, [], true, length, sum_by, is_some, IfOk};
-ghost use Rattle.std.specs.Prelude.{IfErr, OnOk, List, Option};
+ghost use Rattle.std.specs.Prelude.{◌≡◌, ◌≤◌, ◌++◌, ◌⊎◌, [], true, false, length, sum_by, is_some};
+ghost use Rattle.std.specs.Prelude.{IfOk, IfErr, OnOk, List, Option};
 ghost use Rattle.std.specs.List.{All, flat_map};
 ghost use Rattle.std.specs.Io.KnownBytes.{Appends};
 ghost use Rattle.vault.specs.declared.answer.Total.{Total as Sum};
-ghost use Rattle.vault.specs.Records.{credential_in};
+ghost use Rattle.vault.specs.Records.{credential_in, is_one_of};
 ghost use Rattle.vault.specs.declared.record.Receipt as receipt;
 ghost use Rattle.vault.specs.Changes.{Contents};
-ghost use Rattle.converse.specs.Printed.{PrintsPart};
 ghost use Rattle.converse.specs.Checked.{kind_text, counted, file_lines, maildrop_line, clerk_line};
 ghost use Rattle.converse.specs.Checked.{counts_front, counts_rest, counts_line, last_line};
-ghost use Rattle.converse.specs.Checked.{store_text};
-ghost use Rattle.converse.specs.Causes.{IsCheckEnd, Tells};
+ghost use Rattle.converse.specs.Checked.{store_text, AreKnown};
+ghost use Rattle.converse.specs.Causes.{IsCheckEnd, IsExportFault, IsRefusedCheck, IsRefusedRead};
+ghost use Rattle.converse.specs.Causes.{IsRefusedExport, Tells};
+ghost use Rattle.converse.specs.Streams.{Writes, WritesPart, writes_failed};
 ghost use Rattle.converse.specs.Texts.{AreMarks, HasNone, against};
 ghost use Rattle.converse.specs.Texts.{differing, differing_in, differs_line};
 
 use crate::fault::{Fault, tell_fault};
-use crate::printing::print;
+use crate::streams::Sink;
 use crate::texts::{Mark, Texts, marks_of, print_differing, sift};
+use crate::writing::write_text;
 use creds::{Credential, Name};
 use std::alloc::Global;
 use std::collections::BTreeSet;
@@ -47,7 +49,7 @@ pub struct StoreFile {
 /// Gives the exit status, 0 or 1. A fault has status 1 and its text on `err`: messages differ, the
 /// store refuses or has no such clerk, memory runs out, `out` refuses octets. With the first of
 /// them all of it is on `out`, with the last a beginning may be, with the others nothing is.
-pub fn check_store<V: Vault, W: Write, E: Write>(
+pub fn check_store<V: Vault, W: Sink, E: Write>(
     alloc: Global,
     vault: &mut V,
     clerks: &[Name],
@@ -59,21 +61,23 @@ pub fn check_store<V: Vault, W: Write, E: Write>(
     ensures status { result ≤ 1 }
     ensures silent { result ≡ 0 → err.new ≡ err.old }
     ensures told { result ≡ 0 → (c : Contents) → V.holds vault.old c → V.is_clean vault.new
-        → Appends (W.contents out.old) (W.contents out.new)
+        → Writes (W.seen out.old) (W.seen out.new)
         (store_text file.now c clerks.now (against texts.now)) }
+    ensures flushed { result ≡ 0 → (W.seen out.new).flushed ≡ true }
     ensures intact { result ≡ 0 → (c : Contents) → V.holds vault.old c → V.is_clean vault.new
         → differing (against texts.now) c ≡ [] }
     ensures why { result ≡ 1 → Tells (E.contents err.old) (E.contents err.new) (IsCheckEnd
         ((c : Contents) → V.holds vault.old c → V.is_clean vault.new
-        → ¬ (differing (against texts.now) c ≡ []) × Appends
-        (W.contents out.old) (W.contents out.new)
-        (store_text file.now c clerks.now (against texts.now)))) }
+        → ¬ (differing (against texts.now) c ≡ []) × Writes (W.seen out.old) (W.seen out.new)
+        (store_text file.now c clerks.now (against texts.now)))
+        (writes_failed (W.seen out.old) (W.seen out.new))
+        (IsRefusedCheck V.holds V.is_clean V.faults vault.old vault.new (AreKnown clerks.now))) }
     ensures part { (out.new ≡ out.old)
         ⊎ ((c : Contents) → V.holds vault.old c → V.is_clean vault.new
-        → PrintsPart (W.contents out.old) (W.contents out.new)
+        → WritesPart (W.seen out.old) (W.seen out.new)
         (store_text file.now c clerks.now (against texts.now))) }
     ensures known { result ≡ 0 → (c : Contents) → V.holds vault.old c → V.is_clean vault.new
-        → All (λ name. is_some (credential_in name c.clerks) ≡ true) clerks.now }
+        → AreKnown clerks.now c }
     ensures held { (c : Contents) → V.holds vault.old c → V.is_clean vault.new
         → V.holds vault.new c }
     ensures clean { V.is_clean vault.new → V.is_clean vault.old }
@@ -85,7 +89,7 @@ pub fn check_store<V: Vault, W: Write, E: Write>(
 }
 
 /// Prints what lies in a store.
-fn tell_store<V: Vault, W: Write>(
+fn tell_store<V: Vault, W: Sink>(
     alloc: Global,
     vault: &mut V,
     clerks: &[Name],
@@ -94,20 +98,23 @@ fn tell_store<V: Vault, W: Write>(
     out: &mut W,
 ) -> Result<(), Fault>
     ensures told { OnOk result ((c : Contents) → V.holds vault.old c → V.is_clean vault.new
-        → Appends (W.contents out.old) (W.contents out.new)
+        → Writes (W.seen out.old) (W.seen out.new)
         (store_text file.now c clerks.now (against texts.now))) }
+    ensures flushed { OnOk result ((W.seen out.new).flushed ≡ true) }
     ensures intact { OnOk result ((c : Contents) → V.holds vault.old c → V.is_clean vault.new
         → differing (against texts.now) c ≡ []) }
     ensures why { IfErr result (IsCheckEnd ((c : Contents) → V.holds vault.old c
         → V.is_clean vault.new → ¬ (differing (against texts.now) c ≡ [])
-        × Appends (W.contents out.old) (W.contents out.new)
-        (store_text file.now c clerks.now (against texts.now)))) }
+        × Writes (W.seen out.old) (W.seen out.new)
+        (store_text file.now c clerks.now (against texts.now)))
+        (writes_failed (W.seen out.old) (W.seen out.new))
+        (IsRefusedCheck V.holds V.is_clean V.faults vault.old vault.new (AreKnown clerks.now))) }
     ensures part { (out.new ≡ out.old)
         ⊎ ((c : Contents) → V.holds vault.old c → V.is_clean vault.new
-        → PrintsPart (W.contents out.old) (W.contents out.new)
+        → WritesPart (W.seen out.old) (W.seen out.new)
         (store_text file.now c clerks.now (against texts.now))) }
     ensures known { OnOk result ((c : Contents) → V.holds vault.old c → V.is_clean vault.new
-        → All (λ name. is_some (credential_in name c.clerks) ≡ true) clerks.now) }
+        → AreKnown clerks.now c) }
     ensures held { (c : Contents) → V.holds vault.old c → V.is_clean vault.new
         → V.holds vault.new c }
     ensures clean { V.is_clean vault.new → V.is_clean vault.old }
@@ -115,7 +122,7 @@ fn tell_store<V: Vault, W: Write>(
     let mut text = Vec::new(alloc);
     let marks = marks_of(alloc, texts)?;
     let are_intact = put_store(alloc, vault, clerks, &marks, file, &mut text)?;
-    print(out, text.as_slice())?;
+    write_text(out, text.as_slice())?;
     if are_intact {
         return Ok(());
     }
@@ -139,11 +146,12 @@ fn put_store<V: Vault>(
         → (c : Contents) → V.holds vault.old c → V.is_clean vault.new
         → HasNone intact (differing rs c)) }
     ensures known { OnOk result ((c : Contents) → V.holds vault.old c → V.is_clean vault.new
-        → All (λ name. is_some (credential_in name c.clerks) ≡ true) clerks.now) }
+        → AreKnown clerks.now c) }
     ensures held { (c : Contents) → V.holds vault.old c → V.is_clean vault.new
         → V.holds vault.new c }
     ensures clean { V.is_clean vault.new → V.is_clean vault.old }
-    ensures own { IfErr result (IsCheckEnd ⊥) }
+    ensures cause { IfErr result (IsExportFault false false
+        (IsRefusedCheck V.holds V.is_clean V.faults vault.old vault.new (AreKnown clerks.now))) }
 {
     let totals = vault.maildrops()?;
     let rules = vault.policy()?.len();
@@ -179,7 +187,10 @@ fn tell_differing<V: Vault>(
     ensures held { (c : Contents) → V.holds vault.old c → V.is_clean vault.new
         → V.holds vault.new c }
     ensures clean { V.is_clean vault.new → V.is_clean vault.old }
-    ensures own { IfErr result (IsCheckEnd ⊥) }
+    ensures counted { V.faults vault.old ≤ V.faults vault.new }
+    ensures cause { IfErr result (IsExportFault false false
+        (IsRefusedRead V.holds V.is_clean V.faults vault.old vault.new
+        (λ c. All (λ (s : Sum). is_one_of s.maildrop c.maildrops ≡ true) totals.now))) }
 {
     for total in totals {
         tell_maildrop(alloc, vault, marks, &total.maildrop, text)?;
@@ -202,7 +213,9 @@ fn tell_maildrop<V: Vault>(
     ensures held { (c : Contents) → V.holds vault.old c → V.is_clean vault.new
         → V.holds vault.new c }
     ensures clean { V.is_clean vault.new → V.is_clean vault.old }
-    ensures own { IfErr result (IsCheckEnd ⊥) }
+    ensures counted { V.faults vault.old ≤ V.faults vault.new }
+    ensures cause { IfErr result (IsExportFault false false
+        (IsRefusedExport V.holds V.is_clean V.faults vault.old vault.new maildrop.now)) }
 {
     let mut intact = Vec::new(alloc);
     let mut differing = Vec::new(alloc);
@@ -251,11 +264,13 @@ fn tell_clerks<V: Vault>(vault: &mut V, clerks: &[Name], text: &mut Vec<u8>) -> 
     ensures told { OnOk result ((c : Contents) → V.holds vault.old c → V.is_clean vault.new
         → text.new.items ≡ text.old.items ++ flat_map (clerk_line c.clerks) clerks.now) }
     ensures known { OnOk result ((c : Contents) → V.holds vault.old c → V.is_clean vault.new
-        → All (λ name. is_some (credential_in name c.clerks) ≡ true) clerks.now) }
+        → AreKnown clerks.now c) }
     ensures held { (c : Contents) → V.holds vault.old c → V.is_clean vault.new
         → V.holds vault.new c }
     ensures clean { V.is_clean vault.new → V.is_clean vault.old }
-    ensures own { IfErr result (IsCheckEnd ⊥) }
+    ensures counted { V.faults vault.old ≤ V.faults vault.new }
+    ensures cause { IfErr result (IsExportFault false false
+        (IsRefusedCheck V.holds V.is_clean V.faults vault.old vault.new (AreKnown clerks.now))) }
 {
     for name in clerks {
         tell_clerk(vault, name, text)?;
@@ -272,7 +287,10 @@ fn tell_clerk<V: Vault>(vault: &mut V, name: &Name, text: &mut Vec<u8>) -> Resul
     ensures held { (c : Contents) → V.holds vault.old c → V.is_clean vault.new
         → V.holds vault.new c }
     ensures clean { V.is_clean vault.new → V.is_clean vault.old }
-    ensures own { IfErr result (IsCheckEnd ⊥) }
+    ensures counted { V.faults vault.old ≤ V.faults vault.new }
+    ensures cause { IfErr result (IsExportFault false false
+        (IsRefusedCheck V.holds V.is_clean V.faults vault.old vault.new
+        (λ c. is_some (credential_in name.now c.clerks) ≡ true))) }
 {
     let Some(credential) = vault.credential(name)? else {
         return Err(Fault::Store(VaultFault::NoClerk));

@@ -28,7 +28,7 @@ use vault::{Head, MessageKey, Vault, VaultFault};
 /// How many octets of a message are read at once.
 const PAGE_OCTETS: usize = 16_384;
 
-/// A folder that takes files. Contracts see which files it took, where it tells them (a real folder
+/// A folder that takes files. Contracts see which files it took, if it tells them (a real folder
 /// doesn't); whether the names of all of them last a power cut; and how many of its calls failed.
 /// That count stops at 2^64 - 1.
 pub trait Folder {
@@ -44,7 +44,7 @@ pub trait Folder {
     /// How many of its calls failed.
     ghost faults: { Self → ℕ };
 
-    /// Puts a file of this name and these octets into the folder, whole or not at all. Where the
+    /// Puts a file of this name and these octets into the folder, whole or not at all. If the
     /// folder has a file of the name that file stays as it is, and the call is an error.
     fn put(&mut self, name: &str, octets: &[u8]) -> io::Result<()>
         ensures put { OnOk result (Takes (files self.old) (files self.new)
@@ -62,8 +62,8 @@ pub trait Folder {
 
 /// Puts each message of a maildrop, the oldest first, as a file into a folder, and prints
 /// `ok, N messages` to `out`, which is flushed, once the names of the files last a power cut. The
-/// file's name is the message's unique-id with `.eml` behind it; its octets are the message's text
-/// with CRLF behind each line. Nothing in the store is changed. One message at a time is in memory.
+/// file's name is the message's unique-id with `.eml` after it; its octets are the message's text
+/// with CRLF after each line. Nothing in the store is changed. One message at a time is in memory.
 ///
 /// If texts are compared, a message whose text doesn't have the digest of its deposit is left out,
 /// and in place of that line a line `differs MAILDROP UNIQUE-ID` is printed for each of them, the
@@ -348,7 +348,7 @@ pub(crate) fn read_text<V: Vault>(
 /// Reads the next octets of the message under a key to the end of those that were read, at least
 /// one.
 ///
-/// Answers [`Fault::OutOfMemory`] where memory was refused, and [`Fault::Store`] where the store
+/// Answers [`Fault::OutOfMemory`] if memory was refused, and [`Fault::Store`] if the store
 /// refused, or gave a page that no clean store gives.
 fn read_more<V: Vault>(vault: &mut V, key: MessageKey, text: &mut Vec<u8>) -> Result<(), Fault>
     ensures grown { IsOk result → length text.old.items < length text.new.items }

@@ -1,4 +1,4 @@
-//! Why a run stops, and how that is told on standard error.
+//! Why a run stops, and how that is printed on standard error.
 
 ghost use Rattle.std.specs.Prelude.{◌≡◌, ◌↔◌, ◌⊎◌, IfOk, Some};
 ghost use Rattle.std.specs.IoError.{error_kind};
@@ -19,7 +19,7 @@ use std::io::{ErrorKind, Write};
 use std::{fmt, io};
 use vault::VaultFault;
 
-/// Why a run stopped. Its text is what standard error says behind `popbox: `.
+/// Why a run stopped. Its text is what standard error says after `popbox: `.
 #[derive(Clone, Copy, Debug)]
 pub enum Fault {
     /// The file can't be opened or read.
@@ -143,7 +143,7 @@ fn talk_fault_text(fault: &TalkFault) -> &'static str
     }
 }
 
-/// The fault that tells that a file can't be opened or read.
+/// The fault that says that a file can't be opened or read.
 pub fn read_fault(error: &io::Error) -> Fault
     ensures memory { (result ≡ Fault.OutOfMemory) ↔ (error_kind error.now ≡ ErrorKind.OutOfMemory) }
     ensures cause { (result ≡ Fault.CannotRead) ⊎ (result ≡ Fault.OutOfMemory) }
@@ -154,7 +154,7 @@ pub fn read_fault(error: &io::Error) -> Fault
     }
 }
 
-/// The fault that tells that a folder refused a file.
+/// The fault that says that a folder refused a file.
 pub fn put_fault(error: &io::Error) -> Fault
     ensures memory { (result ≡ Fault.OutOfMemory) ↔ (error_kind error.now ≡ ErrorKind.OutOfMemory) }
     ensures cause { (result ≡ Fault.CannotPut) ⊎ (result ≡ Fault.OutOfMemory) }
@@ -168,7 +168,7 @@ pub fn put_fault(error: &io::Error) -> Fault
 /// How many octets the line of a fault has at most.
 const MOST_OCTETS: usize = 128;
 
-/// The line that tells a fault.
+/// The line of a fault.
 fn line_of(fault: Fault) -> io::Result<ArrayVec<u8, MOST_OCTETS>>
     ensures { IfOk result (λ line. line.items ≡ fault_line fault) }
 {
@@ -177,8 +177,8 @@ fn line_of(fault: Fault) -> io::Result<ArrayVec<u8, MOST_OCTETS>>
     Ok(line)
 }
 
-/// Tells a fault on standard error by its line, and gives the exit status, which is 1.
-/// Where `err` refuses octets a beginning of the line may be written; the status alone tells it
+/// Prints the line of a fault on standard error, and gives the exit status, which is 1.
+/// If `err` refuses octets a beginning of the line may be written; the status alone tells it
 /// then.
 pub fn tell_fault<E: Write>(err: &mut E, fault: Fault) -> u8
     ensures status { result ≡ 1 }

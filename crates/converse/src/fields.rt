@@ -15,7 +15,7 @@ use std::alloc::{AllocError, Global};
 /// What stands between two fields.
 pub const SPACE: u8 = b' ';
 
-/// The octets before the first octet `end`, and those behind it; all of them, and none, where there
+/// The octets before the first octet `end`, and those after it; all of them, and none, if there
 /// is no such octet.
 pub fn cut_at(text: &[u8], end: u8) -> (&[u8], Option<&[u8]>)
     ensures { (result.0.now, option_copied result.1) ≡ parts_at (λ b. b == end) text.now }
@@ -34,7 +34,7 @@ fn place_of(text: &[u8], sought: u8) -> Option<usize>
     text.iter().position(|octet| *octet == sought)
 }
 
-/// A line's first field, and what stands behind the space that ends it; none without a space.
+/// A line's first field, and what stands after the space that ends it; none without a space.
 pub fn take_field(line: &[u8]) -> Option<(&[u8], &[u8])>
     ensures { option_map (λ r. (r.0.now, r.1.now)) result ≡ two_fields line.now }
 {
@@ -44,7 +44,7 @@ pub fn take_field(line: &[u8]) -> Option<(&[u8], &[u8])>
     }
 }
 
-/// Three fields, and what stands behind the space after the third; or the number, from 1, of the
+/// Three fields, and what stands after the space after the third; or the number, from 1, of the
 /// first that isn't there.
 pub fn take_fields(line: &[u8]) -> Result<(&[u8], &[u8], &[u8], &[u8]), usize>
     ensures ok { IfOk result (λ r. four_fields line.now
@@ -58,7 +58,7 @@ pub fn take_fields(line: &[u8]) -> Result<(&[u8], &[u8], &[u8], &[u8]), usize>
     Ok((first, second, third, rest))
 }
 
-/// The octets that a TEXT stands for. `None` where a `\` begins no escape.
+/// The octets that a TEXT stands for. `None` if a `\` begins no escape.
 pub fn unescape(alloc: Global, text: &[u8]) -> Result<Option<Vec<u8>>, AllocError>
     ensures short { IfOk result (λ octets. IfSome octets (λ v. vec_len v ≤ length text.now)) }
     ensures is { IfOk result (λ octets. unescaped text.now ≡ option_map (λ v. v.items) octets) }
@@ -75,7 +75,7 @@ pub fn unescape(alloc: Global, text: &[u8]) -> Result<Option<Vec<u8>>, AllocErro
     Ok(Some(octets))
 }
 
-/// The octet that a TEXT begins with, and the TEXT behind it.
+/// The octet that a TEXT begins with, and the TEXT after it.
 fn next_octet(text: &[u8]) -> Option<(u8, &[u8])>
     ensures is { MatchOption result (text.now ≢ [] → unescaped text.now ≡ None)
         (λ r. unescaped text.now ≡ led r.0 (unescaped r.1.now)) }
@@ -88,7 +88,7 @@ fn next_octet(text: &[u8]) -> Option<(u8, &[u8])>
     }
 }
 
-/// Reads an escape from behind its `\`: the octet that it stands for, and the TEXT behind it.
+/// Reads an escape from after its `\`: the octet that it stands for, and the TEXT after it.
 fn escaped_octet(text: &[u8]) -> Option<(u8, &[u8])>
     ensures is { MatchOption result (behind_backslash text.now ≡ None)
         (λ r. behind_backslash text.now ≡ led r.0 (unescaped r.1.now)) }

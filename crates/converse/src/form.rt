@@ -34,7 +34,7 @@ pub enum Form {
     Explain,
 }
 
-/// The form of which a line is, or would be, by its first word; by its first two where the first is
+/// The form of which a line is, or would be, by its first word; by its first two if the first is
 /// `maildrop` or `clerk`. A line that begins with no form's words is none that is read.
 pub fn form_of(line: &[u8]) -> Option<Form>
     ensures none { MatchOption result (line_of line.now ≡ None) (λ _. ⊤) }
@@ -43,7 +43,7 @@ pub fn form_of(line: &[u8]) -> Option<Form>
     form_by(keyword, rest)
 }
 
-/// The same by the first word, and what stands behind its space, if there is one.
+/// The same by the first word, and what stands after its space, if there is one.
 fn form_by(keyword: &[u8], rest: Option<&[u8]>) -> Option<Form>
     ensures none { MatchOption result (line_by (keyword.now, option_copied rest.entry) ≡ None)
         (λ _. ⊤) }
@@ -54,7 +54,7 @@ fn form_by(keyword: &[u8], rest: Option<&[u8]>) -> Option<Form>
     }
 }
 
-/// The same, where something stands behind the first word.
+/// The same, if something stands after the first word.
 fn form_before(keyword: &[u8], rest: &[u8]) -> Option<Form>
     ensures none { MatchOption result (text_line keyword.now rest.now ≡ None) (λ _. ⊤) }
 {
@@ -67,7 +67,7 @@ fn form_before(keyword: &[u8], rest: &[u8]) -> Option<Form>
     }
 }
 
-/// A form by its first word, where that word is the form's only one.
+/// A form by its first word, if that word is the form's only one.
 fn word_form(keyword: &[u8]) -> Option<Form>
     ensures alone { MatchOption result (word_line keyword.now ≡ None) (λ _. ⊤) }
     ensures none { (rest : List ℕ) → bytes_eq keyword.now (codes "clerk") ≡ false
@@ -119,7 +119,7 @@ fn number_form(keyword: &[u8]) -> Option<Form>
     }
 }
 
-/// A form by what stands behind `clerk`.
+/// A form by what stands after `clerk`.
 fn clerk_form(rest: &[u8]) -> Option<Form>
     ensures none { MatchOption result (clerk_command rest.now ≡ None) (λ _. ⊤) }
 {
@@ -129,7 +129,7 @@ fn clerk_form(rest: &[u8]) -> Option<Form>
     }
 }
 
-/// A form by its second word, behind `clerk`.
+/// A form by its second word, after `clerk`.
 fn clerk_word(word: &[u8]) -> Option<Form>
     ensures none { MatchOption result ((bytes_eq word.now (codes "apop") ≡ false)
         × (bytes_eq word.now (codes "pass") ≡ false) × (bytes_eq word.now (codes "drop") ≡ false)
@@ -148,7 +148,7 @@ fn clerk_word(word: &[u8]) -> Option<Form>
     }
 }
 
-/// A form by what stands behind `maildrop`.
+/// A form by what stands after `maildrop`.
 fn maildrop_form(rest: &[u8]) -> Option<Form>
     ensures none { MatchOption result (maildrop_command rest.now ≡ None) (λ _. ⊤) }
 {
@@ -158,7 +158,7 @@ fn maildrop_form(rest: &[u8]) -> Option<Form>
     }
 }
 
-/// A form by its second word, behind `maildrop`.
+/// A form by its second word, after `maildrop`.
 fn maildrop_word(word: &[u8]) -> Option<Form>
     ensures none { MatchOption result ((bytes_eq word.now (codes "add") ≡ false)
         × (bytes_eq word.now (codes "drop") ≡ false)) (λ _. ⊤) }

@@ -43,7 +43,7 @@ pub fn text_is_read_back()
     ensures { IsReadBack }
 {}
 
-/// A script's fault is told by the number of its first line of no form.
+/// A script's fault is reported by the number of its first line of no form.
 pub fn faults_are_told_by_their_line()
     ensures { AreToldByTheirLine }
 {}

@@ -8,7 +8,7 @@ ghost use Rattle.converse.specs.declared.fault.Fault.TheVariants.{CannotWrite};
 use crate::fault::Fault;
 use std::io::{ErrorKind, Write};
 
-/// Writes some of the text, which isn't empty, and gives how many octets: none where a signal broke
+/// Writes some of the text, which isn't empty, and gives how many octets: none if a signal broke
 /// in. An `Err` is a writer that refuses, or takes none.
 fn put_some<W: Write>(out: &mut W, text: &[u8]) -> Result<usize, Fault>
     ensures bound { IfOk result (λ count. count ≤ length text.now) }
@@ -23,7 +23,7 @@ fn put_some<W: Write>(out: &mut W, text: &[u8]) -> Result<usize, Fault>
     }
 }
 
-/// Prints a text, and flushes. Answers [`Fault::CannotWrite`] where `out` refuses octets; a
+/// Prints a text, and flushes. Answers [`Fault::CannotWrite`] if `out` refuses octets; a
 /// beginning of the text may then be printed.
 pub(crate) fn print<W: Write>(out: &mut W, text: &[u8]) -> Result<(), Fault>
     ensures ok { OnOk result (Appends (W.contents out.old) (W.contents out.new) text.now) }

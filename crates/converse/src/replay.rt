@@ -41,9 +41,9 @@ const IDLE_SECONDS: u32 = 600;
 /// denied removal is refused.
 ///
 /// Gives the exit status, 0 or 1, and the vault as the events left it. At a fault the status is 1,
-/// and `err` gets its text. Where the script can't be read, has a line that is no event, or the
+/// and `err` gets its text. If the script can't be read, has a line that is no event, or the
 /// host is bad, no event is done and nothing is on `out`; faults are found in that order. What was
-/// done before another fault stays done, and no line behind it is begun.
+/// done before another fault stays done, and no line after it is begun.
 pub fn replay<R: Read, V: Vault, W: Printer, E: Write>(
     alloc: Global,
     script: &mut R,
@@ -96,7 +96,7 @@ pub fn replay<R: Read, V: Vault, W: Printer, E: Write>(
     (status, office.into_vault())
 }
 
-/// Does the lines in order in an office. A fault is told on `err` after what its line printed.
+/// Does the lines in order in an office. A fault is printed on `err` after what its line printed.
 /// Gives the exit status.
 fn play_over<V: Vault, W: Printer, E: Write>(
     alloc: Global,
@@ -207,7 +207,7 @@ fn play<V: Vault, W: Printer>(
 }
 
 /// Does one line, prints what comes of it, and flushes. The connections that were opened and not
-/// yet told as ended are `known`.
+/// yet printed as ended are `known`.
 fn play_line<V: Vault, W: Printer>(
     alloc: Global,
     office: &mut Office<V>,
@@ -336,7 +336,7 @@ fn tell_no_policy<W: Write>(out: &mut W, fault: PolicyFault) -> io::Result<()>
     writeln!(out, "answer {fault}")
 }
 
-/// Takes `count` octets of what a connection is owed, and prints them; none where the office
+/// Takes `count` octets of what a connection is owed, and prints them; none if the office
 /// ignores the event.
 fn take<V: Vault, W: Write>(
     office: &mut Office<V>,
@@ -361,7 +361,7 @@ fn take<V: Vault, W: Write>(
     Ok(outcome)
 }
 
-/// Prints the first `count` octets of what a connection is owed; nothing where it is owed fewer.
+/// Prints the first `count` octets of what a connection is owed; nothing if it is owed fewer.
 fn tell_taken<W: Write>(out: &mut W, number: u64, owed: &[u8], count: usize) -> Result<(), Fault>
     ensures { OnOk result (Appends (W.contents out.old) (W.contents out.new)
         (taken_text number owed.now count)) }
@@ -492,8 +492,8 @@ fn write_digits<W: Write>(out: &mut W, octet: u8) -> io::Result<()>
     write!(out, "\\x{octet:02x}")
 }
 
-/// Prints an outcome. Answers [`Fault::CannotWrite`] where `out` refuses octets, and
-/// [`Fault::OutOfMemory`] where the text of an answer finds no memory; some of the lines may then
+/// Prints an outcome. Answers [`Fault::CannotWrite`] if `out` refuses octets, and
+/// [`Fault::OutOfMemory`] if the text of an answer finds no memory; some of the lines may then
 /// be on `out`.
 pub fn tell<W: Write>(alloc: Global, out: &mut W, outcome: &Outcome) -> Result<(), Fault>
     ensures told { OnOk result (Appends (W.contents out.old) (W.contents out.new)
@@ -529,7 +529,7 @@ fn reason_name(reason: Reason) -> &'static str
     }
 }
 
-/// Prints each line of an answer's body behind `answer `; of an empty body the word alone.
+/// Prints each line of an answer's body after `answer `; of an empty body the word alone.
 fn tell_body<W: Write>(out: &mut W, body: &[u8]) -> io::Result<()>
     ensures { OnOk result (Appends (W.contents out.old) (W.contents out.new)
         (answer_lines body.now)) }
@@ -545,7 +545,7 @@ fn tell_body<W: Write>(out: &mut W, body: &[u8]) -> io::Result<()>
     Ok(())
 }
 
-/// Prints an octet of an answer's body, behind the word where it begins a line.
+/// Prints an octet of an answer's body, after the word if it begins a line.
 fn tell_octet<W: Write>(out: &mut W, at_start: bool, octet: u8) -> io::Result<()>
     ensures { OnOk result (Appends (W.contents out.old) (W.contents out.new) ((if at_start then codes "answer " else []) ++ octet ∷ [])) }
 {

@@ -59,7 +59,7 @@ pub enum Line {
     /// `maildrops`, `maildrop`, `list`, `clerk`, `policy`, `sessions`, `end` or `explain`: an
     /// administrator asks for something.
     Admin(AdminCommand),
-    /// `policy TEXT`, where TEXT is no policy: no event is done; the text's first fault is told.
+    /// `policy TEXT`, if TEXT is no policy: no event is done; the text's first fault is printed.
     NoPolicy(PolicyFault),
 }
 
@@ -108,7 +108,7 @@ pub fn read_script(alloc: Global, text: &[u8]) -> Result<Vec<Line>, ScriptFault>
     Ok(lines)
 }
 
-/// Reads the line of this number, and puts it behind the lines before it. A line that is empty or
+/// Reads the line of this number, and puts it after the lines before it. A line that is empty or
 /// a comment is skipped.
 fn read_into(
     alloc: Global,
@@ -154,7 +154,7 @@ pub fn read_line(alloc: Global, line: &[u8]) -> Result<Result<Line, usize>, Allo
     read_parts(alloc, keyword, rest)
 }
 
-/// Reads a line by its keyword and what stands behind that, if something does.
+/// Reads a line by its keyword and what stands after that, if something does.
 fn read_parts(
     alloc: Global,
     keyword: &[u8],
@@ -189,7 +189,7 @@ fn read_word(keyword: &[u8]) -> Result<Line, usize>
     }
 }
 
-/// Reads a line by its keyword and what stands behind that, which can end with a TEXT.
+/// Reads a line by its keyword and what stands after that, which can end with a TEXT.
 fn read_with_text(
     alloc: Global,
     keyword: &[u8],
@@ -231,7 +231,7 @@ fn read_numbers(keyword: &[u8], rest: &[u8]) -> Result<Line, usize>
     }
 }
 
-/// `C TEXT`, behind `bytes`.
+/// `C TEXT`, after `bytes`.
 fn read_bytes(alloc: Global, rest: &[u8]) -> Result<Result<Line, usize>, AllocError>
     ensures { IfOk result (λ read. read_seen read
         ≡ ok_or (bytes_line rest.now) (number_first rest.now)) }
@@ -248,7 +248,7 @@ fn read_bytes(alloc: Global, rest: &[u8]) -> Result<Result<Line, usize>, AllocEr
     Ok(Ok(Line::Bytes(number, octets)))
 }
 
-/// `C N`, behind `took`.
+/// `C N`, after `took`.
 fn read_took(rest: &[u8]) -> Result<Line, usize>
     ensures { read_seen result ≡ ok_or (took_line rest.now) (number_first rest.now) }
 {
@@ -258,7 +258,7 @@ fn read_took(rest: &[u8]) -> Result<Line, usize>
     Ok(Line::Took(number, count as usize))
 }
 
-/// `MAILDROP CLASS ID TEXT`, behind `deposit`.
+/// `MAILDROP CLASS ID TEXT`, after `deposit`.
 fn read_deposit(alloc: Global, rest: &[u8]) -> Result<Result<Line, usize>, AllocError>
     ensures { IfOk result (λ read. read_seen read
         ≡ ok_or (deposit_line rest.now) (deposit_place rest.now)) }
@@ -287,7 +287,7 @@ fn read_deposit(alloc: Global, rest: &[u8]) -> Result<Result<Line, usize>, Alloc
     }))
 }
 
-/// `apop NAME TEXT`, `pass NAME TEXT`, `drop NAME` or `show NAME`, behind `clerk`.
+/// `apop NAME TEXT`, `pass NAME TEXT`, `drop NAME` or `show NAME`, after `clerk`.
 fn read_clerk(alloc: Global, rest: &[u8]) -> Result<Result<Line, usize>, AllocError>
     ensures { IfOk result (λ read. read_seen read
         ≡ ok_or (option_map (λ command. Does (Admin command)) (clerk_command rest.now))
@@ -326,7 +326,7 @@ fn read_clerk(alloc: Global, rest: &[u8]) -> Result<Result<Line, usize>, AllocEr
     }
 }
 
-/// `NAME TEXT`, behind `clerk apop` or `clerk pass`: a clerk's name, and a secret or a password.
+/// `NAME TEXT`, after `clerk apop` or `clerk pass`: a clerk's name, and a secret or a password.
 fn read_secret(alloc: Global, rest: &[u8]) -> Result<Result<(Name, Secret), usize>, AllocError>
     ensures ok { IfOk result (λ read. IfOk read (λ pair. secret_of_clerk rest.now ≡ Some pair)) }
     ensures fault { IfOk result (λ read. IfErr read (λ at. (secret_of_clerk rest.now ≡ None)
@@ -347,7 +347,7 @@ fn read_secret(alloc: Global, rest: &[u8]) -> Result<Result<(Name, Secret), usiz
     Ok(Ok((clerk, secret)))
 }
 
-/// `TEXT`, behind `policy`: a policy's text, or one with a fault.
+/// `TEXT`, after `policy`: a policy's text, or one with a fault.
 fn read_policy(alloc: Global, text: &[u8]) -> Result<Result<Line, usize>, AllocError>
     ensures { IfOk result (λ read. read_seen read
         ≡ ok_or (option_map policy_line (unescaped text.now)) 1) }
@@ -362,7 +362,7 @@ fn read_policy(alloc: Global, text: &[u8]) -> Result<Result<Line, usize>, AllocE
     }
 }
 
-/// A command whose line has no TEXT, by its keyword and what stands behind that.
+/// A command whose line has no TEXT, by its keyword and what stands after that.
 fn read_command(keyword: &[u8], rest: &[u8]) -> Result<Line, usize>
     ensures { read_seen result ≡ ok_or (option_map (λ command. Does (Admin command))
         (command_of keyword.now rest.now)) (command_place keyword.now rest.now) }
@@ -382,7 +382,7 @@ fn read_command(keyword: &[u8], rest: &[u8]) -> Result<Line, usize>
     }
 }
 
-/// `add NAME` or `drop NAME`, behind `maildrop`.
+/// `add NAME` or `drop NAME`, after `maildrop`.
 fn read_maildrop(rest: &[u8]) -> Result<Line, usize>
     ensures { read_seen result ≡ ok_or (option_map (λ command. Does (Admin command))
         (maildrop_command rest.now)) (maildrop_place rest.now) }
@@ -399,7 +399,7 @@ fn read_maildrop(rest: &[u8]) -> Result<Line, usize>
     }
 }
 
-/// `CLERK MAILDROP CLASS ACTION`, behind `explain`.
+/// `CLERK MAILDROP CLASS ACTION`, after `explain`.
 fn read_explain(rest: &[u8]) -> Result<Line, usize>
     ensures { read_seen result ≡ ok_or (option_map (λ command. Does (Admin command))
         (explain_command rest.now)) (explain_place rest.now) }

@@ -2,7 +2,7 @@
 
 use std::io;
 
-/// Gives octets. Contracts see which octets it gave, which it will give, where that is known, and
+/// Gives octets. Contracts see which octets it gave, which it will give, if that is known, and
 /// how many of its calls failed; that count stops at 2^64 - 1.
 pub trait Source {
     ghost use Rattle.std.specs.Io.{ReadsAtMost};
@@ -11,7 +11,7 @@ pub trait Source {
     /// What it gave.
     ghost seen: { Self → Reading };
 
-    /// Reads octets into the front of the room, and gives how many: none only at the end, or where
+    /// Reads octets into the front of the room, and gives how many: none only at the end, or if
     /// there is no room. An `Err` is counted as a fault, and nothing was read.
     fn read(&mut self, room: &mut [u8]) -> io::Result<usize>
         ensures bound { ReadsAtMost result room.new }
@@ -19,7 +19,7 @@ pub trait Source {
 }
 
 /// Takes octets. Contracts see which octets it took, whether all of them are flushed, which it
-/// holds, where that is known, and how many of its calls failed; that count stops at 2^64 - 1.
+/// holds, if that is known, and how many of its calls failed; that count stops at 2^64 - 1.
 pub trait Sink {
     ghost use Rattle.std.specs.Io.{WritesAtMost};
     ghost use Rattle.converse.specs.Streams.{Writing, HasWritten, HasFlushed, HoldsBack, HandsOn};

@@ -47,7 +47,7 @@ fn opened(outcome: Outcome) -> Result<u64, TalkFault>
     }
 }
 
-/// Answers [`TalkFault::NoMemory`] where the office had no memory for an event.
+/// Answers [`TalkFault::NoMemory`] if the office had no memory for an event.
 fn had_memory(outcome: Outcome) -> Result<(), TalkFault>
     ensures is { result ≡ memory_by (outcome_seen outcome) }
     ensures failed { IfErr result (HasFailed false false) }
@@ -88,7 +88,7 @@ fn hear<V: Vault>(office: &mut Office<V>, c: u64, piece: &[u8]) -> Result<(), Ta
     had_memory(office.step(Event::Bytes(c, piece)))
 }
 
-/// Reads once, and gives what was read to an office that waits for input. `false` where the reader
+/// Reads once, and gives what was read to an office that waits for input. `false` if the reader
 /// is at its end. Of the writer nothing is held back meanwhile, so that the client has all that it
 /// may wait for.
 fn listen<V: Vault, R: Source, W: Sink>(
@@ -125,7 +125,7 @@ fn listen<V: Vault, R: Source, W: Sink>(
     Ok(true)
 }
 
-/// Writes some of what the connection is owed. `false` where nothing is owed.
+/// Writes some of what the connection is owed. `false` if nothing is owed.
 fn write_some<V: Vault, W: Sink>(
     office: &mut Office<V>,
     c: u64,
@@ -241,7 +241,7 @@ fn converse<V: Vault, R: Source, W: Sink>(
 
 /// One conversation over an office, from a source and to a sink: a connection is opened, and all
 /// that it is owed is written and flushed before each read, until its last line closed it or the
-/// source told its end. Its connection is then ended, after a fault too.
+/// source gave its end. Its connection is then ended, after a fault too.
 pub fn talk<V: Vault, R: Source, W: Sink>(
     office: &mut Office<V>,
     reader: &mut R,

@@ -25,7 +25,7 @@ use vault::Vault;
 /// octets, `writer` takes the replies. `removals` says when a denied removal is refused.
 ///
 /// Gives the exit status, 0 or 1, and the vault as the conversation left it. At a fault the status
-/// is 1, and `err` gets its text. Where the host is bad nothing is read or written.
+/// is 1, and `err` gets its text. If the host is bad nothing is read or written.
 pub fn talk_over_store<V: Vault, R: Source, W: Sink, E: Write>(
     alloc: Global,
     vault: V,
@@ -64,7 +64,7 @@ pub fn talk_over_store<V: Vault, R: Source, W: Sink, E: Write>(
     (status, office.into_vault())
 }
 
-/// Has one conversation in an office, and tells its fault on `err`. Gives the exit status.
+/// Has one conversation in an office, and prints its fault on `err`. Gives the exit status.
 fn talk_and_tell<V: Vault, R: Source, W: Sink, E: Write>(
     office: &mut Office<V>,
     reader: &mut R,

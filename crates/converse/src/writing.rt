@@ -9,7 +9,7 @@ use crate::fault::Fault;
 use crate::streams::Sink;
 use std::io::ErrorKind;
 
-/// Writes some of the text, and gives how many octets: none where a signal broke in. An `Err` is a
+/// Writes some of the text, and gives how many octets: none if a signal broke in. An `Err` is a
 /// sink that refuses, or takes none.
 fn write_some<S: Sink>(out: &mut S, text: &[u8]) -> Result<usize, Fault>
     requires { 0 < length text.now }
@@ -46,7 +46,7 @@ fn flush<S: Sink>(out: &mut S) -> Result<(), Fault>
     }
 }
 
-/// Writes a text, and flushes. Answers [`Fault::CannotWrite`] where a call of the sink failed, or
+/// Writes a text, and flushes. Answers [`Fault::CannotWrite`] if a call of the sink failed, or
 /// took none of some octets; a beginning of the text may then be written.
 pub(crate) fn write_text<S: Sink>(out: &mut S, text: &[u8]) -> Result<(), Fault>
     ensures ok { OnOk result (Writes (S.seen out.old) (S.seen out.new) text.now) }

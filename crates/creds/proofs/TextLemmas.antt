@@ -20,7 +20,7 @@ HoldsText-over room text short ascii =
     let front : take (length text) (text ++ padding) ≡ text = take-append_seam text padding in
     rw (drop-replicate {X = ℕ} (length text) room 0) (record { fits = short; size = size; padding = rw front refl; ascii = rw front ascii })
 
--- a text is ASCII where a test that ASCII octets alone pass holds of each octet
+-- a text is ASCII if a test that ASCII octets alone pass holds of each octet
 pub IsAscii-list_all : (p : ℕ → Bool) → ((b : ℕ) → p b ≡ true → b < 128) → (text : List ℕ) → list_all p text ≡ true → IsAscii text
 IsAscii-list_all p small [] h = IsAscii-nil
 IsAscii-list_all p small (b ∷ bs) h =

@@ -55,7 +55,7 @@ is_host_part part = nat_lt 0 (length part) && not (slice_index part 0 == 45) && 
 abbrev pub is_host : List ℕ → Bool
 is_host text = has_length 1 64 text && list_all is_host_octet text && list_all is_host_part (slice_split (λ b. b == 46) text)
 
--- the text, where it has the form
+-- the text, if it has the form
 abbrev pub text_if : Bool → List ℕ → Option (List ℕ)
 text_if has_form text = if has_form then Some text else None
 

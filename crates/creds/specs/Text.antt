@@ -1,9 +1,9 @@
--- How a short ASCII text lies in an array: the text in front, zeros behind it.
+-- How a short ASCII text lies in an array: the text in front, zeros after it.
 use Rattle.std.specs.Prelude.{◌≡◌, ◌≤◌, ◌-◌, ◌++◌, ℕ, List, length, take, replicate}
 use Rattle.std.specs.Str.{IsAscii}
 use Rattle.std.proofs.lemmas.List.{length-take-le}
 
--- the text in `room` octets, zeros behind it
+-- the text in `room` octets, zeros after it
 abbrev pub padded : ℕ → List ℕ → List ℕ
 padded room text = text ++ replicate (room - length text) 0
 

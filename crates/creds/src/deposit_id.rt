@@ -42,7 +42,7 @@ fn are_id_octets(text: &[u8]) -> bool
 }
 
 impl DepositId {
-    /// The deposit id that a text is; `None` where it has not the form of one.
+    /// The deposit id that a text is; `None` if it has not the form of one.
     pub fn read(text: &[u8]) -> Option<DepositId>
         ensures { result ≡ deposit_id_of text.now }
     {

@@ -55,7 +55,7 @@ fn are_host_parts(text: &[u8]) -> bool
 }
 
 impl HostName {
-    /// The host name that a text is; `None` where it has not the form of one.
+    /// The host name that a text is; `None` if it has not the form of one.
     pub fn read(text: &[u8]) -> Option<HostName>
         ensures { result ≡ host_of text.now }
     {

@@ -22,7 +22,7 @@ impl LoginName {
     ghost use Rattle.std.specs.Prelude.{◌≡◌};
     ghost use Rattle.creds.specs.LoginName.{login_name};
 
-    /// The login name that a text is; `None` where it has not the form of one.
+    /// The login name that a text is; `None` if it has not the form of one.
     #[tactic(auto, unfolding(crate::specs::LoginName::login_name))]
     pub fn read(text: &[u8]) -> Option<LoginName>
         ensures { result ≡ login_name text.now }

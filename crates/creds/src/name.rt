@@ -43,7 +43,7 @@ fn are_name_octets(text: &[u8]) -> bool
 }
 
 impl Name {
-    /// The name that a text is; `None` where it has not the form of one.
+    /// The name that a text is; `None` if it has not the form of one.
     pub fn read(text: &[u8]) -> Option<Name>
         ensures { result ≡ name_of text.now }
     {

@@ -43,7 +43,7 @@ fn are_printable(text: &[u8]) -> bool
 }
 
 impl Secret {
-    /// The secret that a text is; `None` where it has not the form of one.
+    /// The secret that a text is; `None` if it has not the form of one.
     pub fn read(text: &[u8]) -> Option<Secret>
         ensures { result ≡ secret_of text.now }
     {

@@ -1,4 +1,4 @@
-//! Short texts of ASCII octets that lie in place, in an array with zeros behind the text.
+//! Short texts of ASCII octets that lie in place, in an array with zeros after the text.
 ghost use Rattle.std.specs.Prelude.{◌≡◌, ◌≤◌, ℕ, List, Some, length, nat_eq, refl};
 ghost use Rattle.std.specs.Str.{IsAscii};
 ghost use Rattle.std.specs.Ordering.{nat_cmp};

@@ -1,25 +1,11 @@
 -- The end of a check and of an export, by what is held.
-use Rattle.std.specs.Prelude.{Bool, ⊤}
+use Rattle.std.specs.Prelude.{Bool}
 use Rattle.vault.specs.declared.fault.VaultFault.{VaultFault}
 use Rattle.converse.specs.declared.fault.Fault.{Fault}
 use Rattle.converse.specs.declared.fault.Fault.TheVariants as fault
-use Rattle.converse.specs.Causes.{IsCheckEnd, IsExportEnd}
+use Rattle.converse.specs.Causes.{IsExportEnd}
 
--- a fault is told for the same cause where one follows from the other
-pub ends_still : (D E : Type 0) → (D → E) → (f : Fault) → IsCheckEnd D f → IsCheckEnd E f
-ends_still D E w fault.CannotRead h = tt
-ends_still D E w (fault.BadEvent n) h = tt
-ends_still D E w fault.BadHost h = tt
-ends_still D E w (fault.Store e) h = tt
-ends_still D E w (fault.Talk e) h = tt
-ends_still D E w (fault.NoPolicy e) h = tt
-ends_still D E w fault.NoClock h = tt
-ends_still D E w fault.CannotPut h = tt
-ends_still D E w fault.CannotWrite h = tt
-ends_still D E w fault.Differs h = w h
-ends_still D E w fault.OutOfMemory h = tt
-
--- so of an export, where also one refusal follows from the other
+-- a fault is told for the same cause where one follows from the other, and so do the refusals
 pub exports_still : (D E : Type 0) (put written : Bool) (P Q : VaultFault → Type 0) → (D → E) → ((e : VaultFault) → P e → Q e)
     → (f : Fault) → IsExportEnd D put written P f → IsExportEnd E put written Q f
 exports_still D E put written P Q w q fault.CannotRead h = absurd h

@@ -19,7 +19,7 @@ use Rattle.converse.specs.Talked.{trace_of}
 
 -- ---- a script
 
--- these lines are the script's, where its text is known
+-- these lines are the script's, if its text is known
 abbrev pub AreLinesOf : (script : Option (List ℕ)) → List ScriptLine → Type 0
 AreLinesOf script lines = IfSome script (λ text. script_of text ≡ Ok lines)
 
@@ -83,7 +83,7 @@ pub record HasConversed (old new : Reading) (before after : Writing) (status fir
 
 -- ---- a look
 
--- these totals were answered, or a refusal: for want of memory, or where the store's count of
+-- these totals were answered, or a refusal: for want of memory, or if the store's count of
 -- faults grew
 abbrev pub IsLook : (these : List Total) (first last : ℕ)
     → (answered : Result (List Total) VaultFault) → Type 0

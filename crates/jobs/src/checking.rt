@@ -1,6 +1,5 @@
 //! The report on a store over tables, with all its clerks, its texts compared with its deposits.
 ghost use Rattle.std.specs.Prelude.{◌≡◌, ◌≤◌, ◌⊎◌, [], true, IfOk, IfErr};
-ghost use Rattle.std.specs.Io.KnownBytes.{Appends};
 ghost use Rattle.sqlite.specs.Held.{state};
 ghost use Rattle.sqlite.specs.State.{HasCleanDisk};
 ghost use Rattle.vault.specs.Calls.{has_grown};
@@ -9,12 +8,12 @@ ghost use Rattle.sqlvault.specs.Clerks.{clerk_names};
 ghost use Rattle.sqlvault.specs.Stands.{Holds};
 ghost use Rattle.converse.specs.Causes.{IsCheckEnd, IsRefused, Tells};
 ghost use Rattle.converse.specs.Checked.{store_text};
-ghost use Rattle.converse.specs.Printed.{PrintsPart};
+ghost use Rattle.converse.specs.Streams.{Writes, WritesPart, writes_failed};
 ghost use Rattle.converse.specs.Texts.{against, differing};
 ghost use Rattle.jobs.specs.Checks.{held_against};
 
 use converse::check_store::{StoreFile, check_store};
-use converse::{Fault, Texts, tell_fault};
+use converse::{Fault, Sink, Texts, tell_fault};
 use sqlite::Alter;
 use sqlvault::SqlVault;
 use std::alloc::Global;
@@ -51,7 +50,7 @@ pub(crate) fn texts_of<S: Alter>(
 /// Prints what lies in a store, as [`check_store`] of `converse` does, with a line for each of its
 /// clerks, by name. If texts are `compared`, each message's is compared with the digest that the
 /// store keeps of its deposit.
-pub fn check_all<S: Alter, W: Write, E: Write>(
+pub fn check_all<S: Alter, W: Sink, E: Write>(
     alloc: Global,
     vault: &mut SqlVault<S>,
     compared: bool,
@@ -63,8 +62,9 @@ pub fn check_all<S: Alter, W: Write, E: Write>(
     ensures silent { result ≡ 0 → err.new ≡ err.old }
     ensures told { result ≡ 0 → (c : Contents) → Holds (state S.Store vault.old.conn) c
         → HasCleanDisk (state S.Store vault.new.conn)
-        → Appends (W.contents out.old) (W.contents out.new)
+        → Writes (W.seen out.old) (W.seen out.new)
         (store_text file.now c (clerk_names c.clerks) (held_against compared c)) }
+    ensures flushed { result ≡ 0 → (W.seen out.new).flushed ≡ true }
     ensures intact { result ≡ 0 → (c : Contents) → Holds (state S.Store vault.old.conn) c
         → HasCleanDisk (state S.Store vault.new.conn)
         → differing (held_against compared c) c ≡ [] }
@@ -72,12 +72,16 @@ pub fn check_all<S: Alter, W: Write, E: Write>(
         ((c : Contents) → Holds (state S.Store vault.old.conn) c
         → HasCleanDisk (state S.Store vault.new.conn)
         → ¬ (differing (held_against compared c) c ≡ [])
-        × Appends (W.contents out.old) (W.contents out.new)
-        (store_text file.now c (clerk_names c.clerks) (held_against compared c)))) }
+        × Writes (W.seen out.old) (W.seen out.new)
+        (store_text file.now c (clerk_names c.clerks) (held_against compared c)))
+        (writes_failed (W.seen out.old) (W.seen out.new))
+        (λ fault. (c : Contents) → Holds (state S.Store vault.old.conn) c
+        → HasCleanDisk (state S.Store vault.new.conn)
+        → IsRefused true (has_grown vault.old.faults vault.new.faults) fault)) }
     ensures part { (out.new ≡ out.old)
         ⊎ ((c : Contents) → Holds (state S.Store vault.old.conn) c
         → HasCleanDisk (state S.Store vault.new.conn)
-        → PrintsPart (W.contents out.old) (W.contents out.new)
+        → WritesPart (W.seen out.old) (W.seen out.new)
         (store_text file.now c (clerk_names c.clerks) (held_against compared c))) }
     ensures held { (c : Contents) → Holds (state S.Store vault.old.conn) c
         → HasCleanDisk (state S.Store vault.new.conn) → Holds (state S.Store vault.new.conn) c }

@@ -28,7 +28,7 @@ impl Careful for Wary {
 }
 
 /// Opens the store in the file at a path, as [`SqlVault::open`] does, by a careful start. It holds
-/// what rests in the file and its log; where there is neither, or the file is empty and its log has
+/// what rests in the file and its log; if there is neither, or the file is empty and its log has
 /// no commit, a new store is made, which holds nothing.
 pub fn open<S: Careful>(
     rt: &HostRuntime,

@@ -22,7 +22,7 @@ pub struct Replaying<'a, R, W, E> {
     pub removals: Removals,
     /// What the events give is printed to it.
     pub out: W,
-    /// A fault is told on it.
+    /// A fault is printed on it.
     pub err: E,
 }
 

@@ -19,10 +19,10 @@ use std::alloc::Global;
 use vault::VaultFault;
 
 /// Opens the store in two files, and adopts it as [`SqlVault::adopt`] does. It holds what rests in
-/// the files; where the database's file is empty, and its log has no commit, a new store is made,
+/// the files; if the database's file is empty, and its log has no commit, a new store is made,
 /// which holds nothing.
 ///
-/// Answers what [`SqlVault::open`] answers, and [`VaultFault::Store`] where a sync of one of the
+/// Answers what [`SqlVault::open`] answers, and [`VaultFault::Store`] if a sync of one of the
 /// files failed before. The files are dropped then.
 pub fn open_files<D: Disk + Drop>(
     alloc: Global,
@@ -48,7 +48,7 @@ pub fn open_files<D: Disk + Drop>(
 }
 
 /// Why a store's files aren't opened, as the vault's fault: [`VaultFault::NoMemory`] for want of
-/// memory, [`VaultFault::NotOurs`] where they are no database, and else [`VaultFault::Store`].
+/// memory, [`VaultFault::NotOurs`] if they are no database, and else [`VaultFault::Store`].
 pub fn open_fault(error: &Error) -> VaultFault
     ensures is { result ≡ open_fault error.now }
     ensures kinds { IsAdoptFault result }
@@ -80,7 +80,7 @@ pub fn close<D: Disk + Drop>(vault: SqlVault<FileStore<D>>) -> Result<Files<D>, 
 
 /// Closes a store and opens it again, from the same files. It holds what it held.
 ///
-/// Answers what [`open_files`] answers, and [`VaultFault::Store`] where it can't be closed.
+/// Answers what [`open_files`] answers, and [`VaultFault::Store`] if it can't be closed.
 pub fn reopen<D: Disk + Drop>(
     alloc: Global,
     vault: SqlVault<FileStore<D>>,

@@ -21,7 +21,7 @@ use sqlvault::SqlVault;
 use vault::VaultFault;
 
 /// Does a job over a store in two files, and closes it. Gives the answer, and the files: as `Err`
-/// where the store couldn't be closed, which loses nothing that was done.
+/// if the store couldn't be closed, which loses nothing that was done.
 pub fn do_and_close<D: Disk + Drop, J: Job>(
     vault: SqlVault<FileStore<D>>,
     job: J,
@@ -38,10 +38,10 @@ pub fn do_and_close<D: Disk + Drop, J: Job>(
 
 /// Opens the store in the file at a path, does a job over it, and closes it. `start` stands for
 /// what the files hold, as in [`SqlVault::open`], and trusts no byte of a torn write. Gives the
-/// answer, and the files: as `Err` where the store couldn't be closed, which loses nothing that was
+/// answer, and the files: as `Err` if the store couldn't be closed, which loses nothing that was
 /// done.
 ///
-/// Answers what [`SqlVault::open`] answers where the store isn't opened; the job isn't begun then.
+/// Answers what [`SqlVault::open`] answers if the store isn't opened; the job isn't begun then.
 pub fn open_do_close<S: Careful, J: Job + Drop>(
     rt: &HostRuntime,
     path: &str,

@@ -10,7 +10,7 @@ use std::alloc::Global;
 use vault::Vault;
 
 /// Opens an office over a store, does one event in it, and ends it. Gives the outcome, and the
-/// store back; where the office isn't opened, its fault, and the store with what it held.
+/// store back; if the office isn't opened, its fault, and the store with what it held.
 pub fn sit_once<V: Vault>(
     alloc: Global,
     vault: V,

@@ -22,7 +22,7 @@ pub struct Talking<'a, R, W, E> {
     pub boot: u64,
     /// When a denied removal is refused.
     pub removals: Removals,
-    /// A fault is told on it.
+    /// A fault is printed on it.
     pub err: E,
 }
 

@@ -9,7 +9,7 @@ use Rattle.journal.specs.Lines.{behind_comma, uids_text, uid_words}
 
 -- ---- places
 
--- a place behind another
+-- a place after another
 pub at_place : {A : Type 0} (xs : List A) (f n : ℕ) → slice_get (drop f xs) n ≡ slice_get xs (f + n)
 at_place xs zero n = ap (slice_get xs) (sym (zero-add n))
 at_place [] (suc f) n = refl

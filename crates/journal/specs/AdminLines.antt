@@ -1,5 +1,5 @@
--- The text of the log's line that tells what the administration was asked, and what its response
--- tells. `who` is the client's address, as each line has it.
+-- The text of the log's line that says what the administration was asked, and what its response
+-- says. `who` is the client's address, as each line has it.
 use Rattle.std.specs.Prelude.{ℕ, Bool, true, false, List, [], ◌++◌, Option, Some, None, codes}
 use Rattle.adminhttp.specs.Contents.{response_of, status_code, line_told}
 use Rattle.adminhttp.specs.RequestLines.{method_text, path_of}
@@ -7,18 +7,18 @@ use Rattle.adminhttp.specs.declared.content.Content.{Content}
 use Rattle.adminhttp.specs.declared.request_line.RequestLine.{RequestLine}
 use Rattle.serving.specs.declared.listener.Asked.{Asked}
 
--- the values of a request's line, where it has one
+-- the values of a request's line, if it has one
 abbrev pub request_text : Option RequestLine → List ℕ
 request_text None = []
 request_text (Some line) =
     codes " method=" ++ method_text line.method ++ codes " path=" ++ path_of line.target
 
--- the status; none where no response went out
+-- the status; none if no response went out
 abbrev pub status_text : Content → (is_sent : Bool) → List ℕ
 status_text content true = status_code (response_of content)
 status_text content false = codes "none"
 
--- the value of the body's line, where that is told
+-- the value of the body's line, if that is logged
 abbrev pub answer_text : Option (List ℕ) → List ℕ
 answer_text None = []
 answer_text (Some line) = codes " answer=\"" ++ line ++ codes "\""

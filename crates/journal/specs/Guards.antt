@@ -22,8 +22,8 @@ is_unguarded (Closed port link) = true
 is_unguarded _ = false
 
 -- These calls were handed on, each as it is, the newest last, and answered so. For each but a wait
--- or a close the watch was asked whether the store is lost, and said so: where it is there the call
--- was handed on; where it is lost the call gave nothing, and may not have been handed on, but for a
+-- or a close the watch was asked whether the store is lost, and said so: if it is there the call
+-- was handed on; if it is lost the call gave nothing, and may not have been handed on, but for a
 -- read, which was, without room.
 pub data AreHandedOn : (inside : List Call) (said : List Bool) (calls : List Call) → Type 0 where
   NoCall : AreHandedOn [] [] []
@@ -59,7 +59,7 @@ names_a_file (Next last (Some name)) = true
 names_a_file _ = false
 
 -- These calls were handed on, each as it is. For each name of a file the watch was asked whether
--- the store is lost, and said so: where it is lost the name was kept back.
+-- the store is lost, and said so: if it is lost the name was kept back.
 pub data AreFilesHandedOn : (inside : List FileCall) (said : List Bool) (calls : List FileCall)
     → Type 0 where
   NoFileCall : AreFilesHandedOn [] [] []

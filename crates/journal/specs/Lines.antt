@@ -1,4 +1,4 @@
--- The text of the log's lines that tell an account: what the office judged of a client's line.
+-- The text of the log's lines for an account: what the office judged of a client's line.
 -- `who` are the connection and the client's address, as each line has them.
 use Rattle.std.specs.Prelude.{ℕ, Bool, true, false, ◌==◌, List, [], ◌∷◌, ◌++◌}
 use Rattle.std.specs.Prelude.{Option, Some, None, codes, if◌then◌else◌}
@@ -10,7 +10,10 @@ use Rattle.creds.specs.declared.login_name.LoginName.{LoginName}
 use Rattle.office.specs.declared.account.Account.{Account}
 use Rattle.office.specs.declared.account.Account.TheVariants as account
 use Rattle.office.specs.declared.account.End.TheVariants as end
+use Rattle.office.specs.declared.account.MessageCommand.{MessageCommand}
+use Rattle.office.specs.declared.account.MessageCommand.TheVariants as to
 use Rattle.office.specs.declared.account.Removal.{Removal}
+use Rattle.office.specs.declared.answer.MessageRow.{MessageRow}
 use Rattle.office.specs.declared.account.Way.{Way}
 use Rattle.office.specs.declared.account.Way.TheVariants as way
 use Rattle.office.specs.declared.account.Verdict.{Verdict}
@@ -58,6 +61,24 @@ quit_text who removal =
     ++ codes " marked=" ++ decimal removal.marked
     ++ codes " " ++ farewell_text removal.is_done removal.denied
 
+-- a command that names a message
+abbrev pub command_text : MessageCommand → List ℕ
+command_text to.Dele = codes "dele"
+command_text to.Retr = codes "retr"
+command_text to.Top = codes "top"
+
+-- the line of a message that a RETR began to send
+abbrev pub retr_text : (who : List ℕ) → MessageRow → List ℕ
+retr_text who message =
+    codes "event=retr " ++ who ++ codes " uid=" ++ uid_text message.uid
+    ++ codes " octets=" ++ decimal message.octets
+
+-- the line of a command that a rule denied for a message
+abbrev pub denied_text : (who : List ℕ) → MessageCommand → Uid → (rule : List ℕ) → List ℕ
+denied_text who command uid rule =
+    codes "event=denied " ++ who ++ codes " command=" ++ command_text command
+    ++ codes " uid=" ++ uid_text uid ++ codes " rule=" ++ rule
+
 -- an account's line; without text for one that has none
 abbrev pub account_text : (who : List ℕ) → Account → List ℕ
 account_text who (account.Login name by verdict) = login_text who name by verdict
@@ -65,23 +86,29 @@ account_text who account.NoName =
     codes "event=login " ++ who ++ codes " answer=refused reason=\"bad arguments\""
 account_text who (account.Quit removal) = quit_text who removal
 account_text who account.QuitBeforeLogin = codes "event=quit " ++ who ++ codes " answer=\"bye\""
+account_text who (account.Retrieved message) = retr_text who message
+account_text who (account.Denied command uid rule) = denied_text who command uid rule
 account_text who account.Nothing = []
 account_text who account.Marked = []
 account_text who account.Unmarked = []
+account_text who (account.Topped message) = []
 account_text who (account.Ended cause) = []
 
--- whether an account has a line
-abbrev pub is_told : Account → Bool
-is_told (account.Login name by verdict) = true
-is_told account.NoName = true
-is_told (account.Quit removal) = true
-is_told account.QuitBeforeLogin = true
-is_told account.Nothing = false
-is_told account.Marked = false
-is_told account.Unmarked = false
-is_told (account.Ended cause) = false
+-- whether an account may have a line; that of a RETR has one if each RETR is to have one
+abbrev pub is_told : (reads : Bool) → Account → Bool
+is_told reads (account.Login name by verdict) = true
+is_told reads account.NoName = true
+is_told reads (account.Quit removal) = true
+is_told reads account.QuitBeforeLogin = true
+is_told reads (account.Denied command uid rule) = true
+is_told reads (account.Retrieved message) = reads
+is_told reads account.Nothing = false
+is_told reads account.Marked = false
+is_told reads account.Unmarked = false
+is_told reads (account.Topped message) = false
+is_told reads (account.Ended cause) = false
 
--- why a connection ended, as the line of its end tells it, where the account says so
+-- why a connection ended, as the line of its end says it, if the account says so
 abbrev pub cause_text : Account → List ℕ
 cause_text (account.Ended end.Gone) = codes " cause=gone"
 cause_text (account.Ended end.NoMemory) = codes " cause=\"out of memory\""
@@ -89,6 +116,8 @@ cause_text (account.Ended end.StoreFailed) = codes " cause=\"store failed\""
 cause_text (account.Ended end.SessionEnded) = codes " cause=\"session ended\""
 cause_text (account.Ended end.Idle) = codes " cause=idle"
 cause_text (account.Ended end.TooLate) = codes " cause=\"too late to log in\""
+cause_text (account.Ended end.FullHouse) =
+    codes " cause=\"no login while all places were taken\""
 cause_text (account.Login name by judged.ThirdWrongCredential) =
     codes " cause=\"login failed, closing\""
 cause_text (account.Login name by judged.Accepted) = []
@@ -98,6 +127,9 @@ cause_text (account.Login name by judged.NoSuchMaildrop) = []
 cause_text (account.Login name by judged.InUse) = []
 cause_text (account.Login name by judged.StoreFailed) = []
 cause_text account.NoName = []
+cause_text (account.Retrieved message) = []
+cause_text (account.Topped message) = []
+cause_text (account.Denied command uid rule) = []
 cause_text (account.Quit removal) = []
 cause_text account.QuitBeforeLogin = []
 cause_text account.Nothing = []
@@ -116,7 +148,7 @@ refusal_text refused.NoMemory = codes " cause=\"out of memory\""
 abbrev pub most_on_a_line : ℕ
 most_on_a_line = 32
 
--- a unique-id behind a comma
+-- a unique-id after a comma
 abbrev pub behind_comma : Uid → List ℕ
 behind_comma uid = codes "," ++ uid_text uid
 
@@ -129,7 +161,7 @@ uids_text (uid ∷ uids) = uid_text uid ++ flat_map behind_comma uids
 abbrev pub comma_at : ℕ → List ℕ
 comma_at n = if n == 0 then [] else codes ","
 
--- the unique-id at a place of a line, where there is one
+-- the unique-id at a place of a line, if there is one
 abbrev pub uid_words : ℕ → Option Uid → List ℕ
 uid_words n None = []
 uid_words n (Some uid) = comma_at n ++ uid_text uid

@@ -10,7 +10,12 @@ use Rattle.office.specs.declared.account.Account.{Account}
 use Rattle.office.specs.declared.account.Account.TheVariants as account
 use Rattle.office.specs.declared.account.Verdict.{Verdict}
 use Rattle.office.specs.declared.account.Verdict.TheVariants as judged
-use Rattle.journal.specs.Lines.{account_text}
+use Rattle.office.specs.declared.account.MessageCommand.{MessageCommand}
+use Rattle.journal.specs.Lines.{account_text, is_told, name_text}
+use Rattle.journal.specs.Counts.{no_counts, with_dele, with_reset, with_retr, with_top, with_denial}
+use Rattle.journal.specs.Counts.{counts_text, more, gets_a_line}
+use Rattle.journal.specs.declared.counts.Counts.{Counts}
+use Rattle.journal.specs.declared.denials.Denial.{Denial}
 use Rattle.journal.specs.declared.heard.Heard.{Heard}
 use Rattle.journal.specs.declared.client.Client.{Client}
 
@@ -23,8 +28,7 @@ judged_so name judged.Accepted heard =
       name = Some name;
       is_in = true;
       marked = 0;
-      deles = 0;
-      resets = 0;
+      counts = no_counts;
       has_quit = heard.has_quit;
     }
 judged_so name judged.WrongCredential heard = heard
@@ -34,18 +38,14 @@ judged_so name judged.NoSuchMaildrop heard = heard
 judged_so name judged.InUse heard = heard
 judged_so name judged.StoreFailed heard = heard
 
--- one more; a count stays at the greatest number of 64 bits
-abbrev pub one_more : ℕ → ℕ
-one_more count = min (count + 1) (2 ^ 64 - 1)
-
 -- a message more is marked, by a DELE more
 abbrev pub with_mark : Heard → Heard
 with_mark heard =
-    record heard { marked = one_more heard.marked; deles = one_more heard.deles }
+    record heard { marked = more 1 heard.marked; counts = with_dele heard.counts }
 
 -- no message is marked, by a RSET more
 abbrev pub without_marks : Heard → Heard
-without_marks heard = record heard { marked = 0; resets = one_more heard.resets }
+without_marks heard = record heard { marked = 0; counts = with_reset heard.counts }
 
 -- a QUIT ends it
 abbrev pub has_quit : Heard → Heard
@@ -58,6 +58,12 @@ heard_after account.Marked heard = with_mark heard
 heard_after account.Unmarked heard = without_marks heard
 heard_after (account.Quit removal) heard = has_quit heard
 heard_after account.QuitBeforeLogin heard = has_quit heard
+heard_after (account.Retrieved message) heard =
+    record heard { counts = with_retr message.octets heard.counts }
+heard_after (account.Topped message) heard =
+    record heard { counts = with_top message.octets heard.counts }
+heard_after (account.Denied command uid rule) heard =
+    record heard { counts = with_denial heard.counts }
 heard_after account.NoName heard = heard
 heard_after account.Nothing heard = heard
 heard_after (account.Ended cause) heard = heard
@@ -100,6 +106,9 @@ left_at judged.StoreFailed maildrop clients = clients
 abbrev pub left_by : Account → List Client → List Client
 left_by (account.Login name by verdict) clients = left_at verdict name.maildrop clients
 left_by account.NoName clients = clients
+left_by (account.Retrieved message) clients = clients
+left_by (account.Topped message) clients = clients
+left_by (account.Denied command uid rule) clients = clients
 left_by account.Marked clients = clients
 left_by account.Unmarked clients = clients
 left_by (account.Quit removal) clients = clients
@@ -141,16 +150,17 @@ abbrev pub who_text : Option ℕ → (address : List ℕ) → List ℕ
 who_text None address = client_text address
 who_text (Some n) address = numbered_text n address
 
--- how many DELEs marked a message, and how many RSETs came
-abbrev pub counts_text : (deles resets : ℕ) → List ℕ
-counts_text deles resets = codes " dele=" ++ (decimal deles ++ (codes " rset=" ++ decimal resets))
+-- the session's clerk and maildrop behind a space
+abbrev pub behind_name : Option LoginName → List ℕ
+behind_name None = []
+behind_name (Some name) = codes " " ++ name_text name
 
 -- the session's clerk, maildrop, marked messages and commands
-abbrev pub session_text : Option LoginName → (marked deles resets : ℕ) → List ℕ
-session_text None marked deles resets = []
-session_text (Some name) marked deles resets =
+abbrev pub session_text : Option LoginName → (marked : ℕ) → Counts → List ℕ
+session_text None marked counts = []
+session_text (Some name) marked counts =
     codes " clerk=" ++ name.clerk ++ codes " maildrop=" ++ name.maildrop
-    ++ codes " marked=" ++ decimal marked ++ counts_text deles resets
+    ++ codes " marked=" ++ decimal marked ++ counts_text counts
 
 -- the line of a connection that ended without a QUIT
 abbrev pub loss_text : (who session cause : List ℕ) → List ℕ
@@ -177,7 +187,7 @@ who_of client = who_text client.number (string_bytes client.address)
 abbrev pub loss_of : Client → List ℕ
 loss_of client =
     loss_text (who_of client)
-    (session_text client.heard.name client.heard.marked client.heard.deles client.heard.resets)
+    (session_text client.heard.name client.heard.marked client.heard.counts)
     (string_bytes client.cause)
 
 -- for how many seconds a login waited, where it was one or more
@@ -189,19 +199,64 @@ waited_text (suc seconds) = codes " waited=" ++ decimal (suc seconds)
 -- commands
 abbrev pub behind_account : Account → Client → List ℕ
 behind_account (account.Login name by verdict) client = waited_text client.waited
-behind_account (account.Quit removal) client = counts_text client.heard.deles client.heard.resets
+behind_account (account.Quit removal) client = counts_text client.heard.counts
 behind_account account.NoName client = []
+behind_account (account.Retrieved message) client = []
+behind_account (account.Topped message) client = []
+behind_account (account.Denied command uid rule) client = []
 behind_account account.Marked client = []
 behind_account account.Unmarked client = []
 behind_account account.QuitBeforeLogin client = []
 behind_account account.Nothing client = []
 behind_account (account.Ended cause) client = []
 
+-- a client's connection and address, its clerk and its maildrop
+abbrev pub session_of : Client → List ℕ
+session_of client = who_of client ++ behind_name client.heard.name
+
+-- who an account's line is about; a message's line also names the clerk and the maildrop
+abbrev pub who_in : Account → Client → List ℕ
+who_in (account.Retrieved message) client = session_of client
+who_in (account.Denied command uid rule) client = session_of client
+who_in (account.Topped message) client = who_of client
+who_in (account.Login name by verdict) client = who_of client
+who_in (account.Quit removal) client = who_of client
+who_in account.NoName client = who_of client
+who_in account.Marked client = who_of client
+who_in account.Unmarked client = who_of client
+who_in account.QuitBeforeLogin client = who_of client
+who_in account.Nothing client = who_of client
+who_in (account.Ended cause) client = who_of client
+
 -- the line of an account, or of a loss, of the client that was found
 abbrev pub told_of : Account → Option Client → List ℕ
 told_of account None = []
 told_of account (Some client) =
-    account_text (who_of client) account ++ behind_account account client
+    account_text (who_in account client) account ++ behind_account account client
+
+-- it is no denial, or one that gets a line
+abbrev pub is_new : Account → List Denial → Bool
+is_new (account.Denied command uid rule) told =
+    gets_a_line (record { command = command; uid = uid; rule = rule }) told
+is_new (account.Retrieved message) told = true
+is_new (account.Topped message) told = true
+is_new (account.Login name by verdict) told = true
+is_new (account.Quit removal) told = true
+is_new account.NoName told = true
+is_new account.Marked told = true
+is_new account.Unmarked told = true
+is_new account.QuitBeforeLogin told = true
+is_new account.Nothing told = true
+is_new (account.Ended cause) told = true
+
+-- an account gets a line if it may have one, and a denial if it is new
+abbrev pub gets_told : (reads : Bool) → Account → List Denial → Bool
+gets_told reads account told = is_told reads account && is_new account told
+
+-- the same, of the client that was found
+abbrev pub is_told_of : (reads : Bool) → Account → Option Client → Bool
+is_told_of reads account None = false
+is_told_of reads account (Some client) = gets_told reads account client.denials.told.items
 
 abbrev pub lost_of : Option Client → List ℕ
 lost_of None = []

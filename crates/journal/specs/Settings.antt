@@ -1,11 +1,11 @@
--- The options in force, as the line of a server's start tells them.
-use Rattle.std.specs.Prelude.{ℕ, Bool, true, false, List, ◌++◌, codes}
+-- Whether a server is proved and its options in force, as the line of its start tells them.
+use Rattle.std.specs.Prelude.{ℕ, Bool, true, false, List, ◌++◌, codes, Option, Some, None}
 use Rattle.std.specs.Fmt.{decimal}
 use Rattle.session.specs.declared.removals.Removals.{Removals}
 use Rattle.session.specs.declared.removals.Removals.TheVariants as judged
 use Rattle.journal.specs.declared.settings.Settings.{Settings}
 
--- an option that is set or isn't
+-- what is so or isn't
 abbrev pub yes_or_no : Bool → List ℕ
 yes_or_no true = codes "yes"
 yes_or_no false = codes "no"
@@ -28,7 +28,15 @@ flags_text s =
     codes " slow-guesses=" ++ yes_or_no s.slow_guesses
     ++ codes " proxy-protocol=" ++ yes_or_no s.proxy_protocol
     ++ codes " log-message-ids=" ++ yes_or_no s.message_ids
+    ++ codes " log-reads=" ++ yes_or_no s.reads
+
+-- the administration's site, if it has one
+abbrev pub site_text : Option (List ℕ) → List ℕ
+site_text None = codes " admin-site=no"
+site_text (Some name) = codes " admin-site=" ++ name
 
 -- all of them
 abbrev pub settings_text : Settings → List ℕ
-settings_text s = codes " removals=" ++ when_text s.removals ++ seconds_text s ++ flags_text s
+settings_text s =
+    codes " proved=" ++ yes_or_no s.is_proved ++ codes " removals=" ++ when_text s.removals
+    ++ seconds_text s ++ flags_text s ++ site_text s.admin_site

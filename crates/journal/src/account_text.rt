@@ -1,12 +1,13 @@
 //! The line of what the office judged.
 ghost use Rattle.std.specs.Prelude.{◌≡◌, IfOk, Some, true, string_bytes};
 ghost use Rattle.journal.specs.Lines.{name_text as name_words, way_text, verdict_text};
-ghost use Rattle.journal.specs.Lines.{farewell_text, login_text as login_line};
+ghost use Rattle.journal.specs.Lines.{farewell_text, login_text as login_line, command_text};
+ghost use Rattle.journal.specs.Lines.{retr_text as retr_line, denied_text as denied_line};
 ghost use Rattle.journal.specs.Lines.{quit_text as quit_line, account_text, is_told};
 ghost use Rattle.journal.specs.Lines.{cause_text as cause_words, refusal_text as refusal_words};
 
-use creds::{LoginName, Name};
-use office::{Account, End, Removal, Verdict, Way};
+use creds::{LoginName, Name, Uid};
+use office::{Account, End, MessageCommand, MessageRow, Removal, Verdict, Way};
 use proxy::Refusal;
 use std::alloc::{AllocError, Global};
 
@@ -28,7 +29,7 @@ pub(crate) fn name_text(alloc: Global, name: LoginName) -> Result<String, AllocE
     Ok(text)
 }
 
-/// How a login was judged, as a line tells it: by the reply's own words.
+/// How a login was judged, as a line says it: by the reply's own words.
 fn judged_text(alloc: Global, verdict: Verdict) -> Result<String, AllocError>
     ensures { IfOk result (λ text. string_bytes text ≡ verdict_text verdict) }
 {
@@ -56,7 +57,7 @@ fn judged_text(alloc: Global, verdict: Verdict) -> Result<String, AllocError>
     }
 }
 
-/// A login that a rule denied, as a line tells it.
+/// A login that a rule denied, as a line says it.
 fn denial_text(alloc: Global, rule: Name) -> Result<String, AllocError>
     ensures { IfOk result (λ text. string_bytes text ≡ verdict_text (Verdict.Denied rule)) }
 {
@@ -64,7 +65,7 @@ fn denial_text(alloc: Global, rule: Name) -> Result<String, AllocError>
     Ok(text)
 }
 
-/// The farewell of a session, as a line tells it.
+/// The farewell of a session, as a line says it.
 fn bye_text(alloc: Global, is_done: bool, denied: Option<Name>) -> Result<String, AllocError>
     ensures { IfOk result (λ text. string_bytes text ≡ farewell_text is_done denied) }
 {
@@ -77,7 +78,7 @@ fn bye_text(alloc: Global, is_done: bool, denied: Option<Name>) -> Result<String
     }
 }
 
-/// The farewell where a rule kept a message.
+/// The farewell if a rule kept a message.
 fn kept_text(alloc: Global, rule: Name) -> Result<String, AllocError>
     ensures { IfOk result (λ text. string_bytes text ≡ farewell_text true (Some rule)) }
 {
@@ -132,18 +133,56 @@ fn early_text(alloc: Global, who: &str) -> Result<String, AllocError>
     Ok(text)
 }
 
-/// Whether an account has a line.
-pub fn has_line(account: &Account) -> bool
-    ensures { result ≡ is_told account.now }
+/// A command that names a message.
+pub fn command_word(command: MessageCommand) -> &'static str
+    ensures { result.now ≡ command_text command }
 {
-    match account {
-        Account::Login(_, _, _) | Account::NoName => true,
-        Account::Quit(_) | Account::QuitBeforeLogin => true,
-        Account::Nothing | Account::Marked | Account::Unmarked | Account::Ended(_) => false,
+    match command {
+        MessageCommand::Dele => "dele",
+        MessageCommand::Retr => "retr",
+        MessageCommand::Top => "top",
     }
 }
 
-/// An account's line, behind the connection and the client's address; without text for one that has
+/// The line of a message that a RETR began to send.
+fn retr_text(alloc: Global, who: &str, message: MessageRow) -> Result<String, AllocError>
+    ensures { IfOk result (λ text. string_bytes text ≡ retr_line who.now message) }
+{
+    let MessageRow { uid, octets } = message;
+    let text = format!(in alloc; "event=retr {who} uid={uid} octets={octets}")?;
+    Ok(text)
+}
+
+/// The line of a command that a rule denied for a message.
+fn denied_text(
+    alloc: Global,
+    who: &str,
+    command: MessageCommand,
+    uid: Uid,
+    rule: Name,
+) -> Result<String, AllocError>
+    ensures { IfOk result (λ text. string_bytes text ≡ denied_line who.now command uid rule) }
+{
+    let command = command_word(command);
+    let text = format!(in alloc; "event=denied {who} command={command} uid={uid} rule={rule}")?;
+    Ok(text)
+}
+
+/// Whether an account may have a line: that of a RETR has one if `reads` says that each RETR is to
+/// have one.
+pub fn has_line(account: &Account, reads: bool) -> bool
+    ensures { result ≡ is_told reads account.now }
+{
+    match account {
+        Account::Login(_, _, _) | Account::NoName | Account::Denied(_, _, _) => true,
+        Account::Quit(_) | Account::QuitBeforeLogin => true,
+        Account::Retrieved(_) => reads,
+        Account::Nothing | Account::Marked | Account::Unmarked | Account::Ended(_) => false,
+        Account::Topped(_) => false,
+    }
+}
+
+/// An account's line, after the connection and the client's address; without text for one that has
 /// none.
 pub fn line_of(alloc: Global, who: &str, account: &Account) -> Result<String, AllocError>
     ensures { IfOk result (λ text. string_bytes text ≡ account_text who.now account.now) }
@@ -153,13 +192,16 @@ pub fn line_of(alloc: Global, who: &str, account: &Account) -> Result<String, Al
         Account::NoName => nameless_text(alloc, who),
         Account::Quit(removal) => quit_text(alloc, who, removal),
         Account::QuitBeforeLogin => early_text(alloc, who),
+        Account::Retrieved(message) => retr_text(alloc, who, *message),
+        Account::Denied(command, uid, rule) => denied_text(alloc, who, *command, *uid, *rule),
         Account::Nothing | Account::Marked | Account::Unmarked | Account::Ended(_) => {
             Ok(String::new(alloc))
         }
+        Account::Topped(_) => Ok(String::new(alloc)),
     }
 }
 
-/// Why a connection ended, as the line of its end tells it; without text for an account that
+/// Why a connection ended, as the line of its end says it; without text for an account that
 /// doesn't say so.
 pub fn cause_text(account: &Account) -> &'static str
     ensures { result.now ≡ cause_words account.now }
@@ -171,12 +213,14 @@ pub fn cause_text(account: &Account) -> &'static str
         Account::Ended(End::SessionEnded) => " cause=\"session ended\"",
         Account::Ended(End::Idle) => " cause=idle",
         Account::Ended(End::TooLate) => " cause=\"too late to log in\"",
+        Account::Ended(End::FullHouse) => " cause=\"no login while all places were taken\"",
         Account::Login(_, _, Verdict::ThirdWrongCredential) => " cause=\"login failed, closing\"",
         Account::Login(_, _, Verdict::Accepted | Verdict::WrongCredential) => "",
         Account::Login(_, _, Verdict::Denied(_) | Verdict::NoSuchMaildrop) => "",
         Account::Login(_, _, Verdict::InUse | Verdict::StoreFailed) => "",
         Account::NoName | Account::Quit(_) | Account::QuitBeforeLogin => "",
         Account::Nothing | Account::Marked | Account::Unmarked => "",
+        Account::Retrieved(_) | Account::Topped(_) | Account::Denied(_, _, _) => "",
     }
 }
 

@@ -1,9 +1,9 @@
-//! The connections of the administration, as the log tells of them.
+//! The connections of the administration, as the log has them.
 use super::asked_text::{asked_line, unasked_line};
 use serving::{Asked, Link};
 use std::alloc::{AllocError, Global};
 
-/// The lines of what was asked: where a response went out, and where none did.
+/// The lines of what was asked: if a response went out, and if none did.
 #[derive(Drop)]
 struct Heard {
     sent: Result<String, AllocError>,
@@ -35,7 +35,7 @@ impl Administrators {
         }
     }
 
-    /// A link came, from this address. Its error is want of memory: then the log doesn't tell of
+    /// A link came, from this address. Its error is want of memory: then the log doesn't mention
     /// this link.
     pub fn come(&mut self, alloc: Global, link: Link, address: &str) -> Result<(), AllocError> {
         let who = format!(in alloc; "client={address}")?;
@@ -72,7 +72,7 @@ impl Administrators {
         }
     }
 
-    /// A link is closed. Its line, where the link is known.
+    /// A link is closed. Its line, if the link is known.
     pub fn close(&mut self, alloc: Global, link: Link) -> Option<Result<String, AllocError>> {
         let at = self.administrators.iter().position(|it| it.link == link)?;
         let Administrator {

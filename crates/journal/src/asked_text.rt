@@ -8,7 +8,7 @@ use adminhttp::{Content, RequestLine};
 use serving::Asked;
 use std::alloc::{AllocError, Global};
 
-/// The values of a request's line, where it has one.
+/// The values of a request's line, if it has one.
 fn request_text(alloc: Global, line: &Option<RequestLine>) -> Result<String, AllocError>
     ensures { IfOk result (λ text. string_bytes text ≡ request_words line.now) }
 {
@@ -21,7 +21,7 @@ fn request_text(alloc: Global, line: &Option<RequestLine>) -> Result<String, All
     Ok(text)
 }
 
-/// The status; `none` where no response went out.
+/// The status; `none` if no response went out.
 fn status_word(content: &Content<'_>, is_sent: bool) -> &'static str
     ensures { result.now ≡ status_text content.now is_sent }
 {
@@ -32,7 +32,7 @@ fn status_word(content: &Content<'_>, is_sent: bool) -> &'static str
     }
 }
 
-/// The value of the line of the response's body, where that is told.
+/// The value of the line of the response's body, if that is logged.
 fn answer_text(alloc: Global, content: &Content<'_>) -> Result<String, AllocError>
     ensures { IfOk result (λ text. string_bytes text ≡ answer_words (line_told content.now)) }
 {
@@ -50,7 +50,7 @@ fn told_text(alloc: Global, line: &str) -> Result<String, AllocError>
     Ok(text)
 }
 
-/// The line of what was asked, behind the client's address.
+/// The line of what was asked, after the client's address.
 pub fn asked_line(
     alloc: Global,
     who: &str,

@@ -1,15 +1,18 @@
-//! The mail programs' connections, as the log tells of them.
+//! The mail programs' connections, as the log has them.
 ghost use Rattle.std.specs.Prelude.{◌≡◌, ◌≢◌, ◌⊎◌, ◌<◌, ◌==◌, [], Some, None, IfOk, IfSome, map};
+ghost use Rattle.std.specs.Prelude.{true, false};
 ghost use Rattle.std.specs.Prelude.{find, position, length, string_bytes};
 ghost use Rattle.journal.specs.Lines.{cause_text as cause_words};
 ghost use Rattle.journal.specs.Sessions.{heard_after, heard_of, heard_by, is_in, is_number};
 ghost use Rattle.journal.specs.Sessions.{left_client, left_by, who_text, numbered_text};
 ghost use Rattle.journal.specs.Sessions.{client_text, held_text, holder_of, who_of, told_of};
 ghost use Rattle.journal.specs.Sessions.{loss_text, loss_of, lost_of};
-ghost use Rattle.journal.specs.Sessions.{waited_text, behind_account};
+ghost use Rattle.journal.specs.Sessions.{waited_text, behind_account, session_of, who_in};
+ghost use Rattle.journal.specs.Sessions.{is_new, gets_told, is_told_of};
 ghost use Rattle.journal.specs.declared.client.Client.{Client as AClient};
 
 use super::account_text::{cause_text, has_line, line_of};
+use super::denials::{Denial, Denials};
 use super::heard::Heard;
 use creds::{LoginName, Name};
 use office::{Account, Verdict};
@@ -22,18 +25,20 @@ use std::time::Instant;
 #[derive(Drop)]
 pub(crate) struct Client {
     link: Link,
-    /// From where it came, where that is known.
+    /// From where it came, if that is known.
     ip: Option<IpAddr>,
     /// The same, as the log writes it.
     address: String,
     /// The connection's number, once it is opened.
     number: Option<u64>,
     heard: Heard,
+    /// Which of its denials have a line.
+    denials: Denials,
     /// Since when the line that is next has lain unread; `None` where none lies so.
     unread: Option<Instant>,
     /// For how many seconds the line that was read last had lain unread.
     waited: u64,
-    /// Why it ends, as its line tells it: the first cause that was heard, or empty.
+    /// Why it ends, as its line says it: the first cause that was heard, or empty.
     cause: String,
 }
 
@@ -91,11 +96,33 @@ fn loss_text(alloc: Global, who: &str, session: &str, cause: &str) -> Result<Str
 }
 
 impl Client {
-    /// The connection's number, where it was opened, and the client's address.
+    /// The connection's number, if it was opened, and the client's address.
     fn who(&self, alloc: Global) -> Result<String, AllocError>
         ensures { IfOk result (λ text. string_bytes text ≡ who_of self.now) }
     {
         who_text(alloc, self.number, self.address.as_str())
+    }
+
+    /// The same, and its clerk and its maildrop.
+    fn session(&self, alloc: Global) -> Result<String, AllocError>
+        ensures { IfOk result (λ text. string_bytes text ≡ session_of self.now) }
+    {
+        let who = self.who(alloc)?;
+        let name = self.heard.behind_name(alloc)?;
+        let text = format!(in alloc; "{who}{name}")?;
+        Ok(text)
+    }
+
+    /// Who an account's line is about.
+    fn who_in(&self, alloc: Global, account: &Account) -> Result<String, AllocError>
+        ensures { IfOk result (λ text. string_bytes text ≡ who_in account.now self.now) }
+    {
+        match account {
+            Account::Retrieved(_) | Account::Denied(_, _, _) => self.session(alloc),
+            Account::Login(_, _, _) | Account::NoName | Account::QuitBeforeLogin => self.who(alloc),
+            Account::Quit(_) | Account::Topped(_) | Account::Marked => self.who(alloc),
+            Account::Unmarked | Account::Nothing | Account::Ended(_) => self.who(alloc),
+        }
     }
 
     /// Keeps what an account says of the session, and the first cause of its end.
@@ -144,7 +171,7 @@ impl Client {
         loss_text(alloc, who.as_str(), session.as_str(), self.cause.as_str())
     }
 
-    /// The values of a line that tells of its session.
+    /// The values of a line about its session.
     fn holder(&self, alloc: Global) -> Result<String, AllocError>
         ensures { IfOk result (λ text. string_bytes text ≡ holder_of (Some self.now)) }
     {
@@ -157,17 +184,69 @@ impl Client {
         }
     }
 
-    /// Takes an account. Its line, where it has one.
-    fn hear(&mut self, alloc: Global, account: &Account) -> Option<Result<String, AllocError>>
+    /// Whether an account is no denial, or one that gets a line. Its error is want of memory.
+    fn is_new(&mut self, account: &Account) -> Result<bool, AllocError>
+        ensures ok { IfOk result (λ it. it ≡ is_new account.now self.old.denials.told.items) }
+        ensures same { self.new ≡ record self.old { denials = self.new.denials } }
+    {
+        match account {
+            Account::Denied(command, uid, rule) => {
+                let denial = Denial {
+                    command: *command,
+                    uid: *uid,
+                    rule: *rule,
+                };
+                self.denials.take(denial)
+            }
+            Account::Login(_, _, _) | Account::NoName | Account::QuitBeforeLogin => Ok(true),
+            Account::Quit(_) | Account::Retrieved(_) | Account::Topped(_) => Ok(true),
+            Account::Marked | Account::Unmarked | Account::Nothing => Ok(true),
+            Account::Ended(_) => Ok(true),
+        }
+    }
+
+    /// An account's line, where it has one. If `reads`, a RETR has one.
+    fn line(
+        &mut self,
+        alloc: Global,
+        account: &Account,
+        reads: bool,
+    ) -> Option<Result<String, AllocError>>
+        ensures same { self.new ≡ record self.old { denials = self.new.denials } }
+        ensures line { IfSome result (λ line. IfOk line (λ text. string_bytes text
+            ≡ told_of account.now (Some self.old))) }
+        ensures told { IfSome result (λ line. IfOk line (λ _. gets_told reads account.now
+            self.old.denials.told.items ≡ true)) }
+        ensures silent { result ≡ None → gets_told reads account.now self.old.denials.told.items
+            ≡ false }
+    {
+        if !has_line(account, reads) {
+            return None;
+        }
+        let text = told(alloc, self, account);
+        match self.is_new(account) {
+            Ok(true) => Some(text),
+            Ok(false) => None,
+            Err(error) => Some(Err(error)),
+        }
+    }
+
+    /// Takes an account. Its line, where it has one. If `reads`, a RETR has one.
+    fn hear(
+        &mut self,
+        alloc: Global,
+        account: &Account,
+        reads: bool,
+    ) -> Option<Result<String, AllocError>>
         ensures heard { self.new.heard ≡ heard_after account.now self.old.heard }
         ensures line { IfSome result (λ line. IfOk line (λ text. string_bytes text
             ≡ told_of account.now (Some self.old))) }
+        ensures told { IfSome result (λ line. IfOk line (λ _. gets_told reads account.now
+            self.old.denials.told.items ≡ true)) }
+        ensures silent { result ≡ None → gets_told reads account.now self.old.denials.told.items
+            ≡ false }
     {
-        let line = if has_line(account) {
-            Some(told(alloc, self, account))
-        } else {
-            None
-        };
+        let line = self.line(alloc, account, reads);
         self.take(alloc, account);
         line
     }
@@ -181,6 +260,8 @@ impl Client {
             Account::Login(_, _, _) => waited_text(alloc, self.waited),
             Account::Quit(_) => self.heard.counts_text(alloc),
             Account::NoName | Account::Marked | Account::Unmarked => Ok(String::new(alloc)),
+            Account::Retrieved(_) | Account::Topped(_) => Ok(String::new(alloc)),
+            Account::Denied(_, _, _) => Ok(String::new(alloc)),
             Account::QuitBeforeLogin | Account::Nothing | Account::Ended(_) => {
                 Ok(String::new(alloc))
             }
@@ -203,7 +284,7 @@ impl Clients {
     }
 
     /// A link came, from this address, also as the log writes it. Its error is want of memory: then
-    /// the log doesn't tell of this link.
+    /// the log doesn't mention this link.
     pub fn come(
         &mut self,
         link: Link,
@@ -217,6 +298,7 @@ impl Clients {
             address,
             number: None,
             heard: Heard::nothing(),
+            denials: Denials::none(alloc),
             unread: None,
             waited: 0,
             cause: String::new(alloc),
@@ -288,7 +370,7 @@ impl Clients {
         }
     }
 
-    /// A link got a connection. Its line, where the link is known.
+    /// A link got a connection. Its line, if the link is known.
     pub fn open(
         &mut self,
         alloc: Global,
@@ -300,22 +382,26 @@ impl Clients {
         Some(connect_text(alloc, &self.clients[at]))
     }
 
-    /// Takes an account of a connection. Its line, where it has one.
+    /// Takes an account of a connection. Its line, where it has one. If `reads`, a RETR has one.
     pub fn hear(
         &mut self,
         alloc: Global,
         connection: u64,
         account: &Account,
+        reads: bool,
     ) -> Option<Result<String, AllocError>>
         ensures line { IfSome result (λ line. IfOk line (λ text. string_bytes text
             ≡ told_of account.now (find (λ (client : AClient). is_number connection client.number)
             (left_by account.now self.old.clients.items)))) }
+        ensures told { IfSome result (λ line. IfOk line (λ _. is_told_of reads account.now
+            (find (λ (client : AClient). is_number connection client.number)
+            (left_by account.now self.old.clients.items)) ≡ true)) }
         ensures heard { map heard_of self.new.clients.items ≡ heard_by connection account.now
             (left_by account.now self.old.clients.items) }
     {
         leave_by(&mut self.clients, account);
         match self.place_of(connection) {
-            Some(at) => self.clients[at].hear(alloc, account),
+            Some(at) => self.clients[at].hear(alloc, account, reads),
             None => None,
         }
     }
@@ -331,7 +417,7 @@ impl Clients {
             .position(|client| client.heard.is_in_maildrop(maildrop))
     }
 
-    /// Who is in a maildrop, as values of a line; empty where that isn't known.
+    /// Who is in a maildrop, as values of a line; empty if that isn't known.
     pub fn holder(&self, alloc: Global, maildrop: &Name) -> Result<String, AllocError>
         ensures { IfOk result (λ text. string_bytes text ≡ holder_of
             (find (λ (client : AClient). is_in maildrop.now client.heard)
@@ -343,7 +429,7 @@ impl Clients {
         }
     }
 
-    /// A link is closed. Its line, where nobody quit on it.
+    /// A link is closed. Its line, if nobody quit on it.
     pub fn close(&mut self, alloc: Global, link: Link) -> Option<Result<String, AllocError>>
         ensures line { IfSome result (λ line. IfOk line (λ text. string_bytes text
             ≡ lost_of (find (λ (client : AClient). client.link.number == link.number)
@@ -399,7 +485,7 @@ fn connect_text(alloc: Global, client: &Client) -> Result<String, AllocError> {
 fn told(alloc: Global, client: &Client, account: &Account) -> Result<String, AllocError>
     ensures { IfOk result (λ text. string_bytes text ≡ told_of account.now (Some client.now)) }
 {
-    let who = client.who(alloc)?;
+    let who = client.who_in(alloc, account)?;
     let line = line_of(alloc, who.as_str(), account)?;
     let behind = client.behind(alloc, account)?;
     let text = format!(in alloc; "{line}{behind}")?;

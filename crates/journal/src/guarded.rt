@@ -10,7 +10,7 @@ use std::net::IpAddr;
 /// A wire or a spool that does what the one inside does, until its watch says that the store is
 /// lost: that its files are seen to be others than those that are open. From then on it accepts no
 /// link, reads and writes no octet, by which open links end, and takes no file. A wire has the
-/// watch look behind each wait, and a spool before each file.
+/// watch look after each wait, and a spool before each file.
 #[derive(Drop)]
 pub struct Guarded<T, X: Watch> {
     pub inner: T,
@@ -44,6 +44,8 @@ impl<W: Wire, X: Watch> Wire for Guarded<W, X> {
     ghost tells = { λ r. W.tells r.inner };
 
     ghost asked = { λ r calls. IsGuarded W.asked X.answered r.inner r.watch calls };
+
+    ghost address_of = { λ r. W.address_of r.inner };
 
     ghost tells_once = { λ r. W.tells_once r.inner };
 

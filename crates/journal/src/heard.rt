@@ -1,8 +1,11 @@
 //! What the log heard of a connection's session.
 ghost use Rattle.std.specs.Prelude.{◌≡◌, Some, IfOk, string_bytes};
 ghost use Rattle.journal.specs.Sessions.{heard_after, judged_so, left, is_in, session_text};
-ghost use Rattle.journal.specs.Sessions.{counts_text};
+ghost use Rattle.journal.specs.Sessions.{behind_name};
+ghost use Rattle.journal.specs.Counts.{counts_text};
 
+use super::account_text::name_text;
+use super::counts::Counts;
 use creds::{LoginName, Name};
 use office::{Account, Verdict};
 use std::alloc::{AllocError, Global};
@@ -16,10 +19,8 @@ pub(crate) struct Heard {
     pub is_in: bool,
     /// How many messages that session has marked.
     pub marked: u64,
-    /// How many of that session's DELEs marked a message.
-    pub deles: u64,
-    /// How many RSETs that session gave.
-    pub resets: u64,
+    /// What that session's commands did.
+    pub counts: Counts,
     /// Whether a QUIT was judged.
     pub has_quit: bool,
 }
@@ -31,8 +32,7 @@ impl Heard {
             name: None,
             is_in: false,
             marked: 0,
-            deles: 0,
-            resets: 0,
+            counts: Counts::none(),
             has_quit: false,
         }
     }
@@ -45,12 +45,15 @@ impl Heard {
             Account::Login(name, _, verdict) => self.judge(*name, *verdict),
             Account::Marked => {
                 self.marked = self.marked.saturating_add(1);
-                self.deles = self.deles.saturating_add(1);
+                self.counts.add_dele();
             }
             Account::Unmarked => {
                 self.marked = 0;
-                self.resets = self.resets.saturating_add(1);
+                self.counts.add_reset();
             }
+            Account::Retrieved(message) => self.counts.add_retr(message.octets),
+            Account::Topped(message) => self.counts.add_top(message.octets),
+            Account::Denied(_, _, _) => self.counts.add_denial(),
             Account::Quit(_) | Account::QuitBeforeLogin => {
                 self.is_in = false;
                 self.has_quit = true;
@@ -68,8 +71,7 @@ impl Heard {
                 self.name = Some(name);
                 self.is_in = true;
                 self.marked = 0;
-                self.deles = 0;
-                self.resets = 0;
+                self.counts = Counts::none();
             }
             Verdict::WrongCredential | Verdict::ThirdWrongCredential => {}
             Verdict::Denied(_) | Verdict::NoSuchMaildrop => {}
@@ -96,32 +98,43 @@ impl Heard {
         }
     }
 
-    /// The session's clerk, maildrop, marked messages and commands, as values of a line; empty
-    /// without a session. Its error is want of memory.
-    pub fn session_text(&self, alloc: Global) -> Result<String, AllocError>
-        ensures { IfOk result (λ text. string_bytes text ≡ session_text self.now.name
-            self.now.marked self.now.deles self.now.resets) }
+    /// The session's clerk and maildrop, as values behind others of a line; empty without a
+    /// session. Its error is want of memory.
+    pub fn behind_name(&self, alloc: Global) -> Result<String, AllocError>
+        ensures { IfOk result (λ text. string_bytes text ≡ behind_name self.now.name) }
     {
         match &self.name {
-            Some(name) => named_text(alloc, name, self.marked, self.deles, self.resets),
+            Some(name) => spaced_name(alloc, name),
             None => Ok(String::new(alloc)),
         }
     }
 
-    /// How many DELEs marked a message and how many RSETs the session gave, as values of a line.
-    pub fn counts_text(&self, alloc: Global) -> Result<String, AllocError>
-        ensures { IfOk result (λ text. string_bytes text ≡ counts_text self.now.deles
-            self.now.resets) }
+    /// The session's clerk, maildrop, marked messages and commands, as values of a line; empty
+    /// without a session. Its error is want of memory.
+    pub fn session_text(&self, alloc: Global) -> Result<String, AllocError>
+        ensures { IfOk result (λ text. string_bytes text ≡ session_text self.now.name
+            self.now.marked self.now.counts) }
     {
-        counts_text(alloc, self.deles, self.resets)
+        match &self.name {
+            Some(name) => named_text(alloc, name, self.marked, &self.counts),
+            None => Ok(String::new(alloc)),
+        }
+    }
+
+    /// What the session's commands did, as values of a line.
+    pub fn counts_text(&self, alloc: Global) -> Result<String, AllocError>
+        ensures { IfOk result (λ text. string_bytes text ≡ counts_text self.now.counts) }
+    {
+        self.counts.text(alloc)
     }
 }
 
-/// How many DELEs marked a message, and how many RSETs came, as values of a line.
-fn counts_text(alloc: Global, deles: u64, resets: u64) -> Result<String, AllocError>
-    ensures { IfOk result (λ text. string_bytes text ≡ counts_text deles resets) }
+/// A session's clerk and maildrop behind a space.
+fn spaced_name(alloc: Global, name: &LoginName) -> Result<String, AllocError>
+    ensures { IfOk result (λ text. string_bytes text ≡ behind_name (Some name.now)) }
 {
-    let text = format!(in alloc; " dele={deles} rset={resets}")?;
+    let name = name_text(alloc, *name)?;
+    let text = format!(in alloc; " {name}")?;
     Ok(text)
 }
 
@@ -130,13 +143,12 @@ fn named_text(
     alloc: Global,
     name: &LoginName,
     marked: u64,
-    deles: u64,
-    resets: u64,
+    counts: &Counts,
 ) -> Result<String, AllocError>
-    ensures { IfOk result (λ text. string_bytes text ≡ session_text (Some name.now) marked deles
-        resets) }
+    ensures { IfOk result (λ text. string_bytes text ≡ session_text (Some name.now) marked
+        counts.now) }
 {
-    let counts = counts_text(alloc, deles, resets)?;
+    let counts = counts.text(alloc)?;
     let text = format!(in alloc;
         " clerk={} maildrop={} marked={marked}{counts}",
         name.clerk, name.maildrop

@@ -35,18 +35,36 @@ impl Shared {
     }
 }
 
-/// Writes the lines of a log to standard error, or none where there is to be no log.
+/// Writes the lines of a log to standard error, or none if there is to be no log.
 #[derive(Clone, Copy)]
 pub struct Journal<'a> {
     rt: &'a HostRuntime,
     is_on: bool,
+    /// Whether each RETR has a line.
+    reads: bool,
     shared: &'a Shared,
 }
 
 impl<'a> Journal<'a> {
-    /// A journal that writes its lines, or drops them. It counts those that it lost.
+    /// A journal that writes its lines, or drops them. It counts those that it lost. A RETR has no
+    /// line.
     pub fn new(rt: &'a HostRuntime, is_on: bool, shared: &'a Shared) -> Journal<'a> {
-        Journal { rt, is_on, shared }
+        Journal {
+            rt,
+            is_on,
+            reads: false,
+            shared,
+        }
+    }
+
+    /// The same journal, which writes a line for each RETR too, or doesn't.
+    pub fn with_reads(self, reads: bool) -> Journal<'a> {
+        Journal {
+            rt: self.rt,
+            is_on: self.is_on,
+            reads,
+            shared: self.shared,
+        }
     }
 
     /// Whether lines are written.
@@ -171,7 +189,7 @@ impl<'a> Journal<'a> {
         self.note_some(text);
     }
 
-    /// Who is in a maildrop, as values of a line; empty where that isn't known.
+    /// Who is in a maildrop, as values of a line; empty if that isn't known.
     pub fn holder(&self, maildrop: &Name) -> Result<String, AllocError> {
         match self.shared.clients.try_borrow() {
             Ok(clients) => clients.holder(self.alloc(), maildrop),
@@ -179,7 +197,7 @@ impl<'a> Journal<'a> {
         }
     }
 
-    /// Writes the line of a text. Tells whether it is written.
+    /// Writes the line of a text. Says whether it is written.
     fn write(&self, text: Result<String, AllocError>) -> bool {
         if let Ok(text) = text
             && let Ok(line) = self.line(text.as_str())
@@ -198,7 +216,7 @@ impl<'a> Journal<'a> {
         }
     }
 
-    /// The moment, to a second; `None` where the system has no clock.
+    /// The moment, to a second; `None` if the system has no clock.
     fn moment(&self) -> Option<Timestamp> {
         let now = self.rt.since_1970().ok()?;
         let seconds = i64::try_from(now.as_secs()).ok()?;
@@ -230,7 +248,7 @@ impl Listener for Journal<'_> {
             self.note_removed(connection, removal);
         }
         let text = match self.shared.clients.try_borrow_mut() {
-            Ok(mut clients) => clients.hear(self.alloc(), connection, account),
+            Ok(mut clients) => clients.hear(self.alloc(), connection, account, self.reads),
             Err(_) => None,
         };
         self.note_some(text);
@@ -298,7 +316,7 @@ impl Told {
         self.lines.iter().any(|told| told.as_str() == line)
     }
 
-    /// Writes a line, unless it is one of those that are kept. Where 256 are kept, it forgets them
+    /// Writes a line, unless it is one of those that are kept. If 256 are kept, it forgets them
     /// first. A line that there is no memory to make isn't written.
     pub fn note_once(&mut self, journal: &Journal<'_>, text: Result<String, AllocError>) {
         let Ok(line) = text else {

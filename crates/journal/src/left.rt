@@ -16,7 +16,7 @@ const BETWEEN_LOOKS: u64 = 10;
 /// For so many seconds a file of another ending is taken for one that the mail system writes.
 const WRITING: u64 = 60;
 
-/// How many files a look tells of at most.
+/// How many files a look logs at most.
 const MOST_LEFT: usize = 100;
 
 /// Why a server leaves a file.
@@ -55,7 +55,7 @@ impl Display for Reason {
     }
 }
 
-/// A part of a name, between its dots, counted from 0; nothing where there is none.
+/// A part of a name, between its dots, counted from 0; nothing if there is none.
 fn part(name: &[u8], number: usize) -> &[u8] {
     let mut parts = name.split(|octet| *octet == b'.');
     parts.nth(number).unwrap_or(&[])
@@ -75,8 +75,8 @@ fn reason_by_name(name: &[u8]) -> Reason {
     }
 }
 
-/// Whether a name is that of a file that a server set aside: `.bad` is behind one of the form, and
-/// behind that of a second file of the name, `.2`.
+/// Whether a name is that of a file that a server set aside: `.bad` is after one of the form, and
+/// after that of a second file of the name, `.2`.
 fn is_set_aside(name: &str) -> bool {
     let Some((front, behind)) = name.rsplit_once(".bad") else {
         return false;
@@ -114,7 +114,7 @@ impl<'a> Folder<'a> {
         Ok(())
     }
 
-    /// Why a server leaves a file whose name is of the form; `None` where it takes it.
+    /// Why a server leaves a file whose name is of the form; `None` if it takes it.
     fn reason_by_file(&self, name: &str) -> Option<Reason> {
         let metadata = match self.metadata(name) {
             Ok(metadata) => metadata,
@@ -132,7 +132,7 @@ impl<'a> Folder<'a> {
         }
     }
 
-    /// Why a server leaves a file; `None` where it takes it.
+    /// Why a server leaves a file; `None` if it takes it.
     fn reason(&self, name: &str) -> Option<Reason> {
         if FileName::read(name.as_bytes()).is_some() {
             return self.reason_by_file(name);
@@ -154,7 +154,7 @@ impl<'a> Folder<'a> {
         }
     }
 
-    /// Whether a file of the folder is one that the log tells of: it is left, and neither set aside
+    /// Whether a file of the folder is one that the log has: it is left, and neither set aside
     /// nor being written.
     fn is_left(&self, name: &str) -> bool {
         if name.starts_with('.') || is_set_aside(name) {
@@ -185,7 +185,7 @@ impl<'a> Folder<'a> {
         Ok(names)
     }
 
-    /// Tells by notes which files are left, and why; or that the folder isn't there.
+    /// Logs which files are left, and why; or that the folder isn't there.
     pub fn tell_left<E: Write>(&self, err: &mut E) {
         match self.left() {
             Ok(names) => {
@@ -242,7 +242,7 @@ impl<'a> Folder<'a> {
 pub struct Looking<'a> {
     folder: Folder<'a>,
     told: Told,
-    /// When it looked last; `None` where it never did.
+    /// When it looked last; `None` if it never did.
     looked: Option<Instant>,
 }
 
@@ -256,7 +256,7 @@ impl<'a> Looking<'a> {
         }
     }
 
-    /// Looks, where lines are written and ten seconds are over.
+    /// Looks, if lines are written and ten seconds are over.
     pub fn look(&mut self, journal: &Journal<'_>) {
         if !journal.is_on() {
             return;

@@ -11,6 +11,8 @@ mod account_text;
 mod administrators;
 mod asked_text;
 mod client;
+mod counts;
+mod denials;
 mod guarded;
 mod heard;
 mod journal;

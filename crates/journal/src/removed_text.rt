@@ -12,7 +12,7 @@ use std::alloc::{AllocError, Global};
 /// How many unique-ids are on a line at most, so that it has fewer than 4,096 octets.
 pub const MOST_ON_A_LINE: usize = 32;
 
-/// The unique-id of the message so many places behind another.
+/// The unique-id of the message so many places after another.
 fn uid_at(removed: &Removed, from: usize, n: usize) -> Option<Uid>
     ensures { result ≡ slice_get (drop from removed.now) n }
 {
@@ -30,7 +30,7 @@ fn comma_before(n: usize) -> &'static str
     if n == 0 { "" } else { "," }
 }
 
-/// Appends the unique-id at a place of a line, where there is one.
+/// Appends the unique-id at a place of a line, if there is one.
 fn put_uid(alloc: Global, text: &mut String, n: usize, uid: Option<Uid>) -> Result<(), AllocError>
     ensures { OnOk result (string_bytes text.new ≡ string_bytes text.old ++ uid_words n uid) }
 {

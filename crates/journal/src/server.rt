@@ -8,7 +8,7 @@ use std::net::SocketAddr;
 use std::os::unix::fs::PermissionsExt;
 use vault::Total;
 
-/// Notes that a store is about to be opened, and how many octets its file and its log have: where
+/// Notes that a store is about to be opened, and how many octets its file and its log have: if
 /// the opening is ended for want of memory, this is the last line.
 pub fn note_opening(journal: &Journal<'_>, rt: &HostRuntime, store: &str) {
     if journal.is_on() {
@@ -16,7 +16,7 @@ pub fn note_opening(journal: &Journal<'_>, rt: &HostRuntime, store: &str) {
     }
 }
 
-/// How many octets the file at a path has; 0 where there is none.
+/// How many octets the file at a path has; 0 if there is none.
 fn octets_of(rt: &HostRuntime, path: &str) -> u64 {
     match fs::metadata(rt, path) {
         Ok(metadata) => metadata.len(),
@@ -73,7 +73,7 @@ fn start_text(
     )
 }
 
-/// What a store holds, as it stands in a line; nothing where it isn't known.
+/// What a store holds, as it stands in a line; nothing if it isn't known.
 fn held_text(alloc: Global, totals: &Option<Vec<Total>>) -> Result<String, AllocError> {
     let Some(totals) = totals else {
         return Ok(String::new(alloc));

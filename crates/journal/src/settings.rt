@@ -1,14 +1,17 @@
-//! The options in force, as the line of a server's start tells them.
-ghost use Rattle.std.specs.Prelude.{◌≡◌, IfOk, string_bytes};
+//! Whether the server is proved and its options in force, as the line of its start tells them.
+ghost use Rattle.std.specs.Prelude.{◌≡◌, IfOk, Some, string_bytes};
 ghost use Rattle.journal.specs.Settings.{yes_or_no, when_text, seconds_text, flags_text};
-ghost use Rattle.journal.specs.Settings.{settings_text};
+ghost use Rattle.journal.specs.Settings.{site_text, settings_text};
 
+use creds::HostName;
 use session::Removals;
 use std::alloc::{AllocError, Global};
 
-/// The options of `serve` that say how clients are served and what is logged.
+/// Whether the server is proved, and the options of `serve` that say how clients are served and
+/// what is logged.
 #[derive(Clone, Copy)]
 pub struct Settings {
+    pub is_proved: bool,
     pub removals: Removals,
     /// In seconds, as all up to `full_house_seconds`.
     pub idle: u32,
@@ -18,9 +21,12 @@ pub struct Settings {
     pub slow_guesses: bool,
     pub proxy_protocol: bool,
     pub message_ids: bool,
+    pub reads: bool,
+    /// The administration's site, if it has one.
+    pub admin_site: Option<HostName>,
 }
 
-/// An option that is set or isn't.
+/// What is so or isn't.
 fn yes_or_no(is_set: bool) -> &'static str
     ensures { result.now ≡ yes_or_no is_set }
 {
@@ -57,9 +63,28 @@ fn flags_text(alloc: Global, settings: &Settings) -> Result<String, AllocError>
     let guesses = yes_or_no(settings.slow_guesses);
     let proxied = yes_or_no(settings.proxy_protocol);
     let ids = yes_or_no(settings.message_ids);
+    let reads = yes_or_no(settings.reads);
     let text = format!(in alloc;
-        " slow-guesses={guesses} proxy-protocol={proxied} log-message-ids={ids}"
+        " slow-guesses={guesses} proxy-protocol={proxied} log-message-ids={ids} log-reads={reads}"
     )?;
+    Ok(text)
+}
+
+/// The administration's site, if it has one.
+fn site_text(alloc: Global, site: Option<HostName>) -> Result<String, AllocError>
+    ensures { IfOk result (λ text. string_bytes text ≡ site_text site) }
+{
+    match site {
+        None => String::from_str(alloc, " admin-site=no"),
+        Some(name) => named_text(alloc, name),
+    }
+}
+
+/// The site of this name.
+fn named_text(alloc: Global, name: HostName) -> Result<String, AllocError>
+    ensures { IfOk result (λ text. string_bytes text ≡ site_text (Some name)) }
+{
+    let text = format!(in alloc; " admin-site={name}")?;
     Ok(text)
 }
 
@@ -67,9 +92,11 @@ fn flags_text(alloc: Global, settings: &Settings) -> Result<String, AllocError>
 pub fn settings_text(alloc: Global, settings: &Settings) -> Result<String, AllocError>
     ensures { IfOk result (λ text. string_bytes text ≡ settings_text settings.now) }
 {
+    let proved = yes_or_no(settings.is_proved);
     let removals = when_word(settings.removals);
     let seconds = seconds_text(alloc, settings)?;
     let flags = flags_text(alloc, settings)?;
-    let text = format!(in alloc; " removals={removals}{seconds}{flags}")?;
+    let site = site_text(alloc, settings.admin_site)?;
+    let text = format!(in alloc; " proved={proved} removals={removals}{seconds}{flags}{site}")?;
     Ok(text)
 }

@@ -17,7 +17,7 @@ pub struct FileId {
 }
 
 impl FileId {
-    /// The file that stands at a path, behind any link; `None` where none can be looked at.
+    /// The file that stands at a path, behind any link; `None` if none can be looked at.
     pub fn at(rt: &HostRuntime, path: &str) -> Option<FileId> {
         Some(FileId::of(&fs::metadata(rt, path).ok()?))
     }
@@ -98,7 +98,7 @@ pub struct StoreWatch<'a> {
     file: Option<FileId>,
     log_path: Option<String>,
     log: Option<FileId>,
-    /// When it looked last; `None` where it never did.
+    /// When it looked last; `None` if it never did.
     looked: Cell<Option<Instant>>,
     loss: Cell<Option<Loss>>,
 }

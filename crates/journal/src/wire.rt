@@ -8,7 +8,7 @@ use std::time::Clock;
 
 /// A wire that knows from where its links came, and why it closed one by itself.
 pub trait Peers {
-    /// The address of the other end of a link, where it is known.
+    /// The address of the other end of a link, if it is known.
     fn peer(&self, port: Port, link: Link) -> Option<SocketAddr>;
 
     /// Why a client's link was closed at its last read, if that was for its first line.
@@ -61,7 +61,7 @@ impl<'a, W: Wire> LoggedWire<'a, W> {
 }
 
 impl<W: Wire + Peers> LoggedWire<'_, W> {
-    /// Keeps a new link. Without memory the log doesn't tell of this link.
+    /// Keeps a new link. Without memory the log doesn't mention this link.
     fn follow(&self, port: Port, link: Link) {
         let address = self.wire.peer(port, link);
         match port {
@@ -108,6 +108,8 @@ impl<W: Wire + Peers> Wire for LoggedWire<'_, W> {
     ghost tells = { λ r. W.tells r.wire };
 
     ghost asked = { λ r. W.asked r.wire };
+
+    ghost address_of = { λ r. W.address_of r.wire };
 
     ghost tells_once = { λ r. W.tells_once r.wire };
 

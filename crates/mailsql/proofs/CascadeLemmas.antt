@@ -45,7 +45,7 @@ use Rattle.mailsql.proofs.EqualLemmas.{int_equal, null_unequal, same_itself}
 use Rattle.mailsql.proofs.FindLemmas.{and_true}
 use Rattle.mailsql.specs.Tables.{schema_of, mail_tree, mail_at, sheets_at, groups_at, members_at, plain_order}
 
--- where no key is lost, nothing acts
+-- if no key is lost, nothing acts
 pub still_meta : (c : Bool) (olds : List Row) → works (schema_of c) Enforced 0 0 olds [] ≡ []
 unfolding everything same_name joined
 still_meta false olds = refl
@@ -339,7 +339,7 @@ module _ (rows shown : List Row) (p : Row → Bool) (keyed : AreKeyed rows) (sam
       let id = has_mapped (λ s. id_in (rowid s)) shown (rowid y ∷ []) there in
       subst (Has (map (row_at rows) (ids_of shown))) (at_id y (has_filtered p rows y h).0) (has_mapped (row_at rows) (ids_of shown) (id_in (rowid y)) id)
 
-  -- a row is a child of the rows that were taken where its number is that of one that passes
+  -- a row is a child of the rows that were taken if its number is that of one that passes
   pub child_is : {X : Type 0} (child : Table) (parent : List ℕ) (f : Row → X) (q : X → Bool) (key : X → ℤ) (r : Row) (m : ℤ) → column r 1 ≡ Int m → ((y : Row) → Has rows y → p y ≡ q (f y)) → ((y : Row) → id_in (rowid y) ≡ key (f y))
       → list_any (is_child_of (cascade child parent (map (row_at rows) (ids_of shown))) r) (pairs (map (row_at rows) (ids_of shown)) []) ≡ list_any (λ x. q x && same_int m (key x)) (map f rows)
   child_is child parent f q key r m number passes keys =

@@ -18,7 +18,7 @@ use Rattle.mailsql.proofs.CreateLemmas.{Makes, grows, one_more, keyed_none}
 use Rattle.mailsql.proofs.ListedLemmas.{carried_is}
 use Rattle.mailsql.proofs.TransactionLemmas.{commits_as}
 
--- ---- the tables of one list behind those of another
+-- ---- the tables of one list after those of another
 
 behind : (P : Table → Type 0) (xs ys : List Table) → AllByRecursion P (xs ++ ys) → AllByRecursion P xs × AllByRecursion P ys
 behind P [] ys all = (tt, all)

@@ -72,7 +72,7 @@ module _ (sql : List ℕ) (at : (carried : Bool) → ℕ) (terms project : List 
       → (IsKept old.now → IsDatabase old.now → (row : Row) → Has (old.now.trees (at c)) row → Holds (eval_all project (params ∷ row ∷ []))) → IfErr r (FailsToReadAs Holds sql params old new) → IfErr r (FailsToRead sql params old new)
   asked_fails r Holds live keyed held = asked_fails_of (schema_of c) sql (at c) terms project names (asks c) (placed c) old new params (λ up. (tables up).0) r Holds (λ up. keyed (tables up)) (λ up. held (tables up) (live up).0)
 
--- of a table without types, only where the rows hold what a record is made of
+-- of a table without types, only if the rows hold what a record is made of
 pub fails_to_read_as : {X : Type 0} (Holds : Row → Type 0) (text : List ℕ) (params : Row) (old new : State) (lent rows : List Row) (lend : lent ≡ rows) → Shown text params old new rows → (r : Result X Error)
     → (AllByRecursion Holds lent → IfErr r IsWantOfMemory) → IfErr r (FailsToReadAs Holds text params old new)
 fails_to_read_as Holds text params old new lent rows lend shown r wants = given r (λ held. wants (subst (AllByRecursion Holds) (sym lend) held))
@@ -86,7 +86,7 @@ pub counts : (text : List ℕ) (params : Row) (old new : State) (row : Row) → 
 counts text params old new row shown (Ok n) h = (row, shown, h.0, h.1)
 counts text params old new row shown (Err e) h = tt
 
--- of a count, only where the row holds a number
+-- of a count, only if the row holds a number
 pub fails_to_count_as : (text : List ℕ) (params : Row) (old new : State) (row : Row) → QueriesRow text params old new (Ok row) → (r : Result ℕ Error) → ((n : ℕ) → column row 0 ≡ Int (pos n) → IfErr r IsWantOfMemory)
     → IfErr r (FailsToCountAs text params old new)
 fails_to_count_as text params old new row shown (Ok x) wants = tt

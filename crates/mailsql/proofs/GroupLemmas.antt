@@ -97,7 +97,7 @@ any_back : (x : m.Member) (groups : List m.Group) → list_any (λ (g : m.Group)
 any_back x [] = refl
 any_back x (g ∷ groups) = ap₂ (λ a b. a || b) (same_back x.group g.place) (any_back x groups)
 
--- where each member has its group, none is left
+-- if each member has its group, none is left
 none_left : (members : List m.Member) (groups : List m.Group) → list_all (λ (x : m.Member). list_any (λ (g : m.Group). m.same_int g.place x.group) groups) members ≡ true
     → filter (λ (x : m.Member). not (list_any (λ (g : m.Group). true && m.same_int x.group g.place) groups)) members ≡ []
 none_left [] groups all = refl

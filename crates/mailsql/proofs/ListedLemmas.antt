@@ -18,7 +18,7 @@ any_of_both p q (r ∷ rows) = go (p r) (any_of_both p q rows)
     go true more = ap (λ x. q r || x) more
     go false more = more
 
--- a table has the name where its row has
+-- a table has the name if its row has
 any_named : (name : List _) (rows : List Row) (tables : List Table) → AllZip IsTableRow rows tables → list_any (λ r. bytes_eq (text_at r 2) name) rows ≡ list_any (λ t. bytes_eq t.name name) tables
 any_named name [] [] all = refl
 any_named name [] (t ∷ tables) all = absurd all

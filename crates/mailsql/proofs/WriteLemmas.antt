@@ -39,7 +39,7 @@ same_value e = cc
 abbrev pub task_of : Option ℕ → Schema → Table → Row → Task
 task_of limit schema table params = record { limit = limit; keys = Enforced; schema = schema; table = table; params = params }
 
--- where no row goes, no key is lost
+-- if no row goes, no key is lost
 no_work : (depth tree : ℕ) (child : Table) (ref : Reference) (deed : Option Deed) (key : Option ParentKey) → work_by depth tree [] child ref deed key ≡ None
 no_work depth tree child ref None key = refl
 no_work depth tree child ref (Some deed) None = refl

@@ -191,12 +191,12 @@ sixth_columns true = (messages_at 10).columns
 abbrev pub sixth : (carried : Bool) → Table
 sixth carried = table_of (sixth_name carried) 10 (sixth_columns carried) (Some 0) (0 ∷ []) ((2 ∷ 3 ∷ 4 ∷ []) ∷ []) (plain_order ∷ []) (to_maildrops ∷ []) true
 
--- mail, where it came last
+-- mail, if it came last
 abbrev pub last_tables : (carried : Bool) → List Table
 last_tables false = []
 last_tables true = mail_at 22 ∷ []
 
--- the index of mail, where it came last
+-- the index of mail, if it came last
 abbrev pub last_indexes : (carried : Bool) → List Index
 last_indexes false = []
 last_indexes true = key_of (codes "mail") 22 (2 ∷ 3 ∷ 4 ∷ []) ∷ []

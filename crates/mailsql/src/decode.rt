@@ -259,7 +259,7 @@ pub(crate) fn read_all<T: Stored>(alloc: Global, rows: &[Row]) -> Result<Vec<T>,
     Ok(all)
 }
 
-/// The first row of the answer, read; `None` where the answer has no row.
+/// The first row of the answer, read; `None` if the answer has no row.
 pub(crate) fn read_first<T: Stored>(alloc: Global, rows: &[Row]) -> Result<Option<T>, Error>
     ensures ok { IfOk result (λ first. first ≡ option_map T.stored (slice_get rows.now 0)) }
     ensures memory { AllByRecursion T.holds rows.now → IfErr result IsWantOfMemory }

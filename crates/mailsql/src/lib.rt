@@ -7,7 +7,7 @@
 //! statement itself met the error. After an error either nothing changed, or the transaction was
 //! rolled back, which `Connection::is_autocommit` then tells. A function that runs several
 //! statements outside a transaction leaves what those before the error did. What the contracts say
-//! of rows holds over a store with our tables, where the disk returned what was written.
+//! of rows holds over a store with our tables, if the disk returned what was written.
 #![tactic(auto)]
 
 pub mod bodies;

@@ -62,7 +62,7 @@ fn first_there(found: &[(OurTable, bool)]) -> Option<OurTable>
     }
 }
 
-/// Our table of this name, in ASCII letters of any case; `None` where none of ours has it.
+/// Our table of this name, in ASCII letters of any case; `None` if none of ours has it.
 fn our_table(name: &[u8]) -> Option<OurTable>
     ensures { result ≡ our_table name.now }
 {
@@ -152,7 +152,7 @@ fn first_taken(schema: &Schema) -> Option<Taken>
 }
 
 /// The first table of the store that has one of our tables' names, in ASCII letters of any case;
-/// else the first such index, else the first such view; `None` where no name of ours is taken.
+/// else the first such index, else the first such view; `None` if no name of ours is taken.
 pub fn taken_name<S: Alter>(conn: &Connection<S>) -> Option<Taken>
     ensures { result ≡ first_taken (state S.Store conn.now).now.schema }
 {
@@ -458,7 +458,7 @@ fn lacked_of_third(tables: &[Table]) -> Option<OurTable>
 }
 
 /// The first table that isn't there with its columns and keys, of those that stores of this version
-/// have (`has_columns`, `has_second_columns`, `has_first_columns`); `None` where each is there. The
+/// have (`has_columns`, `has_second_columns`, `has_first_columns`); `None` if each is there. The
 /// older versions are 1 and 2, and any other number stands for ours.
 pub fn lacked_table<S: Alter>(conn: &Connection<S>, version: i64) -> Option<OurTable>
     ensures first { version ≡ pos 1

@@ -89,7 +89,7 @@ fn lacked_place(is_first: bool, at: usize) -> usize
     }
 }
 
-/// Makes the tables that an older store lacks: `groups` and `members`, and over version 1, where
+/// Makes the tables that an older store lacks: `groups` and `members`, and over version 1, if
 /// `is_first` must be true, `sheets` and `mail` too. Call it inside a transaction. The other tables
 /// stay as they are. After an error the transaction is still under way, or gone with all that it
 /// wrote.

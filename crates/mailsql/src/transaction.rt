@@ -10,7 +10,7 @@ ghost use Rattle.mailsql.specs.Statements.{begin_text, commit_text, rollback_tex
 use crate::run::run;
 use sqlite::{Alter, Connection, Error};
 
-/// Begins a transaction. Refused where one is under way.
+/// Begins a transaction. Refused if one is under way.
 pub fn begin<S: Alter>(conn: &mut Connection<S>) -> Result<(), Error>
     ensures ok { HasCleanDisk (state S.Store conn.new)
         → OnOk result (((state S.Store conn.old).in_transaction ≡ false)
@@ -26,7 +26,7 @@ pub fn begin<S: Alter>(conn: &mut Connection<S>) -> Result<(), Error>
     run(conn, "BEGIN", &[])
 }
 
-/// Commits the transaction. Refused where none is under way. After an error the transaction is
+/// Commits the transaction. Refused if none is under way. After an error the transaction is
 /// still under way, or was rolled back.
 pub fn commit<S: Alter>(conn: &mut Connection<S>) -> Result<(), Error>
     ensures ok { HasCleanDisk (state S.Store conn.new)
@@ -44,7 +44,7 @@ pub fn commit<S: Alter>(conn: &mut Connection<S>) -> Result<(), Error>
     run(conn, "COMMIT", &[])
 }
 
-/// Rolls the transaction back. Refused where none is under way. Whatever it answers, nothing of
+/// Rolls the transaction back. Refused if none is under way. Whatever it answers, nothing of
 /// the transaction is left.
 pub fn rollback<S: Alter>(conn: &mut Connection<S>) -> Result<(), Error>
     ensures ok { HasCleanDisk (state S.Store conn.new)

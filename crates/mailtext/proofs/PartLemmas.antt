@@ -6,7 +6,7 @@ use Rattle.std.specs.Prelude.{if◌then◌else◌, count_by}
 use Rattle.mailtext.specs.Text.{line_end, lines_of, ended, kept_form, top_part, header_len}
 use Rattle.mailtext.proofs.LineLemmas.{Unbroken, AreLines, AreLines-lines_of, lines_of-ended}
 
--- how many octets there are through the first empty line, where its line has so many before them
+-- how many octets there are through the first empty line, if its line has so many before them
 abbrev pub header_from : ℕ → List ℕ → ℕ
 header_from before [] = 0
 header_from before (b ∷ bs) =
@@ -112,7 +112,7 @@ header_from-kept octets kept = ap (header_from 0) (sym kept) ∙ header_from-end
 pub lines_from-kept : (octets : List ℕ) (n : ℕ) → kept_form octets ≡ octets → lines_from n octets ≡ length (ended (take n (lines_of octets)))
 lines_from-kept octets n kept = ap (lines_from n) (sym kept) ∙ lines_from-ended n (lines_of octets) (AreLines-lines_of octets)
 
--- what lies behind the header is the body, a kept form too
+-- what lies after the header is the body, a kept form too
 pub behind_header : (octets : List ℕ) (h : ℕ) → kept_form octets ≡ octets → h ≡ header_len (lines_of octets) → drop h octets ≡ ended (body (lines_of octets))
 behind_header octets h kept e =
     let ls = lines_of octets in

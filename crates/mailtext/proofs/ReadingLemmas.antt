@@ -28,7 +28,7 @@ is_dot_long (a ∷ b ∷ c ∷ p) h = and_right (eqb a 46) false refl
 
 -- ---- a reader that has come past some lines
 
--- lines, and the octets that were read for them, before what was read behind them
+-- lines, and the octets that were read for them, before what was read after them
 abbrev joined_read : List (List ℕ) → ℕ → Option (List (List ℕ) × ℕ) → Option (List (List ℕ) × ℕ)
 joined_read ls n None = None
 joined_read ls n (Some (ms, m)) = Some (ls ++ ms, n + m)

@@ -55,7 +55,7 @@ reads_both octets k a b zero lt = let e : k + 0 ≡ k = omega arith in rw e a
 reads_both octets k a b (suc zero) lt = b
 reads_both octets k a b (suc (suc j)) lt = absurd (omega arith)
 
--- no dot is put before an octet that isn't behind a place of the search
+-- no dot is put before an octet that isn't after a place of the search
 no_dot_at : (start : Bool) (octets : List ℕ) (n i : ℕ) → (start && eqb (get_or octets 0 0) 46) ≡ false → Nowhere (OccursAt octets newline_dot) 0 n
     → i < length octets → i ≤ n → (front_at start octets i && eqb (get_or octets i 0) 46) ≡ false
 no_dot_at start octets n zero first none lt le = first
@@ -144,7 +144,7 @@ sent_more start now next piece out ys taken put t p room fits before here more =
     ap (take (put + p)) (written_end put out ys room) ∙ take_behind (take put out) ys put p (length-take-le put out room) fits in
     before more ∙ (ap (λ zs. take put out ++ zs) second ∙ (sym (append_assoc (take put out) (take p ys) rest) ∙ ap (λ zs. zs ++ rest) (sym written)))
 
--- what lies behind it stays
+-- what lies after it stays
 pub behind_more : (start out ys : List ℕ) (put p : ℕ) → put ≤ length out → drop put out ≡ drop put start
     → drop p ys ≡ drop p (take (length out - put) (drop put out)) → drop (put + p) (put_mid put (length out - put) out ys) ≡ drop (put + p) start
 behind_more start out ys put p room before here =

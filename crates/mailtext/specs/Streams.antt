@@ -46,21 +46,21 @@ in_body Body = true
 abbrev pub is_over : Come → Bool
 is_over come = in_body come.place && come.left == 0
 
--- behind a LF: an empty line of the header ends it
+-- after a LF: an empty line of the header ends it
 abbrev pub behind_newline : Place → ℕ → Come
 behind_newline Front n = record { place = Body; left = n }
 behind_newline Return n = record { place = Body; left = n }
 behind_newline Inside n = record { place = Front; left = n }
 behind_newline Body n = record { place = Body; left = n - 1 }
 
--- behind another octet
+-- after another octet
 abbrev pub behind_other : Place → ℕ → Place
 behind_other Front b = if b == 13 then Return else Inside
 behind_other Return b = Inside
 behind_other Inside b = Inside
 behind_other Body b = Body
 
--- behind one octet more
+-- after one octet more
 abbrev pub behind : Come → ℕ → Come
 behind come b =
     if b == 10 then behind_newline come.place come.left

@@ -8,7 +8,7 @@ use Rattle.std.specs.Str.{bytes_eq}
 abbrev pub line_end : List ℕ
 line_end = 13 ∷ 10 ∷ []
 
--- an octet put in front of the first line; a line of its own where there is none
+-- an octet put in front of the first line; a line of its own if there is none
 abbrev pub onto_first_line : ℕ → List (List ℕ) → List (List ℕ)
 onto_first_line b [] = (b ∷ []) ∷ []
 onto_first_line b (l ∷ ls) = (b ∷ l) ∷ ls
@@ -52,7 +52,7 @@ dot_line = codes "." ++ line_end
 abbrev pub multi_line : List ℕ → List (List ℕ) → List ℕ
 multi_line first ls = (first ++ line_end) ++ stuffed_lines ls ++ dot_line
 
--- the lines through the first empty one, and then n more; all where none is empty
+-- the lines through the first empty one, and then n more; all if none is empty
 abbrev pub top_part : List (List ℕ) → ℕ → List (List ℕ)
 top_part [] n = []
 top_part ([] ∷ ls) n = [] ∷ take n ls
@@ -64,7 +64,7 @@ header_len ls = length (ended (top_part ls 0))
 
 -- ---- what a client reads of a reply of many lines
 
--- an octet put in front of the first piece; it belongs to none where there is none
+-- an octet put in front of the first piece; it belongs to none if there is none
 abbrev pub onto_first_piece : ℕ → List (List ℕ) → List (List ℕ)
 onto_first_piece b [] = []
 onto_first_piece b (p ∷ ps) = (b ∷ p) ∷ ps
@@ -85,7 +85,7 @@ abbrev pub without_dot : List ℕ → List ℕ
 without_dot [] = []
 without_dot (b ∷ bs) = if b == 46 then bs else b ∷ bs
 
--- a line, and the octets that were read for it, before what was read behind it
+-- a line, and the octets that were read for it, before what was read after it
 abbrev pub onto_read : List ℕ → ℕ → Option (List (List ℕ) × ℕ) → Option (List (List ℕ) × ℕ)
 onto_read l n None = None
 onto_read l n (Some (ls, m)) = Some (l ∷ ls, n + m)
@@ -102,7 +102,7 @@ abbrev pub with_ends : Option (List (List ℕ) × ℕ) → Option (List ℕ × �
 with_ends None = None
 with_ends (Some (ls, n)) = Some (ended ls, n)
 
--- the lines before the dot, each followed by CRLF, and the octets read with the dot's line; none where no such
+-- the lines before the dot, each followed by CRLF, and the octets read with the dot's line; none if no such
 -- line has come
 abbrev pub unstuffed : List ℕ → Option (List ℕ × ℕ)
 unstuffed octets = with_ends (read_lines (pieces octets))

@@ -83,7 +83,7 @@ impl Clone for MailText {
 /// and a last line needs no end. All other octets stay.
 ///
 /// Answers [`TextFault::Empty`] for a text without an octet, else [`TextFault::TooLarge`] for one
-/// whose kept form has more than [`MAX_OCTETS`] octets, else [`TextFault::NoMemory`] where memory
+/// whose kept form has more than [`MAX_OCTETS`] octets, else [`TextFault::NoMemory`] if memory
 /// for the kept form was refused.
 pub fn canon(alloc: Global, text: &[u8]) -> Result<MailText, TextFault>
     ensures ok { IfOk result (λ kept. kept ≡ kept_form text.now) }
@@ -141,7 +141,7 @@ impl MailText {
         line_ends(&self.octets)
     }
 
-    /// How many octets it has through its first empty line, or all where no line is empty (RFC 822,
+    /// How many octets it has through its first empty line, or all if no line is empty (RFC 822,
     /// section 3.1).
     pub fn header_len(&self) -> usize
         ensures { result ≡ header_len (lines_of self.now) }
@@ -150,7 +150,7 @@ impl MailText {
     }
 
     /// What TOP sends of it: its lines through the first empty one and then the first `n`, or all
-    /// where none is empty (RFC 1939, section 7). It is a beginning of the octets.
+    /// if none is empty (RFC 1939, section 7). It is a beginning of the octets.
     pub fn top(&self, n: u64) -> &[u8]
         ensures part { result.now ≡ ended (top_part (lines_of self.now) n) }
         ensures lines { lines_of result.now ≡ top_part (lines_of self.now) n }

@@ -39,7 +39,7 @@ fn without_return(piece: &[u8]) -> &[u8]
     }
 }
 
-/// The first line of a text, without its end, and the text behind it.
+/// The first line of a text, without its end, and the text after it.
 #[inline]
 fn cut_line(text: &[u8]) -> (&[u8], &[u8])
     requires { 0 < length text.now }
@@ -67,7 +67,7 @@ fn dotted(line: &[u8], dots: Dots) -> (&'static [u8], &[u8])
     }
 }
 
-/// How many octets the lines of `text` take; `None` where a `usize` can't say it.
+/// How many octets the lines of `text` take; `None` if a `usize` can't say it.
 pub fn written_len(text: &[u8], dots: Dots) -> Option<usize>
     ensures { SomeIff result (length (written dots text.now) < 2 ^ 64)
         (length (written dots text.now)) }

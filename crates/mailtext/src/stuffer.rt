@@ -77,7 +77,7 @@ impl Stuffer {
     }
 
     /// Puts octets into the front of `out` until the whole piece is taken or `out` is full. Returns
-    /// how many octets of the piece it took, and how many it put. The next piece begins behind what
+    /// how many octets of the piece it took, and how many it put. The next piece begins after what
     /// was taken.
     ///
     /// At the end of `out` an added dot may be put, and the dot itself be taken by the next call.
@@ -103,7 +103,7 @@ impl Stuffer {
         (taken, put)
     }
 
-    /// Puts octets up to a dot at the front of a line, as many as there is room for; where there
+    /// Puts octets up to a dot at the front of a line, as many as there is room for; if there
     /// are none, the added dot.
     fn put_some(&mut self, piece: &[u8], out: &mut [u8]) -> (usize, usize)
         requires piece { 0 < length piece.now }

@@ -13,9 +13,9 @@ use std::marker::Model;
 pub enum Place {
     /// At the front of a line of the header.
     Front,
-    /// Behind a CR at the front of such a line.
+    /// After a CR at the front of such a line.
     Return,
-    /// Behind other octets of such a line.
+    /// After other octets of such a line.
     Inside,
     /// In the body.
     Body,
@@ -38,7 +38,7 @@ impl Model for TopCut {
 }
 
 impl TopCut {
-    /// At the beginning of a message of whose body the first `n` lines are sent, or all where it
+    /// At the beginning of a message of whose body the first `n` lines are sent, or all if it
     /// has no more.
     pub fn new(n: u64) -> TopCut
         ensures front { result ≡ nothing_come n }
@@ -55,10 +55,10 @@ impl TopCut {
         }
     }
 
-    /// How many first octets of the piece belong; where these aren't all, none of what follows
+    /// How many first octets of the piece belong; if these aren't all, none of what follows
     /// does.
     ///
-    /// The next piece begins behind this one, however many of its octets belong.
+    /// The next piece begins after this one, however many of its octets belong.
     pub fn feed(&mut self, piece: &[u8]) -> usize
         ensures within { result ≤ length piece.now }
         // However the text goes on, what belongs of the piece goes before what belongs of the rest.

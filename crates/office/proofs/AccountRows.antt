@@ -15,20 +15,22 @@ use Rattle.office.specs.Events.{Admin, Bytes, Connect, Gone, Ignored, Tagged, To
 use Rattle.office.specs.Answers.{EndSession}
 use Rattle.office.specs.Accounts.{account_of, acts_account}
 use Rattle.office.specs.declared.account.Account.{Account}
-use Rattle.office.specs.declared.account.Account.TheVariants.{Nothing, Login, NoName, Marked, Unmarked, Quit, QuitBeforeLogin, Ended}
+use Rattle.office.specs.declared.account.Account.TheVariants.{Nothing, Login, NoName, Marked, Unmarked, Quit, QuitBeforeLogin, Retrieved, Topped, Denied, Ended}
 use Rattle.office.specs.declared.account.End.TheVariants as end
+use Rattle.office.specs.declared.account.MessageCommand.TheVariants as to
+use Rattle.office.specs.declared.answer.MessageRow.{MessageRow}
 use Rattle.office.specs.declared.account.Way.TheVariants as way
 use Rattle.office.specs.declared.account.Verdict.TheVariants as judged
-use Rattle.office.proofs.Sample.{W, Step, Give, shows, run_judged_at_quit, connect, says, as_bob}
+use Rattle.office.proofs.Sample.{W, Step, Give, shows, run, run_judged_at_quit, connect, says, as_bob}
 
 abbrev line : List ℕ → Tag → Act × Tag
 line octets t = (Line 1896 (cutting.Line octets), t)
 
--- the connection of RFC 1939's example, with these lines behind its opening
+-- the connection of RFC 1939's example, with these lines after its opening
 abbrev opened : List (Act × Tag)
 opened = (Open 1896, Done) ∷ (Restart 697170952 (codes "dbc.mtview.ca.us") JudgedAtDele, Done) ∷ []
 
--- the account of a line behind these acts
+-- the account of a line after these acts
 abbrev account_behind : List (Act × Tag) → List ℕ → Tag → Account
 account_behind acts octets t = acts_account W (told W acts) (line octets t ∷ [])
 
@@ -110,6 +112,22 @@ lines_of_a_session : shows (run_judged_at_quit bob_marks) (λ T. next T (codes "
     ∷ Marked ∷ Nothing ∷ Unmarked ∷ Nothing ∷ Ended end.SessionEnded ∷ Nothing ∷ []
 unfolding digits login_name decode_pairs md5 M.digest_bytes M.hash_after M.compress M.rounds M.block_words
 lines_of_a_session = refl
+
+-- a message of a class, of number k
+abbrev row : List ℕ → ℕ → ℕ → MessageRow
+row class k octets = record { uid = record { class = class; k = k }; octets = octets }
+
+-- what bob reads, and what he may not remove: a RETR, a TOP, a DELE that a rule denies, and numbers of no message
+reads_of_a_session : shows (run (connect 1 ++ says 1 as_bob)) (λ T. next T (codes "RETR 1") ∷ next T (codes "TOP 2 0") ∷ next T (codes "DELE 3") ∷ next T (codes "DELE 1") ∷ next T (codes "RETR 9")
+    ∷ next T (codes "DELE 9") ∷ next T (codes "LIST 1") ∷ account_of T (Bytes 1 (codes "RETR 1" ++ line_end)) (Tagged Failed) ∷ [])
+    ≡ Retrieved (row (codes "note") 1 21) ∷ Topped (row (codes "note") 2 15) ∷ Denied to.Dele (record { class = codes "todo"; k = 1 }) (codes "default") ∷ Marked ∷ Nothing
+    ∷ Nothing ∷ Nothing ∷ Nothing ∷ []
+unfolding digits login_name decode_pairs md5 M.digest_bytes M.hash_after M.compress M.rounds M.block_words
+reads_of_a_session = refl
+
+retr_before_a_login : account_behind opened (codes "RETR 1") Done ≡ Nothing
+unfolding digits login_name decode_pairs md5 M.digest_bytes M.hash_after M.compress M.rounds M.block_words
+retr_before_a_login = refl
 
 -- a connection whose greeting waits is gone, lacks memory at a piece, or is refused a page; one that isn't open is ignored
 ends_of_connections : shows (run_judged_at_quit (Give Connect ∷ [])) (λ T. account_of T (Gone 1) (Tagged Done) ∷ account_of T (Bytes 1 (codes "NOOP" ++ line_end)) (Tagged NoMemory)

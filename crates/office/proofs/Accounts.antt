@@ -27,7 +27,8 @@ use Rattle.office.specs.Kept.{LineContext, asks}
 use Rattle.office.specs.Transaction.{Transaction, LiesIn, transaction_of, transaction_said, transaction_answered, transaction_asks, transaction_reply}
 use Rattle.office.specs.Answered.{reply_of, tag_of, HasTransaction}
 use Rattle.office.specs.Accounts.{command_account, fault_told, line_account, transaction_account, quit_or, quit_account, removal_by, line_told, acts_account, acts_told}
-use Rattle.office.specs.Accounts.{failed_told, account_of, outcome_told, removal_told, removal_seen, state_account}
+use Rattle.office.specs.Accounts.{failed_told, account_of, outcome_told, removal_told, removal_seen, state_account, named_in, named_seen, named_at}
+use Rattle.office.specs.declared.answer.MessageRow.{MessageRow}
 use Rattle.office.specs.declared.account.Account.{Account}
 use Rattle.office.specs.declared.account.Account.TheVariants as account
 use Rattle.office.specs.declared.account.Removal.{Removal}
@@ -44,25 +45,25 @@ is_pass (Ok (Pass password)) = true
 is_pass _ = false
 
 -- only a PASS is told under the name in force
-nobody_named : (r : Result Command LineFault) (said : Said) (u : Option LoginName) → is_pass r ≡ false → line_account r said None ≡ line_account r said u
-nobody_named (Ok (Pass password)) said u e = absurd (true≢false e)
-nobody_named _ said u e = refl
+nobody_named : (r : Result Command LineFault) (said : Said) (u : Option LoginName) (m : Option MessageRow) → is_pass r ≡ false → line_account r said None m ≡ line_account r said u m
+nobody_named (Ok (Pass password)) said u m e = absurd (true≢false e)
+nobody_named _ said u m e = refl
 
 module _ (p : Policy) (v : Transaction) (u : Option LoginName) where
-  told_read : (r : Result Command LineFault) → line_account r (Says (transaction_said p v r)) None ≡ line_account r (Says (transaction_said p v r)) u
-  told_read (Ok (Pass password)) = refl
-  told_read _ = refl
+  told_read : (r : Result Command LineFault) (m : Option MessageRow) → line_account r (Says (transaction_said p v r)) None m ≡ line_account r (Says (transaction_said p v r)) u m
+  told_read (Ok (Pass password)) m = refl
+  told_read _ m = refl
 
   asks_no_pass : (r : Result Command LineFault) → transaction_asks p v r ≡ true → is_pass r ≡ false
   asks_no_pass (Ok (Pass password)) e = cc
   asks_no_pass _ e = refl
 
   -- a line of a session is told the same under every name
-  pub transaction_told : (w : LineOutcome) (x : Cut) → (w ≡ outcome.Failed → transaction_asks p v (reading x) ≡ true)
-      → line_account (reading x) (Says (transaction_reply w p v x)) None ≡ line_account (reading x) (Says (transaction_reply w p v x)) u
-  transaction_told outcome.Done TooLong may = refl
-  transaction_told outcome.Done (cutting.Line l) may = told_read (command_of l)
-  transaction_told outcome.Failed x may = nobody_named (reading x) (Says (transaction_reply outcome.Failed p v x)) u (asks_no_pass (reading x) (may refl))
+  pub transaction_told : (w : LineOutcome) (x : Cut) (m : Option MessageRow) → (w ≡ outcome.Failed → transaction_asks p v (reading x) ≡ true)
+      → line_account (reading x) (Says (transaction_reply w p v x)) None m ≡ line_account (reading x) (Says (transaction_reply w p v x)) u m
+  transaction_told outcome.Done TooLong m may = refl
+  transaction_told outcome.Done (cutting.Line l) m may = told_read (command_of l) m
+  transaction_told outcome.Failed x m may = nobody_named (reading x) (Says (transaction_reply outcome.Failed p v x)) u m (asks_no_pass (reading x) (may refl))
 
 -- a misread line of a session names nobody
 pub transaction_fault : (p : Policy) (v : Transaction) (f : LineFault) → fault_told f (Says (transaction_said p v (Err f))) ≡ account.Nothing
@@ -72,22 +73,23 @@ transaction_fault p v (Syntax keyword.Apop) = refl
 transaction_fault p v (Syntax _) = refl
 
 -- a command whose reply is made without the store
-pub told_so : (p : Policy) (v : Transaction) (w : LineOutcome) (command : Command) (reply : Reply) (told : Account) → w ≡ outcome.Done
-    → reply ≡ transaction_said p v (Ok command) → told ≡ command_account command (Says reply) None
-    → told ≡ command_account command (Says (transaction_answered w p v (Ok command))) None
-told_so p v w command reply told e said so = rw e (so ∙ ap (λ (r : Reply). command_account command (Says r) None) said)
+pub told_so : (p : Policy) (v : Transaction) (w : LineOutcome) (command : Command) (reply : Reply) (m : Option MessageRow) (told : Account) → w ≡ outcome.Done
+    → reply ≡ transaction_said p v (Ok command) → m ≡ named_in v (Ok command) → told ≡ command_account command (Says reply) None m
+    → told ≡ command_account command (Says (transaction_answered w p v (Ok command))) None (named_in v (Ok command))
+told_so p v w command reply m told e said names so = rw e (so ∙ (ap (λ (r : Reply). command_account command (Says r) None m) said
+    ∙ ap (λ (m : Option MessageRow). command_account command (Says (transaction_said p v (Ok command))) None m) names))
 
 -- a session's line that is no QUIT, and one that is
-pub not_quitting : (w : LineOutcome) (p : Policy) (s : Session) (r : Result Command LineFault) (said : Said) → is_quit r ≡ false
-    → transaction_account w p s r said ≡ line_account r said None
-not_quitting w p s r said e = ap (λ (b : Bool). quit_or b (account.Quit (removal_told w p s)) (line_account r said None)) e
+pub not_quitting : (w : LineOutcome) (p : Policy) (s : Session) (r : Result Command LineFault) (said : Said) (m : Option MessageRow) → is_quit r ≡ false
+    → transaction_account w p s r said m ≡ line_account r said None m
+not_quitting w p s r said m e = ap (λ (b : Bool). quit_or b (account.Quit (removal_told w p s)) (line_account r said None m)) e
 
-pub quitting : (w : LineOutcome) (p : Policy) (s : Session) (r : Result Command LineFault) (said : Said) → is_quit r ≡ true
-    → transaction_account w p s r said ≡ account.Quit (removal_told w p s)
-quitting w p s r said e = ap (λ (b : Bool). quit_or b (account.Quit (removal_told w p s)) (line_account r said None)) e
+pub quitting : (w : LineOutcome) (p : Policy) (s : Session) (r : Result Command LineFault) (said : Said) (m : Option MessageRow) → is_quit r ≡ true
+    → transaction_account w p s r said m ≡ account.Quit (removal_told w p s)
+quitting w p s r said m e = ap (λ (b : Bool). quit_or b (account.Quit (removal_told w p s)) (line_account r said None m)) e
 
 -- a QUIT before a login
-quits_told : (r : Result Command LineFault) (said : Said) (u : Option LoginName) → is_quit r ≡ true → line_account r said u ≡ account.QuitBeforeLogin
+quits_told : (r : Result Command LineFault) (said : Said) (u : Option LoginName) → is_quit r ≡ true → line_account r said u None ≡ account.QuitBeforeLogin
 quits_told (Ok Quit) said u e = refl
 quits_told _ said u e = absurd (true≢false (sym e))
 
@@ -100,22 +102,23 @@ removal_alike c p s kept lies w =
     rw (removed, denied, marks) refl
 
 -- a line before a login is told by its reply
-pub authorization_told : (w : LineOutcome) (p : Policy) (r : Result Command LineFault) (said : Said) (u : Option LoginName) → line_account r said u ≡ state_account w p None r said u
+pub authorization_told : (w : LineOutcome) (p : Policy) (r : Result Command LineFault) (said : Said) (u : Option LoginName) → line_account r said u None ≡ state_account w p None r said u
 authorization_told w p r said u = at (is_quit r) refl
   where
-    at : (b : Bool) → is_quit r ≡ b → line_account r said u ≡ quit_or b account.QuitBeforeLogin (line_account r said u)
+    at : (b : Bool) → is_quit r ≡ b → line_account r said u None ≡ quit_or b account.QuitBeforeLogin (line_account r said u None)
     at true e = quits_told r said u e
     at false e = refl
 
 -- a line of a session is told by its reply, unless it quits
 pub state_told : (c : Contents) (p : Policy) (s : Session) (v : Transaction) (w : LineOutcome) (u : Option LoginName) (x : Cut) (told : Account) → HasTransaction c (Some s) (Some v)
-    → (w ≡ outcome.Failed → transaction_asks p v (reading x) ≡ true) → told ≡ transaction_account w p s (reading x) (Says (transaction_reply w p v x))
+    → (w ≡ outcome.Failed → transaction_asks p v (reading x) ≡ true) → told ≡ transaction_account w p s (reading x) (Says (transaction_reply w p v x)) (named_in v (reading x))
     → told ≡ state_account w p (Some v) (reading x) (Says (transaction_reply w p v x)) u
 state_told c p s v w u x told seat may is =
     let quits = is_quit (reading x) in
-    is ∙ (ap (λ (r : Removal). quit_or quits (account.Quit r) (line_account (reading x) (Says (transaction_reply w p v x)) None))
+    let m = named_in v (reading x) in
+    is ∙ (ap (λ (r : Removal). quit_or quits (account.Quit r) (line_account (reading x) (Says (transaction_reply w p v x)) None m))
     (removal_alike c p s seat.0 seat.1 w ∙ ap (removal_seen w p) (sym seat.2))
-    ∙ ap (λ (o : Account). quit_or quits (account.Quit (removal_seen w p v)) o) (transaction_told p v u w x may))
+    ∙ ap (λ (o : Account). quit_or quits (account.Quit (removal_seen w p v)) o) (transaction_told p v u w x m may))
 
 -- ---- a line that acts
 
@@ -124,7 +127,7 @@ said_with B G c x outcome.Done = refl
 said_with B G c x outcome.Failed = refl
 
 told_with : (B : Records) (G : List Entry) (c : ℕ) (x : Cut) (w : LineOutcome) → line_told B G c x (tag_of w)
-    ≡ quit_or (is_quit (reading x)) (quit_account (in_session G c) (removal_by B G c (tag_of w))) (line_account (reading x) (said_to_line B G c x (tag_of w)) (user G c))
+    ≡ quit_or (is_quit (reading x)) (quit_account (in_session G c) (removal_by B G c (tag_of w))) (line_account (reading x) (said_to_line B G c x (tag_of w)) (user G c) (named_at B G c (reading x)))
 told_with B G c x outcome.Done = refl
 told_with B G c x outcome.Failed = refl
 
@@ -132,19 +135,21 @@ pub line_so : (B : Records) (G : List Entry) (c : ℕ) (k : Contents) (d : LineC
     → t.user ≡ user G c → (x : Cut) (w : LineOutcome)
     → (w ≡ outcome.Failed → asks d.policy t j.transaction (reading x) ≡ true)
     → state_account w d.policy j.transaction (reading x) (Says (reply_of w d t j.transaction x)) t.user ≡ acts_account B G (line_act c (tag_of w) (Some x))
-line_so B G c k d t old j named x w may =
+line_so B G c k d t old j user_is x w may =
     let quits = is_quit (reading x) in
-    ap (λ (q : Account). quit_or quits q (line_account (reading x) (Says (reply_of w d t j.transaction x)) t.user)) (sym (j.quits w))
+    let m = named_seen j.transaction (reading x) in
+    ap (λ (q : Account). quit_or quits q (line_account (reading x) (Says (reply_of w d t j.transaction x)) t.user m)) (sym (j.quits w))
     ∙ (ap (λ (o : Account). quit_or quits (quit_account (in_session G c) (removal_by B G c (tag_of w))) o)
-    (ap (λ (r : Reply). line_account (reading x) (Says r) t.user) (sym (j.reply x w may))
-    ∙ (ap (λ (s : Said). line_account (reading x) s t.user) (sym (said_with B G c x w))
-    ∙ ap (λ (o : Option LoginName). line_account (reading x) (said_to_line B G c x (tag_of w)) o) named))
+    (ap (λ (r : Reply). line_account (reading x) (Says r) t.user m) (sym (j.reply x w may))
+    ∙ (ap (λ (s : Said). line_account (reading x) s t.user m) (sym (said_with B G c x w))
+    ∙ (ap (λ (o : Option LoginName). line_account (reading x) (said_to_line B G c x (tag_of w)) o m) user_is
+    ∙ ap (λ (m : Option MessageRow). line_account (reading x) (said_to_line B G c x (tag_of w)) (user G c) m) (sym (j.names (reading x))))))
     ∙ sym (told_with B G c x w))
 
 -- ---- events in which no line acts
 
 module _ (B : Records) (G : List Entry) where
-  -- the line behind a taking of all
+  -- the line after a taking of all
   pub all_taken : (left serving closing : Bool) (c : ℕ) (t : Tag) (next x : Option Cut) → left ≡ false → closing ≡ false → next ≡ x
       → acts_account B G (acts_of_took left serving closing c t next) ≡ acts_account B G (line_act c t x)
   all_taken left serving closing c t next x all on is = rw (all, on, is) refl

@@ -24,7 +24,7 @@ use Rattle.office.specs.Told.{administered, deposited}
 use Rattle.office.specs.Events.{Bytes, Deposit, Admin}
 use Rattle.office.proofs.Sample.{W, w_rules, without_groups, rule, ord, freeze, d1, Step, Give, run, connect, says, received, replies, answered, deposit, as_ann, second_as_ann, second_as_bob}
 
--- what a command is answered behind these steps
+-- what a command is answered after these steps
 abbrev told : List Step → AdminCommand → List ℕ
 told steps command = answered (run steps) (Admin command)
 

@@ -32,7 +32,7 @@ pub piece_cut : (k0 k : Kept) → k0 ≡ k → (w : Held) (p rest : List ℕ) (n
     → record k0 { held = w; pending = rest; clock = clock } ≡ cut_through p (clocked now p k)
 piece_cut k0 k v w p rest now clock e r t = subst (λ (k : Kept). record k0 { held = w; pending = rest; clock = clock } ≡ cut_through p (clocked now p k)) v (rw (e, r, t) refl)
 
--- the octets that were pending were cut: those behind the first `cut` of all
+-- the octets that were pending were cut: those after the first `cut` of all
 pub rest_cut : (k0 k : Kept) → k0 ≡ k → (w : Held) (cut n : ℕ) (octets piece : List ℕ) → piece ≡ k0.pending → k0.pending ≡ drop cut octets → w ≡ fed k0.held piece → n ≡ through_newline piece
     → record k0 { held = w; pending = drop (cut + n) octets } ≡ cut_through k.pending k
 rest_cut k0 k v w cut n octets piece given left e taken =
@@ -41,7 +41,7 @@ rest_cut k0 k v w cut n octets piece given left e taken =
     let fed_is : w ≡ fed k0.held k0.pending = e ∙ ap (fed k0.held) given in
     subst (λ (k : Kept). record k0 { held = w; pending = drop (cut + n) octets } ≡ cut_through k.pending k) v (rw (fed_is, rest) refl)
 
--- the lines to come, where a line was answered
+-- the lines to come, if a line was answered
 pub lines_go : (k new : Kept) (p : List ℕ) (reply : Reply) (session : Option Session) (output : Output) → new ≡ replied (cut_through p k) reply session output
     → (more : List ℕ) → coming k.held (p ++ more) ≡ whole_line new.held ++ coming new.held (new.pending ++ more)
 lines_go k new p reply session output is more =

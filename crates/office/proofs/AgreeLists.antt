@@ -86,7 +86,7 @@ names_left name (x ∷ xs) = at (not (bytes_eq x.name name)) (names_left name xs
     at true h = ap (λ ns. x.name ∷ ns) h
     at false h = h
 
--- the clerk himself, where he is there
+-- the clerk himself, if he is there
 given_own : (name : List ℕ) (given : Credential) (cs : List Clerk) → is_some (credential_in name cs) ≡ true → credential_in name (map (with_credential name given) cs) ≡ Some given
 given_own name given [] h = absurd (true≢false (sym h))
 given_own name given (x ∷ xs) h = at (λ k. given_own name given xs k) (bytes_eq x.name name) refl h
@@ -116,7 +116,7 @@ given_other name n given (x ∷ xs) h = at (given_other name n given xs h) (byte
         rw f k
     at k false e = rest k (bytes_eq x.name n) x refl
 
--- a clerk put behind the others
+-- a clerk put after the others
 last_own : (name : List ℕ) (given : Credential) (cs : List Clerk) → is_some (credential_in name cs) ≡ false → credential_in name (cs ++ record { name = name; credential = given } ∷ []) ≡ Some given
 last_own name given [] h = let e : bytes_eq name name ≡ true = (bytes_eq-Decides name name).1 refl in rw e refl
 last_own name given (x ∷ xs) h = at (λ k. last_own name given xs k) (bytes_eq x.name name) h

@@ -1,22 +1,25 @@
 -- What is kept of a connection is the state that the history says.
-use Rattle.std.proofs.Common.{◌≡◌, ℕ, true, false, List, Some, None, refl, sym, ap, arith, is_some, min, nat_le}
+use Rattle.std.proofs.Common.{◌≡◌, ℕ, true, false, List, Some, None, Result, refl, sym, ap, arith, is_some, min, nat_le}
 use Rattle.std.proofs.lemmas.Bool.Decides.{nat_tests}
 use Rattle.creds.specs.Credential.{Shown}
 use Rattle.creds.specs.declared.login_name.LoginName.{LoginName}
 use Rattle.policy.specs.Policy.{Policy}
+use Rattle.popline.specs.Commands.{Command}
+use Rattle.popline.specs.declared.command.LineFault.{LineFault}
 use Rattle.vault.specs.Records.{Records, credential_in, is_one_of, in_maildrop, class_of}
 use Rattle.session.specs.View.{is_marked, to_remove}
 use Rattle.office.specs.History.{Entry, credential, in_force, exists, is_done}
 use Rattle.office.specs.Connections.{user, failures, judging}
 use Rattle.office.specs.Sessions.{live, login, in_session, holder, present, marks, view}
 use Rattle.office.specs.Replying.{Transaction, InTransaction, state_at, logging_in, login_failed, name_or_nobody, stamp}
-use Rattle.office.specs.Accounts.{quit_account, removal_by, removal_seen, was_done}
+use Rattle.office.specs.Accounts.{quit_account, removal_by, removal_seen, was_done, row_at, named_at, named_in}
 use Rattle.office.specs.Kept.{LineContext, judged, state_of, most_failures}
 use Rattle.office.specs.Answered.{tag_of}
 use Rattle.office.specs.declared.account.Account.TheVariants as account
 use Rattle.office.specs.declared.login_state.LoginState.{LoginState}
 use Rattle.office.specs.declared.login_state.LineOutcome.{LineOutcome}
 use Rattle.office.specs.declared.login_state.LineOutcome.TheVariants as outcome
+use Rattle.office.proofs.Naming.{named_alike, marked_row}
 use Rattle.office.proofs.SameReply.{SameState, marked_alike, to_remove_alike, denying_alike}
 
 -- ---- before a login
@@ -96,3 +99,11 @@ module _ (B : Records) (G : List Entry) (c : ℕ) (p : Policy) (v : Transaction)
       let done = done_so w in
       let counted = marked_alike v.marks (marks G c) a.marks v.view in
       rw (l, named, q, rows, done, chosen, denied, counted) refl
+
+  -- the message that a line names
+  pub transaction_names : (r : Result Command LineFault) → named_at B G c r ≡ named_in v r
+  transaction_names r =
+      let l = a.live in
+      let who = a.login in
+      let rows = sym a.view in
+      rw (l, who, rows) (named_alike (row_at (marks G c) v.view) (row_at v.marks v.view) (λ n. marked_row v.view n _ _ (sym (a.marks n))) r)

@@ -88,7 +88,7 @@ module _ (c : Contents) (p : Policy) (name : LoginName) where
 
 -- ---- the session that an accepted login leaves
 
--- a password is given where a login name is in force
+-- a password is given if a login name is in force
 pub pass_said : (d : LineContext) (t : LoginState) (password : List ℕ) (name : LoginName) → t.user ≡ Some name
     → authorization_said d t (Ok (Pass password)) ≡ judged d t.failures name (ByPass password)
 pass_said d t password name e = ap (λ u. when_permitted (is_some u) (judged d t.failures (name_or_nobody u) (ByPass password))) e
@@ -104,7 +104,7 @@ pub state_case : (c : Contents) (s : Session) (v : Option Transaction) (P : Opti
 state_case c s None P f h = absurd h
 state_case c s (Some w) P f h = f w h
 
--- nobody is seated where there is no session
+-- nobody is seated if there is no session
 pub unseated_case : (c : Contents) (v : Option Transaction) (P : Option Transaction → Type 0) → P None → HasTransaction c None v → P v
 unseated_case c None P p h = p
 unseated_case c (Some w) P p h = absurd h

@@ -274,7 +274,7 @@ moved_so Holds o o' T e t c st formed p b h l n same idle number there others co
       locks = m.locks;
     }
 
--- where only one connection changes, it is enough to look at that
+-- if only one connection changes, it is enough to look at that
 pub moved : {V : Type 0} (Holds : V → Contents → Type 0) (o o' : Office V) (T : Trace) (e : Event) (m : EventTag) (t : Tag) (c : ℕ) → m ≡ Tagged t
     → (st : StandsFor Holds o T) → is_formed T.log e ≡ true
     → o'.policy ≡ o.policy → o'.boot ≡ o.boot → string_bytes o'.host ≡ string_bytes o.host → o'.limits ≡ o.limits → counters o' ≡ counters o
@@ -310,7 +310,7 @@ not_closing true false xs e h = refl
 not_closing false b xs e h = absurd (true≢false (sym h))
 not_closing true true (x ∷ xs) e h = cc
 
--- a piece that comes where nothing is owed
+-- a piece that comes if nothing is owed
 pub awaits_bytes : (c : Contents) (s : Seen) (k : Kept) (p : List ℕ) (now : ℕ) → Matches c s k → k.output ≡ nothing_owed → length p ≤ most_in_a_piece
     → Awaits c (streamed s p now) (clocked now p k) p
 awaits_bytes c s k p now m o fits = record {
@@ -400,7 +400,7 @@ module _ (T : Trace) (c n : ℕ) where
   seen-took_line now same outcome.Done x h b o = let e = eq-eqb c c refl in seen-took Done false false (Some x) h b o ∙ rw (e, same) refl
   seen-took_line now same outcome.Failed x h b o = let e = eq-eqb c c refl in seen-took Failed false false (Some x) h b o ∙ rw (e, same) refl
 
-  -- the locks where no line acts
+  -- the locks if no line acts
   part_holder : (s : Bool) (d : List ℕ) → holder (told T.base (act_of_part s c Done ++ acts T)) d ≡ holder (history T) d
   part_holder true d = refl
   part_holder false d = refl
@@ -411,7 +411,7 @@ module _ (T : Trace) (c n : ℕ) where
   pub same_closing : now_left ≡ false → closing (history T) c ≡ true → (d : List ℕ) → holder (history (given T (Took c n) (Tagged Done))) d ≡ holder (history T) d
   same_closing h b d = rw (h, b) refl
 
-  -- the records where no line acts, where one does, and where it met want of memory
+  -- the records if no line acts, if one does, and if it met want of memory
   part_records : (s : Bool) → records T.base (told T.base (act_of_part s c Done ++ acts T)) ≡ records T.base (history T)
   part_records true = refl
   part_records false = refl

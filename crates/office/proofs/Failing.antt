@@ -1,4 +1,4 @@
--- Before a login: the reply where the store failed, and that no session begins.
+-- Before a login: the reply if the store failed, and that no session begins.
 use Rattle.std.proofs.Common.{◌≡◌, Bool, true, false, Option, None, Result, Ok, refl, sym, true≢false}
 use Rattle.creds.specs.declared.login_name.LoginName.{LoginName}
 use Rattle.policy.specs.Policy.{Policy}

@@ -25,7 +25,7 @@ acts_looking after it = record {
   stop = λ c held clean up. record { says = λ left may. inl (it.stop c held clean up left may) };
 }
 
--- one call that changes records once, where what it makes of them is `after`
+-- one call that changes records once, if what it makes of them is `after`
 pub acts_once : {V A Own : Type 0} (vault : Ghosts V) {old new : V}
     {Done : Contents → (Contents → Type 0) → Result A VaultFault → Type 0}
     {answered : Result A VaultFault} (after : Contents → Contents)

@@ -1,4 +1,4 @@
--- Where boot numbers differ, the timestamps of greetings differ.
+-- If boot numbers differ, the timestamps of greetings differ.
 use Rattle.std.specs.Prelude.{◌≡◌, ℕ, ◌+◌, ◌≤◌, ◌<◌, ◌^◌, Bool, true, false, not, ◌&&◌, ◌==◌, nat_le, List, [], ◌∷◌, ◌++◌, Option, Some, None, max, ◌%◌}
 use Rattle.std.proofs.Common.{refl, sym, ◌∙◌, ap, eq-eqb, ⊎_elim, inl, inr, subst, true≢false, append_assoc}
 use Rattle.std.proofs.lemmas.Bool.{and_parts, ltb-true, le-leb}

@@ -39,7 +39,7 @@ at_drop zero (a ∷ xs) x ys e = (cc, cc)
 at_drop (suc n) [] x ys e = cc
 at_drop (suc n) (a ∷ xs) x ys e = let h = at_drop n xs x ys e in (h.0, rw add-one (rw add-one at h.1))
 
--- nothing stands where nothing is left
+-- nothing stands if nothing is left
 pub at_end : {A : Type 0} (n : ℕ) (xs : List A) → drop n xs ≡ [] → slice_get xs n ≡ None
 at_end zero [] e = refl
 at_end zero (a ∷ xs) e = cc
@@ -157,7 +157,7 @@ first_closes false b e h = absurd (true≢false (sym h ∙ e))
 pub owed_more : (s : Seen) (x : Cut) (r : Reply) (found : LoginName → List store.Message) → s.taken ≤ length s.sent → untaken_of s ≡ [] → untaken_of (lined s x r found) ≡ bytes_of r
 owed_more s x r found le e = drop-append-le s.taken s.sent (bytes_of r) le ∙ ap (λ o. o ++ bytes_of r) e
 
--- where there is no LF, all is cut
+-- if there is no LF, all is cut
 one_through : (b : ℕ) (bs : List ℕ) (t : Bool) → cond t true (has_newline bs) ≡ false → (has_newline bs ≡ false → drop (through_newline bs) bs ≡ [])
     → drop (cond t 1 (through_newline bs + 1)) (b ∷ bs) ≡ []
 one_through b bs true e rest = cc
@@ -204,7 +204,7 @@ module _ (c : Contents) (s : Seen) (k k' : Kept) (p : List ℕ) (answer : Reply)
   whole_is : k'.held.whole ≡ has_newline p
   whole_is = ap (λ (k : Kept). k.held.whole) e
 
-  -- no line closes it, where none acts
+  -- no line closes it, if none acts
   quiet_yet : s.closing ≡ true → s.live ≡ false
   quiet_yet h = absurd (true≢false (sym h ∙ m.open_yet))
 

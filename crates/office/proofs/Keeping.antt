@@ -34,6 +34,6 @@ module _ (k : Kept) (w : Held) (p : List ℕ) (e : w ≡ fed k.held p) (none : [
   pub no_line : has_newline p ≡ false
   no_line = sym (ap (λ (v : Held). v.whole) e) ∙ none_whole
 
--- nothing is left where all was taken
+-- nothing is left if all was taken
 pub none_left : (n : ℕ) (p : List ℕ) → n ≡ length p → drop n p ≡ []
 none_left n p e = ap (λ m. drop m p) e ∙ drop-length p

@@ -94,7 +94,7 @@ free B G c name p e = chosen (not (is_admitted (credential B G name.clerk) name.
     (maildrop_has (visible class_of (in_force B G) name (present B G name.maildrop)))
     (failed_counts (failures G c)) refl refl refl e
 
--- whatever stands behind a permission
+-- whatever stands after a permission
 permitted_counts : (b : Bool) (rep : Reply) → has_counts (when_permitted b rep) ≡ true → has_counts rep ≡ true
 unfolding has_counts
 permitted_counts true rep e = e
@@ -227,7 +227,7 @@ held_heard B ((a, t) ∷ H) d c h = ⊎_elim
     (λ (p : holds (told B H) d c ≡ true). heard_more a (heard (told B H)) c (held_heard B H d c p))
     (step (record { act = a; tag = t; said = said_to B (told B H) a t }) (told B H) d c h)
 
--- where one logs in, no other holds
+-- if one logs in, no other holds
 alone : (B : Records) (H : List (Act × Tag)) (d : List ℕ) (q : ℕ) (name : LoginName) → is_login_to d (Some name) ≡ true → holder (told B H) name.maildrop ≡ None → holds (told B H) d q ≡ true → ⊥
 alone B H d q name to none h =
     let same : name.maildrop ≡ d = (bytes_eq-Decides name.maildrop d).0 to in

@@ -59,6 +59,7 @@ mod LineDone
 mod PieceDone
 mod TakingDone
 mod Alike
+mod Naming
 mod Listed
 mod Picking
 mod Quitting

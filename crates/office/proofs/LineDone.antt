@@ -87,7 +87,7 @@ carry k k' s kq stays m = record {
       view = i.view;
     }
 
--- a connection that is kept over some contents is kept over others, where the messages of its session stay
+-- a connection that is kept over some contents is kept over others, if the messages of its session stay
 pub carry_kept : (k k' : Contents) (s : Seen) (o : Option Kept) → ((q : Session) → IsTransaction k s q → (x : Keyed) → In x k.messages → x.message.maildrop ≡ q.name.maildrop → In x k'.messages)
     → IsKeptFor k s o → IsKeptFor k' s o
 carry_kept k k' s None stays m = m
@@ -153,7 +153,7 @@ module _ {Before : Contents → Type 0} (T : Trace) (n : ℕ) (keeps : Keeps Bef
     pub judges : Judges T.base (history T) n store_now (context k.stamp) k.state k.session
     judges = judged_for k.session m.session
 
-    -- the reply, where the line's event shows what became of it
+    -- the reply, if the line's event shows what became of it
     abbrev reply : LineOutcome → Reply
     reply w = reply_of w (context k.stamp) k.state judges.transaction (line_after k p)
 

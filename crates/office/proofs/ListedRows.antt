@@ -5,13 +5,13 @@ use Rattle.std.specs.List.{flat_map}
 use Rattle.std.specs.Prelude.{MatchOption}
 use Rattle.office.specs.Output.{last_line}
 
--- the rows behind one more
+-- the rows after one more
 pub next_behind : {A : Type 0} (r : Option A) (all rows new : List A) (n : ℕ) → rows ≡ drop n all → MatchOption r ((rows ≡ []) × (new ≡ [])) (λ x. rows ≡ x ∷ new) → new ≡ drop (n + 1) all
 next_behind None all rows new n e h = h.1 ∙ (ap (drop 1) (sym h.0 ∙ e) ∙ drop-drop 1 n all)
 next_behind (Some x) all rows new n e h = ap (drop 1) (sym h ∙ e) ∙ drop-drop 1 n all
 
 module _ {A : Type 0} (line : A → List ℕ) (all : List A) (done : ℕ) (ready : List ℕ) where
-  -- what is still to be put behind so many
+  -- what is still to be put after so many
   abbrev coming : ℕ → List ℕ
   coming n = flat_map line (drop n all) ++ last_line
 
@@ -29,6 +29,6 @@ module _ {A : Type 0} (line : A → List ℕ) (all : List A) (done : ℕ) (ready
   pub rows_put : (after : List ℕ) → drop done all ≡ [] → after ≡ ready ++ last_line → ready ++ coming done ≡ after ++ []
   rows_put after e put = ap (λ xs. ready ++ (flat_map line xs ++ last_line)) e ∙ (sym put ∙ sym (append-nil after))
 
--- a listing that has begun, and all its rows behind it
+-- a listing that has begun, and all its rows after it
 pub begun_whole : (first rows ready : List ℕ) → ready ≡ first ++ [] → ready ++ (rows ++ last_line) ≡ (first ++ rows) ++ last_line
 begun_whole first rows ready e = ap (λ xs. xs ++ (rows ++ last_line)) (e ∙ append-nil first) ∙ sym (append_assoc first rows last_line)

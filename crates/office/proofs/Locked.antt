@@ -27,7 +27,7 @@ find_some p (y ∷ ys) x e = at (p y) refl (λ k. find_some p ys x k) e
     at false f rest k = rest k
 
 module _ (B : Records) (H : List (Act × Tag)) (d : List ℕ) where
-  -- who is found holds it, and where none is found none does
+  -- who is found holds it, and if none is found none does
   pub lock_found : (o : Option ℕ) → holder (told B H) d ≡ o → IsLock (told B H) d o
   lock_found (Some c) e = find_some (holds (told B H) d) (heard (told B H)) c e
   lock_found None e = λ c. at c (holds (told B H) d c) refl

@@ -29,7 +29,7 @@ use Rattle.vault.proofs.ListLemmas.{filter-map}
 
 -- ---- a session goes on
 
--- where the messages of its maildrop stay
+-- if the messages of its maildrop stay
 pub lies_on : (c c' : Contents) (s : Session) (kept : List Keyed) → LiesIn c s kept
     → ((x : Keyed) → In x c.messages → x.message.maildrop ≡ s.name.maildrop → In x c'.messages) → LiesIn c' s kept
 lies_on c c' s kept l stays = record {

@@ -139,7 +139,7 @@ by_login (Deposit d class id text) s c u name ms e = absurd (no_some name e)
 by_login (Administer command) s c u name ms e = absurd (no_some name e)
 by_login (Restart boot host removals) s c u name ms e = absurd (no_some name e)
 
--- the marks of an entry, where those of its front are the same
+-- the marks of an entry, if those of its front are the same
 by_entry : (B : Records) (a : Act) (t : Tag) (G : List Entry) (c : ℕ) → (live G c ≡ true → marks G c ≡ marks_by_view B G c)
     → (o : Option LoginName) → login_by a (said_to B G a t) c (user G c) ≡ o → (o ≡ None → live G c ≡ true)
     → marks_after a (said_to B G a t) c (marks G c) ≡ marks_unless_login o (marks_by_act B G c a t (marks_by_view B G c))

@@ -1,4 +1,4 @@
--- What is owed: what stands ready, and what its source puts behind it.
+-- What is owed: what stands ready, and what its source puts after it.
 use Rattle.std.proofs.Common.{◌≡◌, ℕ, ◌<◌, ◌≤◌, Bool, true, false, List, [], ◌∷◌, ◌++◌, drop, take, length, min, refl, sym, ◌∙◌, ap, subst, arith, true≢false, Option, Some, None}
 use Rattle.std.proofs.Common.{append-nil, length-append, length-drop}
 use Rattle.std.proofs.lemmas.List.{take-append-le, take_min, length-take}
@@ -15,7 +15,7 @@ use Rattle.office.specs.declared.output.Source.TheVariants.{Nothing, Sizes, Uids
 
 -- ---- nothing comes
 
--- where nothing feeds it, it puts nothing
+-- if nothing feeds it, it puts nothing
 pub feeds_nothing : (c : Contents) (s : Option Session) → Feeds c s Nothing []
 feeds_nothing c None = refl
 feeds_nothing c (Some s) = refl
@@ -27,7 +27,7 @@ nothing_comes c (Some s) coming f = f
 not_text : Nothing ≡ Nothing → reads_text Nothing ≡ true → ⊥
 not_text e h = true≢false (sym h)
 
--- octets that stand ready, with nothing behind them
+-- octets that stand ready, with nothing after them
 pub owes_ready : (c : Contents) (s : Option Session) (o : Output) (octets : List ℕ) → o ≡ record { ready = octets; source = Nothing } → Owes c s o octets
 owes_ready c s o octets e = subst (λ (x : Output). Owes c s x octets) (sym e)
     (record { coming = []; is = sym (append-nil octets); feeds = feeds_nothing c s; filled = λ h. absurd (true≢false (sym h)) })
@@ -39,7 +39,7 @@ owes_said c s o reply e = record {
   serves = λ h. absurd (true≢false (sym h ∙ ap (λ (x : Output). reads_text x.source) e));
 }
 
--- a reply that is put where nothing is owed
+-- a reply that is put if nothing is owed
 pub owes_put : (c : Contents) (s : Option Session) (old new : Output) (reply : Reply) → old ≡ nothing_owed → new ≡ record old { ready = old.ready ++ bytes_of reply } → OwesReply c s new reply
 owes_put c s old new reply none e = owes_said c s new reply (e ∙ ap (λ (o : Output). record o { ready = o.ready ++ bytes_of reply }) none)
 
@@ -53,7 +53,7 @@ none_owed c s o octets w e =
 
 -- ---- what stands ready grows
 
--- where what stood ready at first is still there, and all fits into the room, an output is as it must be
+-- if what stood ready at first is still there, and all fits into the room, an output is as it must be
 pub stays_filled : (source : Source) (taken first : ℕ) (before after : List ℕ) → first ≡ length before → taken ≤ length before → (is_feeding source ≡ true → most_lent ≤ length (drop taken before))
     → first ≤ length after → length after ≤ most_output → (taken ≤ length after) × (is_feeding source ≡ true → most_lent ≤ length (drop taken after)) × (length after ≤ most_output)
 stays_filled source taken first before after e within filled least most =
@@ -83,11 +83,11 @@ front_some : (xs ys : List ℕ) → is_empty xs ≡ false → is_empty (xs ++ ys
 front_some [] ys h = absurd (true≢false h)
 front_some (x ∷ xs) ys h = refl
 
--- something is owed where something stands ready
+-- something is owed if something stands ready
 pub some_owed : (c : Contents) (s : Option Session) (o : Output) (octets : List ℕ) → Owes c s o octets → is_empty o.ready ≡ false → is_empty octets ≡ false
 some_owed c s o octets w h = ap is_empty w.is ∙ front_some o.ready w.coming h
 
--- nothing is owed exactly where nothing stands ready
+-- nothing is owed exactly if nothing stands ready
 pub same_empty : (c : Contents) (s : Option Session) (o : Output) (octets : List ℕ) → Owes c s o octets → (b : Bool) → is_empty o.ready ≡ b → (b ≡ true → o ≡ nothing_owed) → b ≡ is_empty octets
 same_empty c s o octets w true e none = sym (ap is_empty (none_owed c s o octets w (none refl)))
 same_empty c s o octets w false e none = sym (some_owed c s o octets w e)

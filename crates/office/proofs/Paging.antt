@@ -8,7 +8,7 @@ use Rattle.office.specs.Output.{cut_from, last_line}
 
 -- ---- octets that are put
 
--- where all is taken, nothing of the piece goes before what follows
+-- if all is taken, nothing of the piece goes before what follows
 pub all_stuffed : (s s' : Bool) (piece out : List ℕ) (taken put : ℕ)
     → ((more : List ℕ) → stuffed_from s (piece ++ more) ≡ take put out ++ stuffed_from s' (drop taken piece ++ more))
     → taken ≡ length piece → (more : List ℕ) → stuffed_from s (piece ++ more) ≡ take put out ++ stuffed_from s' more
@@ -16,7 +16,7 @@ all_stuffed s s' piece out taken put sent all more =
     let none : drop taken piece ≡ [] = drop_all taken piece (omega (arith, all)) in
     sent more ∙ ap (λ xs. take put out ++ stuffed_from s' (xs ++ more)) none
 
--- what was put where there was room
+-- what was put if there was room
 pub on_extended : {E : Type 0} (r : Result (Unit {0}) E) (items old other : List ℕ) (P : Type 0) → items ≡ (if is_ok r then old ++ other else old) → (items ≡ old ++ other → P) → OnOk r P
 on_extended (Ok x) items old other P e f = f e
 on_extended (Err x) items old other P e f = tt

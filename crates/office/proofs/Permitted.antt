@@ -16,6 +16,7 @@ use Rattle.vault.specs.Changes.{Contents}
 use Rattle.office.specs.History.{Tag, Done, Says}
 use Rattle.office.specs.Accounts.{line_account}
 use Rattle.office.specs.declared.account.Account.TheVariants as account
+use Rattle.office.specs.declared.answer.MessageRow.{MessageRow}
 use Rattle.office.specs.Connections.{reading, is_quit}
 use Rattle.office.specs.LongLine.{is_too_long}
 use Rattle.office.specs.Sessions.{logs_in, marks_after_line}
@@ -49,26 +50,26 @@ held_reading p k c (Err f) bars = refl
 held_reading p k c (Ok Quit) bars = absurd (true≢false (bars Quit refl))
 held_reading p k c (Ok _) bars = refl
 
-long_silent : (r : Result Command LineFault) → NotInSession r → line_account r (Says LineTooLong) None ≡ account.Nothing
-long_silent (Err (Syntax keyword.User)) bars = refl
-long_silent (Err (Syntax keyword.Apop)) bars = refl
-long_silent (Err (Syntax _)) bars = refl
-long_silent (Err Unknown) bars = refl
-long_silent (Ok (User name)) bars = refl
-long_silent (Ok (Pass password)) bars = refl
-long_silent (Ok (Apop name digest)) bars = refl
-long_silent (Ok k) bars = absurd (true≢false (bars k refl))
+long_silent : (r : Result Command LineFault) (m : Option MessageRow) → NotInSession r → line_account r (Says LineTooLong) None m ≡ account.Nothing
+long_silent (Err (Syntax keyword.User)) m bars = refl
+long_silent (Err (Syntax keyword.Apop)) m bars = refl
+long_silent (Err (Syntax _)) m bars = refl
+long_silent (Err Unknown) m bars = refl
+long_silent (Ok (User name)) m bars = refl
+long_silent (Ok (Pass password)) m bars = refl
+long_silent (Ok (Apop name digest)) m bars = refl
+long_silent (Ok k) m bars = absurd (true≢false (bars k refl))
 
 module _ (p : Policy) (v : Transaction) where
   abbrev s : LineState
   s = InTransaction p v
 
-  silent_reading : (r : Result Command LineFault) → NotInSession r → line_account r (Says (reply_to_reading s r Done)) None ≡ account.Nothing
-  silent_reading (Err f) bars = transaction_fault p v f
-  silent_reading (Ok (User name)) bars = refl
-  silent_reading (Ok (Pass password)) bars = refl
-  silent_reading (Ok (Apop name digest)) bars = refl
-  silent_reading (Ok k) bars = absurd (true≢false (bars k refl))
+  silent_reading : (r : Result Command LineFault) (m : Option MessageRow) → NotInSession r → line_account r (Says (reply_to_reading s r Done)) None m ≡ account.Nothing
+  silent_reading (Err f) m bars = transaction_fault p v f
+  silent_reading (Ok (User name)) m bars = refl
+  silent_reading (Ok (Pass password)) m bars = refl
+  silent_reading (Ok (Apop name digest)) m bars = refl
+  silent_reading (Ok k) m bars = absurd (true≢false (bars k refl))
 
   keeps_reading : (r : Result Command LineFault) → NotInSession r → (ms : List ℕ) → marks_after_line (Says (reply_to_reading s r Done)) ms ≡ ms
   keeps_reading (Err Unknown) bars ms = refl
@@ -95,8 +96,8 @@ module _ (p : Policy) (v : Transaction) where
         at TooLong long other = long
         at (cutting.Line l) long other = other
 
-    pub refused_silent : line_account (reading x) (Says reply) None ≡ account.Nothing
-    refused_silent = by_reading (λ (q : Reply). line_account (reading x) (Says q) None ≡ account.Nothing) (long_silent (reading x) not_here) (silent_reading (reading x) not_here)
+    pub refused_silent : (m : Option MessageRow) → line_account (reading x) (Says reply) None m ≡ account.Nothing
+    refused_silent m = by_reading (λ (q : Reply). line_account (reading x) (Says q) None m ≡ account.Nothing) (long_silent (reading x) m not_here) (silent_reading (reading x) m not_here)
 
     pub refused_goes_on : (k : Session) → GoesOn reply k k
     refused_goes_on k = record {

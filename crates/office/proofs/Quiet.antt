@@ -202,7 +202,7 @@ keeps_with T e t c k stays h a formed = record {
   stays = stays;
 }
 
--- the same contents, where the history has the same records
+-- the same contents, if the history has the same records
 pub keeps_same : {Before After : Contents → Type 0} (T : Trace) (e : Event) (t : Tag) (k : Keeps Before T) → After k.contents
     → records T.base (history (given T e (Tagged t))) ≡ records T.base (history T) → is_formed T.log e ≡ true → Carries After k.contents T e t
 keeps_same T e t k h same formed = keeps_with T e t k.contents k (λ x i. i) h (rw same k.agree) formed

@@ -178,7 +178,7 @@ module _ (c : Contents) (s : Session) (kept : List Keyed) (p : Policy) (a : AreS
       ap (λ ks. map text_in (without_keys s.name.maildrop ks c.messages)) (chosen_keys p s kept l.heads)
       ∙ (without_alike ∙ ap (λ ms. without (map text_in c.messages) ms) (sym (chosen_messages p s kept)))
 
--- records go on agreeing, where a QUIT removes
+-- records go on agreeing, if a QUIT removes
 pub agree_removed : (c : Contents) (R : Records) (s : Session) (kept : List Keyed) (p : Policy) → AreSound c → LiesIn c s kept → Agree (records_of c) R
     → Agree (records_of (without_marked p s c)) (record R { messages = without R.messages (to_remove records.class_of p s.name s.marks (map (λ (x : Keyed). x.message) kept)) })
 agree_removed c R s kept p a l g =

@@ -127,7 +127,7 @@ start = start_with JudgedAtDele
 abbrev pub run : List Step → Trace
 run steps = ran start steps
 
--- the same, where removals are judged at the QUIT
+-- the same, if removals are judged at the QUIT
 abbrev pub run_judged_at_quit : List Step → Trace
 run_judged_at_quit steps = ran (start_with JudgedAtQuit) steps
 

@@ -183,7 +183,7 @@ module _ (B : Records) (H : List (Act × Tag)) (c : ℕ) where
   by_reading (Err Unknown) h = not_plain UnknownCommand refl h
   by_reading (Err (Syntax k)) h = plainly B G c (Err (Syntax k)) (is_permitted (state_at B G c) k) BadArguments refl h
 
-  -- where the store refused
+  -- if the store refused
   by_refusal : (r : Result Command LineFault) → has_message (Says (reply_to_reading (state_at B G c) r Failed)) ≡ true → IsServed B G c r (reply_to_reading (state_at B G c) r Failed)
   by_refusal (Ok command) h = plainly B G c (Ok command) (is_permitted (state_at B G c) (keyword_of command)) (refusal (keyword_of command)) (refusal_is_plain (keyword_of command)) h
   by_refusal (Err Unknown) h = not_plain UnknownCommand refl h

@@ -52,14 +52,14 @@ added_again_over_a_drop : shows (run added_again)
 unfolding digits login_name decode_pairs md5 M.digest_bytes M.hash_after M.compress M.rounds M.block_words sha256 S.first_words S.schedule S.digest_bytes S.hash_after S.compress S.rounds
 added_again_over_a_drop = refl
 
--- the sample's own text again, behind a new deposit of its class
+-- the sample's own text again, after a new deposit of its class
 sample_text_over_a_restart : answered (run (connect 1 ++ says 1 (as_ann ++ codes "DELE 4" ∷ codes "QUIT" ∷ []) ++ Give (Restart 8) ∷ Give (deposit (codes "todo") (codes "d6") (codes "A: 2\n")) ∷ []))
     (deposit (codes "todo") (codes "d4") d4)
     ≡ codes "known todo.1\n"
 unfolding digits login_name decode_pairs md5 M.digest_bytes M.hash_after M.compress M.rounds M.block_words sha256 S.first_words S.schedule S.digest_bytes S.hash_after S.compress S.rounds
 sample_text_over_a_restart = refl
 
--- ---- the pipelined QUIT, where the store refuses it
+-- ---- the pipelined QUIT, if the store refuses it
 
 -- the tenth taking is of the last two octets of the reply to DELE, and lets the QUIT act
 abbrev tenth : Event

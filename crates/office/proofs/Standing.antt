@@ -56,7 +56,7 @@ matches_with c c' s k session stays m = record {
   piece_kept = m.piece_kept;
 }
 
--- what is kept of a connection, where the store's messages stay
+-- what is kept of a connection, if the store's messages stay
 pub kept_on : (c c' : Contents) (s : Seen) (o : Option Kept) → Stays c c' → IsKeptFor c s o → IsKeptFor c' s o
 kept_on c c' s None stays h = h
 kept_on c c' s (Some k) stays m = matches_with c c' s k (session_on c c' s k.session stays m.session) stays m

@@ -35,7 +35,7 @@ module _ (c : Contents) (s : Seen) (k : Kept) (n now : ℕ) (m : Matches c s k) 
   pub took_within : n ≤ length (untaken_of s)
   took_within = let w = owes_within c k.session k.output (untaken_of s) m.owed in omega (arith, w, fits)
 
-  -- where something is still to come, something is left
+  -- if something is still to come, something is left
   pub took_more : is_feeding k.output.source ≡ true → n < length (untaken_of s)
   took_more h = let w = owes_more c k.session k.output (untaken_of s) m.owed h in omega (arith, w, fits)
 

@@ -67,7 +67,7 @@ kept_locks connections locks ordered d =
 abbrev among : List ℕ → ℕ → Bool
 among ns q = is_member eqb ns q
 
--- what is said of a connection, where it is ended
+-- what is said of a connection, if it is ended
 abbrev ended : Bool → Facts → Facts
 ended true f = record f { connected = false; live = false }
 ended false f = f

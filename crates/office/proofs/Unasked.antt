@@ -66,7 +66,7 @@ module _ (T : Trace) (n : ℕ) (c : Contents) (k : Kept) (d : LineContext) (t : 
       let may : may_show T (Bytes n p) Failed ≡ true = rw (h, next, fails) refl in
       true≢false (sym may ∙ none))
 
-  -- a taking of all behind which a line acts that may not fail
+  -- a taking of all after which a line acts that may not fail
   pub taking_asks_none : (octets now : ℕ) → Awaits c (took (seen T n) octets now) k k.pending → is_left T.log (history T) n octets ≡ false → closing (history T) n ≡ false
       → may_show T (Took n octets) Failed ≡ false → has_newline k.pending ≡ true → asks d.policy t j.transaction (reading (line_after k k.pending)) ≡ false
   taking_asks_none octets now ready all open_yet none h =

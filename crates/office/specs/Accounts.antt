@@ -16,10 +16,15 @@ use Rattle.popline.specs.Replies.{Marked, Okay, NoSuchMessage, AlreadyMarked, By
 use Rattle.popline.specs.Replies.{RemovalFailed, StoreFailed}
 use Rattle.policy.specs.Policy.{Policy}
 use Rattle.popline.specs.Cutting.{Cut}
-use Rattle.vault.specs.Records.{Records, class_of, uid_of}
+use Rattle.creds.specs.declared.uid.Uid.{Uid}
+use Rattle.vault.specs.Records.{Records, class_of, uid_of, octets_of}
+use Rattle.vault.specs.declared.answer.Head.{Head}
+use Rattle.vault.specs.declared.record.Message as store
+use Rattle.session.specs.declared.pick.Pick.{Pick}
+use Rattle.session.specs.declared.pick.Pick.TheVariants as pick
 use Rattle.session.specs.Session.{Session}
 use Rattle.session.specs.Session as head
-use Rattle.session.specs.View.{marked as rows_marked, to_remove, denying}
+use Rattle.session.specs.View.{marked as rows_marked, to_remove, denying, refer}
 use Rattle.office.specs.History.{Act, Line, Tag, Done, Failed, NoMemory, Said, Says, Silence}
 use Rattle.office.specs.History.{Answers, Entry}
 use Rattle.office.specs.History.{in_force, is_done}
@@ -36,10 +41,13 @@ use Rattle.office.specs.Trace.{history, acts_of, is_left}
 use Rattle.office.specs.Transaction.{Transaction}
 use Rattle.office.specs.declared.login_state.LineOutcome.{LineOutcome}
 use Rattle.office.specs.declared.login_state.LineOutcome.TheVariants as outcome
+use Rattle.office.specs.declared.answer.MessageRow.{MessageRow}
 use Rattle.office.specs.declared.account.Account.{Account}
 use Rattle.office.specs.declared.account.Removal.{Removal}
 use Rattle.office.specs.declared.account.Account.TheVariants as account
 use Rattle.office.specs.declared.account.End.TheVariants as end
+use Rattle.office.specs.declared.account.MessageCommand.{MessageCommand}
+use Rattle.office.specs.declared.account.MessageCommand.TheVariants as to
 use Rattle.office.specs.declared.account.Way.{Way}
 use Rattle.office.specs.declared.account.Way.TheVariants as way
 use Rattle.office.specs.declared.account.Verdict.{Verdict}
@@ -78,39 +86,68 @@ verdict (Says RemovalFailed) = None
 verdict Silence = None
 verdict (Answers answer) = None
 
--- the account of a login that was judged, where one was, under a name
+-- the account of a login that was judged, if one was, under a name
 abbrev pub login_told : Option Verdict → Way → Option LoginName → Account
 login_told (Some judged) by (Some name) = account.Login name by judged
 login_told _ by name = account.Nothing
 
--- the account of a DELE: it marked a message, or none
-abbrev pub mark_told : Said → Account
-mark_told (Says (Marked number)) = account.Marked
-mark_told _ = account.Nothing
+-- ---- the message that a line names
+
+-- a message's unique-id and octets
+abbrev pub row_of : store.Message → MessageRow
+row_of m = record { uid = uid_of m; octets = octets_of m }
+
+-- the message of a number, unless it is marked
+abbrev pub row_at : List ℕ → List store.Message → ℕ → Option MessageRow
+row_at marks view n = refer marks view n None None (λ m. Some (row_of m))
+
+-- the message that a DELE, RETR or TOP names, of those under these numbers
+abbrev pub named : (at : ℕ → Option MessageRow) → Result Command LineFault → Option MessageRow
+named at (Ok (Dele n)) = at n
+named at (Ok (Retr n)) = at n
+named at (Ok (Top n k)) = at n
+named at _ = None
+
+-- a rule denied a command for a message
+abbrev pub denial_told : MessageCommand → Option MessageRow → (rule : List ℕ) → Account
+denial_told command None rule = account.Nothing
+denial_told command (Some message) rule = account.Denied command message.uid rule
+
+-- the account of a DELE, RETR or TOP of a message: that was marked, its text or top was sent, a
+-- rule denied it, or none of these
+abbrev pub message_told : MessageCommand → Said → Option MessageRow → Account
+message_told command (Says (Marked number)) message = account.Marked
+message_told command (Says (Message octets lines)) (Some message) = account.Retrieved message
+message_told command (Says (TopPart lines)) (Some message) = account.Topped message
+message_told command (Says (DeniedBy rule)) message = denial_told command message rule
+message_told command _ message = account.Nothing
+
+-- ---- a line
 
 -- the account of a RSET: it took all marks away, or wasn't for its state
 abbrev pub reset_told : Said → Account
 reset_told (Says (MaildropHas messages octets)) = account.Unmarked
 reset_told _ = account.Nothing
 
--- The account of a command, by what was said to it and the name in force before it. Only a PASS
--- with a name in force and an APOP are logins.
-abbrev pub command_account : Command → Said → (user : Option LoginName) → Account
-command_account (Pass password) said user = login_told (verdict said) way.Pass user
-command_account (Apop name digest) said user = login_told (verdict said) way.Apop (Some name)
-command_account (Dele number) said user = mark_told said
-command_account Rset said user = reset_told said
-command_account Quit said user = account.QuitBeforeLogin
-command_account Capa said user = account.Nothing
-command_account (User name) said user = account.Nothing
-command_account Stat said user = account.Nothing
-command_account ListAll said user = account.Nothing
-command_account (ListOne n) said user = account.Nothing
-command_account UidlAll said user = account.Nothing
-command_account (UidlOne n) said user = account.Nothing
-command_account (Retr n) said user = account.Nothing
-command_account (Top n k) said user = account.Nothing
-command_account Noop said user = account.Nothing
+-- The account of a command, by what was said to it, the name in force before it and the message
+-- that it names. Only a PASS with a name in force and an APOP are logins.
+abbrev pub command_account : Command → Said → (user : Option LoginName)
+    → (message : Option MessageRow) → Account
+command_account (Pass password) said user m = login_told (verdict said) way.Pass user
+command_account (Apop name digest) said user m = login_told (verdict said) way.Apop (Some name)
+command_account (Dele n) said user m = message_told to.Dele said m
+command_account (Retr n) said user m = message_told to.Retr said m
+command_account (Top n k) said user m = message_told to.Top said m
+command_account Rset said user m = reset_told said
+command_account Quit said user m = account.QuitBeforeLogin
+command_account Capa said user m = account.Nothing
+command_account (User name) said user m = account.Nothing
+command_account Stat said user m = account.Nothing
+command_account ListAll said user m = account.Nothing
+command_account (ListOne n) said user m = account.Nothing
+command_account UidlAll said user m = account.Nothing
+command_account (UidlOne n) said user m = account.Nothing
+command_account Noop said user m = account.Nothing
 
 -- the account of a line that reads as no command
 abbrev pub fault_told : LineFault → Said → Account
@@ -131,11 +168,12 @@ fault_told (Syntax keyword.Dele) said = account.Nothing
 fault_told (Syntax keyword.Rset) said = account.Nothing
 fault_told (Syntax keyword.Noop) said = account.Nothing
 
--- the account of a line that reads so, by what was said to it and the name in force before it; that
--- of a session's QUIT is another
-abbrev pub line_account : Result Command LineFault → Said → (user : Option LoginName) → Account
-line_account (Ok command) said user = command_account command said user
-line_account (Err fault) said user = fault_told fault said
+-- the account of a line that reads so, by what was said to it, the name in force before it and the
+-- message that it names; that of a session's QUIT is another
+abbrev pub line_account : Result Command LineFault → Said → (user : Option LoginName)
+    → (message : Option MessageRow) → Account
+line_account (Ok command) said user message = command_account command said user message
+line_account (Err fault) said user message = fault_told fault said
 
 -- a QUIT's account, or that of another line
 abbrev pub quit_or : (quits : Bool) → (quit other : Account) → Account
@@ -157,11 +195,21 @@ abbrev pub quit_account : Option LoginName → (LoginName → Removal) → Accou
 quit_account None removal = account.QuitBeforeLogin
 quit_account (Some name) removal = account.Quit (removal name)
 
+-- a line before a login names no message
+abbrev pub in_login : Option LoginName → Option MessageRow → Option MessageRow
+in_login None message = None
+in_login (Some name) message = message
+
+-- the message that a line names after a front
+abbrev pub named_at : Records → List Entry → ℕ → Result Command LineFault → Option MessageRow
+named_at B G c r = in_login (in_session G c) (named (row_at (marks G c) (view B G c)) r)
+
 -- the account of a line after a front; of nothing at want of memory
 abbrev pub line_told : Records → List Entry → ℕ → Cut → Tag → Account
 line_told B G c x NoMemory = account.Nothing
-line_told B G c x t = quit_or (is_quit (reading x)) (quit_account (in_session G c)
-    (removal_by B G c t)) (line_account (reading x) (said_to_line B G c x t) (user G c))
+line_told B G c x t =
+    quit_or (is_quit (reading x)) (quit_account (in_session G c) (removal_by B G c t))
+    (line_account (reading x) (said_to_line B G c x t) (user G c) (named_at B G c (reading x)))
 
 -- the account of an event's acts, of which one at most is a line
 abbrev pub acts_account : Records → List Entry → List (Act × Tag) → Account
@@ -187,7 +235,7 @@ abbrev pub outcome_told : Outcome → Account
 outcome_told (Answered answer) = answer_told answer
 outcome_told _ = account.Nothing
 
--- The account of an event that shows this tag: why it ended its connection, where no line did; or
+-- The account of an event that shows this tag: why it ended its connection, if no line did; or
 -- that of its acts.
 abbrev pub account_at : Trace → Event → Tag → Account
 account_at T (event.Gone c) t = account.Ended end.Gone
@@ -240,20 +288,57 @@ removal_seen w p v = record {
   is_done = was_done w;
 }
 
+-- a head's unique-id and octets
+abbrev pub row_of_head : Head → MessageRow
+row_of_head h = record { uid = head.uid_of h; octets = h.octets }
+
+-- the message of a number of a session, unless it is marked
+abbrev pub row_kept : Session → ℕ → Option MessageRow
+row_kept s n = refer s.marks s.view n None None (λ h. Some (row_of_head h))
+
+-- a command did to the message that it names what it says
+abbrev pub done_told : MessageCommand → Option MessageRow → Account
+done_told command None = account.Nothing
+done_told to.Dele (Some message) = account.Marked
+done_told to.Retr (Some message) = account.Retrieved message
+done_told to.Top (Some message) = account.Topped message
+
+-- the account of a RETR or TOP at which the store doesn't fail, by whether the message may be read
+abbrev pub sending_told : MessageCommand → Result Head Pick → Option MessageRow → Account
+sending_told command (Ok head) message = done_told command message
+sending_told command (Err (pick.Denied rule)) message = denial_told command message rule
+sending_told command (Err pick.NoSuch) message = account.Nothing
+sending_told command (Err pick.Deleted) message = account.Nothing
+
+-- if the store fails at a command, nothing is told of it
+abbrev pub told_if_done : LineOutcome → Account → Account
+told_if_done outcome.Done told = told
+told_if_done outcome.Failed told = account.Nothing
+
+-- the message that a session's line names
+abbrev pub named_in : Transaction → Result Command LineFault → Option MessageRow
+named_in v r = named (row_at v.marks v.view) r
+
+-- the message that a line names by the session, if there is one
+abbrev pub named_seen : Option Transaction → Result Command LineFault → Option MessageRow
+named_seen None r = None
+named_seen (Some v) r = named_in v r
+
 -- the account of a QUIT by the session, if there is one
 abbrev pub quit_seen : LineOutcome → Policy → Option Transaction → Account
 quit_seen w p None = account.QuitBeforeLogin
 quit_seen w p (Some v) = account.Quit (removal_seen w p v)
 
--- the account of a session's line by what is kept of the session, and by what was said to it; no
--- line of a session is a login, so no name in force counts
+-- the account of a session's line by what is kept of the session, by what was said to it and the
+-- message that it names; no line of a session is a login, so no name in force counts
 abbrev pub transaction_account : LineOutcome → Policy → Session → Result Command LineFault → Said
-    → Account
-transaction_account w p s r said =
-    quit_or (is_quit r) (account.Quit (removal_told w p s)) (line_account r said None)
+    → (message : Option MessageRow) → Account
+transaction_account w p s r said message =
+    quit_or (is_quit r) (account.Quit (removal_told w p s)) (line_account r said None message)
 
 -- the account of a line by the session, if there is one
 abbrev pub state_account : LineOutcome → Policy → Option Transaction → Result Command LineFault
     → Said
     → (user : Option LoginName) → Account
-state_account w p v r said user = quit_or (is_quit r) (quit_seen w p v) (line_account r said user)
+state_account w p v r said user =
+    quit_or (is_quit r) (quit_seen w p v) (line_account r said user (named_seen v r))

@@ -9,7 +9,7 @@ use Rattle.office.specs.Stopping.{StaysUpUnless, StopLeaves}
 use Rattle.office.specs.declared.office.Office.{Office}
 
 -- An office that stood for a trace stands for the trace with this event. The outcome is one that
--- the event may have there. It is Failed only where the store's count of faults grew. A device that
+-- the event may have there. It is Failed only if the store's count of faults grew. A device that
 -- was up is up still, unless the outcome is Failed or NoMemory. A stop leaves what the trace says,
 -- or what it says with the event, as the outcome tells.
 pub record StandsAfter {V : Type 0} (vault : Ghosts V) (old new : Office V) (e : Event)
@@ -20,7 +20,7 @@ pub record StandsAfter {V : Type 0} (vault : Ghosts V) (old new : Office V) (e :
   pub up : StaysUpUnless (vault.is_up (vault_of old)) (vault.is_up (vault_of new)) o
   pub stop : vault.is_up (vault_of old) → StopLeaves (vault.may_leave (vault_of new)) T e o
 
--- So it is for each trace, where the store is clean after the event. Whatever the store does, the
+-- So it is for each trace, if the store is clean after the event. Whatever the store does, the
 -- count of faults doesn't fall, and a store that wasn't clean isn't clean again.
 pub record AfterEvent {V : Type 0} (vault : Ghosts V) (old new : Office V) (e : Event)
     (o : Outcome) : Type 0 where

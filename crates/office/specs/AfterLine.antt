@@ -24,7 +24,7 @@ use Rattle.office.specs.declared.login_state.LineOutcome.TheVariants as outcome
 -- ---- a line
 
 -- A line was answered, in a session with these messages or before one. Its reply is owed; it is
--- remembered; the session is the one after it; the store holds what the line leaves. Where the
+-- remembered; the session is the one after it; the store holds what the line leaves. If the
 -- store failed, the line is one that asks it, and the fault was counted. An account that told
 -- nothing tells what was judged.
 pub record AfterLine (After : Contents → Type 0) (grown : Bool) (c : Contents) (d : LineContext)
@@ -49,7 +49,7 @@ pub record NothingDone {V : Type 0} (vault : Ghosts V) (old new : V)
 
 -- ---- the octets of a connection
 
--- octets are cut up to their first LF; what is behind it is pending
+-- octets are cut up to their first LF; what is after it is pending
 abbrev pub cut_through : (octets : List ℕ) → Kept → Kept
 cut_through octets k = record k {
   held = fed k.held octets;
@@ -73,7 +73,7 @@ abbrev pub reply_next : Contents → Policy → BTreeMap (List ℕ) ℕ → Opti
     → Kept → Reply
 reply_next c p locks v w k = reply_of w (judged_at c p k.stamp locks) k.state v (line_of k)
 
--- The line that is whole was answered, as `AfterLine` says; where none is, nothing is owed, and
+-- The line that is whole was answered, as `AfterLine` says; if none is, nothing is owed, and
 -- nothing else changed.
 pub record AfterNext (After : Contents → Type 0) (grown : Bool) (c : Contents) (p : Policy)
     (locks : BTreeMap (List ℕ) ℕ) (v : Option Transaction) (k new : Kept) (w : LineOutcome)

@@ -58,7 +58,7 @@ HasTransaction c _ _ = ⊥
 
 -- ---- the reply
 
--- the reply to a line, where the store fails or not
+-- the reply to a line, if the store fails or not
 abbrev pub reply_of : LineOutcome → Judged → LoginState → Option Transaction → Cut → Reply
 reply_of w d t v x = reply_to (state_of d t v) x (tag_of w)
 
@@ -86,7 +86,7 @@ abbrev pub Becomes : Contents → Policy → LoginState → Cut → Reply → (o
 Becomes c p t x reply old new = SessionAfter (is_quit (reading x))
     (logs_in (reading x) (Says reply) t.user) c p t.removals reply old new
 
--- the session after octets: the same, where no line is whole
+-- the session after octets: the same, if no line is whole
 abbrev pub BecomesIf : (has_line : Bool) → Contents → Policy → LoginState → Cut → Reply
     → (old new : Option Session) → Type 0
 BecomesIf true c p t x reply old new = Becomes c p t x reply old new

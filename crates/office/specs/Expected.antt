@@ -40,7 +40,7 @@ is_full_at T G =
 abbrev pub is_full : Trace → Bool
 is_full T = is_full_at T.log (history T)
 
--- this reason, where the test holds
+-- this reason, if the test holds
 abbrev pub reason_if : Bool → Reason → Option Reason
 reason_if true reason = Some reason
 reason_if false reason = None
@@ -73,12 +73,12 @@ shown_at B T G (event.Deposit d class id text) Done =
 shown_at B T G (event.Admin command) Done = outcome.Answered (administered B G command)
 shown_at B T G e Done = outcome.Done
 
--- the reason is the outcome, where there is one
+-- the reason is the outcome, if there is one
 abbrev pub or_ignored : Option Reason → Outcome → Outcome
 or_ignored (Some reason) otherwise = outcome.Ignored reason
 or_ignored None otherwise = otherwise
 
--- an event's outcome: its reason where it is ignored, else by this tag
+-- an event's outcome: its reason if it is ignored, else by this tag
 abbrev pub outcome_of : Trace → (lent : ℕ → ℕ) → Event → Tag → Outcome
 outcome_of T lent e t = or_ignored (ignored T lent e) (shown_at T.base T.log (history T) e t)
 
@@ -89,7 +89,7 @@ abbrev pub next_may_fail : Records → List Entry → ℕ → Option Cut → Boo
 next_may_fail B G c None = false
 next_may_fail B G c (Some x) = line_may_fail B G c x
 
--- what may come of a Took: `while_left` where something is left to take; `at_next` where nothing is
+-- what may come of a Took: `while_left` if something is left to take; `at_next` if nothing is
 -- left, unless the connection closes
 abbrev pub took_may : (left while_left closing at_next : Bool) → Bool
 took_may true while_left closing at_next = while_left
@@ -106,8 +106,8 @@ may_fail_at B T G (event.Deposit d class id text) = true
 may_fail_at B T G (event.Admin command) = true
 may_fail_at B T G _ = false
 
--- These take no memory: a piece without LF; a Took of a part where all that is owed is lent
--- already; a Took of all that is owed, where no line acts then; Gone, Tick and Restart.
+-- These take no memory: a piece without LF; a Took of a part if all that is owed is lent
+-- already; a Took of all that is owed, if no line acts then; Gone, Tick and Restart.
 abbrev pub may_lack_memory_at : Log → List Entry → Event → Bool
 may_lack_memory_at T G event.Connect = true
 may_lack_memory_at T G (event.Bytes c piece) = has_newline piece
@@ -117,7 +117,7 @@ may_lack_memory_at T G (event.Deposit d class id text) = true
 may_lack_memory_at T G (event.Admin command) = true
 may_lack_memory_at T G _ = false
 
--- Done may always be; Failed and NoMemory where the store or memory may fail
+-- Done may always be; Failed and NoMemory if the store or memory may fail
 abbrev pub may_show_at : Records → Log → List Entry → Event → Tag → Bool
 may_show_at B T G e Done = true
 may_show_at B T G e Failed = may_fail_at B T G e

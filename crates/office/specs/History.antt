@@ -84,7 +84,7 @@ abbrev pub clerks : Records → List Entry → List Clerk
 clerks B [] = B.clerks
 clerks B (e ∷ G) = clerks_after e.act e.said (clerks B G)
 
--- a clerk's credential, where the clerk is known
+-- a clerk's credential, if the clerk is known
 abbrev pub credential : Records → List Entry → List ℕ → Option Credential
 credential B G clerk = credential_in clerk (clerks B G)
 
@@ -112,7 +112,7 @@ arrivals_after (Deposit d class id text) (Answers (New uid)) before =
     before ++ message_for d class (kept_form text) uid.k ∷ []
 arrivals_after _ _ before = before
 
--- the base's messages, and behind them those of the new deposits
+-- the base's messages, and after them those of the new deposits
 abbrev pub arrivals : Records → List Entry → List store.Message
 arrivals B [] = B.messages
 arrivals B (e ∷ G) = arrivals_after e.act e.said (arrivals B G)
@@ -127,7 +127,7 @@ receipts_after (Deposit d class id text) (Answers (New uid)) before =
     before ++ receipt_for d class id (kept_form text) uid.k ∷ []
 receipts_after _ _ before = before
 
--- the base's deposits, and behind them the new ones
+-- the base's deposits, and after them the new ones
 abbrev pub receipts : Records → List Entry → List Receipt
 receipts B [] = B.deposits
 receipts B (e ∷ G) = receipts_after e.act e.said (receipts B G)

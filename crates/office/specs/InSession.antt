@@ -15,6 +15,6 @@ abbrev pub name_at : Option Kept → Option LoginName
 name_at None = None
 name_at (Some k) = name_of k.session
 
--- a connection's number with who is in session on it, where somebody is
+-- a connection's number with who is in session on it, if somebody is
 abbrev pub kept_row : ℕ × Kept → Option (ℕ × LoginName)
 kept_row entry = session_row entry.0 (name_of entry.1.session)

@@ -42,11 +42,11 @@ abbrev pub state_of : LineContext → LoginState → Option Transaction → Line
 state_of d t None = InAuthorization t.user (judged d t.failures)
 state_of d t (Some v) = InTransaction d.policy v
 
--- the reply to what a line reads as before a login, where the store doesn't fail
+-- the reply to what a line reads as before a login, if the store doesn't fail
 abbrev pub authorization_said : LineContext → LoginState → Result Command LineFault → Reply
 authorization_said d t r = reply_to_reading (state_of d t None) r Done
 
--- the reply to a line before a login, where the store doesn't fail
+-- the reply to a line before a login, if the store doesn't fail
 abbrev pub authorization_line : LineContext → LoginState → Cut → Reply
 authorization_line d t x = reply_to (state_of d t None) x Done
 
@@ -101,7 +101,7 @@ maildrop_of (Some s) = Some s.name.maildrop
 abbrev pub clocked : (now : ℕ) → List ℕ → Kept → Kept
 clocked now octets k = record k { clock = if has_newline octets then now else k.clock }
 
--- What is kept after these octets came: where they make a line whole, it got this reply and left
+-- What is kept after these octets came: if they make a line whole, it got this reply and left
 -- this session and this output.
 abbrev pub answered : Kept → List ℕ → Reply → Option Session → Output → Kept
 answered k octets reply session output =
@@ -116,6 +116,6 @@ answered k octets reply session output =
       clock = k.clock;
     }
 
--- the line that these octets make whole, behind what is held
+-- the line that these octets make whole, after what is held
 abbrev pub line_after : Kept → List ℕ → Cut
 line_after k octets = cut_of (fed k.held octets).octets

@@ -111,7 +111,7 @@ HasBegun T = BeginsWithStart T
 unfoldable pub IsNewOrBegun : Log → Type 0
 IsNewOrBegun T = (T ≡ []) ⊎ BeginsWithStart T
 
--- where all boot numbers differ, all timestamps differ
+-- if all boot numbers differ, all timestamps differ
 abbrev pub GreetingsDiffer : Type 0
 GreetingsDiffer = (T : Trace) → BeginsWithStart T.log → are_formed T.log ≡ true
     → are_distinct (λ (n m : ℕ). n == m) (boots T.log) ≡ true
@@ -124,7 +124,7 @@ TimestampsDiffer T = are_distinct (λ (n m : ℕ). n == m) (boots T.log) ≡ tru
 
 -- ---- the form of replies
 
--- this holds of what was said, where that is a reply
+-- this holds of what was said, if that is a reply
 abbrev pub IfReply : (Reply → Type 0) → Said → Type 0
 IfReply P (Says r) = P r
 IfReply P Silence = ⊤
@@ -142,7 +142,7 @@ RepliesHaveTheirForm =
 
 -- ---- marks by the view and the policy
 
--- a DELE may mark this message of the view: where removals are judged at the DELE, the policy must
+-- a DELE may mark this message of the view: if removals are judged at the DELE, the policy must
 -- let the clerk remove it
 abbrev pub is_markable : Removals → Option Message → Policy → LoginName → Bool
 is_markable judged None policy name = false
@@ -154,7 +154,7 @@ abbrev pub may_mark : Records → List Entry → ℕ → LoginName → List ℕ 
 may_mark B G c name before n = not (is_marked before n) && is_markable (judging G)
     (at_number (view B G c) n) (in_force B G) name
 
--- the marks after a session's command: a DELE marks its number where that may be marked, a RSET
+-- the marks after a session's command: a DELE marks its number if that may be marked, a RSET
 -- unmarks all, and no other command changes them
 abbrev pub marks_by_command : Command → (may_mark : ℕ → Bool) → List ℕ → List ℕ
 marks_by_command (Dele n) may_mark before = if may_mark n then before ++ n ∷ [] else before
@@ -209,7 +209,7 @@ OwnRecordsAgree = (B : Records) → Agree B (records B [])
 
 -- ---- sent exactly
 
--- where each event has a tag that it may have, each connection is sent exactly what the history
+-- if each event has a tag that it may have, each connection is sent exactly what the history
 -- sends it
 abbrev pub TakenIsSent : Type 0
 TakenIsSent = (T : Trace) → AreAdmitted T → (c : ℕ) → IsSentExactly T c

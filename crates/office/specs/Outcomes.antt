@@ -36,7 +36,7 @@ abbrev pub HasMemory : Outcome → Type 0
 HasMemory NoMemory = ⊥
 HasMemory _ = ⊤
 
--- an event is answered Failed only where the store's count of faults grew
+-- an event is answered Failed only if the store's count of faults grew
 abbrev pub HasCause : (before now : ℕ) → Outcome → Type 0
 HasCause before now Failed = has_grown before now ≡ true
 HasCause before now _ = ⊤

@@ -122,12 +122,12 @@ pub record Owes (c : Contents) (s : Option Session) (o : Output) (octets : List 
   pub feeds : Feeds c s o.source coming
   pub filled : IsFilled o
 
--- A reply is owed; the source is a message only where the reply has one.
+-- A reply is owed; the source is a message only if the reply has one.
 pub record OwesReply (c : Contents) (s : Option Session) (o : Output) (reply : Reply) : Type 0 where
   pub owes : Owes c s o (bytes_of reply)
   pub serves : reads_text o.source ≡ true → has_message (Says reply) ≡ true
 
--- what is owed after octets: a line's reply, or nothing where no line acts
+-- what is owed after octets: a line's reply, or nothing if no line acts
 abbrev pub OwesIf : (has_line : Bool) → Contents → Option Session → Output → Reply → Type 0
 OwesIf true c s o reply = OwesReply c s o reply
 OwesIf false c s o reply = o ≡ nothing_owed

@@ -10,8 +10,8 @@ use Rattle.office.specs.declared.reading.Reading.{Reading}
 use Rattle.office.specs.declared.reading.PutPage.{PutPage}
 use Rattle.office.specs.declared.reading.PutPage.TheVariants as page
 
--- The same message is read on, over a store that is only looked at. Where the store is clean, what
--- was put and what is still to come are what was to come before, and a page is refused only where
+-- The same message is read on, over a store that is only looked at. If the store is clean, what
+-- was put and what is still to come are what was to come before, and a page is refused only if
 -- the count of faults grew.
 pub record PutsPages {V E : Type 0} (vault : Ghosts V) (store later : V) (old new : Reading)
     (before after : List ℕ) (answered : Result PutPage E) : Type 0 where

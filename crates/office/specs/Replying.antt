@@ -75,7 +75,7 @@ login_reply admitted failures opening there locked found =
 abbrev pub nobody : LoginName
 nobody = record { clerk = []; maildrop = [] }
 
--- the login name, where there is one
+-- the login name, if there is one
 abbrev pub name_or_nobody : Option LoginName → LoginName
 name_or_nobody None = nobody
 name_or_nobody (Some name) = name
@@ -123,7 +123,7 @@ login_asked (Err fault) user = None
 abbrev pub pick : List ℕ → List store.Message → ℕ → (store.Message → Reply) → Reply
 pick marks view n reply = refer marks view n NoSuchMessage (AlreadyMarked n) reply
 
--- the reply to a DELE: the number is marked; but where removals are judged at the DELE and a rule
+-- the reply to a DELE: the number is marked; but if removals are judged at the DELE and a rule
 -- denies this one, the rule is named
 abbrev pub deleted_if : Removals → Decision → ℕ → Reply
 deleted_if JudgedAtDele d n = if d.allowed then Marked n else DeniedBy d.rule
@@ -220,7 +220,7 @@ abbrev pub when_permitted : Bool → Reply → Reply
 when_permitted true reply = reply
 when_permitted false reply = WrongState
 
--- the reply where the store failed
+-- the reply if the store failed
 abbrev pub refusal : Keyword → Reply
 refusal keyword.Quit = RemovalFailed
 refusal keyword.Capa = StoreFailed
@@ -236,7 +236,7 @@ refusal keyword.Dele = StoreFailed
 refusal keyword.Rset = StoreFailed
 refusal keyword.Noop = StoreFailed
 
--- the reply to a command that may be given, where the store doesn't fail
+-- the reply to a command that may be given, if the store doesn't fail
 abbrev pub obeyed : LineState → Command → Reply
 obeyed (InAuthorization user login) command = authorization_says user login command
 obeyed (InTransaction p v) command = session_says p v command

@@ -88,7 +88,7 @@ failures_in [] = 0
 failures_in (s ∷ ss) = one_if_failed (outcome_seen s.outcome) + failures_in ss
 
 -- the count of faults grew at least by the number of failed steps, while it is below its greatest
--- value; so where it didn't grow, no step failed
+-- value; so if it didn't grow, no step failed
 abbrev pub FailuresAreCounted : Type 0
 FailuresAreCounted = (before now : ℕ) (ss : List Step) → now < greatest_count
     → HaveCauses before now ss → before + failures_in ss ≤ now
@@ -109,8 +109,8 @@ abbrev pub AreAnswered : List Step → Type 0
 AreAnswered [] = ⊤
 AreAnswered (s ∷ ss) = IsAnswered (outcome_seen s.outcome) × AreAnswered ss
 
--- What a stop in the last of these events may leave, where all before it were answered: what the
--- trace says with all events but the last, or with the last too; only the latter where that was
+-- What a stop in the last of these events may leave, if all before it were answered: what the
+-- trace says with all events but the last, or with the last too; only the latter if that was
 -- answered.
 abbrev pub StopLeavesRun : (MayLeave : Contents → Type 0) → Trace → List Given → List Step → Type 0
 StopLeavesRun MayLeave T [] [] = LeavesTrace MayLeave T

@@ -26,7 +26,7 @@ use Rattle.vault.specs.declared.record.Message as store
 
 -- ---- sessions
 
--- whom a line logs in, where it was accepted; for a PASS that is the name that was in force
+-- whom a line logs in, if it was accepted; for a PASS that is the name that was in force
 abbrev pub logs_in : Result Command LineFault → Said → Option LoginName → Option LoginName
 logs_in (Ok (Pass password)) (Says (MaildropHas n m)) before = before
 logs_in (Ok (Apop name digest)) (Says (MaildropHas n m)) before = Some name
@@ -79,7 +79,7 @@ live [] c = false
 live (e ∷ G) c = not (ends_session e.act e.tag e.said c) &&
     (is_some (login_by e.act e.said c (user G c)) || live G c)
 
--- the name, where the session lives
+-- the name, if the session lives
 abbrev pub when_live : Bool → Option LoginName → Option LoginName
 when_live true name = name
 when_live false name = None
@@ -97,7 +97,7 @@ is_login_to d (Some name) = bytes_eq name.maildrop d
 abbrev pub holds : List Entry → List ℕ → ℕ → Bool
 holds G d c = live G c && is_login_to d (login G c)
 
--- the connection that holds a maildrop, where one does
+-- the connection that holds a maildrop, if one does
 abbrev pub holder : List Entry → List ℕ → Option ℕ
 holder G d = find (holds G d) (heard G)
 
@@ -156,7 +156,7 @@ quits _ tag = None
 
 -- ---- what a session sees, and what sessions removed
 
--- a session's view after an entry: what its login finds, where the entry is a login
+-- a session's view after an entry: what its login finds, if the entry is a login
 abbrev pub view_after : Option LoginName → (found : LoginName → List store.Message)
     → (before : List store.Message) → List store.Message
 view_after None found before = before
@@ -168,7 +168,7 @@ abbrev pub removed_by : Option LoginName → (chosen : LoginName → List store.
 removed_by None chosen = []
 removed_by (Some name) chosen = chosen name
 
--- what an act removes comes behind what was removed before
+-- what an act removes comes after what was removed before
 abbrev pub removed_after : Option ℕ → (taken : ℕ → List store.Message)
     → (before : List store.Message) → List store.Message
 removed_after None taken before = before

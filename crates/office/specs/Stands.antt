@@ -116,7 +116,7 @@ pub record IsTransaction (c : Contents) (s : Seen) (k : Session) : Type 0 where
   pub lies : LiesIn c k kept
   pub view : map (λ (x : Keyed). x.message) kept ≡ s.view
 
--- a session is kept exactly where the trace has one
+-- a session is kept exactly if the trace has one
 abbrev pub IsSession : Contents → Seen → Option Session → Type 0
 IsSession c s None = s.live ≡ false
 IsSession c s (Some k) = IsTransaction c s k
@@ -129,7 +129,7 @@ pub record Matches (c : Contents) (s : Seen) (k : Kept) : Type 0 where
   pub parted : s.closing ≡ true → s.live ≡ false
   pub taken : s.taken ≤ length s.sent
   pub owed : Owes c k.session k.output (untaken_of s)
-  -- more of a message is to come only where the last reply has one
+  -- more of a message is to come only if the last reply has one
   pub serving : reads_text k.output.source ≡ true → s.serving ≡ true
   pub closing : k.state.closing ≡ s.closing
   pub user : k.state.user ≡ s.user
@@ -140,7 +140,7 @@ pub record Matches (c : Contents) (s : Seen) (k : Kept) : Type 0 where
   -- whatever comes next, the lines that haven't acted are those that what is kept and it give
   pub lines : (more : List ℕ) → drop s.acted (cut (s.stream ++ more)) ≡ coming k.held
       (k.pending ++ more)
-  -- where nothing is owed, all octets that were kept are cut
+  -- if nothing is owed, all octets that were kept are cut
   pub cut_whole : untaken_of s ≡ [] → k.pending ≡ []
   -- it keeps at most a line and a piece of input: 255 + 4,096 octets
   pub line_kept : length k.held.octets ≤ most_in_a_line
@@ -190,7 +190,7 @@ lent_by o c = length_of_lent (get nat_cmp o.connections c)
 abbrev pub vault_of : {V : Type 0} → Office V → V
 vault_of o = o.vault
 
--- of each trace that the office stood for before a call, where the store is clean after it
+-- of each trace that the office stood for before a call, if the store is clean after it
 abbrev pub OfEachTrace : {V : Type 0} → Ghosts V → (old new : Office V) → (Trace → Type 0) → Type 0
 OfEachTrace vault old new Says =
     (T : Trace) → StandsFor vault.holds old T → vault.is_clean (vault_of new) → Says T

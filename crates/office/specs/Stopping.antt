@@ -39,14 +39,14 @@ taken_as_done (Tagged t) = Tagged Done
 abbrev pub with_it_done : Trace → Event → Outcome → Trace
 with_it_done T e o = given T e (taken_as_done (event_tag_of o))
 
--- where an event was answered Failed or NoMemory, one of the two holds; else the one with the event
+-- if an event was answered Failed or NoMemory, one of the two holds; else the one with the event
 abbrev pub EitherOrWith : Outcome → (without with_it : Type 0) → Type 0
 EitherOrWith outcome.Failed without with_it = without ⊎ with_it
 EitherOrWith outcome.NoMemory without with_it = without ⊎ with_it
 EitherOrWith _ without with_it = with_it
 
 -- All contents that a stop may leave after an event with this outcome say what the trace before the
--- event says, or the trace with the event taken as done; only the latter where the outcome is
+-- event says, or the trace with the event taken as done; only the latter if the outcome is
 -- neither Failed nor NoMemory.
 abbrev pub StopLeaves : (MayLeave : Contents → Type 0) → Trace → Event → Outcome → Type 0
 StopLeaves MayLeave T e o = (left : Contents) → MayLeave left
@@ -85,7 +85,7 @@ WasDone line_outcome.Done = ⊤
 WasDone line_outcome.Failed = ⊥
 
 -- A part changes records once at most. The count of faults doesn't fall, and the store doesn't
--- become clean again. Where it is clean, it is up still if the part ended as `Own` says, and a stop
+-- become clean again. If it is clean, it is up still if the part ended as `Own` says, and a stop
 -- leaves what was held, or what the part makes of it when it is done (`after`).
 pub record ActsOnce {V : Type 0} (vault : Ghosts V) (old new : V) (Own : Type 0)
     (after : Contents → Contents) : Type 0 where

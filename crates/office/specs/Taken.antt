@@ -61,7 +61,7 @@ has_closed T c = has_closed_by T.base T.log c
 
 -- ---- which tags a log may have
 
--- An event's tag is that of an outcome that it may have, where each connection is lent some number
+-- An event's tag is that of an outcome that it may have, if each connection is lent some number
 -- of the octets that it is owed.
 pub record IsAdmitted (T : Trace) (e : Event) (m : EventTag) : Type 0 where
   pub lent : ℕ → ℕ
@@ -82,11 +82,11 @@ AreAdmitted T = AreAdmittedBy T.base T.log
 -- ---- sent exactly
 
 -- What a connection took, followed by what it is still owed, is what the history sends it. Once it
--- is ended, it took a beginning of that; and all of it, where it closed by itself.
+-- is ended, it took a beginning of that; and all of it, if it closed by itself.
 pub record IsSentExactly (T : Trace) (c : ℕ) : Type 0 where
   pub while_open : is_open T c ≡ true → all_taken T c ++ rest T c ≡ sent (history T) c
   pub beginning : (untaken : List ℕ) × (all_taken T c ++ untaken ≡ sent (history T) c)
   pub closed : has_closed T c ≡ true → all_taken T c ≡ sent (history T) c
-  -- so it ended, where nothing else ended it
+  -- so it ended, if nothing else ended it
   pub else_closed : is_open T c ≡ false → connected (history T) c ≡ true
       → all_taken T c ≡ sent (history T) c

@@ -52,7 +52,7 @@ deposited B G d class id text =
 abbrev pub row_of : store.Message → Uid × ℕ
 row_of m = (uid_of m, octets_of m)
 
--- a connection with its session, where it has one
+-- a connection with its session, if it has one
 abbrev pub session_row : ℕ → Option LoginName → Option (ℕ × LoginName)
 session_row c None = None
 session_row c (Some name) = Some (c, name)
@@ -105,7 +105,7 @@ administered B G (Explain clerk d class action) =
 
 -- ---- a history
 
--- the answer, where the act is Done; else that it failed or met want of memory
+-- the answer, if the act is Done; else that it failed or met want of memory
 abbrev pub answers_if_done : Tag → Answer → Said
 answers_if_done Done answer = Answers answer
 answers_if_done _ answer = Silence

@@ -37,7 +37,7 @@ abbrev pub idle_numbers : Log → List Entry → (moment : ℕ) → List ℕ
 idle_numbers T G moment =
     filter (λ c. nat_le (clock T c + idle_seconds T) moment) (open_numbers_at T G)
 
--- a connection's next line, with this piece behind what came before
+-- a connection's next line, with this piece after what came before
 abbrev pub next_line : Log → List Entry → ℕ → (piece : List ℕ) → Option Cut
 next_line T G c piece = slice_get (cut (stream T c ++ piece)) (acted G c)
 
@@ -47,7 +47,7 @@ is_left T G c octets = nat_lt (taken T c + octets) (length (sent G c))
 
 -- ---- acts of a trace
 
--- the act of a line, where one is next
+-- the act of a line, if one is next
 abbrev pub line_act : ℕ → Tag → Option Cut → List (Act × Tag)
 line_act c t None = []
 line_act c t (Some x) = (Line c x, t) ∷ []
@@ -56,7 +56,7 @@ line_act c t (Some x) = (Line c x, t) ∷ []
 abbrev pub gone_act : ℕ → List (Act × Tag)
 gone_act c = (Gone c, Done) ∷ []
 
--- A taking of a part ends the connection at want of memory, and where a later page of a message
+-- A taking of a part ends the connection at want of memory, and if a later page of a message
 -- can't be read.
 abbrev pub act_of_part : (serving : Bool) → ℕ → Tag → List (Act × Tag)
 act_of_part serving c NoMemory = gone_act c
@@ -78,7 +78,7 @@ abbrev pub acts_of_piece : (has_line : Bool) → ℕ → Tag → Option Cut → 
 acts_of_piece true c t next = line_act c t next
 acts_of_piece false c t next = []
 
--- a connection opens, where the event is Done
+-- a connection opens, if the event is Done
 abbrev pub open_act : ℕ → Tag → List (Act × Tag)
 open_act next Done = (Open next, Done) ∷ []
 open_act next _ = []
@@ -101,7 +101,7 @@ acts_of T G (event.Deposit d class id text) t = (Deposit d class id text, t) ∷
 acts_of T G (event.Admin command) t = (Administer command, t) ∷ []
 acts_of T G (event.Restart boot) t = (Restart boot (setting G).1 (judging G), t) ∷ []
 
--- the acts of an event, none where it was ignored
+-- the acts of an event, none if it was ignored
 abbrev pub acts_at : Log → List Entry → Event → EventTag → List (Act × Tag)
 acts_at T G e Ignored = []
 acts_at T G e (Tagged t) = acts_of T G e t
@@ -146,7 +146,7 @@ rest T c = rest_at T.log (history T) c
 abbrev pub is_ready : Trace → ℕ → Bool
 is_ready T c = is_open T c && is_empty (rest T c)
 
--- at most so many octets are lent, and so many stand ready where they are owed
+-- at most so many octets are lent, and so many stand ready if they are owed
 abbrev pub most_lent : ℕ
 most_lent = 16384
 

@@ -74,12 +74,12 @@ abbrev pub tag_of : LineOutcome → Tag
 tag_of outcome.Done = history.Done
 tag_of outcome.Failed = history.Failed
 
--- the reply to what a line reads as, where the store fails or not
+-- the reply to what a line reads as, if the store fails or not
 abbrev pub transaction_answered : LineOutcome → Policy → Transaction → Result Command LineFault
     → Reply
 transaction_answered w p v r = reply_to_reading (InTransaction p v) r (tag_of w)
 
--- the same, where it doesn't
+-- the same, if it doesn't
 abbrev pub transaction_said : Policy → Transaction → Result Command LineFault → Reply
 transaction_said p v r = transaction_answered outcome.Done p v r
 
@@ -89,7 +89,7 @@ transaction_reply w p v x = reply_to (InTransaction p v) x (tag_of w)
 
 -- ---- after it
 
--- a session goes on, the same but for its marks: a number is marked where the reply leaves it so
+-- a session goes on, the same but for its marks: a number is marked if the reply leaves it so
 pub record GoesOn (reply : Reply) (s new : Session) : Type 0 where
   pub name : new.name ≡ s.name
   pub removals : new.removals ≡ s.removals
@@ -127,7 +127,7 @@ abbrev pub session_left : Result Command LineFault → Session → Option Sessio
 session_left r s = session_if (is_quit r) s
 
 -- What came of a line that reads so and got this reply: the reply is owed, the session goes on, and
--- the store holds what the line leaves. Where the store failed, the line is one that asks it, and
+-- the store holds what the line leaves. If the store failed, the line is one that asks it, and
 -- the fault was counted.
 pub record IsAnsweredBy (After : Contents
     → Type 0) (grown : Bool) (c : Contents) (p : Policy) (s new : Session) (kept : List Keyed)

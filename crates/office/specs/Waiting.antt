@@ -20,7 +20,7 @@ abbrev pub is_held_for : (is_held : List ℕ → Bool) → Option LoginName → 
 is_held_for is_held None = false
 is_held_for is_held (Some name) = is_held name.maildrop
 
--- whom a connection's next line would log in: nobody where no line is whole, or somebody is in
+-- whom a connection's next line would log in: nobody if no line is whole, or somebody is in
 -- session
 abbrev pub coming_login : (live : Bool) (user : Option LoginName) → Option Cut → Option LoginName
 coming_login true user next = None
@@ -47,7 +47,7 @@ waits T c piece seconds =
 
 -- ---- by what is kept
 
--- the line that is whole with this piece, where one is
+-- the line that is whole with this piece, if one is
 abbrev pub line_with : Kept → List ℕ → Option Cut
 line_with k piece = if has_newline piece then Some (line_after k piece) else None
 

@@ -1,18 +1,23 @@
 //! The account of an event: what the office judged in it.
-ghost use Rattle.std.specs.Prelude.{◌≡◌, Option};
+ghost use Rattle.std.specs.Prelude.{◌≡◌, Option, None, IfOk, OnErr};
 ghost use Rattle.popline.specs.Seen.{command_seen, reply_seen};
 ghost use Rattle.office.specs.History.{Says};
 ghost use Rattle.office.specs.Connections.{reading};
-ghost use Rattle.office.specs.Accounts.{verdict as verdict_of, login_told, mark_told, reset_told};
+ghost use Rattle.office.specs.Accounts.{verdict as verdict_of, login_told, reset_told};
+ghost use Rattle.office.specs.Accounts.{done_told, denial_told, message_told, sending_told};
+ghost use Rattle.office.specs.Accounts.{told_if_done};
 ghost use Rattle.office.specs.Accounts.{command_account, fault_told, line_account};
 ghost use Rattle.office.specs.Accounts.{removal_told, was_done as was_done_so};
 
+use crate::answer::MessageRow;
 use crate::command_line::CommandLine;
 use crate::login_state::LineOutcome;
-use creds::{LoginName, Name};
+use creds::{LoginName, Name, Uid};
 use policy::Policy;
 use popline::{Command, Keyword, LineFault, Reply};
-use session::{Removed, Session};
+use session::{Pick, Removed, Session};
+use std::alloc::AllocError;
+use vault::Head;
 
 /// By which command a login gives its credential (RFC 1939, 7).
 #[derive(Clone, Copy)]
@@ -48,13 +53,13 @@ pub struct Removal {
     pub marked: usize,
     /// The marked messages that the policy let the clerk remove, by their unique-ids.
     pub removed: Removed,
-    /// The rule that kept the lowest numbered of the other marked messages, where one did.
+    /// The rule that kept the lowest numbered of the other marked messages, if one did.
     pub denied: Option<Name>,
-    /// Whether they were removed: all of them; or none, where the store failed.
+    /// Whether they were removed: all of them; or none, if the store failed.
     pub is_done: bool,
 }
 
-/// Why an event ended a connection, where no line did.
+/// Why an event ended a connection, if no line did.
 #[derive(Clone, Copy)]
 pub enum End {
     /// The client went, or was sent away.
@@ -69,6 +74,16 @@ pub enum End {
     Idle,
     /// It took too long to log in, by the seconds of who serves it; to the office it is gone.
     TooLate,
+    /// The same by the fewer seconds that whoever serves it gives while all its places are taken.
+    FullHouse,
+}
+
+/// A command that names a message by its number, and that a rule may deny (RFC 1939, 5 and 7).
+#[derive(Clone, Copy, PartialEq, Eq)]
+pub enum MessageCommand {
+    Dele,
+    Retr,
+    Top,
 }
 
 /// What an office judged in an event. It takes no memory but that of a session which quit, and
@@ -86,6 +101,13 @@ pub enum Account {
     Marked,
     /// A session's RSET took all its marks away.
     Unmarked,
+    /// A session's RETR began to send this message.
+    Retrieved(MessageRow),
+    /// A session's TOP began to send the top of this message. The octets are those of the whole
+    /// message, of which TOP may send few.
+    Topped(MessageRow),
+    /// A rule denied a session's command for the message of this unique-id: the rule's name.
+    Denied(MessageCommand, Uid, Name),
     /// A session quit.
     Quit(Removal),
     /// QUIT came before a login.
@@ -124,7 +146,7 @@ fn was_done(outcome: LineOutcome) -> bool
     }
 }
 
-/// The account of a login that was judged, where one was, under a name.
+/// The account of a login that was judged, if one was, under a name.
 fn of_login(judged: Option<Verdict>, by: Way, user: Option<LoginName>) -> Account
     ensures { result ≡ login_told judged by user }
 {
@@ -137,12 +159,37 @@ fn of_login(judged: Option<Verdict>, by: Way, user: Option<LoginName>) -> Accoun
     Account::Login(name, by, judged)
 }
 
-/// The account of a DELE that got this reply.
-fn of_mark(reply: &Reply<'_>) -> Account
-    ensures { result ≡ mark_told (Says (reply_seen reply.now)) }
+/// The account of a command that did to the message that it named what it says.
+fn of_doing(command: MessageCommand, named: Option<MessageRow>) -> Account
+    ensures { result ≡ done_told command named }
+{
+    let Some(message) = named else {
+        return Account::Nothing;
+    };
+    match command {
+        MessageCommand::Dele => Account::Marked,
+        MessageCommand::Retr => Account::Retrieved(message),
+        MessageCommand::Top => Account::Topped(message),
+    }
+}
+
+/// The account of a command that a rule denied, for the message that it named.
+fn of_denial(command: MessageCommand, named: Option<MessageRow>, rule: Name) -> Account
+    ensures { result ≡ denial_told command named rule }
+{
+    match named {
+        Some(message) => Account::Denied(command, message.uid, rule),
+        None => Account::Nothing,
+    }
+}
+
+/// The account of a command that got this reply, for the message that it named.
+fn of_message(command: MessageCommand, reply: &Reply<'_>, named: Option<MessageRow>) -> Account
+    ensures { result ≡ message_told command (Says (reply_seen reply.now)) named }
 {
     match reply {
         Reply::Marked(_) => Account::Marked,
+        Reply::DeniedBy(rule) => of_denial(command, named, *rule),
         _ => Account::Nothing,
     }
 }
@@ -171,28 +218,29 @@ fn of_fault(fault: LineFault, reply: &Reply<'_>) -> Account
 }
 
 impl Account {
-    /// The account of a command that got this reply, but for a session's QUIT. `user` is the login
-    /// name that was in force.
+    /// The account of a command that got this reply, but for a session's QUIT, RETR and TOP. `user`
+    /// is the login name that was in force, `named` the message that the command names.
     pub(crate) fn of_command(
         command: &Command<'_>,
         reply: &Reply<'_>,
         user: Option<LoginName>,
+        named: Option<MessageRow>,
     ) -> Account
         ensures { result ≡ command_account (command_seen command.now)
-            (Says (reply_seen reply.now)) user }
+            (Says (reply_seen reply.now)) user named }
     {
         match command {
             Command::Pass(_) => of_login(judgement(reply), Way::Pass, user),
             Command::Apop(name, _) => of_login(judgement(reply), Way::Apop, Some(*name)),
-            Command::Dele(_) => of_mark(reply),
+            Command::Dele(_) => of_message(MessageCommand::Dele, reply, named),
+            Command::Retr(_) => of_message(MessageCommand::Retr, reply, named),
+            Command::Top(_, _) => of_message(MessageCommand::Top, reply, named),
             Command::Rset => of_reset(reply),
             Command::Quit => Account::QuitBeforeLogin,
             Command::Capa | Command::User(_) | Command::Stat | Command::List(_) => {
                 Account::Nothing
             }
-            Command::Uidl(_) | Command::Retr(_) | Command::Top(_, _) | Command::Noop => {
-                Account::Nothing
-            }
+            Command::Uidl(_) | Command::Noop => Account::Nothing,
         }
     }
 
@@ -203,11 +251,40 @@ impl Account {
         reply: &Reply<'_>,
         user: Option<LoginName>,
     ) -> Account
-        ensures { result ≡ line_account (reading line.now) (Says (reply_seen reply.now)) user }
+        ensures { result ≡ line_account (reading line.now) (Says (reply_seen reply.now)) user None }
     {
         match line.reading() {
-            Ok(command) => Account::of_command(command, reply, user),
+            Ok(command) => Account::of_command(command, reply, user, None),
             Err(why) => of_fault(*why, reply),
+        }
+    }
+
+    /// The account of a RETR or TOP of which the store sends what it may: by the message that it
+    /// names, and whether that may be read.
+    pub(crate) fn of_sending(
+        command: MessageCommand,
+        readable: &Result<Head, Pick>,
+        named: Option<MessageRow>,
+    ) -> Account
+        ensures { result ≡ sending_told command readable.now named }
+    {
+        match readable {
+            Ok(_) => of_doing(command, named),
+            Err(Pick::Denied(rule)) => of_denial(command, named, *rule),
+            Err(Pick::NoSuch | Pick::Deleted) => Account::Nothing,
+        }
+    }
+
+    /// Becomes the account of a command that was answered so. If the store failed, nothing is told;
+    /// at want of memory the account stays.
+    pub(crate) fn settle(&mut self, told: Account, answered: &Result<LineOutcome, AllocError>)
+        ensures ok { IfOk answered.now (λ outcome. self.new ≡ told_if_done outcome told) }
+        ensures err { OnErr answered.now (self.new ≡ self.old) }
+    {
+        match answered {
+            Ok(LineOutcome::Done) => *self = told,
+            Ok(LineOutcome::Failed) => *self = Account::Nothing,
+            Err(_) => {}
         }
     }
 

@@ -1,4 +1,4 @@
-//! The texts of answers: what deposits and an administrator's commands are told.
+//! The texts of answers: what deposits and an administrator's commands are answered.
 
 ghost use Rattle.std.specs.Prelude.{◌≡◌, IfOk, map};
 ghost use Rattle.office.specs.Answers.{body_of, body_line, body_lines, total_text, message_text};
@@ -64,7 +64,7 @@ fn written(alloc: Global, policy: &Policy) -> Result<Vec<u8>, AllocError>
     Ok(text)
 }
 
-/// The line that tells how many rules a policy has.
+/// The line that says how many rules a policy has.
 fn count_line(alloc: Global, rules: u64) -> Result<Vec<u8>, AllocError>
     ensures { IfOk result (λ line. line.items ≡ body_of (RuleCount rules)) }
 {
@@ -72,7 +72,7 @@ fn count_line(alloc: Global, rules: u64) -> Result<Vec<u8>, AllocError>
     Ok(text.into_bytes())
 }
 
-/// The line that tells the unique-id of a new deposit.
+/// The line with the unique-id of a new deposit.
 fn new_line(alloc: Global, uid: Uid) -> Result<Vec<u8>, AllocError>
     ensures { IfOk result (λ line. line.items ≡ body_of (New uid)) }
 {
@@ -80,7 +80,7 @@ fn new_line(alloc: Global, uid: Uid) -> Result<Vec<u8>, AllocError>
     Ok(text.into_bytes())
 }
 
-/// The line that tells the unique-id of a deposit that came before.
+/// The line with the unique-id of a deposit that came before.
 fn known_line(alloc: Global, uid: Uid) -> Result<Vec<u8>, AllocError>
     ensures { IfOk result (λ line. line.items ≡ body_of (Known uid)) }
 {
@@ -88,7 +88,7 @@ fn known_line(alloc: Global, uid: Uid) -> Result<Vec<u8>, AllocError>
     Ok(text.into_bytes())
 }
 
-/// The line that tells what the policy says, and by which rule.
+/// The line that says what the policy says, and by which rule.
 fn decision_line(alloc: Global, decision: Decision) -> Result<Vec<u8>, AllocError>
     ensures { IfOk result (λ line. line.items ≡ body_of (Explained decision)) }
 {

@@ -310,7 +310,7 @@ impl Connection {
     }
 
     /// Answers the next whole line of the octets that were kept, if there is one. `account`, which
-    /// tells nothing yet, becomes what was judged.
+    /// says nothing yet, becomes what was judged.
     pub fn resume<V: Vault>(
         &mut self,
         alloc: Global,
@@ -360,7 +360,7 @@ impl Connection {
         Ok(())
     }
 
-    /// Answers the line that is whole, if one is; what was owed is taken. `account`, which tells
+    /// Answers the line that is whole, if one is; what was owed is taken. `account`, which says
     /// nothing yet, becomes what was judged.
     fn answer_next<V: Vault>(
         &mut self,

@@ -197,8 +197,8 @@ fn authorization_answer<V: Vault>(
 }
 
 /// Answers a line of a session, and returns the session. A QUIT ends it, and lets its maildrop's
-/// lock go. `account`, which tells nothing yet, becomes what the line did to the marks, or what the
-/// QUIT removed.
+/// lock go. `account`, which tells nothing yet, becomes what the line did to the marks or to a
+/// message, or what the QUIT removed.
 fn transaction_answer<V: Vault>(
     alloc: Global,
     vault: &mut V,

@@ -105,7 +105,7 @@ fn cut_off(
     release(locks, held);
 }
 
-/// Ends a connection for want of memory, as `account` then tells.
+/// Ends a connection for want of memory, as `account` then says.
 fn cut_off_without_memory(
     connections: &mut BTreeMap<u64, Connection>,
     locks: &mut Locks,
@@ -336,7 +336,7 @@ impl<V: Vault> Office<V> {
         outcome
     }
 
-    /// Does one event. What it judged becomes the account, which tells nothing before.
+    /// Does one event. What it judged becomes the account, which says nothing before.
     fn handle(&mut self, event: Event<'_>, account: &mut Account) -> Outcome
         ensures after { AfterEvent V.Vault self.old self.new (event_seen event.entry)
             (outcome_seen result) }
@@ -441,7 +441,7 @@ impl<V: Vault> Office<V> {
         ensures memory { OfEachTrace V.Vault self.old self.new (λ T.
             may_show T (event_seen event.entry) NoMemory ≡ false
             → HasMemory (outcome_seen result)) }
-        // What is told is what the history says of the line that acted, if one did.
+        // What is reported is what the history says of the line that acted, if one did.
         ensures account { OfEachTrace V.Vault self.old self.new (λ T.
             IsAccount T (event_seen event.entry)
             (outcome_seen result) account.new) }

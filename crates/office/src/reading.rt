@@ -32,7 +32,7 @@ pub struct Reading {
     octets: u64,
     place: u64,
     stuffer: Stuffer,
-    /// Where TOP cuts the message off; `None` where all of it is sent.
+    /// Where TOP cuts the message off; `None` if all of it is sent.
     cut: Option<TopCut>,
 }
 

@@ -12,7 +12,8 @@ ghost use Rattle.session.specs.Session.{Session as State};
 ghost use Rattle.office.specs.History.{Says};
 ghost use Rattle.office.specs.Connections.{reading, is_quit};
 ghost use Rattle.office.specs.Kept.{login_state_after};
-ghost use Rattle.office.specs.Accounts.{command_account, line_account};
+ghost use Rattle.office.specs.Accounts.{command_account, line_account, row_kept, named_in};
+ghost use Rattle.office.specs.Accounts.{named as row_named};
 ghost use Rattle.office.specs.Telling.{is_told};
 ghost use Rattle.office.specs.Stopping.{WasDone, ActsOnce};
 ghost use Rattle.office.specs.Output.{nothing_owed, OwesReply};
@@ -24,7 +25,8 @@ ghost use Rattle.office.specs.Transaction.{held_after_line};
 ghost use Rattle.office.specs.Transaction.{transaction_user};
 ghost use Rattle.office.specs.Transaction.{transaction_answered};
 
-use crate::account::Account;
+use crate::account::{Account, MessageCommand};
+use crate::answer::MessageRow;
 use crate::command_line::CommandLine;
 use crate::listing::{drop_listing, list, list_uids};
 use crate::login_state::{LineOutcome, LoginState, say};
@@ -32,7 +34,7 @@ use crate::message::{retrieve, top};
 use crate::output::Output;
 use crate::quit::quit;
 use crate::referring::{delete, reset, scan_line, uid_line};
-use creds::LoginName;
+use creds::{LoginName, Uid};
 use policy::Policy;
 use popline::{Command, Reply};
 use session::Session;
@@ -61,12 +63,44 @@ fn plain_reply(session: &mut Session, policy: &Policy, command: &Command<'_>) ->
     }
 }
 
-/// Puts the reply to a command that asks no store. `account` becomes what it did to the marks.
+/// The message of a number, unless it is marked.
+fn row_at(session: &Session, n: u64) -> Option<MessageRow>
+    ensures { result ≡ row_kept session.now n }
+{
+    match session.pick(n) {
+        Ok(head) => Some(MessageRow {
+            uid: Uid {
+                class: head.class,
+                k: head.k,
+            },
+            octets: head.octets,
+        }),
+        Err(_) => None,
+    }
+}
+
+/// The message that a DELE, RETR or TOP names, unless it is marked.
+fn message_named(session: &Session, command: &Command<'_>) -> Option<MessageRow>
+    ensures { result ≡ row_named (row_kept session.now) (Ok (command_seen command.now)) }
+{
+    match command {
+        Command::Dele(n) => row_at(session, *n),
+        Command::Retr(n) => row_at(session, *n),
+        Command::Top(n, _) => row_at(session, *n),
+        Command::Capa | Command::User(_) | Command::Pass(_) | Command::Apop(_, _) => None,
+        Command::Quit | Command::Stat | Command::List(_) | Command::Uidl(_) => None,
+        Command::Rset | Command::Noop => None,
+    }
+}
+
+/// Puts the reply to a command that asks no store. `account` becomes what it did to the marks, or
+/// which rule denied it for the message that it names.
 fn put(
     alloc: Global,
     output: &mut Output,
     command: &Command<'_>,
     reply: &Reply<'_>,
+    named: Option<MessageRow>,
     account: &mut Account,
 ) -> Result<LineOutcome, AllocError>
     requires { output.old ≡ nothing_owed }
@@ -74,17 +108,17 @@ fn put(
     ensures owed { IfOk result (λ _. (c : Contents) (s : Option State)
         → OwesReply c s output.new (reply_seen reply.now)) }
     ensures account { IfOk result (λ _. account.new ≡ command_account (command_seen command.now)
-        (Says (reply_seen reply.now)) None) }
+        (Says (reply_seen reply.now)) None named) }
     ensures account_err { OnErr result (account.new ≡ account.old) }
 {
     let outcome = say(alloc, output, reply)?;
-    *account = Account::of_command(command, reply, None);
+    *account = Account::of_command(command, reply, None, named);
     Ok(outcome)
 }
 
 /// Does what a command says that may be given in a session, and puts the reply. `account`, which
-/// tells nothing yet, becomes what it did to the marks. A QUIT leaves the session and `account` to
-/// the caller.
+/// tells nothing yet, becomes what it did to the marks or to the message that it names. A QUIT
+/// leaves the session and `account` to the caller.
 fn answer_command<V: Vault>(
     alloc: Global,
     vault: &mut V,
@@ -112,7 +146,8 @@ fn answer_command<V: Vault>(
         → LiesIn c session.old kept
         → account.new ≡ command_account (command_seen command.now)
         (Says (transaction_answered outcome policy.now (transaction_of session.old kept)
-        (Ok (command_seen command.now)))) None) }
+        (Ok (command_seen command.now)))) None
+        (named_in (transaction_of session.old kept) (Ok (command_seen command.now)))) }
     ensures account_err { OnErr result (account.new ≡ account.old) }
     ensures quits { is_quit (Ok (command_seen command.now)) ≡ true → session.new ≡ session.old }
     ensures unasked { (c : Contents) (kept : List Keyed) → LiesIn c session.old kept
@@ -120,22 +155,35 @@ fn answer_command<V: Vault>(
         (Ok (command_seen command.now))
         ≡ false → vault.new ≡ vault.old }
 {
+    let named = message_named(session, command);
     match command {
         Command::Quit => quit(alloc, vault, policy, output, session),
         Command::List(None) => list(alloc, session, output),
         Command::Uidl(None) => list_uids(alloc, session, output),
-        Command::Retr(n) => retrieve(alloc, vault, output, session, policy, *n),
-        Command::Top(n, lines) => top(alloc, vault, output, session, policy, *n, *lines),
+        Command::Retr(n) => {
+            let readable = session.pick_for(*n, policy);
+            let told = Account::of_sending(MessageCommand::Retr, &readable, named);
+            let answered = retrieve(alloc, vault, output, session, policy, *n);
+            account.settle(told, &answered);
+            answered
+        }
+        Command::Top(n, lines) => {
+            let readable = session.pick_for(*n, policy);
+            let told = Account::of_sending(MessageCommand::Top, &readable, named);
+            let answered = top(alloc, vault, output, session, policy, *n, *lines);
+            account.settle(told, &answered);
+            answered
+        }
         _ => {
             let reply = plain_reply(session, policy, command);
-            put(alloc, output, command, &reply, account)
+            put(alloc, output, command, &reply, named, account)
         }
     }
 }
 
 /// Answers a line of a session: puts its reply, and sets or takes away marks. `account`, which
-/// tells nothing yet, becomes what the line did to the marks. A QUIT removes the marked messages;
-/// the caller then ends the session, which stays as it is, and gives its account.
+/// tells nothing yet, becomes what the line did to the marks or to a message. A QUIT removes the
+/// marked messages; the caller then ends the session, which stays as it is, and gives its account.
 pub(crate) fn answer<V: Vault>(
     alloc: Global,
     vault: &mut V,
@@ -160,7 +208,8 @@ pub(crate) fn answer<V: Vault>(
         → IfOk result (λ outcome. (c : Contents) (kept : List Keyed)
         → LiesIn c session.old kept
         → account.new ≡ line_account (reading line.now) (Says (transaction_reply outcome policy.now
-        (transaction_of session.old kept) line.now)) None) }
+        (transaction_of session.old kept) line.now)) None
+        (named_in (transaction_of session.old kept) (reading line.now))) }
     ensures account_err { OnErr result (account.new ≡ account.old) }
     ensures quits { is_quit (reading line.now) ≡ true → session.new ≡ session.old }
     ensures unasked { (c : Contents) (kept : List Keyed) → LiesIn c session.old kept

@@ -14,7 +14,7 @@ use std::test::Fail;
 use transcripts::playing::{expect, run_on};
 use vault::PlainVault;
 
-/// A reader that gives one line a read. It fails where the number of octets written so far isn't
+/// A reader that gives one line a read. It fails if the number of octets written so far isn't
 /// the line's, and after `calls` reads.
 #[derive(Drop)]
 struct Lines<'a> {

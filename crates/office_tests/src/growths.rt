@@ -1,4 +1,4 @@
-//! The worked rows, and a reply that is taken in several pieces, where a growth of memory is
+//! The worked rows, and a reply that is taken in several pieces, if a growth of memory is
 //! refused. An event that meets the refusal answers so and changes nothing, or ends its connection.
 //!
 //! Without a refusal the tests pass too. tools/check-growths runs them with each growth refused,

@@ -1,4 +1,4 @@
-//! The calls that allocate nothing are answered as ever where no memory is left.
+//! The calls that allocate nothing are answered as ever if no memory is left.
 //!
 //! They are: reading a kept text and its pieces; the cutter of lines, and reading a command; names,
 //! ids, secrets, the three digests and admission; a decision, and a policy's lane; a session's
@@ -45,7 +45,7 @@ fn are_sent() -> bool {
         && TopCut::new(0).feed(b"a: b\r\n\r\nc\r\n") == 8
 }
 
-/// The cutter gives a line, and leaves what is behind it.
+/// The cutter gives a line, and leaves what is after it.
 fn is_cut() -> bool {
     let mut cutter = Cutter::new();
     let taken = cutter.feed(b"NOOP\r\nQUIT\r\n");

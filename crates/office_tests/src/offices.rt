@@ -1,4 +1,4 @@
-//! Tests of what no clause says of the office: that the calls which allocate succeed where there is
+//! Tests of what no clause says of the office: that the calls which allocate succeed if there is
 //! memory, and what they answer.
 
 use converse::replay::tell;

@@ -136,7 +136,7 @@ impl Write for Counting {
     }
 }
 
-/// The writer inside is flushed behind each line, and at the end.
+/// The writer inside is flushed after each line, and at the end.
 #[test]
 fn each_outcome_is_flushed(rt: HostRuntime) -> Result<(), Fail> {
     let alloc = rt.alloc();

@@ -227,13 +227,13 @@ fn refusing_office(
 enum Sending {
     /// RETR was answered `-ERR store failed`, and the connection goes on.
     Refused,
-    /// The connection was ended behind a beginning of the reply, and the maildrop is free.
+    /// The connection was ended after a beginning of the reply, and the maildrop is free.
     CutOff,
     /// The whole reply came.
     Whole,
 }
 
-/// Answers `sending` where all is right, and else fails.
+/// Answers `sending` if all is right, and else fails.
 fn told(is_right: bool, sending: Sending) -> Result<Sending, Fail> {
     if is_right {
         Ok(sending)

@@ -63,7 +63,7 @@ type Wrong = &'static str;
 /// What a test says whose own memory is refused, and not an event's.
 const OWN: Wrong = "error: OutOfMemory";
 
-/// The replies where the store refused a call: to a QUIT, and to any other line.
+/// The replies if the store refused a call: to a QUIT, and to any other line.
 static QUIT_FAILED: &[u8] = b"-ERR some deleted messages not removed\r\n";
 
 static LINE_FAILED: &[u8] = b"-ERR store failed\r\n";
@@ -101,7 +101,7 @@ fn expect(holds: bool, wrong: Wrong) -> Result<(), Wrong> {
     if holds { Ok(()) } else { Err(wrong) }
 }
 
-/// Puts an outcome behind a text, as replay prints it.
+/// Puts an outcome after a text, as replay prints it.
 fn put(alloc: Global, text: &mut Vec<u8>, outcome: &Outcome) -> Result<(), Wrong> {
     match tell(alloc, text, outcome) {
         Ok(()) => Ok(()),

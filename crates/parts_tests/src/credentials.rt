@@ -40,7 +40,7 @@ static MD5: [(&str, &str); 7] = [
 ];
 
 /// Fails unless a text has this MD5 digest, as the timestamp before an empty secret and as the
-/// secret behind an empty timestamp.
+/// secret after an empty timestamp.
 fn expect_md5(alloc: Global, text: &str, want: &str) -> Result<(), Fail> {
     expect_digits(alloc, &apop_digest(text.as_bytes(), b""), want)?;
     expect_digits(alloc, &apop_digest(b"", text.as_bytes()), want)
@@ -86,7 +86,7 @@ fn is_by_secret(shared: &Credential, mrose: &Name, digest: [u8; 16]) -> bool {
         && !shared.admits(mrose, STAMP, &Proof::Pass(b"tanstaaf"))
 }
 
-/// Whether the password `s3 cret` admits ann, but not with a space behind it, not another clerk,
+/// Whether the password `s3 cret` admits ann, but not with a space after it, not another clerk,
 /// and not as a secret.
 fn is_by_password(kept: &Credential, ann: &Name, mrose: &Name) -> bool {
     let digest = apop_digest(STAMP, b"s3 cret");

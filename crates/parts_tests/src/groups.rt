@@ -68,7 +68,7 @@ fn policies_of_groups_and_rules(rt: HostRuntime) -> Result<(), Fail> {
     Ok(())
 }
 
-/// Puts group `number`, of `members` members, behind a text.
+/// Puts group `number`, of `members` members, after a text.
 fn put_group(text: &mut String, number: usize, members: usize) -> Result<(), AllocError> {
     write!(text, "[[group]]\nname = \"g{number}\"\nmembers = [\"c0\"")?;
     for member in 1..members {
@@ -98,7 +98,7 @@ fn a_hundred_groups_of_two_hundred(rt: HostRuntime) -> Result<(), Fail> {
 }
 
 /// Fails unless a text of `groups` groups of `members` members has the fault `want`, or is read
-/// where `want` is `read`.
+/// if `want` is `read`.
 fn expect_of(alloc: Global, groups: usize, members: usize, want: &str) -> Result<(), Fail> {
     let text = text_of(alloc, groups, members)?;
     match Policy::read(alloc, text.as_str()) {
@@ -115,7 +115,7 @@ fn one_group_or_member_more(rt: HostRuntime) -> Result<(), Fail> {
     expect_of(rt.alloc(), 2, 201, "group 1: GroupMembers")
 }
 
-/// Whether a policy is written behind a text, or nothing of it where memory is refused.
+/// Whether a policy is written after a text, or nothing of it if memory is refused.
 fn is_written_or_not(alloc: Global, policy: &Policy) -> bool {
     let mut text = Vec::new(alloc);
     match policy.write(&mut text) {

@@ -70,7 +70,7 @@ fn is_read(line: &[u8], command: &Command<'_>) -> bool {
     matches!(reading(line), Ok(c) if c == *command)
 }
 
-/// Whether the line that is shown, with spaces behind it, is the same command as `line`.
+/// Whether the line that is shown, with spaces after it, is the same command as `line`.
 fn is_same(shown: &[u8], line: &[u8]) -> bool {
     match reading(line) {
         Ok(command) => is_read(shown, &command),
@@ -78,7 +78,7 @@ fn is_same(shown: &[u8], line: &[u8]) -> bool {
     }
 }
 
-/// Whether a cutter shows this command or, where it may not be read, that the line is too long.
+/// Whether a cutter shows this command or, if it may not be read, that the line is too long.
 fn shows(cutter: &Cutter, line: &[u8], is_read: bool) -> bool {
     match cutter.line() {
         Some(Cut::Line(shown)) => is_read && is_same(shown, line),
@@ -110,7 +110,7 @@ fn is_limited(line: &[u8]) -> bool {
     true
 }
 
-/// How many octets the password has on a PASS line of `octets` octets with its end; 0 where it
+/// How many octets the password has on a PASS line of `octets` octets with its end; 0 if it
 /// isn't read.
 fn password_len(fill: u8, end: &[u8], octets: usize) -> usize {
     let stream = filled(b"PASS ", fill, end, octets);
@@ -134,7 +134,7 @@ fn line_length_limit(rt: HostRuntime) {
     assert_eq!(rt; password_len(b'x', b"\r\n", 256), 0);
 }
 
-/// Lines of each keyword whose arguments don't fit: missing, one too many, behind two spaces, or of
+/// Lines of each keyword whose arguments don't fit: missing, one too many, after two spaces, or of
 /// another form.
 static BAD_ARGUMENTS: [(Keyword, &str); 13] = [
     (

@@ -1,4 +1,4 @@
-//! What no clause says: that the calls succeed where there is memory, the sample policy, and the
+//! What no clause says: that the calls succeed if there is memory, the sample policy, and the
 //! lanes of a large one. The faults of texts are tested by tools/transcripts.
 use creds::Name;
 use policy::{Action, Actions, Clerks, Decision, Effect, Pattern, Policy, PolicyFault, Rule};
@@ -72,7 +72,7 @@ class = "*"
 actions = ["open"]
 "#;
 
-/// Whether a policy is written behind a text, or nothing of it where memory is refused.
+/// Whether a policy is written after a text, or nothing of it if memory is refused.
 fn is_written_or_not(alloc: Global, policy: &Policy) -> bool {
     let mut text = Vec::new(alloc);
     let before = match text.push(b'#') {

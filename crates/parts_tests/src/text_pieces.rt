@@ -9,7 +9,7 @@ fn kept(alloc: Global, text: &[u8]) -> Result<MailText, TextFault> {
     canon(alloc, text)
 }
 
-/// Stuffs a piece through a buffer of at least two octets, and puts it behind `sent`.
+/// Stuffs a piece through a buffer of at least two octets, and puts it after `sent`.
 fn send_piece(
     stuffer: &mut Stuffer,
     sent: &mut Vec<u8>,
@@ -82,7 +82,7 @@ fn line_end_over_the_edge_of_a_page(rt: HostRuntime) -> Result<(), Fail> {
     Ok(())
 }
 
-/// Puts those octets of a piece that TOP sends behind `sent`.
+/// Puts those octets of a piece that TOP sends after `sent`.
 fn put_part(cut: &mut TopCut, sent: &mut Vec<u8>, piece: &[u8]) -> Result<(), AllocError> {
     let octets = cut.feed(piece);
     sent.extend_from_slice(&piece[..octets])

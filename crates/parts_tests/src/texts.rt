@@ -66,7 +66,7 @@ fn has_no_end(alloc: Global, sent: &[u8]) -> Result<bool, Fail> {
     Ok(unstuff(alloc, sent)?.is_none())
 }
 
-/// Whether this text is found in what was sent, and ends behind `end` octets.
+/// Whether this text is found in what was sent, and ends after `end` octets.
 fn ends_at(alloc: Global, sent: &[u8], text: &[u8], end: usize) -> Result<bool, Fail> {
     match unstuff(alloc, sent)? {
         Some((read, octets)) => Ok(read.as_slice() == text && octets == end),
@@ -100,7 +100,7 @@ fn is_kept_or_refused(alloc: Global, text: &[u8], wanted: &[u8]) -> bool {
     }
 }
 
-/// Whether the text is put behind what was sent, or memory is refused and what was sent is as
+/// Whether the text is put after what was sent, or memory is refused and what was sent is as
 /// before.
 fn is_stuffed_or_refused(alloc: Global, text: &[u8], wanted: &[u8]) -> bool {
     let mut sent = Vec::new(alloc);
@@ -112,7 +112,7 @@ fn is_stuffed_or_refused(alloc: Global, text: &[u8], wanted: &[u8]) -> bool {
     }
 }
 
-/// Whether this text is found in what was sent, and ends behind `end` octets, or memory is refused.
+/// Whether this text is found in what was sent, and ends after `end` octets, or memory is refused.
 fn is_unstuffed_or_refused(alloc: Global, sent: &[u8], text: &[u8], end: usize) -> bool {
     match unstuff(alloc, sent) {
         Ok(Some((read, octets))) => read.as_slice() == text && octets == end,

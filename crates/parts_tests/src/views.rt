@@ -213,7 +213,7 @@ fn marked(alloc: Global, policy: &Policy) -> Result<Session, Fail> {
     }
 }
 
-/// Bob's rules behind one that lets nobody remove anything from `orders`.
+/// Bob's rules after one that lets nobody remove anything from `orders`.
 fn frozen(alloc: Global) -> Result<Policy, Fail> {
     let text = format!(in alloc; "{FREEZE}{RULES}")?;
     Ok(Policy::read(alloc, &text)?)

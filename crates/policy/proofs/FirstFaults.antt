@@ -105,7 +105,7 @@ groups_none n before (item d ds) f h =
 
 -- ---- the rules before it
 
--- of items that are read from number k on, behind other rules
+-- of items that are read from number k on, after other rules
 record FirstFrom (groups : List Group) (k : ℕ) (before : List Rule) (ds : Items) (m : ℕ) (f : PolicyFault) : Type 0 where
   more : List Rule
   number : m ≡ k + length more

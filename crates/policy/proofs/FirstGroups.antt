@@ -89,7 +89,7 @@ rules_none groups n before (item d ds) f h =
 
 -- ---- the groups before it
 
--- of items that are read from number k on, behind other groups
+-- of items that are read from number k on, after other groups
 record FirstFrom (k : ℕ) (before : List Group) (ds : Items) (m : ℕ) (f : PolicyFault) : Type 0 where
   more : List Group
   number : m ≡ k + length more

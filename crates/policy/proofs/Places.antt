@@ -83,7 +83,7 @@ by_parts (clerks.MembersOf a) (clerks.MembersOf b) Any (Is z) = refl
 by_parts (clerks.MembersOf a) (clerks.MembersOf b) (Is y) Any = refl
 by_parts (clerks.MembersOf a) (clerks.MembersOf b) (Is y) (Is z) = refl
 
--- keys tie where they are the same
+-- keys tie if they are the same
 is_eq-key_cmp : (k q : Key) → is_eq (key_cmp k q) ≡ (same_clerks k.clerk q.clerk && same_pattern k.maildrop q.maildrop)
 is_eq-key_cmp k q =
     ap is_eq (by_parts k.clerk q.clerk k.maildrop q.maildrop)

@@ -114,7 +114,7 @@ pub actions_of-some : (d : Data) (more : Actions) → actions_of d ≡ Some more
 actions_of-some d more h =
     let p = and_then-some actions_of_items (as_array d) more h in actions_of_items-listed p.0 more p.2
 
--- ---- rules behind rules
+-- ---- rules after rules
 
 -- one of another name
 list_any-push : {A : Type 0} (p : A → Bool) (xs : List A) (x : A) → list_any p xs ≡ false → p x ≡ false → list_any p (xs ++ x ∷ []) ≡ false

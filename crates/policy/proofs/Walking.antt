@@ -19,7 +19,7 @@ use Rattle.policy.specs.Index.{same_clerks, same_pattern, key_of, has_key, place
 
 -- ---- places
 
--- a place from n on, and not behind the end
+-- a place from n on, and not after the end
 pub place_from-ge : (p : Rule → Bool) (n : ℕ) (xs : List Rule) → n ≤ place_from p n xs
 place_from-ge p n [] = omega arith
 place_from-ge p n (x ∷ xs) = at (p x) (place_from-ge p (n + 1) xs)
@@ -146,7 +146,7 @@ key_is k r e =
     let both = and_parts (same_clerks r.clerk k.clerk) (same_pattern r.maildrop k.maildrop) e in
     rw (same_clerks-is r.clerk k.clerk both.0, same_patterns r.maildrop k.maildrop both.1) refl
 
--- the walk stands at a place of the key, or behind the end, and no rule before it is the one that is looked for
+-- the walk stands at a place of the key, or after the end, and no rule before it is the one that is looked for
 pub record Walks (h q : Rule → Bool) (rules : List Rule) (place : ℕ) : Type 0 where
   pub here : place_from h place (drop place rules) ≡ place
   pub same : place_from (λ r. h r && q r) 0 rules ≡ place_from (λ r. h r && q r) place (drop place rules)
@@ -173,7 +173,7 @@ next_of : (k : Key) (r : Rule) (rules : List Rule) (place next : ℕ) → has_ke
 next_of k r rules place next e own n =
     n ∙ ap (λ (q : Key). place_from (has_key q) (place + 1) (drop (place + 1) rules)) (ap key_of (sym own) ∙ key_is k r e)
 
--- what the index has behind a place
+-- what the index has after a place
 next_place : (rules : List Rule) (i : Index) (place : ℕ) (r : Rule) (x : ℕ) → IsIndexOf rules i → place < length rules → x ≡ get_or i.next.items place x
     → x ≡ place_from (has_key (key_of (get_or rules place r))) (place + 1) (drop (place + 1) rules)
 next_place rules i place r x l lt e =

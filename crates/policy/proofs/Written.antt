@@ -3,7 +3,7 @@ use Rattle.std.proofs.Common.{◌≡◌, ℕ, ◌+◌, ◌<◌, List, [], ◌∷
 use Rattle.std.proofs.lemmas.List.{map-append, take_more}
 use Rattle.policy.specs.WrittenText.{joined}
 
--- texts behind others
+-- texts after others
 joined-both : (between x : List ℕ) (xs : List (List ℕ)) (y : List ℕ) (ys : List (List ℕ)) → joined between ((x ∷ xs) ++ y ∷ ys) ≡ joined between (x ∷ xs) ++ between ++ joined between (y ∷ ys)
 joined-both between x [] y ys = refl
 joined-both between x (z ∷ xs) y ys = rw (joined-both between z xs y ys) (simp append_assoc)

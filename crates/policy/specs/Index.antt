@@ -39,8 +39,8 @@ key_of r = record { clerk = r.clerk; maildrop = r.maildrop }
 abbrev pub has_key : Key → Rule → Bool
 has_key k r = same_clerks r.clerk k.clerk && same_pattern r.maildrop k.maildrop
 
--- the place of the first rule that passes the test, counted from n; the place behind the last rule
--- where none does
+-- the place of the first rule that passes the test, counted from n; the place after the last rule
+-- if none does
 abbrev pub place_from : (Rule → Bool) → ℕ → List Rule → ℕ
 place_from p n [] = n
 place_from p n (r ∷ rs) = cond (p r) n (place_from p (n + 1) rs)

@@ -1,5 +1,5 @@
 -- Where in a policy's text its first fault lies: a key of the group or the rule that the fault
--- numbers. Where a fault may be about several keys it is the first by which PolicyText has it.
+-- numbers. If a fault may be about several keys it is the first by which PolicyText has it.
 use Rattle.std.specs.Prelude.{◌≡◌, ℕ, zero, suc, Bool, true, false, ◌&&◌, ◌+◌, nat_le, nat_lt, List}
 use Rattle.std.specs.Prelude.{[], ◌∷◌, length, codes, Option, Some, None, option_and_then, is_some}
 use Rattle.std.specs.Prelude.{if◌then◌else◌}
@@ -73,7 +73,7 @@ abbrev pub of_items : Items → Option (List (List ℕ)) → Place
 of_items ds None = Member (names_before ds)
 of_items ds (Some names) = of_names names
 
--- of what `members` is: itself, where it is no array
+-- of what `members` is: itself, if it is no array
 abbrev pub of_members : Option Items → Place
 of_members None = TheMembers
 of_members (Some ds) = of_items ds (names_from [] ds)
@@ -128,7 +128,7 @@ abbrev pub in_table : (Members → PolicyFault → Place) → Option Members →
 in_table within None f = Text
 in_table within (Some ms) f = within ms f
 
--- of a fault that no group and no rule has: `group`, where that is no array of tables; else `rule`
+-- of a fault that no group and no rule has: `group`, if that is no array of tables; else `rule`
 abbrev pub of_arrays : Members → PolicyFault → Place
 of_arrays ms TooManyGroups = Groups
 of_arrays ms NotToml =

@@ -27,7 +27,7 @@ pub record Policy : Type 0 where
 
 -- ---- the decision
 
--- the name that is told where no rule matches
+-- the name that is given if no rule matches
 abbrev pub default_rule : List ℕ
 default_rule = codes "default"
 
@@ -62,7 +62,7 @@ fits_class Open wanted class = true
 fits_class Read wanted class = fits wanted class
 fits_class Remove wanted class = fits wanted class
 
--- a rule matches where it lists the action and is about the clerk, the maildrop and the class
+-- a rule matches if it lists the action and is about the clerk, the maildrop and the class
 abbrev pub matches : List Group → (clerk maildrop class : List ℕ) → Action → Rule → Bool
 matches groups clerk maildrop class action r =
     lists r.actions action && fits_clerk groups r.clerk clerk && fits r.maildrop maildrop && fits_class action r.class class
@@ -72,7 +72,7 @@ abbrev pub allows : Effect → Bool
 allows Allow = true
 allows Deny = false
 
--- a rule decides by its effect; where there is none, the answer is no
+-- a rule decides by its effect; if there is none, the answer is no
 abbrev pub decision_of : Option Rule → Decision
 decision_of None = record { allowed = false; rule = default_rule }
 decision_of (Some r) = record { allowed = allows r.effect; rule = r.name }
@@ -113,7 +113,7 @@ abbrev pub lists_any : Actions → Bool
 lists_any listed = listed.open || listed.read || listed.remove
 
 -- a rule's names have their form, its own isn't `default`, it lists an action, and it is about any
--- class where it lists `open`
+-- class if it lists `open`
 abbrev pub is_sound_rule : Rule → Bool
 is_sound_rule r =
     is_name r.name && not (bytes_eq r.name default_rule) && are_clerks r.clerk && is_pattern r.maildrop && is_pattern r.class
@@ -155,7 +155,7 @@ are_sound_groups groups = list_all is_sound_group groups && are_distinct same_gr
 abbrev pub has_group : List Group → (name : List ℕ) → Bool
 has_group groups name = list_any (λ g. bytes_eq g.name name) groups
 
--- where the clerks are a group's members, that group is there
+-- if the clerks are a group's members, that group is there
 abbrev pub are_known : List Group → Clerks → Bool
 are_known groups clerks.Any = true
 are_known groups (clerks.Is name) = true
@@ -169,7 +169,7 @@ know_groups groups rules = list_all (λ r. are_known groups r.clerk) rules
 abbrev pub is_sound_policy : Policy → Bool
 is_sound_policy p = are_sound_groups p.groups && are_sound_rules p.rules && know_groups p.groups p.rules
 
--- the policy of these groups and rules, where it is sound
+-- the policy of these groups and rules, if it is sound
 abbrev pub policy_with : List Group → List Rule → Option Policy
 policy_with groups rules = if is_sound_policy (record { groups = groups; rules = rules }) then Some (record { groups = groups; rules = rules }) else None
 

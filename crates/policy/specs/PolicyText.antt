@@ -26,12 +26,12 @@ pub use Rattle.policy.specs.WrittenText.{fault_text, policy_text}
 
 -- the first fault ends the reading
 infixl 10 ◌>>=◌
--- two steps of reading; where the first has a fault, that is the answer
+-- two steps of reading; if the first has a fault, that is the answer
 abbrev pub ◌>>=◌ : {A B : Type 0} → Result A PolicyFault → (A → Result B PolicyFault) → Result B PolicyFault
 Ok x >>= f = f x
 Err e >>= f = Err e
 
--- the value, or this fault where there is none
+-- the value, or this fault if there is none
 abbrev pub value_or : {A : Type 0} → Option A → PolicyFault → Result A PolicyFault
 value_or (Some x) e = Ok x
 value_or None e = Err e
@@ -243,7 +243,7 @@ items_len (item d ds) = 1 + items_len ds
 abbrev pub tables_of : Items → Option Items
 tables_of ds = if are_tables ds then Some ds else None
 
--- the array of tables at a key; no items where the key is absent
+-- the array of tables at a key; no items if the key is absent
 abbrev pub tables_at : Option Data → Option Items
 tables_at None = Some no_items
 tables_at (Some d) = option_and_then tables_of (as_array d)

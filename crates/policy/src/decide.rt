@@ -12,7 +12,7 @@ use creds::Name;
 pub struct Decision {
     /// Whether the action is allowed.
     pub allowed: bool,
-    /// The name of the rule that decides, or `default` where none matches.
+    /// The name of the rule that decides, or `default` if none matches.
     pub rule: Name,
 }
 
@@ -75,7 +75,7 @@ pub(crate) fn class_fits(action: Action, pattern: &Pattern, class: &Name) -> boo
     }
 }
 
-/// What the rule at the place, counted from 0, decides; a denial by `default` where there is none.
+/// What the rule at the place, counted from 0, decides; a denial by `default` if there is none.
 pub(crate) fn decided_at(rules: &[Rule], place: usize) -> Decision
     ensures { result ≡ decision_of (slice_get rules.now place) }
 {

@@ -8,7 +8,7 @@ use std::fmt;
 /// Why a text is no policy: its first fault, and the number, counted from 1, of the group or the
 /// rule that has it.
 ///
-/// It prints as `group N: NAME` or `rule N: NAME`, and as `NAME` alone where no group or rule has
+/// It prints as `group N: NAME` or `rule N: NAME`, and as `NAME` alone if no group or rule has
 /// the fault.
 #[derive(Clone, Copy, PartialEq, Eq)]
 pub enum PolicyFault {
@@ -74,7 +74,7 @@ impl PolicyFault {
     }
 
     /// The number of the rule that has the fault, counted from 1; 0 for an unknown top key; `None`
-    /// where no rule has it.
+    /// if no rule has it.
     pub fn rule_number(&self) -> Option<usize>
         ensures { result ≡ fault_number self.now }
     {
@@ -98,7 +98,7 @@ impl PolicyFault {
         }
     }
 
-    /// The number of the group that has the fault, counted from 1; `None` where no group has it.
+    /// The number of the group that has the fault, counted from 1; `None` if no group has it.
     pub fn group_number(&self) -> Option<usize>
         ensures { result ≡ group_number self.now }
     {

@@ -2,13 +2,13 @@
 //! bodies.
 ghost use Rattle.policy.specs.FirstFault.{NumbersTheFirstFault, NumbersTheFirstGroup};
 
-/// Where a fault has a rule's number, all groups and all rules before that rule are read, and the
+/// If a fault has a rule's number, all groups and all rules before that rule are read, and the
 /// rule that has the number has the fault.
 pub fn numbers_the_first_fault()
     ensures { NumbersTheFirstFault }
 {}
 
-/// Where a fault has a group's number, all groups before that group are read, and the group that
+/// If a fault has a group's number, all groups before that group are read, and the group that
 /// has the number has the fault.
 pub fn numbers_the_first_group()
     ensures { NumbersTheFirstGroup }

@@ -84,10 +84,10 @@ impl Policy {
 
     /// Reads a policy's text, TOML 1.0 with the arrays of tables `group` and `rule`.
     ///
-    /// It tells the first fault in this order: `NotToml`, `UnknownKey(0)` for another top key,
+    /// It reports the first fault in this order: `NotToml`, `UnknownKey(0)` for another top key,
     /// `TooMany`, `TooManyGroups`, then the faults of the groups by number, then those of the rules
     /// by number. A group or a rule with several faults has the first in the order of
-    /// `PolicyFault`'s variants. `NoMemory` may come instead where memory runs out.
+    /// `PolicyFault`'s variants. `NoMemory` may come instead if memory runs out.
     pub fn read(alloc: Global, text: &str) -> Result<Policy, PolicyFault>
         ensures ok { IfOk result (λ policy. rules_of text.now ≡ Ok policy) }
         ensures fault { IfErr result (λ e. e ≢ PolicyFault.NoMemory → rules_of text.now ≡ Err e) }
@@ -99,7 +99,7 @@ impl Policy {
         }
     }
 
-    /// Reads a policy's text as `read` does, and tells where its first fault lies too.
+    /// Reads a policy's text as `read` does, and says where its first fault lies too.
     pub fn read_placed(alloc: Global, text: &str) -> Result<Policy, PlacedFault>
         ensures ok { IfOk result (λ policy. rules_of text.now ≡ Ok policy) }
         ensures fault { IfErr result (λ e. e.fault ≢ PolicyFault.NoMemory
@@ -115,7 +115,7 @@ impl Policy {
         }
     }
 
-    /// The policy of these rules, in this order, without groups. `None` where they aren't sound:
+    /// The policy of these rules, in this order, without groups. `None` if they aren't sound:
     /// more than 1,000, two of one name, or one that no text without groups could spell. An `Err`
     /// is want of memory.
     pub fn from_rules(rules: Vec<Rule>) -> Result<Option<Policy>, AllocError>
@@ -124,7 +124,7 @@ impl Policy {
         Policy::from_parts(Vec::new(*rules.allocator()), rules)
     }
 
-    /// The policy of these groups and rules, in this order. `None` where they aren't sound: more
+    /// The policy of these groups and rules, in this order. `None` if they aren't sound: more
     /// than 100 groups or 1,000 rules, two groups or two rules of one name, a group or a rule that
     /// no text could spell, or a rule that names a missing group. An `Err` is want of memory.
     pub fn from_parts(groups: Vec<Group>, rules: Vec<Rule>) -> Result<Option<Policy>, AllocError>

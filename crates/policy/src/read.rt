@@ -69,7 +69,7 @@ fn read_pattern(value: &Value) -> Option<Pattern>
     Name::read(text.as_bytes()).map(Pattern::Is)
 }
 
-/// The text behind its first octet, if that is `@`.
+/// The text after its first octet, if that is `@`.
 fn behind_at(text: &[u8]) -> Option<&[u8]>
     ensures { MatchOption result (bytes_eq (take 1 text.now) (codes "@") ≡ false)
         (λ name. (bytes_eq (take 1 text.now) (codes "@") ≡ true) × (name.now ≡ drop 1 text.now)) }

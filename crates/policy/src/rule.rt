@@ -75,7 +75,7 @@ pub struct Actions {
 /// A rule. It takes no memory of its own: its names hold their texts in place.
 #[derive(Clone, Copy, PartialEq, Eq)]
 pub struct Rule {
-    /// The rule's name, which denials and explanations tell.
+    /// The rule's name, which denials and explanations give.
     pub name: Name,
     /// What it decides.
     pub effect: Effect,
@@ -83,7 +83,7 @@ pub struct Rule {
     pub clerk: Clerks,
     /// Which maildrops it is about.
     pub maildrop: Pattern,
-    /// Which classes of messages it is about; `Any` where it lists `open`.
+    /// Which classes of messages it is about; `Any` if it lists `open`.
     pub class: Pattern,
     /// The actions that it decides, at least one of them.
     pub actions: Actions,

@@ -19,7 +19,7 @@ fn is_about_action(rule: &Rule, class: &Name, action: Action) -> bool
 }
 
 /// `start` is the place of a key's first rule. The place of the first rule of that key that is
-/// about the action and the class; the number of rules where there is none.
+/// about the action and the class; the number of rules if there is none.
 fn first_of_key(index: &Index, rules: &[Rule], start: usize, class: &Name, action: Action) -> usize
     requires { IsIndexOf rules.now index.now }
     ensures { (k : Key) → start ≡ place_from (has_key k) 0 rules.now
@@ -35,7 +35,7 @@ fn first_of_key(index: &Index, rules: &[Rule], start: usize, class: &Name, actio
     place
 }
 
-/// The place of the first rule that matches and names no group; the number of rules where none
+/// The place of the first rule that matches and names no group; the number of rules if none
 /// does.
 pub(crate) fn first_by_name(
     index: &Index,
@@ -55,7 +55,7 @@ pub(crate) fn first_by_name(
         .min(first_of_key(index, rules, starts.all, class, action))
 }
 
-/// The place of the first rule about one group that matches; the number of rules where none does.
+/// The place of the first rule about one group that matches; the number of rules if none does.
 fn first_of_group(
     index: &Index,
     rules: &[Rule],
@@ -74,7 +74,7 @@ fn first_of_group(
 }
 
 /// The place of the first rule that matches and names one of the clerk's groups; the number of
-/// rules where none does.
+/// rules if none does.
 pub(crate) fn first_by_group(
     index: &Index,
     rules: &[Rule],

@@ -177,7 +177,7 @@ fn rules_text(alloc: Global, rules: &[Rule]) -> Result<Vec<u8>, AllocError>
     Ok(text)
 }
 
-/// What stands between the groups' text and the rules' text: an LF where there are both.
+/// What stands between the groups' text and the rules' text: an LF if there are both.
 fn gap(groups: &[Group], rules: &[Rule]) -> &'static [u8]
     ensures { joined (codes "\n") (map group_text groups.now ++ map rule_text rules.now)
         ≡ joined (codes "\n") (map group_text groups.now) ++ result.now ++ joined (codes "\n") (map rule_text rules.now) }

@@ -2,8 +2,7 @@
 
 use crate::version::{FOOT, VERSION};
 use clap::builder::ValueParser;
-use clap::{Arg, ArgAction, ArgMatches, Command, value_parser};
-use session::Removals;
+use clap::{Arg, ArgAction, Command, value_parser};
 use std::alloc::{AllocError, Global};
 
 /// `--NAME VALUE`.
@@ -32,12 +31,10 @@ fn removals<'a>(alloc: Global) -> Arg<'a> {
         .value_parser(ValueParser::Names(&["dele", "quit"]))
 }
 
-/// When a command's removals are judged.
-pub fn removals_of(options: &ArgMatches<'_>) -> Removals {
-    match options.get_str("removals") {
-        Some("quit") => Removals::JudgedAtQuit,
-        _ => Removals::JudgedAtDele,
-    }
+/// `--admin-site NAME`: the administration's site.
+fn admin_site<'a>(alloc: Global) -> Arg<'a> {
+    let help = "There only requests to this host or machine, and of no other site's page, are done";
+    option(alloc, "admin-site", "NAME", help)
 }
 
 /// `--store PATH`: the file of the store.
@@ -45,17 +42,12 @@ fn store<'a>(alloc: Global, help: &'a str) -> Arg<'a> {
     option(alloc, "store", "PATH", help)
 }
 
-/// `--verbose`: what a fault is about is told too.
+/// `--verbose`: what a fault is about is printed too.
 fn verbose<'a>(alloc: Global) -> Arg<'a> {
     Arg::new(alloc, "verbose")
         .long("verbose")
         .action(ArgAction::SetTrue)
         .help("Says on standard error what a fault is about")
-}
-
-/// Whether a command is to say what its faults are about.
-pub fn is_verbose(options: &ArgMatches<'_>) -> bool {
-    options.get_flag("verbose")
 }
 
 /// A subcommand with these arguments and `--verbose`.
@@ -175,20 +167,23 @@ fn patience<'a>(alloc: Global) -> Result<Vec<Arg<'a>>, AllocError> {
     Ok(arguments)
 }
 
-/// `[--log] [--log-message-ids]`: what is logged.
+/// `[--log] [--log-message-ids] [--log-reads]`: what is logged.
 fn logging<'a>(alloc: Global) -> Result<Vec<Arg<'a>>, AllocError> {
     let log = "Writes a line for each event to standard error";
     let ids = "With --log: a deposit's line has the Message-ID of the message";
+    let reads = "With --log: a line for each RETR that begins to send a message";
     let arguments = vec![in alloc;
         flag(alloc, "log", log),
         flag(alloc, "log-message-ids", ids),
+        flag(alloc, "log-reads", reads),
     ]?;
     Ok(arguments)
 }
 
-/// `serve --store PATH --spool DIR [--listen IPV4] [--pop-port N] [--admin-port N] [--host NAME]
-/// [--idle N] [--wait N] [--login-seconds N] [--full-house-seconds N] [--slow-guesses]
-/// [--proxy-protocol] [--removals WHEN] [--turns N] [--log] [--log-message-ids] [--verbose]`.
+/// `serve --store PATH --spool DIR [--listen IPV4] [--pop-port N] [--admin-port N]
+/// [--admin-site NAME] [--host NAME] [--idle N] [--wait N] [--login-seconds N]
+/// [--full-house-seconds N] [--slow-guesses] [--proxy-protocol] [--removals WHEN] [--turns N]
+/// [--log] [--log-message-ids] [--log-reads] [--verbose]`.
 fn serve<'a>(alloc: Global) -> Result<Command<'a>, AllocError> {
     let listen = option(
         alloc,
@@ -216,6 +211,7 @@ fn serve<'a>(alloc: Global) -> Result<Command<'a>, AllocError> {
         listen.default_value("127.0.0.1"),
         port.default_value("1110").value_parser(value_parser!(u16)),
         admin.default_value("1111").value_parser(value_parser!(u16)),
+        admin_site(alloc),
         host(alloc),
         removals(alloc),
         turns.value_parser(value_parser!(u64)),

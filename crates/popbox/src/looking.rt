@@ -1,37 +1,38 @@
 //! `popbox review-policy`: a policy is looked at before it is in force.
 
-use crate::command_line::is_verbose;
+use crate::options::ReviewPolicyOptions;
 use crate::stored::read_store;
-use causes::{STANDARD_INPUT, Watched, tell_bad_policy, tell_refusal, tell_unread};
-use clap::ArgMatches;
-use converse::Fault;
+use causes::{Watched, tell_bad_policy, tell_refusal, tell_unread};
 use converse::review_policy::{
-    review_change, review_change_in_store, review_file, review_in_store,
+    review_alone, review_change, review_change_in_store, review_in_store,
 };
+use converse::{Fault, Noted};
 use creds::Name;
 use policy::Policy;
-use review::{Choice, Format, exchanged, renamed};
+use review::{Choice, exchanged, renamed};
 use std::alloc::Global;
-use std::io::{BufWriter, Read, Write};
+use std::io::{BufWriter, Write};
 use std::{fs, io, str};
 
 /// Runs `popbox review-policy`: prints to standard output what the policy of the named file means.
 /// The files of both policies are read first, to their ends, the new one before the old one.
 pub fn run_review<E: Write>(
     rt: &HostRuntime,
-    options: &ArgMatches<'_>,
+    options: &ReviewPolicyOptions<'_>,
     err: &mut E,
 ) -> Result<u8, Fault> {
     let Some(choice) = choice_of(options) else {
         let _ = writeln!(err, "popbox: bad name");
         return Ok(1);
     };
-    let new = match read_new(rt, options) {
+    let new = match options.new.read(rt) {
         Ok(text) => text,
-        Err(error) => return Ok(tell_unread(err, is_verbose(options), new_name(options), &error)),
+        Err(error) => {
+            return Ok(tell_unread(err, options.is_verbose, options.new.name(), &error));
+        }
     };
-    let Some(path) = options.get_str("against") else {
-        return review_alone(rt, new.as_slice(), &choice, options, err);
+    let Some(path) = options.against else {
+        return review_new(rt, new.as_slice(), &choice, options, err);
     };
     match fs::read(rt, path) {
         Ok(old) => review_both(
@@ -43,139 +44,102 @@ pub fn run_review<E: Write>(
             options,
             err,
         ),
-        Err(error) => Ok(tell_unread(err, is_verbose(options), path, &error)),
+        Err(error) => Ok(tell_unread(err, options.is_verbose, path, &error)),
     }
 }
 
-/// What the review is about; `None` where `--clerk` or `--maildrop` isn't a name.
-fn choice_of(options: &ArgMatches<'_>) -> Option<Choice> {
-    let clerk = match options.get_str("clerk") {
+/// What the review is about; `None` if `--clerk` or `--maildrop` isn't a name.
+fn choice_of(options: &ReviewPolicyOptions<'_>) -> Option<Choice> {
+    let clerk = match options.clerk {
         Some(text) => Some(Name::read(text.as_bytes())?),
         None => None,
     };
-    let maildrop = match options.get_str("maildrop") {
+    let maildrop = match options.maildrop {
         Some(text) => Some(Name::read(text.as_bytes())?),
         None => None,
     };
     Some(Choice {
         clerk,
         maildrop,
-        format: format_of(options),
-        only_changes: options.get_str("only").is_some(),
+        format: options.format,
+        only_changes: options.only_changes,
     })
 }
 
-/// How the review is written.
-fn format_of(options: &ArgMatches<'_>) -> Format {
-    match options.get_str("format") {
-        Some("csv") => Format::Csv,
-        Some("html") => Format::Html,
-        Some("json") => Format::Json,
-        _ => Format::Text,
-    }
-}
-
-/// The octets of the new policy's file, or of standard input.
-fn read_new(rt: &HostRuntime, options: &ArgMatches<'_>) -> io::Result<Vec<u8>> {
-    let path = options.get_str("NEW").unwrap_or("");
-    if path != "-" {
-        return fs::read(rt, path);
-    }
-    let mut text = Vec::new(rt.alloc());
-    rt.reader().read_to_end(&mut text)?;
-    Ok(text)
-}
-
-/// What faults call the new policy's file.
-fn new_name<'a>(options: &ArgMatches<'a>) -> &'a str {
-    match options.get_str("NEW") {
-        None | Some("-") => STANDARD_INPUT,
-        Some(path) => path,
-    }
-}
-
-/// Reviews a policy's text, beside the store that is named, where one is.
-fn review_alone<E: Write>(
+/// Reviews a policy's text, beside the store that is named, if one is.
+fn review_new<E: Write>(
     rt: &HostRuntime,
     new: &[u8],
     choice: &Choice,
-    options: &ArgMatches<'_>,
+    options: &ReviewPolicyOptions<'_>,
     err: &mut E,
 ) -> Result<u8, Fault> {
     let alloc: Global = rt.alloc();
     let out = BufWriter::new(alloc, io::writer(rt)).map_err(|_| Fault::OutOfMemory)?;
-    let mut out = Watched::new(out);
-    let mut rest = new;
-    let Some(path) = options.get_str("store") else {
-        let status = review_file(alloc, &mut rest, choice, &mut out, err);
-        tell_why(alloc, err, options, status, new, out.refusal());
+    let mut out = Noted::new(Watched::new(out));
+    let Some(path) = options.store else {
+        let status = review_alone(alloc, new, choice, &mut out, err);
+        tell_why(alloc, err, options, status, new, out.inner.refusal());
         return Ok(status);
     };
-    let stored = match read_store(rt, path, is_verbose(options), err) {
+    let stored = match read_store(rt, path, options.is_verbose, err) {
         Ok(stored) => stored,
         Err(status) => return Ok(status),
     };
     let (before, kept) = (&stored.policy, &stored.kept);
-    let status = review_in_store(alloc, before, kept, &mut rest, choice, &mut out, err);
-    tell_why(alloc, err, options, status, new, out.refusal());
+    let status = review_in_store(alloc, before, kept, new, choice, &mut out, err);
+    tell_why(alloc, err, options, status, new, out.inner.refusal());
     Ok(status)
 }
 
-/// Reviews a policy's text against the old one's, beside the store that is named, where one is.
+/// Reviews a policy's text against the old one's, beside the store that is named, if one is.
 fn review_both<E: Write>(
     rt: &HostRuntime,
     old_name: &str,
     old: &[u8],
     new: &[u8],
     choice: &Choice,
-    options: &ArgMatches<'_>,
+    options: &ReviewPolicyOptions<'_>,
     err: &mut E,
 ) -> Result<u8, Fault> {
     let alloc: Global = rt.alloc();
     let out = BufWriter::new(alloc, io::writer(rt)).map_err(|_| Fault::OutOfMemory)?;
-    let mut out = Watched::new(out);
-    let (mut first, mut rest) = (old, new);
-    let status = match options.get_str("store") {
-        None => review_change(alloc, &mut first, &mut rest, choice, &mut out, err),
-        Some(path) => match read_store(rt, path, is_verbose(options), err) {
-            Ok(stored) => review_change_in_store(
-                alloc,
-                &mut first,
-                &stored.kept,
-                &mut rest,
-                choice,
-                &mut out,
-                err,
-            ),
+    let mut out = Noted::new(Watched::new(out));
+    let status = match options.store {
+        None => review_change(alloc, old, new, choice, &mut out, err),
+        Some(path) => match read_store(rt, path, options.is_verbose, err) {
+            Ok(stored) => {
+                review_change_in_store(alloc, old, &stored.kept, new, choice, &mut out, err)
+            }
             Err(status) => return Ok(status),
         },
     };
-    if is_verbose(options) && status == 1 {
+    if options.is_verbose && status == 1 {
         let _ = tell_bad_policy(alloc, err, old_name, old);
     }
-    tell_why(alloc, err, options, status, new, out.refusal());
-    if is_verbose(options) && status != 1 {
+    tell_why(alloc, err, options, status, new, out.inner.refusal());
+    if options.is_verbose && status != 1 {
         tell_rules(alloc, err, old, new);
     }
     Ok(status)
 }
 
-/// Tells by `--verbose` what a fault of the new policy's text, or of standard output, is about.
+/// Prints by `--verbose` what a fault of the new policy's text, or of standard output, is about.
 fn tell_why<E: Write>(
     alloc: Global,
     err: &mut E,
-    options: &ArgMatches<'_>,
+    options: &ReviewPolicyOptions<'_>,
     status: u8,
     new: &[u8],
     refusal: Option<io::Error>,
 ) {
-    if is_verbose(options) && status == 1 {
-        let _ = tell_bad_policy(alloc, err, new_name(options), new);
+    if options.is_verbose && status == 1 {
+        let _ = tell_bad_policy(alloc, err, options.new.name(), new);
         tell_refusal(err, "standard output", refusal);
     }
 }
 
-/// Tells which rules of the new policy say what a rule of another name said in the old one, which
+/// Prints which rules of the new policy say what a rule of another name said in the old one, which
 /// rules are gone, and which are new.
 fn tell_rules<E: Write>(alloc: Global, err: &mut E, old: &[u8], new: &[u8]) {
     let (Some(old), Some(new)) = (policy_of(alloc, old), policy_of(alloc, new)) else {

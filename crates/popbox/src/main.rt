@@ -4,6 +4,7 @@
 mod command_line;
 mod copies;
 mod looking;
+mod options;
 mod resting;
 mod serve;
 mod store_file;
@@ -14,15 +15,15 @@ use causes::{
     Keeping, STANDARD_INPUT, Watched, tell_bad_line, tell_bad_policy, tell_closed_store, tell_host,
     tell_refusal, tell_stop, tell_unread,
 };
-use clap::ArgMatches;
 use clap::error::ErrorKind;
-use command_line::{is_verbose, make_command, removals_of};
+use command_line::make_command;
 use converse::check_policy::{check_policy, write_policy};
 use converse::script::{ScriptFault, read_script};
 use converse::{Fault, Flushed, Noted, tell_fault};
 use jobs::{Job, Replaying, Talking, open_do_close};
 use journal::FileId;
 use looking::run_review;
+use options::{CheckPolicyOptions, Input, ReplayOptions, ServeOptions, Subcommand, TalkOptions};
 use resting::{run_check, run_export};
 use serve::{note_store, serve_over};
 use sqlite::Wary;
@@ -36,10 +37,10 @@ use std::{env, fs, io};
 use store_file::{is_log_alone, make_file, tell_readers};
 use vault::{PlainVault, Vault, VaultFault};
 
-/// The exit status where the command line can't be read.
+/// The exit status if the command line can't be read.
 const UNREADABLE: u8 = 2;
 
-/// The last line on standard error where the command line can't be read.
+/// The last line on standard error if the command line can't be read.
 const VERBOSE: &str = "With '--verbose' behind a command, a fault is told with what it is about.";
 
 fn main(rt: HostRuntime) -> ExitCode {
@@ -70,7 +71,10 @@ fn run<E: Write>(rt: &HostRuntime, err: &mut E) -> Result<u8, Fault> {
 fn run_words<E: Write>(rt: &HostRuntime, words: &[String], err: &mut E) -> Result<u8, Fault> {
     let command = make_command(rt.alloc())?;
     match command.try_get_matches_from(words) {
-        Ok(matches) => run_subcommand(rt, &matches, err),
+        Ok(found) => match Subcommand::read(&found) {
+            Some(subcommand) => run_subcommand(rt, &subcommand, err),
+            None => Ok(UNREADABLE),
+        },
         Err(error) if error.kind() == ErrorKind::OutOfMemory => Err(Fault::OutOfMemory),
         Err(error) => {
             error.print(rt).map_err(|_| Fault::CannotWrite)?;
@@ -87,26 +91,23 @@ fn run_words<E: Write>(rt: &HostRuntime, words: &[String], err: &mut E) -> Resul
 /// Does what a subcommand asks for.
 fn run_subcommand<E: Write>(
     rt: &HostRuntime,
-    matches: &ArgMatches<'_>,
+    subcommand: &Subcommand<'_>,
     err: &mut E,
 ) -> Result<u8, Fault> {
-    let Some((name, options)) = matches.subcommand() else {
-        return Ok(UNREADABLE);
-    };
-    let done = match name {
-        "replay" => run_replay(rt, options, err),
-        "talk" => run_talk(rt, options, err),
-        "serve" => run_serve(rt, options, err),
-        "review-policy" => run_review(rt, options, err),
-        "export" => run_export(rt, options, err),
-        "check" => run_check(rt, options, err),
-        _ => run_check_policy(rt, options, err),
+    let done = match subcommand {
+        Subcommand::Replay(options) => run_replay(rt, options, err),
+        Subcommand::Talk(options) => run_talk(rt, options, err),
+        Subcommand::Serve(options) => run_serve(rt, options, err),
+        Subcommand::CheckPolicy(options) => run_check_policy(rt, options, err),
+        Subcommand::ReviewPolicy(options) => run_review(rt, options, err),
+        Subcommand::Export(options) => run_export(rt, options, err),
+        Subcommand::Check(options) => run_check(rt, options, err),
     };
     match done {
         Ok(status) => Ok(status),
         Err(fault) => {
-            let host = options.get_str("host").unwrap_or("");
-            Ok(tell_stop(err, is_verbose(options), host, fault))
+            let (is_verbose, host) = (subcommand.is_verbose(), subcommand.host());
+            Ok(tell_stop(err, is_verbose, host, fault))
         }
     }
 }
@@ -115,33 +116,33 @@ fn run_subcommand<E: Write>(
 /// over the store that is named, or over an empty one in memory.
 fn run_replay<E: Write>(
     rt: &HostRuntime,
-    options: &ArgMatches<'_>,
+    options: &ReplayOptions<'_>,
     err: &mut E,
 ) -> Result<u8, Fault> {
-    match options.get_str("SCRIPT") {
-        None | Some("-") => replay_from(rt, rt.reader(), STANDARD_INPUT, options, err),
-        Some(path) => match fs::open(rt, path) {
-            Ok(file) => replay_from(rt, file, path, options, err),
-            Err(error) => Ok(tell_unread(err, is_verbose(options), path, &error)),
+    match options.script {
+        Input::Standard => replay_from(rt, rt.reader(), options, err),
+        Input::File(path) => match fs::open(rt, path) {
+            Ok(file) => replay_from(rt, file, options, err),
+            Err(error) => Ok(tell_unread(err, options.is_verbose, path, &error)),
         },
     }
 }
 
-/// Runs a script, which faults call by this name, and prints to standard output.
+/// Runs a script, and prints to standard output.
 fn replay_from<S: Read + Drop, E: Write>(
     rt: &HostRuntime,
     script: S,
-    name: &str,
-    options: &ArgMatches<'_>,
+    options: &ReplayOptions<'_>,
     err: &mut E,
 ) -> Result<u8, Fault> {
     let out = BufWriter::new(rt.alloc(), io::writer(rt)).map_err(|_| Fault::OutOfMemory)?;
-    if is_verbose(options) {
-        return replay_verbosely(rt, script, out, name, options, err);
+    if options.is_verbose {
+        return replay_verbosely(rt, script, out, options, err);
     }
-    match do_job(rt, replaying(rt, script, out, options), options) {
+    let job = replaying(rt, script, out, options);
+    match do_job(rt, job, options.store, false, err) {
         Ok(left) => Ok(left.status),
-        Err(unopened) => Ok(tell_unopened(rt, err, options, unopened)),
+        Err(status) => Ok(status),
     }
 }
 
@@ -150,38 +151,38 @@ fn replaying<'a, S: Read, W: Write>(
     rt: &HostRuntime,
     script: S,
     out: W,
-    options: &ArgMatches<'a>,
+    options: &ReplayOptions<'a>,
 ) -> Replaying<'a, S, Flushed<W>, Stderr> {
     Replaying {
         alloc: rt.alloc(),
         script,
-        host: host_of(options),
-        boot: options.get_one::<u64>("boot").unwrap_or(1),
-        removals: removals_of(options),
+        host: options.host,
+        boot: options.boot,
+        removals: options.removals,
         out: Flushed::new(out),
         err: rt.stderr(),
     }
 }
 
-/// Runs a script as `replay_from` does, and tells what a fault is about, and how many events
+/// Runs a script as `replay_from` does, and prints what a fault is about, and how many events
 /// failed. It keeps the script until the last event is done.
 fn replay_verbosely<S: Read + Drop, W: Write + Drop, E: Write>(
     rt: &HostRuntime,
     script: S,
     out: W,
-    name: &str,
-    options: &ArgMatches<'_>,
+    options: &ReplayOptions<'_>,
     err: &mut E,
 ) -> Result<u8, Fault> {
     let alloc: Global = rt.alloc();
     let job = replaying(rt, Keeping::new(alloc, script), Watched::new(out), options);
-    let left = match do_job(rt, job, options) {
+    let left = match do_job(rt, job, options.store, true, err) {
         Ok(left) => left,
-        Err(unopened) => return Ok(tell_unopened(rt, err, options, unopened)),
+        Err(status) => return Ok(status),
     };
+    let name = options.script.name();
     if left.status != 0 {
         tell_script(alloc, err, name, &left.script);
-        tell_host(err, host_of(options));
+        tell_host(err, options.host);
         tell_refusal(err, "standard output", left.out.inner.refusal());
     }
     if left.out.inner.failed() > 0 {
@@ -194,8 +195,8 @@ fn replay_verbosely<S: Read + Drop, W: Write + Drop, E: Write>(
     Ok(left.status)
 }
 
-/// Tells what the system answered to a script, where it refused; or which of its lines isn't an
-/// event, and why. Of a script whose lines all are it tells nothing.
+/// Prints what the system answered to a script, if it refused; or which of its lines isn't an
+/// event, and why. Of a script whose lines all are it prints nothing.
 fn tell_script<R, E: Write>(alloc: Global, err: &mut E, name: &str, script: &Keeping<R>) {
     if script.refusal().is_some() {
         tell_refusal(err, name, script.refusal());
@@ -216,20 +217,20 @@ fn tell_script<R, E: Write>(alloc: Global, err: &mut E, name: &str, script: &Kee
 /// Runs `popbox talk`: one conversation over the store that is named.
 fn run_talk<E: Write>(
     rt: &HostRuntime,
-    options: &ArgMatches<'_>,
+    options: &TalkOptions<'_>,
     err: &mut E,
 ) -> Result<u8, Fault> {
-    let boot = match options.get_one::<u64>("boot") {
+    let boot = match options.boot {
         Some(boot) => boot,
         None => milliseconds(rt)?,
     };
-    if is_verbose(options) {
+    if options.is_verbose {
         return talk_verbosely(rt, boot, options, err);
     }
     let job = talking(rt, rt.reader(), io::writer(rt), boot, options);
-    match do_job(rt, job, options) {
+    match do_job(rt, job, Some(options.store), false, err) {
         Ok(left) => Ok(left.status),
-        Err(unopened) => Ok(tell_unopened(rt, err, options, unopened)),
+        Err(status) => Ok(status),
     }
 }
 
@@ -239,33 +240,34 @@ fn talking<'a, S: Read, W: Write>(
     input: S,
     out: W,
     boot: u64,
-    options: &ArgMatches<'a>,
+    options: &TalkOptions<'a>,
 ) -> Talking<'a, Noted<S>, Noted<W>, Stderr> {
     Talking {
         alloc: rt.alloc(),
         reader: Noted::new(input),
         writer: Noted::new(out),
-        host: host_of(options),
+        host: options.host,
         boot,
-        removals: removals_of(options),
+        removals: options.removals,
         err: rt.stderr(),
     }
 }
 
-/// Has one conversation as `run_talk` does, and tells what a fault is about.
+/// Has one conversation as `run_talk` does, and prints what a fault is about.
 fn talk_verbosely<E: Write>(
     rt: &HostRuntime,
     boot: u64,
-    options: &ArgMatches<'_>,
+    options: &TalkOptions<'_>,
     err: &mut E,
 ) -> Result<u8, Fault> {
     let (input, out) = (Watched::new(rt.reader()), Watched::new(io::writer(rt)));
-    let left = match do_job(rt, talking(rt, input, out, boot, options), options) {
+    let job = talking(rt, input, out, boot, options);
+    let left = match do_job(rt, job, Some(options.store), true, err) {
         Ok(left) => left,
-        Err(unopened) => return Ok(tell_unopened(rt, err, options, unopened)),
+        Err(status) => return Ok(status),
     };
     if left.status != 0 {
-        tell_host(err, host_of(options));
+        tell_host(err, options.host);
         tell_refusal(err, STANDARD_INPUT, left.reader.inner.refusal());
         tell_refusal(err, "standard output", left.writer.inner.refusal());
     }
@@ -275,13 +277,13 @@ fn talk_verbosely<E: Write>(
 /// Runs `popbox serve`: clients over the network, over the store that is named.
 fn run_serve<E: Write>(
     rt: &HostRuntime,
-    options: &ArgMatches<'_>,
+    options: &ServeOptions<'_>,
     err: &mut E,
 ) -> Result<u8, Fault> {
-    let listen = options.get_str("listen").unwrap_or("127.0.0.1");
+    let (listen, path, is_verbose) = (options.listen, options.store, options.is_verbose);
     let Ok(address) = listen.parse::<Ipv4Addr>() else {
         let _ = writeln!(err, "popbox: bad address");
-        if is_verbose(options) {
+        if is_verbose {
             let _ = writeln!(
                 err,
                 "why: --listen {listen:?}: four numbers of 0 to 255, as 192.0.2.7"
@@ -289,27 +291,42 @@ fn run_serve<E: Write>(
         }
         return Ok(1);
     };
-    let port = options.get_one::<u16>("pop-port").unwrap_or(1110);
+    if options.site().is_err() {
+        return Ok(tell_bad_site(err, options));
+    }
     let boot = milliseconds(rt)?;
     note_store(rt, options);
-    let path = options.get_str("store").unwrap_or("");
-    if let Err(unopened) = prepare(rt, path) {
-        return Ok(tell_unopened(rt, err, options, unopened));
+    if let Err(status) = prepare(rt, path, is_verbose, err) {
+        return Ok(status);
     }
     let job = Serving {
         rt,
         boot,
-        at: SocketAddr::from((address, port)),
+        at: SocketAddr::from((address, options.pop_port)),
         before: FileId::at(rt, path),
         options,
     };
-    match do_job(rt, job, options) {
+    match do_prepared(rt, job, path, is_verbose, err) {
         Ok(ran) => ran,
-        Err(unopened) => Ok(tell_unopened(rt, err, options, unopened)),
+        Err(status) => Ok(status),
     }
 }
 
-/// The milliseconds since 1970. Its fault is `NoClock`, where the system doesn't tell the time.
+/// Tells that the name of the administration's site hasn't the form of a host's. Gives the exit
+/// status.
+fn tell_bad_site<E: Write>(err: &mut E, options: &ServeOptions<'_>) -> u8 {
+    let name = options.admin_site.unwrap_or("");
+    let _ = writeln!(err, "popbox: bad site");
+    if options.is_verbose {
+        let _ = writeln!(
+            err,
+            "why: --admin-site {name:?}: a host's name, 1 to 64 of a-z, 0-9, . and -, as localhost"
+        );
+    }
+    1
+}
+
+/// The milliseconds since 1970. Its fault is `NoClock`, if the system doesn't give the time.
 fn milliseconds(clock: &impl Clock) -> Result<u64, Fault> {
     let Ok(now) = clock.since_1970() else {
         return Err(Fault::NoClock);
@@ -317,75 +334,74 @@ fn milliseconds(clock: &impl Clock) -> Result<u64, Fault> {
     u64::try_from(now.as_millis()).map_err(|_| Fault::NoClock)
 }
 
-/// Why a job isn't begun.
-#[derive(Clone, Copy)]
-enum Unopened {
-    /// A store's log is there, and not its file.
-    LogAlone,
-    /// The store can't be opened, or is refused.
-    Refused(VaultFault),
-}
-
-/// Makes the file of the store at a path where there is none, and no log of another.
-fn prepare(rt: &HostRuntime, path: &str) -> Result<(), Unopened> {
+/// Makes the file of the store at a path where there is none, and no log of another. If there is
+/// such a log, that is told, and an `Err` is the exit status.
+fn prepare<E: Write>(
+    rt: &HostRuntime,
+    path: &str,
+    is_verbose: bool,
+    err: &mut E,
+) -> Result<(), u8> {
     if is_log_alone(rt, path) {
-        return Err(Unopened::LogAlone);
+        let status = tell_fault(err, Fault::from(VaultFault::Store));
+        if is_verbose {
+            let _ = writeln!(
+                err,
+                "why: {path}-wal: a store's log, whose file isn't there"
+            );
+        }
+        return Err(status);
     }
     make_file(rt, path);
     Ok(())
 }
 
-/// Does a job over the store that is named, or over an empty one in memory. The store is closed at
-/// the end. What was done is in the file or in its log by then, so a failure to close loses nothing
-/// and isn't told.
-fn do_job<J: Job + Drop>(
+/// Does a job over the store at a path, or over an empty one in memory. If the store can't be
+/// opened or is refused, that is told, and an `Err` is the exit status.
+fn do_job<J: Job + Drop, E: Write>(
     rt: &HostRuntime,
     job: J,
-    options: &ArgMatches<'_>,
-) -> Result<J::Answer, Unopened> {
-    let Some(path) = options.get_str("store") else {
+    store: Option<&str>,
+    is_verbose: bool,
+    err: &mut E,
+) -> Result<J::Answer, u8> {
+    let Some(path) = store else {
         let (answer, _vault) = job.run(PlainVault::new(rt.alloc()));
         return Ok(answer);
     };
-    prepare(rt, path)?;
+    prepare(rt, path, is_verbose, err)?;
+    do_prepared(rt, job, path, is_verbose, err)
+}
+
+/// Does a job as `do_job` does, over the store at a path that was prepared. The store is closed at
+/// the end. What was done is in the file or in its log by then, so a failure to close loses nothing
+/// and isn't printed.
+fn do_prepared<J: Job + Drop, E: Write>(
+    rt: &HostRuntime,
+    job: J,
+    path: &str,
+    is_verbose: bool,
+    err: &mut E,
+) -> Result<J::Answer, u8> {
     let over = OverStore {
         rt,
         path,
-        is_verbose: is_verbose(options),
+        is_verbose,
         job,
     };
     match open_do_close(rt, path, Wary, over) {
         Ok((answer, _closed)) => Ok(answer),
-        Err(fault) => Err(Unopened::Refused(fault)),
+        Err(fault) => {
+            let status = tell_fault(err, Fault::from(fault));
+            if is_verbose {
+                let _ = tell_closed_store(rt, err, path, fault);
+            }
+            Err(status)
+        }
     }
 }
 
-/// Tells why a job isn't begun. Gives the exit status.
-fn tell_unopened<E: Write>(
-    rt: &HostRuntime,
-    err: &mut E,
-    options: &ArgMatches<'_>,
-    unopened: Unopened,
-) -> u8 {
-    let path = options.get_str("store").unwrap_or("");
-    let fault = match unopened {
-        Unopened::LogAlone => VaultFault::Store,
-        Unopened::Refused(fault) => fault,
-    };
-    let status = tell_fault(err, Fault::from(fault));
-    if is_verbose(options) {
-        let _ = match unopened {
-            Unopened::LogAlone => writeln!(
-                err,
-                "why: {path}-wal: a store's log, whose file isn't there"
-            ),
-            Unopened::Refused(fault) => tell_closed_store(rt, err, path, fault),
-        };
-    }
-    status
-}
-
-/// A job over the store in the file at a path, before which it is told who else may read the file.
+/// A job over the store in the file at a path, before which it prints who else may read the file.
 #[derive(Drop)]
 struct OverStore<'a, J> {
     rt: &'a HostRuntime,
@@ -418,12 +434,12 @@ impl<J: Job> Job for OverStore<'_, J> {
 /// `popbox serve`, as a job: clients at an address. `before` is the file that stood at the store's
 /// path before it was opened.
 #[derive(Drop)]
-struct Serving<'a, 'm> {
+struct Serving<'a, 'w> {
     rt: &'a HostRuntime,
     boot: u64,
     at: SocketAddr,
     before: Option<FileId>,
-    options: &'a ArgMatches<'m>,
+    options: &'a ServeOptions<'w>,
 }
 
 impl Job for Serving<'_, '_> {
@@ -443,71 +459,34 @@ impl Job for Serving<'_, '_> {
             before,
             options,
         } = self;
-        let host = host_of(options);
-        serve_over(rt, vault, host, boot, at, before, options, &mut rt.stderr())
+        serve_over(rt, vault, boot, at, before, options, &mut rt.stderr())
     }
-}
-
-/// The host name that greetings have.
-fn host_of<'a>(options: &ArgMatches<'a>) -> &'a str {
-    options.get_str("host").unwrap_or("localhost")
 }
 
 /// Runs `popbox check-policy`: prints to standard output how many rules the policy of the named
-/// file, or of standard input, has; by `--write` the policy as it is written.
+/// file, or of standard input, has; by `--write` the policy as it is written. The input is read
+/// first, to its end.
 fn run_check_policy<E: Write>(
     rt: &HostRuntime,
-    options: &ArgMatches<'_>,
+    options: &CheckPolicyOptions<'_>,
     err: &mut E,
 ) -> Result<u8, Fault> {
-    let path = options.get_str("FILE").unwrap_or("");
-    if path == "-" {
-        return check_input(rt, &mut rt.reader(), STANDARD_INPUT, options, err);
-    }
-    match fs::open(rt, path) {
-        Ok(mut file) => check_input(rt, &mut file, path, options, err),
-        Err(error) => Ok(tell_unread(err, is_verbose(options), path, &error)),
-    }
-}
-
-/// Reads a policy, and prints how many rules it has, or by `--write` the policy.
-fn tell_policy<S: Read, W: Write, E: Write>(
-    alloc: Global,
-    options: &ArgMatches<'_>,
-    input: &mut S,
-    out: &mut W,
-    err: &mut E,
-) -> u8 {
-    if options.get_flag("write") {
-        write_policy(alloc, input, out, err)
-    } else {
-        check_policy(alloc, input, out, err)
-    }
-}
-
-/// Checks the policy that an input holds. `name` is what faults call the input.
-fn check_input<S: Read, E: Write>(
-    rt: &HostRuntime,
-    input: &mut S,
-    name: &str,
-    options: &ArgMatches<'_>,
-    err: &mut E,
-) -> Result<u8, Fault> {
+    let (name, is_verbose) = (options.file.name(), options.is_verbose);
+    let text = match options.file.read(rt) {
+        Ok(text) => text,
+        Err(error) => return Ok(tell_unread(err, is_verbose, name, &error)),
+    };
     let alloc: Global = rt.alloc();
-    let mut out = BufWriter::new(alloc, io::writer(rt)).map_err(|_| Fault::OutOfMemory)?;
-    if !is_verbose(options) {
-        return Ok(tell_policy(alloc, options, input, &mut out, err));
-    }
-    let mut text = Vec::new(alloc);
-    if let Err(error) = input.read_to_end(&mut text) {
-        return Ok(tell_unread(err, true, name, &error));
-    }
-    let mut out = Watched::new(out);
-    let mut rest = text.as_slice();
-    let status = tell_policy(alloc, options, &mut rest, &mut out, err);
-    if status != 0 {
+    let out = BufWriter::new(alloc, io::writer(rt)).map_err(|_| Fault::OutOfMemory)?;
+    let mut out = Noted::new(Watched::new(out));
+    let status = if options.write {
+        write_policy(alloc, text.as_slice(), &mut out, err)
+    } else {
+        check_policy(alloc, text.as_slice(), &mut out, err)
+    };
+    if is_verbose && status != 0 {
         let _ = tell_bad_policy(alloc, err, name, text.as_slice());
-        tell_refusal(err, "standard output", out.refusal());
+        tell_refusal(err, "standard output", out.inner.refusal());
     }
     Ok(status)
 }

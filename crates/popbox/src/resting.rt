@@ -1,10 +1,9 @@
 //! `popbox export` and `popbox check`: over a store that no server has, which stays as it is.
 
-use crate::command_line::is_verbose;
 use crate::copies::{is_copy, open_copy, tell_copy, tell_copy_tables, tell_lost_log};
+use crate::options::{CheckOptions, ExportOptions};
 use crate::store_file::log_octets;
 use causes::{Watched, tell_closed_store, tell_refusal, tell_unread};
-use clap::ArgMatches;
 use converse::check_store::StoreFile;
 use converse::export::Folder;
 use converse::{Fault, Noted, tell_fault};
@@ -36,11 +35,11 @@ const OWNER_ALONE: u32 = 0o600;
 
 /// What is done over a store at rest.
 #[derive(Clone, Copy)]
-enum Errand<'a> {
+enum Errand<'a, 'w> {
     /// `popbox check`, of a file and a log of so many octets.
-    Check(u64),
-    /// `popbox export`: a maildrop's messages into the folder at a path.
-    Export(Name, &'a str),
+    Check(u64, &'a CheckOptions<'w>),
+    /// `popbox export`, of this maildrop.
+    Export(Name, &'a ExportOptions<'w>),
 }
 
 /// Why a store isn't opened.
@@ -55,20 +54,20 @@ pub enum Closed {
 /// Runs `popbox check`: prints what lies in the store that is named.
 pub fn run_check<E: Write>(
     rt: &HostRuntime,
-    options: &ArgMatches<'_>,
+    options: &CheckOptions<'_>,
     err: &mut E,
 ) -> Result<u8, Fault> {
-    let path = options.get_str("store").unwrap_or("");
-    match look_at(rt, path, is_verbose(options), err) {
+    let (path, is_verbose) = (options.store, options.is_verbose);
+    match look_at(rt, path, is_verbose, err) {
         Ok(file) => {
             let octets = file.saturating_add(log_octets(rt, path));
-            run_errand(rt, &Errand::Check(octets), path, options, err)
+            run_errand(rt, &Errand::Check(octets, options), path, is_verbose, err)
         }
         Err(status) => Ok(status),
     }
 }
 
-/// How many octets a store's file has. Where there is none, or it is no database, that is told, and
+/// How many octets a store's file has. If there is none, or it is no database, that is printed, and
 /// an `Err` is the exit status: an opening would make a file, or write a first page or a log.
 pub fn look_at<E: Write>(
     rt: &HostRuntime,
@@ -110,23 +109,28 @@ fn database_octets(rt: &HostRuntime, path: &str) -> io::Result<Option<u64>> {
 /// Runs `popbox export`: puts the messages of the maildrop that is named into a folder.
 pub fn run_export<E: Write>(
     rt: &HostRuntime,
-    options: &ArgMatches<'_>,
+    options: &ExportOptions<'_>,
     err: &mut E,
 ) -> Result<u8, Fault> {
-    let word = options.get_str("maildrop").unwrap_or("");
+    let (path, is_verbose) = (options.store, options.is_verbose);
+    let word = options.maildrop;
     let Some(maildrop) = Name::read(word.as_bytes()) else {
         let _ = writeln!(err, "popbox: bad name");
-        if is_verbose(options) {
+        if is_verbose {
             let _ = writeln!(err, "why: --maildrop {word:?}: 1 to 32 of a-z, 0-9 and -");
         }
         return Ok(1);
     };
-    let path = options.get_str("store").unwrap_or("");
-    if let Err(status) = look_at(rt, path, is_verbose(options), err) {
+    if let Err(status) = look_at(rt, path, is_verbose, err) {
         return Ok(status);
     }
-    let folder = options.get_str("DIR").unwrap_or("");
-    run_errand(rt, &Errand::Export(maildrop, folder), path, options, err)
+    run_errand(
+        rt,
+        &Errand::Export(maildrop, options),
+        path,
+        is_verbose,
+        err,
+    )
 }
 
 /// Opens the store at a path, and does an errand over it. A store that is refused is told as
@@ -134,26 +138,26 @@ pub fn run_export<E: Write>(
 /// is read into memory, so that no file is changed or created.
 fn run_errand<E: Write>(
     rt: &HostRuntime,
-    errand: &Errand<'_>,
+    errand: &Errand<'_, '_>,
     path: &str,
-    options: &ArgMatches<'_>,
+    is_verbose: bool,
     err: &mut E,
 ) -> Result<u8, Fault> {
     tell_lost_log(rt, err, path);
     if is_copy(rt, path) {
         return match open_copy(rt, path) {
-            Ok(conn) => run_over_connection(rt, conn, errand, path, options, err),
-            Err(error) => Ok(tell_copy(err, is_verbose(options), path, &error)),
+            Ok(conn) => run_over_connection(rt, conn, errand, path, is_verbose, err),
+            Err(error) => Ok(tell_copy(err, is_verbose, path, &error)),
         };
     }
     let closed = match Connection::open_from(rt, path, false, Wary) {
-        Ok(conn) => return run_over_connection(rt, conn, errand, path, options, err),
+        Ok(conn) => return run_over_connection(rt, conn, errand, path, is_verbose, err),
         Err((error, _)) => Closed::Refused(open_fault(&error)),
     };
-    Ok(tell_closed(rt, err, is_verbose(options), path, &closed))
+    Ok(tell_closed(rt, err, is_verbose, path, &closed))
 }
 
-/// Tells why a store isn't opened. Gives the exit status.
+/// Prints why a store isn't opened. Gives the exit status.
 pub fn tell_closed<E: Write>(
     rt: &HostRuntime,
     err: &mut E,
@@ -186,20 +190,18 @@ pub fn tell_closed<E: Write>(
 fn run_over_connection<D: Disk + Drop, E: Write>(
     rt: &HostRuntime,
     conn: Connection<FileStore<D>>,
-    errand: &Errand<'_>,
+    errand: &Errand<'_, '_>,
     path: &str,
-    options: &ArgMatches<'_>,
+    is_verbose: bool,
     err: &mut E,
 ) -> Result<u8, Fault> {
     let mut vault = match adopt(rt.alloc(), conn) {
         Ok(vault) => vault,
-        Err(closed) => return Ok(tell_closed(rt, err, is_verbose(options), path, &closed)),
+        Err(closed) => return Ok(tell_closed(rt, err, is_verbose, path, &closed)),
     };
     let done = match errand {
-        Errand::Check(octets) => check_over(rt, &mut vault, *octets, options, err),
-        Errand::Export(maildrop, folder) => {
-            export_over(rt, &mut vault, maildrop, folder, path, options, err)
-        }
+        Errand::Check(octets, options) => check_over(rt, &mut vault, *octets, options, err),
+        Errand::Export(maildrop, options) => export_over(rt, &mut vault, maildrop, options, err),
     };
     let_go(vault.into_connection());
     done
@@ -248,20 +250,20 @@ fn check_over<A: Alter, E: Write>(
     rt: &HostRuntime,
     vault: &mut SqlVault<A>,
     octets: u64,
-    options: &ArgMatches<'_>,
+    options: &CheckOptions<'_>,
     err: &mut E,
 ) -> Result<u8, Fault> {
     let alloc: Global = rt.alloc();
     let out = BufWriter::new(alloc, io::writer(rt)).map_err(|_| Fault::OutOfMemory)?;
-    let mut out = Watched::new(out);
+    let mut out = Noted::new(Watched::new(out));
     let file = StoreFile {
         version: VERSION as u64,
         octets,
     };
-    let compared = !options.get_flag("quick");
+    let compared = !options.quick;
     let status = check_all(alloc, vault, compared, &file, &mut out, err);
-    if is_verbose(options) {
-        tell_refusal(err, "standard output", out.refusal());
+    if options.is_verbose {
+        tell_refusal(err, "standard output", out.inner.refusal());
     }
     Ok(status)
 }
@@ -271,9 +273,7 @@ fn export_over<A: Alter, E: Write>(
     rt: &HostRuntime,
     vault: &mut SqlVault<A>,
     maildrop: &Name,
-    path: &str,
-    store: &str,
-    options: &ArgMatches<'_>,
+    options: &ExportOptions<'_>,
     err: &mut E,
 ) -> Result<u8, Fault> {
     let alloc: Global = rt.alloc();
@@ -281,25 +281,38 @@ fn export_over<A: Alter, E: Write>(
     let mut out = Noted::new(Watched::new(out));
     let mut folder = NamedFolder {
         rt,
-        path,
+        path: options.folder,
         is_settled: false,
         faults: 0,
         refusal: None,
+        taken: None,
     };
-    let compared = !options.get_flag("damaged");
+    let compared = !options.damaged;
     let status = export_from(alloc, vault, maildrop, compared, &mut folder, &mut out, err);
-    if is_verbose(options) && status != 0 {
+    if options.is_verbose && status != 0 {
         if let Err(VaultFault::NoMaildrop) = vault.heads(maildrop) {
+            let store = options.store;
             let _ = writeln!(err, "why: {store}: it has no maildrop {maildrop}");
         }
-        tell_refusal(err, path, folder.refusal);
+        tell_folder(err, &folder);
         tell_refusal(err, "standard output", out.inner.refusal());
     }
     Ok(status)
 }
 
-/// The folder at a path: whether it was synced behind the last file, how many of its calls failed,
-/// and what the system answered to the last of these.
+/// Tells which file of a folder was there already, or what else the system answered.
+fn tell_folder<E: Write>(err: &mut E, folder: &NamedFolder<'_>) {
+    let path = folder.path;
+    if let Some(error) = &folder.refusal {
+        let _ = match &folder.taken {
+            Some(name) => writeln!(err, "why: {path}/{name}: {error}"),
+            None => writeln!(err, "why: {path}: {error}"),
+        };
+    }
+}
+
+/// The folder at a path: whether it was synced after the last file, how many of its calls failed,
+/// what the system answered to the last of these, and which file's name was taken, if that was it.
 #[derive(Drop)]
 struct NamedFolder<'a> {
     rt: &'a HostRuntime,
@@ -307,6 +320,7 @@ struct NamedFolder<'a> {
     is_settled: bool,
     faults: u64,
     refusal: Option<io::Error>,
+    taken: Option<String>,
 }
 
 impl Folder for NamedFolder<'_> {
@@ -325,6 +339,7 @@ impl Folder for NamedFolder<'_> {
             Err(error) => {
                 self.faults = self.faults.saturating_add(1);
                 self.refusal = Some(error);
+                self.taken = taken_name(self.rt, self.path, name, &error);
                 Err(error)
             }
         }
@@ -343,6 +358,20 @@ impl Folder for NamedFolder<'_> {
             }
         }
     }
+}
+
+/// Which name in the folder at a path was taken, if a file was refused for that: its own, or that
+/// under which it is written.
+fn taken_name(rt: &HostRuntime, path: &str, name: &str, error: &io::Error) -> Option<String> {
+    if error.kind() != ErrorKind::AlreadyExists {
+        return None;
+    }
+    let whole = format!(in rt.alloc(); "{path}/{name}").ok()?;
+    let taken = match fs::symlink_metadata(rt, whole.as_str()) {
+        Ok(_) => name,
+        Err(_) => UNFINISHED,
+    };
+    String::from_str(rt.alloc(), taken).ok()
 }
 
 /// Waits until the names in the folder at a path are on the disk.

@@ -1,10 +1,9 @@
 //! `popbox serve`: clients over the network.
-use crate::command_line::{is_verbose, removals_of};
-use clap::ArgMatches;
+use crate::options::ServeOptions;
 use converse::{Fault, tell_fault};
 use journal::{
-    FileId, Folder, Guarded, Journal, LoggedSpool, LoggedVault, LoggedWire, Loss, Peers, Settings,
-    Shared, StoreWatch, note_end, note_loss, note_opening, note_start,
+    FileId, Folder, Guarded, Journal, LoggedSpool, LoggedVault, LoggedWire, Loss, Peers, Shared,
+    StoreWatch, note_end, note_loss, note_opening, note_start,
 };
 use office::{Limits, Office};
 use proxy::ProxiedWire;
@@ -19,11 +18,11 @@ use std::net::{Ipv4Addr, SocketAddr};
 use std::time::Instant;
 use vault::{Total, Vault, VaultFault};
 
-/// Notes, where there is a log, that the store is about to be opened, and how large its files are.
-pub fn note_store(rt: &HostRuntime, options: &ArgMatches<'_>) {
+/// Notes, if there is a log, that the store is about to be opened, and how large its files are.
+pub fn note_store(rt: &HostRuntime, options: &ServeOptions<'_>) {
     let shared = Shared::new(rt.alloc());
-    let journal = Journal::new(rt, options.get_flag("log"), &shared);
-    note_opening(&journal, rt, options.get_str("store").unwrap_or(""));
+    let journal = Journal::new(rt, options.log, &shared);
+    note_opening(&journal, rt, options.store);
 }
 
 /// Serves clients at an address, over a vault, until so many turns are over, or its store is lost.
@@ -31,31 +30,29 @@ pub fn note_store(rt: &HostRuntime, options: &ArgMatches<'_>) {
 pub fn serve_over<V: Vault, E: Write>(
     rt: &HostRuntime,
     vault: V,
-    host: &str,
     boot: u64,
     at: SocketAddr,
     before: Option<FileId>,
-    options: &ArgMatches<'_>,
+    options: &ServeOptions<'_>,
     err: &mut E,
 ) -> (Result<u8, Fault>, V) {
-    let idle = options.get_one::<u32>("idle").unwrap_or(600);
-    let Some(limits) = Limits::new(idle) else {
+    let Some(limits) = Limits::new(options.settings.idle) else {
         return (Ok(2), vault);
     };
-    let Ok(path) = String::from_str(rt.alloc(), options.get_str("store").unwrap_or("")) else {
+    let Ok(path) = String::from_str(rt.alloc(), options.store) else {
         return (Err(Fault::OutOfMemory), vault);
     };
-    let Ok(spool) = String::from_str(rt.alloc(), options.get_str("spool").unwrap_or("")) else {
+    let Ok(spool) = String::from_str(rt.alloc(), options.spool) else {
         return (Err(Fault::OutOfMemory), vault);
     };
     let shared = Shared::new(rt.alloc());
-    let journal = Journal::new(rt, options.get_flag("log"), &shared);
-    let message_ids = options.get_flag("log-message-ids");
+    let journal = Journal::new(rt, options.log, &shared);
+    let message_ids = options.settings.message_ids;
     let mut vault = LoggedVault::new(Recent::new(rt.alloc(), vault), journal, message_ids);
     let totals = totals_of(&mut vault, &journal);
     let watch = StoreWatch::new(rt, path.as_str(), before);
-    let limits = limits.with_removals(removals_of(options));
-    match Office::open(rt.alloc(), vault, host, boot, limits) {
+    let limits = limits.with_removals(options.settings.removals);
+    match Office::open(rt.alloc(), vault, options.host, boot, limits) {
         Err((fault, vault)) => (Err(Fault::from(fault)), vault.into_vault().into_vault()),
         Ok(mut office) => {
             let served = serve(
@@ -64,7 +61,7 @@ pub fn serve_over<V: Vault, E: Write>(
                 at,
                 spool.as_str(),
                 options,
-                &shared,
+                journal,
                 &watch,
                 &totals,
                 err,
@@ -74,26 +71,7 @@ pub fn serve_over<V: Vault, E: Write>(
     }
 }
 
-/// An option that is a number of seconds.
-fn seconds_of(options: &ArgMatches<'_>, name: &str) -> u32 {
-    options.get_one::<u32>(name).unwrap_or(0)
-}
-
-/// The options in force that say how clients are served and what is logged.
-fn settings_of(options: &ArgMatches<'_>) -> Settings {
-    Settings {
-        removals: removals_of(options),
-        idle: seconds_of(options, "idle"),
-        wait: seconds_of(options, "wait"),
-        login_seconds: seconds_of(options, "login-seconds"),
-        full_house_seconds: seconds_of(options, "full-house-seconds"),
-        slow_guesses: options.get_flag("slow-guesses"),
-        proxy_protocol: options.get_flag("proxy-protocol"),
-        message_ids: options.get_flag("log-message-ids"),
-    }
-}
-
-/// What a store holds, maildrop by maildrop, where there is a log that tells of it.
+/// What a store holds, maildrop by maildrop, if there is a log that has it.
 fn totals_of<V: Vault>(vault: &mut V, journal: &Journal<'_>) -> Option<Vec<Total>> {
     if !journal.is_on() {
         return None;
@@ -130,23 +108,20 @@ fn serve<'a, V: Vault, E: Write>(
     office: &mut Office<V>,
     at: SocketAddr,
     spool: &'a str,
-    options: &ArgMatches<'_>,
-    shared: &'a Shared,
+    options: &ServeOptions<'_>,
+    journal: Journal<'a>,
     watch: &'a StoreWatch<'a>,
     totals: &Option<Vec<Total>>,
     err: &mut E,
 ) -> Result<u8, Fault> {
-    let journal = Journal::new(rt, options.get_flag("log"), shared);
-    let admin = options.get_one::<u16>("admin-port").unwrap_or(1111);
-    let (wire, port, admin_port) = match listen(rt, at, admin) {
+    let (wire, port, admin_port) = match listen(rt, at, options.admin_port) {
         Ok(listening) => listening,
-        Err((at, error)) => return Ok(tell_refused(err, is_verbose(options), at, &error)),
+        Err((at, error)) => return Ok(tell_refused(err, options.is_verbose, at, &error)),
     };
     let mut out = io::writer(rt);
     writeln!(out, "pop on {}:{}", at.ip(), port).map_err(|_| Fault::CannotWrite)?;
     writeln!(out, "admin on 127.0.0.1:{admin_port}").map_err(|_| Fault::CannotWrite)?;
     let pop = SocketAddr::from((at.ip(), port));
-    let settings = settings_of(options);
     note_start(
         &journal,
         rt,
@@ -154,26 +129,26 @@ fn serve<'a, V: Vault, E: Write>(
         admin_port,
         watch.path(),
         totals,
-        &settings,
+        &options.settings,
     );
-    if is_verbose(options) && !journal.is_on() {
+    if options.is_verbose && !journal.is_on() {
         Folder::new(rt, spool).tell_left(err);
     }
-    let served = if options.get_flag("proxy-protocol") {
+    let served = if options.settings.proxy_protocol {
         let wire = ProxiedWire::new(rt.alloc(), wire, rt);
-        serve_turns(rt, office, wire, spool, options, shared, watch)
+        serve_turns(rt, office, wire, spool, options, journal, watch)
     } else {
-        serve_turns(rt, office, wire, spool, options, shared, watch)
+        serve_turns(rt, office, wire, spool, options, journal, watch)
     };
     let status = match (served, watch.loss()) {
-        (Ok(_), Some(loss)) => Ok(tell_loss(err, is_verbose(options), &journal, watch, loss)),
+        (Ok(_), Some(loss)) => Ok(tell_loss(err, options.is_verbose, &journal, watch, loss)),
         (served, _) => served,
     };
     note_end(&journal);
     status
 }
 
-/// Tells that the store's files aren't those any more that the server has open. Gives the exit
+/// Prints that the store's files aren't those any more that the server has open. Gives the exit
 /// status.
 fn tell_loss<E: Write>(
     err: &mut E,
@@ -196,7 +171,7 @@ struct ServerClock<'a> {
     rt: &'a HostRuntime,
     start: Instant,
     watch: &'a StoreWatch<'a>,
-    /// The system told no time.
+    /// The system gave no time.
     is_broken: bool,
 }
 
@@ -234,11 +209,10 @@ fn serve_turns<'a, V: Vault, W: Wire + Peers + Drop>(
     office: &mut Office<V>,
     wire: W,
     spool: &'a str,
-    options: &ArgMatches<'_>,
-    shared: &'a Shared,
+    options: &ServeOptions<'_>,
+    journal: Journal<'a>,
     watch: &'a StoreWatch<'a>,
 ) -> Result<u8, Fault> {
-    let journal = Journal::new(rt, options.get_flag("log"), shared);
     let wire = Guarded::new(LoggedWire::new(wire, journal), watch);
     let files = FolderSpool::new(rt, rt.alloc(), spool);
     let folder = Folder::new(rt, spool);
@@ -247,14 +221,14 @@ fn serve_turns<'a, V: Vault, W: Wire + Peers + Drop>(
     let mut links = links;
     let mut wire = wire;
     let mut spool = spool;
-    let wait = options.get_one::<u32>("wait").unwrap_or(0);
-    links.set_wait(u64::from(wait));
-    let login = options.get_one::<u32>("login-seconds").unwrap_or(0);
-    links.set_login_seconds(u64::from(login));
-    let full = options.get_one::<u32>("full-house-seconds").unwrap_or(0);
-    links.set_full_house_seconds(u64::from(full));
-    links.set_slow_guesses(options.get_flag("slow-guesses"));
+    let settings = &options.settings;
+    links.set_wait(u64::from(settings.wait));
+    links.set_login_seconds(u64::from(settings.login_seconds));
+    links.set_full_house_seconds(u64::from(settings.full_house_seconds));
+    links.set_slow_guesses(settings.slow_guesses);
+    links.set_site(options.site()?);
     let mut clock = ServerClock::start(rt, watch)?;
+    let journal = journal.with_reads(settings.reads);
     let mut listener = NotedListener::new(journal);
     serve_while(
         &mut links,
@@ -263,7 +237,7 @@ fn serve_turns<'a, V: Vault, W: Wire + Peers + Drop>(
         &mut spool,
         &mut listener,
         &mut clock,
-        options.get_one::<u64>("turns").unwrap_or(u64::MAX),
+        options.turns.unwrap_or(u64::MAX),
     );
     if clock.is_broken {
         return Err(Fault::NoClock);

@@ -14,7 +14,7 @@ const OTHERS_READ: u32 = 0o044;
 /// How many octets a log has at most that has no page of a store: a page has 512 at least.
 const WITHOUT_PAGES: u64 = 512;
 
-/// How many octets the log beside a store's file has; 0 where there is none.
+/// How many octets the log beside a store's file has; 0 if there is none.
 pub fn log_octets(rt: &HostRuntime, path: &str) -> u64 {
     let Ok(log) = format!(in rt.alloc(); "{path}-wal") else {
         return 0;
@@ -35,8 +35,8 @@ pub fn is_log_alone(rt: &HostRuntime, path: &str) -> bool {
     file == 0 && log_octets(rt, path) > WITHOUT_PAGES
 }
 
-/// Makes the file of a store, empty, where there is none. Only its owner may read it, and its log,
-/// which is made with its mode. Where it can't be made, the opening of the store tells why.
+/// Makes the file of a store, empty, if there is none. Only its owner may read it, and its log,
+/// which is made with its mode. If it can't be made, the opening of the store says why.
 pub fn make_file(rt: &HostRuntime, path: &str) {
     if path == ":memory:" || path.starts_with("file:") {
         return;
@@ -48,7 +48,7 @@ pub fn make_file(rt: &HostRuntime, path: &str) {
         .open(rt, path);
 }
 
-/// Tells where others than the owner may read the file of a store, or its log.
+/// Prints if others than the owner may read the file of a store, or its log.
 pub fn tell_readers<E: Write>(rt: &HostRuntime, err: &mut E, path: &str) {
     tell_readers_of(rt, err, path);
     if let Ok(log) = format!(in rt.alloc(); "{path}-wal") {
@@ -56,7 +56,7 @@ pub fn tell_readers<E: Write>(rt: &HostRuntime, err: &mut E, path: &str) {
     }
 }
 
-/// Tells where others than its owner may read a file.
+/// Prints if others than its owner may read a file.
 fn tell_readers_of<E: Write>(rt: &HostRuntime, err: &mut E, path: &str) {
     if let Some(mode) = mode_for_others(rt, path) {
         let _ = writeln!(
@@ -66,7 +66,7 @@ fn tell_readers_of<E: Write>(rt: &HostRuntime, err: &mut E, path: &str) {
     }
 }
 
-/// The mode of a file that others than its owner may read; none of another, or where none is there.
+/// The mode of a file that others than its owner may read; none of another, or if none is there.
 pub fn mode_for_others(rt: &HostRuntime, path: &str) -> Option<u32> {
     let mode = fs::metadata(rt, path).ok()?.mode() & 0o777;
     if mode & OTHERS_READ == 0 {

@@ -52,7 +52,7 @@ pub cuts-through : (s p m : List ℕ) → Through s (pieces (p ++ m)) (before_ne
 cuts-through s [] m = cuts-take s (pieces m) ∙ rw (append-nil s) refl
 cuts-through s (b ∷ bs) m = one_more s b bs m (b == 10) (cuts-through (s ++ b ∷ []) bs m)
 
--- However a stream goes on behind a piece, its lines are the one that is whole after the piece and those to come.
+-- However a stream goes on after a piece, its lines are the one that is whole after the piece and those to come.
 pub coming-fed : (v w : Held) (p : List ℕ) (n : ℕ) → w ≡ fed v p → n ≡ through_newline p → (m : List ℕ) → coming v (p ++ m) ≡ whole_line w ++ coming w (drop n p ++ m)
 coming-fed v w p n e f m = rw (e, f) (cuts-through (begun v) p m)
 

@@ -1,4 +1,4 @@
--- A fault is named where no command is spelled.
+-- A fault is named if no command is spelled.
 use Rattle.std.proofs.Common.{◌≡◌, ℕ, List, refl, sym, ◌∙◌, subst, Option, Some, None, Result, Ok, Err, ok_or}
 use Rattle.std.specs.List.{before_first}
 use Rattle.popline.specs.declared.command.Keyword.{Keyword}

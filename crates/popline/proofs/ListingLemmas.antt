@@ -3,7 +3,7 @@ use Rattle.std.proofs.Common.{◌≡◌, ℕ, List, [], ◌∷◌, ◌++◌, ◌
 use Rattle.std.proofs.lemmas.List.{flat_map_more}
 use Rattle.popline.specs.Replies.{one_line, begun_listing}
 
--- a row behind a listing that has begun is one row more of it
+-- a row after a listing that has begun is one row more of it
 pub listing_more : {A : Type 0} (first : List ℕ) (line : A → List ℕ) (row : A) (old new : List ℕ) → new ≡ old ++ one_line (line row)
     → (front : List ℕ) (rows : List A) → old ≡ front ++ begun_listing first line rows → new ≡ front ++ begun_listing first line (rows ++ row ∷ [])
 listing_more first line row old new e front rows h =

@@ -31,7 +31,7 @@ before_first-cons x xs = by_test x (position_or_len is_space xs) xs (is_space x)
     by_test x n xs true = refl
     by_test x n xs false = ap (λ m. take m (x ∷ xs)) (add_comm 1 n ∙ add-one n)
 
--- the first word stays as it is where spaces follow
+-- the first word stays as it is if spaces follow
 before_first-spaces : (t : List ℕ) (n : ℕ) → before_first is_space (t ++ replicate n 32) ≡ before_first is_space t
 before_first-spaces [] zero = refl
 before_first-spaces [] (suc n) = refl

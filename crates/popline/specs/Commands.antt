@@ -84,7 +84,7 @@ abbrev pub trimmed : List ℕ → List ℕ
 trimmed [] = []
 trimmed (b ∷ bs) = if list_all is_space (b ∷ bs) then [] else b ∷ trimmed bs
 
--- a line's arguments, each behind a single space
+-- a line's arguments, each after a single space
 abbrev pub arguments : List ℕ → List (List ℕ)
 arguments line = drop 1 (slice_split is_space (trimmed line))
 
@@ -102,7 +102,7 @@ digest_of digits = result_ok (decode_sized digits 16)
 
 -- ---- commands
 
--- a command of two arguments, where both could be read
+-- a command of two arguments, if both could be read
 abbrev pub both : {A B : Type 0} → (A → B → Command) → Option A → Option B → Option Command
 both f (Some x) (Some y) = Some (f x y)
 both f _ _ = None

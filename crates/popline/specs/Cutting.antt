@@ -45,7 +45,7 @@ pub record Held : Type 0 where
 abbrev pub nothing_held : Held
 nothing_held = record { octets = []; whole = false }
 
--- the held octets of the line whose LF hasn't come: none where the held line is whole
+-- the held octets of the line whose LF hasn't come: none if the held line is whole
 abbrev pub begun : Held → List ℕ
 begun held = if held.whole then [] else held.octets
 

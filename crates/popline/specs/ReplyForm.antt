@@ -7,7 +7,7 @@ use Rattle.popline.specs.Replies.{Reply, Greeting, DeniedBy, InUse, MaildropHas,
 abbrev pub first_line : Reply → List ℕ
 first_line reply = taken (bytes_of reply)
 
--- the octets behind the first space of the first line, or none
+-- the octets after the first space of the first line, or none
 abbrev pub behind_space : List ℕ → List ℕ
 behind_space [] = []
 behind_space (b ∷ bs) = if b == 10 then [] else if b == 32 then bs else behind_space bs
@@ -17,7 +17,7 @@ abbrev pub begins_with_bracket : List ℕ → Bool
 begins_with_bracket [] = false
 begins_with_bracket (b ∷ bs) = b == 91
 
--- the text behind `+OK` or `-ERR` begins as a response code does
+-- the text after `+OK` or `-ERR` begins as a response code does
 abbrev pub has_code : Reply → Bool
 has_code reply = begins_with_bracket (behind_space (bytes_of reply))
 

@@ -45,7 +45,7 @@ command_seen (command.Dele n) = commands.Dele n
 command_seen command.Rset = commands.Rset
 command_seen command.Noop = commands.Noop
 
--- a command, where there is one
+-- a command, if there is one
 abbrev pub found_seen : Option Command → Option commands.Command
 found_seen None = None
 found_seen (Some c) = Some (command_seen c)

@@ -8,7 +8,7 @@ ghost use Rattle.popline.specs.Commands.{is_space, trimmed, number_of, value_of,
 
 use hex::FromHex;
 
-/// The octets before the first space, or all, and the octets behind it, or none.
+/// The octets before the first space, or all, and the octets after it, or none.
 pub(crate) fn split_word(line: &[u8]) -> (&[u8], &[u8])
     ensures word { result.0.now ≡ before_first is_space line.now }
     ensures rest { result.1.now ≡ after_first is_space line.now }
@@ -19,7 +19,7 @@ pub(crate) fn split_word(line: &[u8]) -> (&[u8], &[u8])
     }
 }
 
-/// The octets before the first space and those behind it; `None` where there is no space.
+/// The octets before the first space and those after it; `None` if there is no space.
 pub(crate) fn split_once(line: &[u8]) -> Option<(&[u8], &[u8])>
     ensures { MatchOption result (slice_split is_space line.now ≡ line.now ∷ [])
         (λ parts. slice_split is_space line.now ≡ parts.0.now ∷ slice_split is_space parts.1.now) }

@@ -88,7 +88,7 @@ impl<'a> Command<'a> {
     ///
     /// The keyword is the text before the first space. One space stands before each argument;
     /// spaces at the end are ignored. PASS's password is all that follows the first space. Fails
-    /// with `Unknown` where the keyword is none of the thirteen, else with `Syntax` where the
+    /// with `Unknown` if the keyword is none of the thirteen, else with `Syntax` if the
     /// arguments don't fit it.
     pub fn read(line: &'a [u8]) -> Result<Command<'a>, LineFault>
         ensures { reading_seen result ≡ command_of line.now }
@@ -167,7 +167,7 @@ impl Keyword {
         first_spelled(&KEYWORDS, word)
     }
 
-    /// The command of a line with this keyword; `None` where the arguments don't fit.
+    /// The command of a line with this keyword; `None` if the arguments don't fit.
     fn command<'a>(self, line: &'a [u8]) -> Option<Command<'a>>
         ensures { found_seen result ≡ command_with self line.now }
     {
@@ -233,7 +233,7 @@ impl Keyword {
     }
 }
 
-/// PASS with its password; `None` where that is empty.
+/// PASS with its password; `None` if that is empty.
 fn password(octets: &[u8]) -> Option<Command<'_>>
     ensures { found_seen result ≡ with_password octets.now }
 {

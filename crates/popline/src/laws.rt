@@ -19,7 +19,7 @@ pub fn spells_what_is_read()
     ensures { SpellsWhatIsRead }
 {}
 
-/// A line with a fault spells no command. The fault is `Unknown` where the first word is no
+/// A line with a fault spells no command. The fault is `Unknown` if the first word is no
 /// keyword, else `Syntax` of that keyword.
 pub fn names_the_fault()
     ensures { NamesTheFault }

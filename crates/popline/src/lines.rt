@@ -68,7 +68,7 @@ pub fn put_uid_row(
     Ok(())
 }
 
-/// Appends the first line of RETR's reply (RFC 1939, 5), which tells the message's octets. The
+/// Appends the first line of RETR's reply (RFC 1939, 5), which gives the message's octets. The
 /// message's stuffed lines and `end_lines` are to follow.
 pub fn begin_message(alloc: Global, out: &mut Vec<u8>, octets: u64) -> Result<(), AllocError>
     ensures ok { OnOk result (out.new.items ≡ out.old.items ++ one_line (codes "+OK " ++ decimal octets ++ codes " octets")) }

@@ -37,13 +37,13 @@ pub enum Reply<'a> {
     LoginFailed,
     /// No clerk has that credential, and the server closes the connection.
     LoginFailedClosing,
-    /// The rule of this name denies the command; it is `default` where no rule matches.
+    /// The rule of this name denies the command; it is `default` if no rule matches.
     DeniedBy(Name),
     /// There is no maildrop of that name.
     NoSuchMaildrop,
     /// Another session holds the maildrop's lock (RFC 2449, 8.1.2).
     InUse,
-    /// What the session sees, told after a login and after RSET.
+    /// What the session sees, sent after a login and after RSET.
     MaildropHas {
         /// How many messages.
         messages: u64,
@@ -81,9 +81,9 @@ pub enum Reply<'a> {
     AlreadyMarked(u64),
     /// QUIT's reply.
     Bye,
-    /// QUIT's reply where the rule of this name denies the removal of a marked message.
+    /// QUIT's reply if the rule of this name denies the removal of a marked message.
     RemovalDenied(Name),
-    /// QUIT's reply where the store refused to remove the marked messages.
+    /// QUIT's reply if the store refused to remove the marked messages.
     RemovalFailed,
     /// The store refused what the command needs.
     StoreFailed,

@@ -53,7 +53,7 @@ whole_still k xs ys e = has_both k xs ys ∙ ap (λ b. b || has_line (read_on k 
 pub whole_now : (k : ℕ) (xs ys : List Call) → has_line (read_on k ys) ≡ true → IsLineWhole k (xs ++ ys)
 whole_now k xs ys e = has_both k xs ys ∙ (ap (λ b. has_line (read_on k xs) || b) e ∙ or_true (has_line (read_on k xs)))
 
--- an awaited one is awaited still where no LF came
+-- an awaited one is awaited still if no LF came
 pub awaited_still : (k : ℕ) (xs ys : List Call) → has_line (read_on k ys) ≡ false → IsLineAwaited k xs → IsLineAwaited k (xs ++ ys)
 awaited_still k xs ys none (inl e) = inl (has_both k xs ys ∙ (ap (λ b. has_line (read_on k xs) || b) none ∙ (or_false (has_line (read_on k xs)) ∙ e)))
 awaited_still k xs ys none (inr e) = inr (list_any-append (ends_on k) xs ys ∙ ap (λ b. b || list_any (ends_on k) ys) e)
@@ -152,7 +152,7 @@ so_still None k xs ys none a = awaited_still k xs ys (none refl) a
 same_number : (link : Link) (k : ℕ) (inside : List Call) → link.number ≡ k → IsLineWhole link.number inside → has_line (read_on k inside) ≡ false → ⊥
 same_number link k inside e whole none = true≢false (sym whole ∙ (ap (λ j. has_line (read_on j inside)) e ∙ none))
 
--- where a line is awaited, what is handed on reads nothing on its link
+-- if a line is awaited, what is handed on reads nothing on its link
 unread : (k : ℕ) (inside : List Call) (call : Call) → IsBehindLine inside call → has_line (read_on k inside) ≡ false → has_line (read_on k (call ∷ [])) ≡ false
 unread k inside (Waited millis) b e = refl
 unread k inside (Accepted port came) b e = refl
@@ -306,7 +306,7 @@ module _ {W : Type 0} (Asked : W → List Call → Type 0) where
       (xs ++ front, ap (λ zs. xs ++ zs) e ∙ sym (append_assoc xs front (10 ∷ [])), has_append xs front ∙ (ap (λ b. b || has_line front) none ∙ open_yet))
   far_then (Open io) xs ys none h = has_append xs ys ∙ (ap (λ b. b || has_line ys) none ∙ h)
 
-  -- reads behind one that gave an octet
+  -- reads after one that gave an octet
   pub reads_then : (mid now : W) (link : Link) (p : Progress) (io : Io) (q : Progress) (before : List Call) → p ≡ Open io → is_fault io ≡ false → TakesLine Asked mid link 1 p before
       → ((calls : List Call) → Asked mid calls → TakesLine Asked now link 1 q calls) → TakesLine Asked now link 1 q before
   reads_then mid now link p io q before same fine start others =
@@ -324,7 +324,7 @@ module _ {W : Type 0} (Asked : W → List Call → Type 0) where
         };
       }
 
-  -- reads behind a look
+  -- reads after a look
   pub looked_first : (w : W) (link : Link) (io : Io) (octets : List ℕ) (q : Progress) (before : List Call) → TakesLine Asked w link 1 q (before ++ Looked Pop link io octets ∷ []) → TakesLine Asked w link 1 q before
   looked_first w link io octets q before a = record {
     taken = Looked Pop link io octets ∷ a.taken;

@@ -41,7 +41,7 @@ twice_if false xs ys zs = refl
 
 -- ---- lines
 
--- what has no LF has nothing behind a line
+-- what has no LF has nothing after a line
 pub nothing_behind : (xs : List ℕ) → has_line xs ≡ false → behind_line xs ≡ []
 nothing_behind [] h = refl
 nothing_behind (x ∷ xs) h = behind_by (x == 10) xs h (nothing_behind xs)
@@ -85,7 +85,7 @@ still_open (x ∷ xs) c h ne = open_by (x == 10) xs c h (λ e. still_open xs c e
     open_by true xs c h f = absurd (true≢false h)
     open_by false xs c h f = f h
 
--- what comes behind a line changes neither the line nor that there is one
+-- what comes after a line changes neither the line nor that there is one
 pub behind_more : (xs ys : List ℕ) → has_line xs ≡ true → behind_line (xs ++ ys) ≡ behind_line xs ++ ys
 behind_more [] ys h = absurd (true≢false (sym h))
 behind_more (x ∷ xs) ys h = more_by (x == 10) xs ys h (behind_more xs ys)
@@ -136,7 +136,7 @@ gone_then k fault xs ys t t' t'' a b = record {
   strayed = b.strayed ∙ (let live : is_live t' k ≡ is_live t k = rw (a.accepted, a.over k) refl in rw (a.strayed, live) (or_twice t.strayed (not (is_live t k))));
 }
 
--- ---- a port behind its lines
+-- ---- a port after its lines
 
 pub behind_gone : (t t' u : Told) (k : ℕ) (io : Io) (octets outs : List ℕ) → TellsBehind t u → HasGone k (is_fault io) octets t t'
     → behind_line (t.read k ++ octets) ≡ behind_line (t.read k) ++ outs → (t.accepted ≤ k → octets ≡ [])
@@ -280,7 +280,7 @@ none_read b known t u k io a =
       known_so = λ j. each_kept (known j) (λ x. IsKnown t.pop j x) (λ x. IsKnown (has_read t.pop k io []) j x) (λ x. known_gone t.pop (has_read t.pop k io []) k (is_fault io) [] j x h) (a.known_so j);
     }
 
--- octets came behind a line
+-- octets came after a line
 pub known_read : (b : ℕ → Option Begun) (known : ℕ → Option (Option IpAddr)) (t u : ToldOfPorts) (k : ℕ) (io : Io) (octets : List ℕ) (source : Option IpAddr) → TellsProxied b known t u → IsKnown t.pop k source
     → TellsProxied b known (at_port Pop (λ of. has_read of k io octets) t) (at_port Pop (λ of. has_read of k io octets) u)
 known_read b known t u k io octets source a so =
@@ -463,7 +463,7 @@ octet_came Tells wire k n x one line p t h lt le e is fault = record {
   is = refl;
 }
 
--- reads behind one that gave an octet
+-- reads after one that gave an octet
 pub line_read_on : {W : Type 0} (Tells : W → ToldOfPorts → Type 0) (mid now : W) (k : ℕ) (a b c : List ℕ) (p q : Progress) (t : ToldOfPorts) → IsLineRead Tells mid k a b p t → is_fault (io_of p) ≡ false
     → ((u : ToldOfPorts) → Tells mid u → IsLineRead Tells now k b c q u) → IsLineRead Tells now k a c q t
 line_read_on Tells mid now k a b c p q t first fine others =
@@ -481,7 +481,7 @@ line_read_on Tells mid now k a b c p q t first fine others =
     assoc [] ys zs = refl
     assoc (x ∷ xs) ys zs = ap (λ r. x ∷ r) (assoc xs ys zs)
 
--- the line that was read so far has nothing behind it
+-- the line that was read so far has nothing after it
 pub nothing_behind_so_far : (p : Progress) (line : List ℕ) → IsAsFarAs p line → behind_line line ≡ []
 nothing_behind_so_far Whole line (front, e, open_yet) = ap behind_line e ∙ nothing_behind_end front open_yet
 nothing_behind_so_far (Open io) line h = nothing_behind line h

@@ -78,14 +78,14 @@ ends_line so_far (Read port link room io octets ∷ calls) =
     ends_line (so_far || has_line octets) calls
 ends_line so_far (_ ∷ calls) = ends_line so_far calls
 
--- a call on a client's link is handed on behind its first line alone, where it looks or reads
+-- a call on a client's link is handed on after its first line alone, if it looks or reads
 abbrev pub IsBehindLine : (before : List Call) → Call → Type 0
 IsBehindLine before (Looked Pop link io octets) = IsLineWhole link.number before
 IsBehindLine before (Read Pop link room io octets) = IsLineWhole link.number before
 IsBehindLine before _ = ⊤
 
 -- `calls` were made, and `inside` those of the wire inside: each is handed on as it is, but in the
--- place of a wait is one for no time, where a line came to its end; where a link's first line is
+-- place of a wait is one for no time, if a line came to its end; if a link's first line is
 -- awaited, a look asks nothing, and a read reads on that line.
 pub data AreBehindLines : (inside calls : List Call) → Type 0 where
   NoCall : AreBehindLines [] []
@@ -103,12 +103,12 @@ pub data AreBehindLines : (inside calls : List Call) → Type 0 where
 
 -- ---- what the wire keeps
 
--- a link's first line is whole where its source is known
+-- a link's first line is whole if its source is known
 abbrev pub IsSo : Option (Option IpAddr) → ℕ → List Call → Type 0
 IsSo (Some source) k calls = IsLineWhole k calls
 IsSo None k calls = IsLineAwaited k calls
 
--- the calls inside were so, where these sources are known, and a line perhaps came to its end
+-- the calls inside were so, if these sources are known, and a line perhaps came to its end
 pub record AskedBehind {W : Type 0} (Asked : W → List Call → Type 0) (wire : W)
     (known : ℕ → Option (Option IpAddr)) (hurries : Bool) (calls : List Call) : Type 0 where
   pub inside : List Call
@@ -127,7 +127,7 @@ pub record AreOfLine (link : Link) (least : ℕ) (progress : Progress) (taken : 
   pub far : IsAsFarAs progress (read_on link.number taken)
   pub over : list_any (ends_on link.number) taken ≡ is_fault (io_of progress)
 
--- such calls were made behind these
+-- such calls were made after these
 pub record TakesLine {W : Type 0} (Asked : W → List Call → Type 0) (wire : W) (link : Link)
     (least : ℕ) (progress : Progress) (before : List Call) : Type 0 where
   pub taken : List Call

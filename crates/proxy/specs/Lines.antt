@@ -13,7 +13,7 @@ is_space b = b == 32
 abbrev pub is_digit : ℕ → Bool
 is_digit b = nat_le 48 b && nat_le b 57
 
--- the octets up to the first space, and those behind it
+-- the octets up to the first space, and those after it
 abbrev pub word : List ℕ → List ℕ
 word text = before_first is_space text
 
@@ -22,7 +22,7 @@ rest text = after_first is_space text
 
 -- ---- ports
 
--- digits that write a number below 65,536, where they stand behind those of a value
+-- digits that write a number below 65,536, if they stand after those of a value
 abbrev pub are_digits_behind : ℕ → List ℕ → Bool
 are_digits_behind value [] = true
 are_digits_behind value (d ∷ ds) = if is_digit d then (if nat_lt (value * 10 + (d - 48)) 65536 then are_digits_behind (value * 10 + (d - 48)) ds else false) else false
@@ -40,7 +40,7 @@ AreEnds {A} Spells text source =
     Spells (word text) source × ((destination : A) × Spells (word (rest text)) destination)
     × (is_port (word (rest (rest text))) ≡ true) × (is_port (rest (rest (rest text))) ≡ true)
 
--- what stands behind `PROXY` tells this source
+-- what stands after `PROXY` tells this source
 abbrev pub Tells : List ℕ → Option IpAddr → Type 0
 Tells text None = word text ≡ codes "UNKNOWN"
 Tells text (Some (V4 a)) = (word text ≡ codes "TCP4") × AreEnds IsIpv4Text (rest text) a
@@ -50,7 +50,7 @@ Tells text (Some (V6 a)) = (word text ≡ codes "TCP6") × AreEnds IsIpv6Text (r
 abbrev pub text_of : List ℕ → List ℕ
 text_of line = take (length line - 2) line
 
--- the line, with its CRLF, tells this source; `None` where the proxy doesn't know it
+-- the line, with its CRLF, tells this source; `None` if the proxy doesn't know it
 pub record IsProxyLine (line : List ℕ) (source : Option IpAddr) : Type 0 where
   pub short : length line ≤ 107
   pub ended : drop (length line - 2) line ≡ 13 ∷ 10 ∷ []

@@ -1,4 +1,4 @@
--- What a wire tells whose clients come through a proxy: of each client's link the octets behind its
+-- What a wire tells whose clients come through a proxy: of each client's link the octets after its
 -- first line.
 use Rattle.std.specs.Prelude.{◌≡◌, ◌≤◌, ◌<◌, ◌⊎◌, ◌||◌, not, ℕ, Bool, true, false, ◌==◌, List, [], ◌∷◌, ◌++◌, Option, Some, None, IfSome, if◌then◌else◌}
 use Rattle.std.specs.declared.net.ip_addr.IpAddr.{IpAddr}
@@ -19,7 +19,7 @@ abbrev pub first_line : List ℕ → List ℕ
 first_line [] = []
 first_line (x ∷ xs) = if x == 10 then x ∷ [] else x ∷ first_line xs
 
--- those behind it
+-- those after it
 abbrev pub behind_line : List ℕ → List ℕ
 behind_line [] = []
 behind_line (x ∷ xs) = if x == 10 then xs else behind_line xs
@@ -31,7 +31,7 @@ has_line (x ∷ xs) = if x == 10 then true else has_line xs
 
 -- ---- what is told
 
--- inside t is told, and u outside: u's octets stand behind a first line, and that is a PROXY line
+-- inside t is told, and u outside: u's octets stand after a first line, and that is a PROXY line
 pub record TellsBehind (t u : Told) : Type 0 where
   pub accepted : u.accepted ≡ t.accepted
   pub read : (k : ℕ) → u.read k ≡ behind_line (t.read k)
@@ -63,7 +63,7 @@ IsSaid t k address =
 abbrev pub IsAddressOf : {W : Type 0} → (W → ToldOfPorts → Type 0) → W → ℕ → IpAddr → Type 0
 IsAddressOf Tells wire k address = (t : ToldOfPorts) × Tells wire t × IsSaid t.pop k address
 
--- inside t is told, and u outside, where these lines are begun and these sources known
+-- inside t is told, and u outside, if these lines are begun and these sources known
 pub record TellsProxied (begun : ℕ → Option Begun) (known : ℕ → Option (Option IpAddr)) (t u : ToldOfPorts) : Type 0 where
   pub pop : TellsBehind t.pop u.pop
   pub admin : u.admin ≡ t.admin
@@ -86,7 +86,7 @@ alike t t' u u' s a b = record {
 alike_too : (a b c d : Told) → c ≡ a → d ≡ b → SayAlike a b → SayAlike c d
 alike_too a b c d e f s = subst (λ x. SayAlike x d) (sym e) (subst (λ x. SayAlike a x) (sym f) s)
 
--- one thing is told outside, where one is inside
+-- one thing is told outside, if one is inside
 pub proxy_once : {W : Type 0} (Tells : W → ToldOfPorts → Type 0) → ((w : W) (t u : ToldOfPorts) → Tells w t → Tells w u → SayAlikeOfPorts t u) → (wire : W) (begun : ℕ → Option Begun) (known : ℕ → Option (Option IpAddr)) (u v : ToldOfPorts)
     → TellsProxy Tells wire begun known u → TellsProxy Tells wire begun known v → SayAlikeOfPorts u v
 proxy_once {W} Tells once wire begun known u v (t, h, a) (t', h', b) =

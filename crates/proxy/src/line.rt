@@ -17,12 +17,12 @@ pub const MOST_OCTETS: usize = 107;
 /// The first line of a link behind a proxy.
 #[derive(Clone, Copy, PartialEq, Eq)]
 pub struct ProxyLine {
-    /// The address that the client came from; `None` where the proxy doesn't know it.
+    /// The address that the client came from; `None` if the proxy doesn't know it.
     pub source: Option<IpAddr>,
 }
 
 impl ProxyLine {
-    /// Reads a line, which is given with its CRLF; `None` where it's none.
+    /// Reads a line, which is given with its CRLF; `None` if it's none.
     ///
     /// A line is `PROXY TCP4` or `PROXY TCP6`, the addresses of source and destination, and their
     /// ports, one space before each, or `PROXY UNKNOWN` and anything; at most 107 octets.
@@ -45,7 +45,7 @@ impl ProxyLine {
     }
 }
 
-/// What stands behind `PROXY` and a space.
+/// What stands after `PROXY` and a space.
 fn told_by(text: &[u8]) -> Option<ProxyLine>
     ensures { MatchOption result ((source : Option Address) → ¬ (Tells text.now source))
         (λ it. Tells text.now it.source) }
@@ -130,7 +130,7 @@ fn is_port(text: &[u8]) -> bool
     }
 }
 
-/// Whether digits write a number below 65,536, where they stand behind those of a value.
+/// Whether digits write a number below 65,536, if they stand after those of a value.
 fn are_digits_behind(value: u32, digits: &[u8]) -> bool
     requires { value < 65536 }
     ensures { result ≡ are_digits_behind value digits.now }
@@ -155,7 +155,7 @@ fn is_digit(b: u8) -> bool
     matches!(b, b'0'..=b'9')
 }
 
-/// The octets before the first space, or all, and those behind it, or none.
+/// The octets before the first space, or all, and those after it, or none.
 fn split_word(text: &[u8]) -> (&[u8], &[u8])
     ensures word { result.0.now ≡ word text.now }
     ensures rest { result.1.now ≡ behind_word text.now }

@@ -17,7 +17,7 @@ ghost use Rattle.proxy.specs.Proxied.{TellsProxy, TellsProxied, proxy_once, IsLi
 ghost use Rattle.proxy.specs.Proxied.{IsAsFarAs, has_line, IsAddressOf};
 ghost use Rattle.proxy.specs.Behind.{TakesLine, AskedAmid, AskedBehind};
 ghost use Rattle.proxy.specs.Lines.{IsProxyLine};
-ghost use Rattle.proxy.specs.Refusals.{refusal_of, address_by};
+ghost use Rattle.proxy.specs.Refusals.{refusal_of, address_by, address_behind};
 ghost use Rattle.proxy.specs.declared.wire.Progress.{Progress as HowFar};
 
 use crate::line::{MOST_OCTETS, ProxyLine};
@@ -28,7 +28,7 @@ use std::collections::BTreeMap;
 use std::net::IpAddr;
 use std::time::Clock;
 
-/// How many seconds behind its acceptance the first line of a link has to be whole.
+/// How many seconds after its acceptance the first line of a link has to be whole.
 const MOST_SECONDS: u64 = 10;
 
 /// The octets of a line that isn't whole yet, or just became so.
@@ -79,7 +79,7 @@ pub(crate) struct Refused {
 /// the administration have no such line.
 ///
 /// Contracts see what the wire inside tells, but of what was read from a client's link only the
-/// octets behind its first line; and that these are behind a PROXY line. They see too what it was
+/// octets after its first line; and that these are after a PROXY line. They see too what it was
 /// asked, and that the wire inside was asked the same, but for what reads on first lines.
 #[derive(Drop)]
 pub struct ProxiedWire<W: Wire, C: Clock> {
@@ -89,13 +89,13 @@ pub struct ProxiedWire<W: Wire, C: Clock> {
     begun: BTreeMap<u64, Begun>,
     /// The sources that lines told, by the numbers of their links.
     known: BTreeMap<u64, Option<IpAddr>>,
-    /// A line was read whole since the last wait, and more may lie behind it.
+    /// A line was read whole since the last wait, and more may lie after it.
     hurries: bool,
     /// The link that was refused last.
     refused: Option<Refused>,
 }
 
-/// How long a wait is: no time where a line was read whole, and more may lie behind it.
+/// How long a wait is: no time if a line was read whole, and more may lie after it.
 fn wait_of(hurries: bool, millis: u32) -> u32
     ensures { result ≡ (if hurries then 0 else millis) }
 {
@@ -139,7 +139,7 @@ fn read_octet<W: Wire>(wire: &mut W, link: Link, line: &mut Line) -> Progress
 }
 
 /// Reads octets of a line, one by one, until it is whole or has 107, or no octet comes; and stops
-/// behind one more than `left`.
+/// after one more than `left`.
 fn read_octets<W: Wire>(wire: &mut W, link: Link, line: &mut Line, left: usize) -> Progress
     requires { array_vec_len line.old < 107 }
     ensures told { (t : ToldOfPorts) → W.tells wire.old t
@@ -186,7 +186,7 @@ impl<W: Wire, C: Clock> ProxiedWire<W, C> {
         }
     }
 
-    /// The clock's second; 0 where it can't be read.
+    /// The clock's second; 0 if it can't be read.
     fn second(&self) -> u64 {
         match self.clock.monotonic() {
             Ok(time) => time.as_secs(),
@@ -253,7 +253,7 @@ impl<W: Wire, C: Clock> ProxiedWire<W, C> {
         }
     }
 
-    /// Keeps what was read of a line that isn't whole; or closes the link, where the line is too
+    /// Keeps what was read of a line that isn't whole; or closes the link, if the line is too
     /// long or takes too long.
     fn keep(&mut self, link: Link, begun: Begun) -> Io
         ensures told { (u : ToldOfPorts) → IsAmid W.tells self.old.wire (get nat_cmp self.old.begun)
@@ -285,7 +285,7 @@ impl<W: Wire, C: Clock> ProxiedWire<W, C> {
         }
     }
 
-    /// Learns the source that a whole line tells; or closes the link, where it is no PROXY line.
+    /// Learns the source that a whole line tells; or closes the link, if it is no PROXY line.
     fn learn(&mut self, link: Link, line: &[u8]) -> Io
         ensures told { (u : ToldOfPorts) → IsAmid W.tells self.old.wire (get nat_cmp self.old.begun)
             (get nat_cmp self.old.known) link.number line.now u → IsAsFarAs Progress.Whole line.now
@@ -370,7 +370,7 @@ impl<W: Wire, C: Clock> ProxiedWire<W, C> {
         self.read_line(link)
     }
 
-    /// Begins to read the first line of a link that was accepted. Where memory is wanting the link
+    /// Begins to read the first line of a link that was accepted. If memory is wanting the link
     /// has none, and its first read closes it.
     fn begin(&mut self, link: Link)
         ensures told { (t u : ToldOfPorts) → link.number ≡ t.pop.accepted
@@ -396,6 +396,8 @@ impl<W: Wire, C: Clock> Wire for ProxiedWire<W, C> {
         u };
 
     ghost asked = { λ r calls. AskedBehind W.asked r.wire (get nat_cmp r.known) r.hurries calls };
+
+    ghost address_of = { λ r. address_behind (get nat_cmp r.known) (W.address_of r.wire) };
 
     ghost tells_once = { λ r u v a b. proxy_once W.tells W.tells_once r.wire (get nat_cmp r.begun)
         (get nat_cmp r.known) u v a b };
@@ -438,11 +440,13 @@ impl<W: Wire, C: Clock> Wire for ProxiedWire<W, C> {
         self.wire.write(port, link, octets)
     }
 
-    /// The address that the link's first line told; that of the wire inside where the proxy doesn't
+    /// The address that the link's first line told; that of the wire inside if the proxy doesn't
     /// know it; `None` while the line isn't whole.
     ///
     /// What it tells of a client's link is what that line says, or that line says no address.
     fn address(&self, port: Port, link: Link) -> Option<IpAddr>
+        ensures is { result ≡ address_behind (get nat_cmp self.now.known)
+            (W.address_of self.now.wire) port link }
         ensures told { (source : Address) → port ≡ ThePop
             → get nat_cmp self.now.known link.number ≡ Some (Some source) → result ≡ Some source }
         ensures open_yet { port ≡ ThePop → get nat_cmp self.now.known link.number ≡ None

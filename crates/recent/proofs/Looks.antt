@@ -43,7 +43,7 @@ pub passed_on : (r : Result (Unit {0}) VaultFault) (e : VaultFault) → IsErrAnd
 passed_on (Ok x) e h = absurd h
 passed_on (Err y) e h = cc
 
--- a call that only looks at the vault inside, where what is kept then fits
+-- a call that only looks at the vault inside, if what is kept then fits
 pub looks_inside : {V A : Type 0} (vault : Ghosts V) (old was new : Recalling V)
     (answered : Result A VaultFault) → was ≡ old
     → Looks vault.holds vault.faults vault.is_clean vault.is_up vault.may_leave was.vault new.vault

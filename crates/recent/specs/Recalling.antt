@@ -60,7 +60,7 @@ abbrev pub counted_if : (is_stale : Bool) → (kept counted : Total) → Total
 counted_if true kept counted = counted
 counted_if false kept counted = kept
 
--- the total that a row stands for: the kept one, or, where that is stale, that of these messages
+-- the total that a row stands for: the kept one, or, if that is stale, that of these messages
 abbrev pub total_by : List Keyed → KeptTotal → Total
 total_by ms row = counted_if row.is_stale row.total (capped_total ms row.total.maildrop)
 
@@ -69,7 +69,7 @@ abbrev pub RowsFit : List KeptTotal → Contents → Type 0
 RowsFit rows c =
     map (total_by c.messages) rows ≡ map (capped_total c.messages) (by_name c.maildrops)
 
--- where rows are kept, they fit
+-- if rows are kept, they fit
 abbrev pub TotalsFit : Option (List KeptTotal) → Contents → Type 0
 TotalsFit None c = ⊤
 TotalsFit (Some rows) c = RowsFit rows c

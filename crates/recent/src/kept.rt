@@ -296,7 +296,7 @@ pub(crate) fn after_drop<T>(
     }
 }
 
-/// Hands on the answer of a call that only looks, and forgets what is kept where it is a fault.
+/// Hands on the answer of a call that only looks, and forgets what is kept if it is a fault.
 pub(crate) fn after_look<T>(
     kept: &mut AllKept,
     totals: &mut Option<Totals>,

@@ -139,7 +139,7 @@ fn count_all<V: Vault>(vault: &mut V, rows: &mut [KeptTotal]) -> Result<(), Vaul
 }
 
 impl Totals {
-    /// Keeps a copy of the totals; `None` where they are more than 1,000, or where memory is
+    /// Keeps a copy of the totals; `None` if they are more than 1,000, or if memory is
     /// wanting.
     pub(crate) fn of(alloc: Global, totals: &[Total]) -> Option<Totals>
         ensures copy { IfSome result (λ kept. kept ≡ map fresh totals.now) }
@@ -154,7 +154,7 @@ impl Totals {
         }
     }
 
-    /// A copy of the totals, where none is stale and there is memory for it.
+    /// A copy of the totals, if none is stale and there is memory for it.
     fn recall(&self, alloc: Global) -> Option<Vec<Total>>
         ensures { IfSome result (λ totals. self.now ≡ map fresh totals.items) }
     {
@@ -176,7 +176,7 @@ impl Totals {
     }
 }
 
-/// The totals that are kept, where none is stale and there is memory for a copy.
+/// The totals that are kept, if none is stale and there is memory for a copy.
 pub(crate) fn recalled_totals(alloc: Global, kept: &Option<Totals>) -> Option<Vec<Total>>
     ensures { IfSome result (λ totals. kept.now ≡ Some (map fresh totals.items)) }
 {
@@ -186,7 +186,7 @@ pub(crate) fn recalled_totals(alloc: Global, kept: &Option<Totals>) -> Option<Ve
     }
 }
 
-/// Marks the total of this maildrop as stale, where totals are kept.
+/// Marks the total of this maildrop as stale, if totals are kept.
 pub(crate) fn mark_kept(kept: &mut Option<Totals>, maildrop: &Name)
     ensures { kept.new ≡ marked maildrop.now kept.old }
 {

@@ -22,7 +22,7 @@ pub find_same : (p q : Rule → Bool) → ((r : Rule) → p r ≡ q r) → (xs :
 find_same p q e [] = refl
 find_same p q e (x ∷ xs) = rw (e x, find_same p q e xs) refl
 
--- two tests that agree but where a third passes, which it never does
+-- two tests that agree but if a third passes, which it never does
 find_unless : (p q named : Rule → Bool) → ((r : Rule) → named r ≡ false → p r ≡ q r) → (xs : List Rule) → list_any named xs ≡ false → find p xs ≡ find q xs
 find_unless p q named e [] h = refl
 find_unless p q named e (x ∷ xs) h =

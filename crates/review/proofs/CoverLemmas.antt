@@ -114,7 +114,7 @@ rule_covered groups wide narrow clerk maildrop class action e h =
 same_some : (a b : Rule) → Some a ≡ Some b → a ≡ b
 same_some a b e = cc
 
--- where the element at place n passes only if an earlier one does, the first that passes is the same without it
+-- if the element at place n passes only if an earlier one does, the first that passes is the same without it
 dropped : (p : Rule → Bool) (xs : List Rule) (n : ℕ) (narrow : Rule) → slice_get xs n ≡ Some narrow → (p narrow ≡ true → list_any p (take n xs) ≡ true) → find p (remove xs n) ≡ find p xs
 dropped p [] n narrow e h = absurd (cc)
 dropped p (x ∷ xs) zero narrow e h = at (p x) refl

@@ -11,7 +11,7 @@ use Rattle.review.specs.declared.label.Label.TheVariants.{Named, Others}
 use Rattle.review.specs.Questions.{has_clerk}
 use Rattle.review.specs.Steps.{fits_member, is_among, member_of, name_if, names_of_groups, of_clerk, of_member}
 
--- a name is one of those groups' names where a group of that name has the clerk
+-- a name is one of those groups' names if a group of that name has the clerk
 in_groups : (wanted clerk : List ℕ) (groups : List Group) → is_among wanted (names_of_groups groups clerk) ≡ is_member groups wanted clerk
 in_groups wanted clerk [] = refl
 in_groups wanted clerk (g ∷ groups) = at (has_member g clerk) (in_groups wanted clerk groups)

@@ -43,7 +43,7 @@ covers groups wide narrow =
     covers_actions wide.actions narrow.actions && covers_pattern wide.maildrop narrow.maildrop && covers_pattern wide.class narrow.class
     && covers_clerks groups wide.clerk narrow.clerk
 
--- of a rule behind others the first of these that covers it
+-- of a rule after others the first of these that covers it
 abbrev pub cover_among : List Group → (before : List Rule) → Option Rule → Option ℕ
 cover_among groups before None = None
 cover_among groups before (Some narrow) = position (λ wide. covers groups wide narrow) before
@@ -71,7 +71,7 @@ name_of_rule (Some r) = r.name
 unfoldable pub rule_words : List Rule → ℕ → List ℕ
 rule_words rules n = codes "rule " ++ decimal (n + 1) ++ codes " " ++ name_of_rule (slice_get rules n)
 
--- the line of the rule at a place, where one covers it
+-- the line of the rule at a place, if one covers it
 unfoldable pub cover_line : List Rule → (n : ℕ) → Option ℕ → List ℕ
 cover_line rules n None = []
 cover_line rules n (Some by) = rule_words rules n ++ codes " never decides: " ++ rule_words rules by ++ codes " matches first\n"

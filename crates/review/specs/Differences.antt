@@ -34,7 +34,7 @@ differences old new qs = becoming true old new qs ++ becoming false old new qs
 
 -- ---- the text
 
--- the text, where the test holds
+-- the text, if the test holds
 abbrev pub text_if : Bool → List ℕ → List ℕ
 text_if true text = text
 text_if false text = []

@@ -1,4 +1,4 @@
--- The names that policies speak of, in the order of their octets, and the label of all others behind them.
+-- The names that policies speak of, in the order of their octets, and the label of all others after them.
 use Rattle.std.specs.Prelude.{◌≡◌, ℕ, Bool, false, ◌||◌, List, [], ◌∷◌, ◌++◌, map}
 use Rattle.std.specs.BTreeSet.{insert_key}
 use Rattle.std.specs.Cmp.Lexicographic.{slice_cmp}
@@ -14,13 +14,13 @@ use Rattle.review.specs.declared.label.Label.{Label}
 use Rattle.review.specs.declared.label.Label.TheVariants.{Named, Others}
 use Rattle.review.specs.Questions.{names_class, names_clerk, names_maildrop}
 
--- the clerk that is named, where one is
+-- the clerk that is named, if one is
 abbrev pub clerk_of : Clerks → List (List ℕ)
 clerk_of clerks.Any = []
 clerk_of (clerks.Is name) = name ∷ []
 clerk_of (clerks.MembersOf name) = []
 
--- the name of a pattern, where it has one
+-- the name of a pattern, if it has one
 abbrev pub name_in : Pattern → List (List ℕ)
 name_in Any = []
 name_in (Is name) = name ∷ []

@@ -39,7 +39,7 @@ renamed_from old new is = if has_rule old.rules is.name then None else said_befo
 unfoldable pub was_words : (olds news : List Rule) → (was is : ℕ) → List ℕ
 was_words olds news was is = rule_words news is ++ codes " was " ++ rule_words olds was ++ codes "\n"
 
--- the line of the rule at a place, where it was another
+-- the line of the rule at a place, if it was another
 abbrev pub was_line : (olds news : List Rule) → (is : ℕ) → Option ℕ → List ℕ
 was_line olds news is None = []
 was_line olds news is (Some was) = codes "note: " ++ was_words olds news was is

@@ -42,7 +42,7 @@ classes_of old new = labels (classes_in old ++ classes_in new)
 abbrev pub is_narrow : Choice → Bool
 is_narrow choice = is_some choice.clerk && is_some choice.maildrop
 
--- who may do what for a reader: a line for each question where one clerk and one maildrop are chosen, else tables
+-- who may do what for a reader: a line for each question if one clerk and one maildrop are chosen, else tables
 abbrev pub plain_text : (narrow : Bool) → Policy → (clerks maildrops classes : List Label) → List ℕ
 plain_text true p clerks maildrops classes = answers_text line.Text p (questions clerks maildrops (columns classes))
 plain_text false p clerks maildrops classes = tables_text p clerks maildrops classes
@@ -66,7 +66,7 @@ has_lines (b ∷ bs) = true
 unfoldable pub unknown_note : (what name : List ℕ) → List ℕ
 unknown_note what name = codes "note: " ++ what ++ codes " " ++ name ++ codes " is named nowhere: decided as (others)\n"
 
--- of a name, where none of the labels is its
+-- of a name, if none of the labels is its
 abbrev pub name_note : (what name : List ℕ) → (all : List Label) → List ℕ
 name_note what name all = text_if (not (list_any (is_of name) all)) (unknown_note what name)
 
@@ -143,7 +143,7 @@ stored_text choice source old new kept = reviewed Store choice source old new ke
 
 -- ---- a law
 
--- no question is asked twice, and no difference is told twice
+-- no question is asked twice, and no difference is printed twice
 pub record ToldOnce : Type 0 where
   pub asked : (choice : Choice) (old new : Policy) (kept : Kept) → AllPairs (λ q r. q ≢ r) (asked_of choice old new kept)
   pub told : (choice : Choice) (old new : Policy) (kept : Kept)

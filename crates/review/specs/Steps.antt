@@ -36,7 +36,7 @@ pub record Member : Type 0 where
   pub label : Label
   pub groups : List (List ℕ)
 
--- the name, where the test holds
+-- the name, if the test holds
 abbrev pub name_if : Bool → (name : List ℕ) → List (List ℕ)
 name_if true name = name ∷ []
 name_if false name = []
@@ -75,7 +75,7 @@ of_member rules m = filter (λ r. fits_member r.clerk m) rules
 
 -- ---- the differences
 
--- the line of a question, where its answer becomes so
+-- the line of a question, if its answer becomes so
 abbrev pub told : (allowed : Bool) → Question → (was is : Decision) → List ℕ
 told allowed q was is = text_if (becomes allowed was is) (change_line q was is)
 

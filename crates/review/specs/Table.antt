@@ -18,7 +18,7 @@ abbrev pub spaces : ℕ → List ℕ
 spaces zero = []
 spaces (suc n) = spaces n ++ 32 ∷ []
 
--- the text with spaces behind it, as wide as that
+-- the text with spaces after it, as wide as that
 abbrev pub padded : (width : ℕ) → List ℕ → List ℕ
 padded width text = text ++ spaces (width - length text)
 
@@ -64,7 +64,7 @@ pub record Row : Type 0 where
 abbrev pub same_marks : (r s : Row) → Bool
 same_marks r s = bytes_eq r.marks s.marks
 
--- one more clerk, where the marks are the same
+-- one more clerk, if the marks are the same
 abbrev pub also : (r s : Row) → List ℕ
 also r s = text_if (same_marks r s) (codes ", " ++ label_text s.clerk)
 

@@ -170,7 +170,7 @@ fn put_maildrops(
     Ok(())
 }
 
-/// The change of a policy, and in which direction its differences are told.
+/// The change of a policy, and in which direction its differences are printed.
 #[derive(Clone, Copy)]
 pub(crate) struct Change<'a> {
     pub(crate) allowed: bool,
@@ -238,7 +238,7 @@ pub(crate) fn put_change_lines(
 /// whose decisions by the two policies differ in being allowed, with both and the rules that
 /// decide. Those that become allowed come first; both parts are in the order of the names: by
 /// clerks, then maildrops, then to open, and for each class to read and to remove. It is empty
-/// where none differs.
+/// if none differs.
 ///
 /// It takes memory for the text, and for copies of the rules about one clerk. An `Err` is want of
 /// memory.

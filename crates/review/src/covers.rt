@@ -105,7 +105,7 @@ fn first_covering(groups: &[Group], rules: &[Rule], narrow: &Rule) -> Option<usi
 
 /// The place, counted from 0, of the first rule that stands before the one at this place and
 /// matches whatever that one matches, so that it never decides: without it every decision is the
-/// same. `None` where no single rule does so, or where no rule has the place.
+/// same. `None` if no single rule does so, or if no rule has the place.
 ///
 /// A rule about a group is matched whole by one about `*`, and by one that has each member of the
 /// group among its clerks.

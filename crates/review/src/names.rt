@@ -116,7 +116,7 @@ fn add_clerks(names: &mut BTreeSet<Name>, policy: &Policy) -> Result<(), AllocEr
     add_members(names, policy.groups())
 }
 
-/// The labels of the names, and behind them that of all others.
+/// The labels of the names, and after them that of all others.
 fn labels_of(alloc: Global, names: &BTreeSet<Name>) -> Result<Vec<Label>, AllocError>
     ensures { IfOk result (λ labels. labels.items ≡ map Named names.now.keys ++ Others ∷ []) }
 {

@@ -185,7 +185,7 @@ fn put_notes_of_groups(
 
 /// The text of what the policy speaks of and the store doesn't have: a line for each rule that
 /// names such a clerk, such a maildrop, or a group of whose members none is a clerk of the store;
-/// then one for each member of a group who isn't one. It is empty where the store has all. An `Err`
+/// then one for each member of a group who isn't one. It is empty if the store has all. An `Err`
 /// is want of memory.
 pub fn missing(alloc: Global, policy: &Policy, kept: &Kept) -> Result<Vec<u8>, AllocError>
     ensures { IfOk result (λ text. text.items ≡ missing_lines policy.now kept.now) }

@@ -44,7 +44,7 @@ fn said_before(groups: &[Group], olds: &[Rule], news: &[Rule], is: &Rule) -> Opt
     olds.iter().position(|was| says_same(groups, was, is) && !has_rule(news, &was.name))
 }
 
-/// The place of the old rule that this one was, where it got another name.
+/// The place of the old rule that this one was, if it got another name.
 fn renamed_from(old: &Policy, new: &Policy, is: &Rule) -> Option<usize>
     ensures first { result ≡ renamed_from old.now new.now is.now }
     ensures placed { IfSome result (λ was. was < length old.now.rules) }
@@ -89,7 +89,7 @@ fn put_was_line(
     put_was_words(out, olds, news, was, is)
 }
 
-/// Appends the line of the rule at a place, where it was another.
+/// Appends the line of the rule at a place, if it was another.
 fn put_renamed(
     out: &mut Vec<u8>,
     old: &Policy,
@@ -110,7 +110,7 @@ fn put_renamed(
 }
 
 /// The text of the rules that only got another name: a line for each rule of the new policy whose
-/// name no old rule has, where an old rule, whose name no new rule has, matches the same by the new
+/// name no old rule has, if an old rule, whose name no new rule has, matches the same by the new
 /// groups and decides the same. It names both rules and their numbers, counted from 1. An `Err` is
 /// want of memory.
 pub fn renamed(alloc: Global, old: &Policy, new: &Policy) -> Result<Vec<u8>, AllocError>
@@ -152,7 +152,7 @@ fn put_is_line(out: &mut Vec<u8>, own: &[Rule], place: usize, how: &[u8]) -> Res
     put(out, b"\n")
 }
 
-/// Appends the line of the rule at a place, where these rules have none for it.
+/// Appends the line of the rule at a place, if these rules have none for it.
 fn put_unmatched(
     out: &mut Vec<u8>,
     groups: &[Group],

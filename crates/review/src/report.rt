@@ -47,7 +47,7 @@ fn chosen(alloc: Global, one: &Option<Name>, all: Vec<Label>) -> Result<Vec<Labe
 }
 
 /// The names that a review of two policies beside a store speaks of: of clerks and of maildrops the
-/// one that is chosen, where one is, else all that `names_of` has. An `Err` is want of memory.
+/// one that is chosen, if one is, else all that `names_of` has. An `Err` is want of memory.
 pub fn names_for(
     alloc: Global,
     old: &Policy,

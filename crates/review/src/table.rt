@@ -255,7 +255,7 @@ fn put_tables(
 }
 
 /// Who may do what by the policy: a table for each maildrop, its classes across, with the marks
-/// `x` for allow and `.` for deny, to open, and for each class to read and to remove; behind the
+/// `x` for allow and `.` for deny, to open, and for each class to read and to remove; after the
 /// marks the clerks that have them, in the order of the names. An `Err` is want of memory.
 pub fn tables(alloc: Global, policy: &Policy, names: &Names) -> Result<Vec<u8>, AllocError>
     ensures { IfOk result (λ text. text.items

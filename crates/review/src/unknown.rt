@@ -37,7 +37,7 @@ fn put_unknown_note(out: &mut Vec<u8>, what: &[u8], name: &Name) -> Result<(), A
     put(out, b" is named nowhere: decided as (others)\n")
 }
 
-/// Appends a note of the name, where none of the labels is its.
+/// Appends a note of the name, if none of the labels is its.
 fn put_name_note(
     out: &mut Vec<u8>,
     what: &[u8],

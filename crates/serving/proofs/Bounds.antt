@@ -14,7 +14,8 @@ use Rattle.adminhttp.specs.Fields.{Header, is_named, values_of, only, length_tex
 use Rattle.adminhttp.specs.Steps.{◌>>=◌, value_or}
 use Rattle.adminhttp.specs.Bodies.{body_of, first_octets, without_line_end, credential_of, policy_of, or_fault}
 use Rattle.adminhttp.specs.Targets.{target_of}
-use Rattle.adminhttp.specs.Request.{Asked, clerk_put, policy_put, maildrop_asked, clerk_asked, policy_asked, session_asked, asked_of, asked_by, HeadComesTo, ComesTo as RequestComesTo, IsRequest}
+use Rattle.adminhttp.specs.Request.{Asked, clerk_put, policy_put, maildrop_asked, clerk_asked, policy_asked, session_asked, asked_of, asked_by, asked_of_site, HeadComesTo}
+use Rattle.adminhttp.specs.Request.{ComesTo as RequestComesTo, IsRequest}
 use Rattle.std.specs.List.{All}
 use Rattle.std.specs.Prelude.{IfNone}
 use Rattle.std.proofs.Common.{◌++◌, ◌||◌, true≢false}
@@ -24,6 +25,7 @@ use Rattle.office.specs.Events.{Log, Trace}
 use Rattle.serving.specs.Calls.{Call}
 use Rattle.serving.specs.declared.wire.Link.{Link}
 use Rattle.serving.specs.declared.requests.Response.{Response}
+use Rattle.adminhttp.specs.Sites.{Site, is_own}
 use Rattle.serving.specs.declared.requests.Exchange.{Exchange}
 use Rattle.serving.specs.declared.links.Links.{Links}
 use Rattle.serving.specs.Requests.{octets_of, HasOneMore, IsGiven, NotYet, NoCommand, GivenOne}
@@ -34,7 +36,7 @@ use Rattle.adminhttp.specs.declared.target.Target.TheVariants as target
 use Rattle.adminhttp.specs.declared.no_command.NoCommand.{NoCommand as Unread}
 use Rattle.adminhttp.specs.declared.no_command.NoCommand.TheVariants.{More, Bad, BadPolicy}
 use Rattle.adminhttp.specs.declared.refusal.Refusal.{Refusal}
-use Rattle.adminhttp.specs.declared.refusal.Refusal.TheVariants.{BadRequest, NotFound, LengthRequired, TooLarge}
+use Rattle.adminhttp.specs.declared.refusal.Refusal.TheVariants.{BadRequest, ForeignSite, NotFound, LengthRequired, TooLarge}
 use Rattle.policy.specs.Policy.{Policy}
 use Rattle.policy.specs.PolicyText.{rules_of}
 use Rattle.policy.specs.declared.fault.PolicyFault.{PolicyFault}
@@ -147,7 +149,7 @@ text_no_more headers e = by (list_any (is_named (codes "transfer-encoding")) hea
   by true e = cc
   by false e = only_no_more (values_of (codes "content-length") headers) e
 
--- a step that doesn't wait for more, and one behind it
+-- a step that doesn't wait for more, and one after it
 behind_step : {A B : Type 0} {P : Type 0} (r : Result A Unread) (f : A → Result B Unread) → (r ≡ Err More → P) → ((a : A) → r ≡ Ok a → f a ≡ Err More → P) → (r >>= f) ≡ Err More → P
 behind_step (Ok a) f stop go e = go a refl e
 behind_step (Err x) f stop go e = stop (ap (λ y. Err y) (ap stop_in e))
@@ -231,13 +233,17 @@ by_short method at headers behind e =
 
 -- ---- a request
 
-behind_short : (text behind : List ℕ) → HeadComesTo text behind (Err More) → length behind < 1048576
-behind_short text behind (inl (h, is, e)) = by_short h.method h.target _ behind (sym e)
-behind_short text behind (inr (none, e)) = cc
+site_short : (site : Site) (method at : List ℕ) (headers : List Header) (behind : List ℕ) → asked_of_site site method at headers behind ≡ Err More → length behind < 1048576
+unfolding asked_of_site
+site_short site method at headers behind e = if_more (is_own site headers) _ _ (by_short method at headers behind) (λ k. cc) e
+
+behind_short : (site : Site) (text behind : List ℕ) → HeadComesTo site text behind (Err More) → length behind < 1048576
+behind_short site text behind (inl (h, is, e)) = site_short site h.method h.target _ behind (sym e)
+behind_short site text behind (inr (none, e)) = cc
 
 -- a request that isn't whole has fewer than 8,192 + 1,048,576 octets
-pub more_within : (b : List ℕ) → IsRequest b (Err More) → length b < 1056768
-more_within b asked = by (head_at b) refl asked where
+pub more_within : (site : Site) (b : List ℕ) → IsRequest site b (Err More) → length b < 1056768
+more_within site b asked = by (head_at b) refl asked where
   front_within : length (take 8192 b) ≤ 8192
   front_within = let e = length-take 8192 b in omega (arith, e)
 
@@ -248,15 +254,15 @@ more_within b asked = by (head_at b) refl asked where
   short : (s n : ℕ) → s + n ≤ 8192 → length (drop (s + n) b) < 1048576 → length b < 1056768
   short s n within few = let len = length-drop (s + n) b in omega (arith, within, few, len)
 
-  by : (o : Option (ℕ × ℕ)) → head_at b ≡ o → RequestComesTo b o (Err More) → length b < 1056768
+  by : (o : Option (ℕ × ℕ)) → head_at b ≡ o → RequestComesTo site b o (Err More) → length b < 1056768
   by None is asked = unended_within (nat_le (length b) 8192) refl (ap stop_in asked)
   by (Some (s, n)) is asked =
       let within : s + n ≤ 8192 = (let w = head_within (empty_lines (take 8192 b)) (take 8192 b) s n is in omega (arith, w, front_within)) in
-      short s n within (behind_short (head_text b (s, n)) (behind_head b (s, n)) asked)
+      short s n within (behind_short site (head_text b (s, n)) (behind_head b (s, n)) asked)
 
 -- ---- the links that are held
 
-module _ (now : ℕ) (B : Records) where
+module _ (site : Site) (now : ℕ) (B : Records) where
   short_new : (link : Link) (held more : List Exchange) → HasOneMore now link held more → All IsShort held → All IsShort more
   short_new link held more one a =
       let new : IsShort one.last = short_by one.last.response one.last.read.items (omega (arith, ap length one.read)) in
@@ -273,16 +279,16 @@ module _ (now : ℕ) (B : Records) where
   short_come _ _ _ _ (WantsMemory link held held_then came calls rest) a = short_come held held_then came calls rest a
 
   -- a request of which a piece came, and to which there is no response yet
-  given_short : (L M : Log) (whole : List ℕ) (place : Option ℕ) (r : Option (List ℕ)) → IsGiven B L whole M place r → r ≡ None → length whole < 1056768
-  given_short L _ whole _ _ (NotYet short) e = more_within whole short
+  given_short : (L M : Log) (whole : List ℕ) (place : Option ℕ) (r : Option (List ℕ)) → IsGiven site B L whole M place r → r ≡ None → length whole < 1056768
+  given_short L _ whole _ _ (NotYet short) e = more_within site whole short
   given_short L _ whole _ _ (NoCommand response is) e = cc
   given_short L _ whole _ _ (GivenOne command t response q a) e = cc
 
-  piece_short : (L g : Log) (whole items : List ℕ) (r : Option Response) → ComesTo B L whole g (option_map octets_of r) → IfNone r (items ≡ whole) → IfNone r (length items < 1056768)
+  piece_short : (L g : Log) (whole items : List ℕ) (r : Option Response) → ComesTo site B L whole g (option_map octets_of r) → IfNone r (items ≡ whole) → IfNone r (length items < 1056768)
   piece_short L g whole items None comes is = let k = given_short L (g ++ L) whole comes.place None comes.is refl in subst (λ l. length l < 1056768) (sym is) k
   piece_short L g whole items (Some r) comes is = tt
 
-  heard_short : (L : Log) (e e_then : Exchange) (g : Log) (c : List Call) → HasHeard B L e e_then g c → e_then.is_over ≡ false → IsShort e → IsShort e_then
+  heard_short : (L : Log) (e e_then : Exchange) (g : Log) (c : List Call) → HasHeard site B L e e_then g c → e_then.is_over ≡ false → IsShort e → IsShort e_then
   heard_short L e e_then _ _ (IsOver over same) live a = subst IsShort (sym same) a
   heard_short L e e_then _ _ (HasResponse some same) live a = subst IsShort (sym same) a
   heard_short L e e_then _ _ (GaveNothing none same) live a = subst IsShort (sym same) a
@@ -293,14 +299,14 @@ module _ (now : ℕ) (B : Records) where
   live_before true q y a e = absurd (true≢false (sym a ∙ e))
   live_before false q y a e = refl
 
-  turn_short : (L : Log) (e e_then : Exchange) (g : Log) (c : List Call) → HasHttpTurn now B L e e_then g c → e_then.is_over ≡ false → IsShort e → IsShort e_then
+  turn_short : (L : Log) (e e_then : Exchange) (g : Log) (c : List Call) → HasHttpTurn site now B L e e_then g c → e_then.is_over ≡ false → IsShort e → IsShort e_then
   turn_short L e e_then _ _ (IsLate late over) live a = absurd (true≢false (sym over ∙ live))
   turn_short L e e_then _ _ (IsServed between given reads writes late heard told) live a =
       let goes = live_before between.is_over _ e_then.is_over told.is.over live in
       let k = heard_short L e between given reads heard goes a in
       subst (λ r. IfNone r (length e_then.read.items < 1056768)) (sym told.is.response) (subst (λ v. IfNone between.response (length v.items < 1056768)) (sym told.is.read) k)
 
-  pub turns_short : (L : Log) (held held_then : List Exchange) (g : Log) (c : List Call) → HadHttpTurns now B L held held_then g c → All IsShort held → All IsShort held_then
+  pub turns_short : (L : Log) (held held_then : List Exchange) (g : Log) (c : List Call) → HadHttpTurns site now B L held held_then g c → All IsShort held → All IsShort held_then
   turns_short _ _ _ _ _ (NoneHeld L) a = a
   turns_short _ _ _ _ _ (IsHeldOn L g given e e_then held held_then c calls turn live since rest) a =
       All-cons IsShort e_then held_then (turn_short L e e_then g c turn live (All-head IsShort e held a)) (turns_short (g ++ L) held held_then given calls rest (All-tail IsShort e held a))
@@ -308,5 +314,5 @@ module _ (now : ℕ) (B : Records) where
 
 pub all_short : (T : Trace) (now : ℕ) (links links_then : Links) (given : Log) (calls : List Call) → HttpWorks T now links links_then given calls → AreShort links → AreShort links_then
 all_short T now links links_then given calls w a =
-    turns_short now T.base (w.earlier ++ T.log) w.held links_then.requests.exchanges.items w.commands w.services w.served
-    (short_come now T.base links.requests.exchanges.items w.held w.accepted.came w.accepted.arrivals w.accepted.come a)
+    turns_short links.site now T.base (w.earlier ++ T.log) w.held links_then.requests.exchanges.items w.commands w.services w.served
+    (short_come links.site now T.base links.requests.exchanges.items w.held w.accepted.came w.accepted.arrivals w.accepted.come a)

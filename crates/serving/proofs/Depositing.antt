@@ -16,6 +16,7 @@ use Rattle.serving.specs.declared.file_name.FileName.{FileName}
 use Rattle.serving.specs.declared.files.Disposal.{Disposal}
 use Rattle.serving.specs.Wires.{Told, ToldOfPorts}
 use Rattle.serving.specs.Requests.{Exchanges, AreHeld, Asks, AsksNone, AsksMore, IsAnswering, IsAsked}
+use Rattle.adminhttp.specs.Sites.{Site}
 use Rattle.serving.specs.declared.requests.Exchange.{Exchange}
 use Rattle.serving.specs.Spools.{FileAct, WasRead, disposal_of, disposed, IsFiled}
 use Rattle.office.specs.Taken.{trace_of, IsAdmitted}
@@ -35,7 +36,7 @@ module _ (B : Records) (L : Log) (G : List Entry) (d class id text : List ℕ) w
   deposit_mark Failed = refl
   deposit_mark NoMemory = refl
 
--- what a spool was told, where a test says whether a thing was done
+-- what a spool was told, if a test says whether a thing was done
 pub filed_if : (n : FileName) (text : List ℕ) (d : Disposal) (before : List FileAct) (act : FileAct) (b : Bool) → disposed n d ≡ act ∷ []
     → IsFiled n text d before (if b then (before ++ WasRead n text ∷ []) ++ act ∷ [] else before ++ WasRead n text ∷ [])
 filed_if n text d before act true e = inr (ap (λ xs. (before ++ WasRead n text ∷ []) ++ xs) (sym e))
@@ -89,10 +90,10 @@ remains told owner T L beside seats acts e _ _ (OneFile d class id text t acts' 
 }
 
 pub serves_tried : {V W S : Type 0} (Holds : V → Contents → Type 0) (Tells : W → ToldOfPorts → Type 0) (TellsFiles : S → List FileAct → Type 0) (T : Trace) (beside : Beside)
-    (office office' : Office V) (wire : W) (spool : S) (seats : List Seat) (held : List Exchange) (s : IsServing Holds Tells T beside office wire seats seats) → TakenIsSent
-    → AreHeld beside.admin beside.x held
-    → IsTried Holds TellsFiles (trace_of T.base s.log) beside.acts office' spool → Serves Holds Tells TellsFiles T office' wire spool seats held
-serves_tried Holds Tells TellsFiles T beside office office' wire spool seats held s law requests k =
+    (office office' : Office V) (wire : W) (spool : S) (seats : List Seat) (held : List Exchange) (site : Site) (s : IsServing Holds Tells T beside office wire seats seats) → TakenIsSent
+    → AreHeld beside.admin beside.x held → beside.x.site ≡ site
+    → IsTried Holds TellsFiles (trace_of T.base s.log) beside.acts office' spool → Serves Holds Tells TellsFiles T office' wire spool seats held site
+serves_tried Holds Tells TellsFiles T beside office office' wire spool seats held site s law requests of_site k =
     let r = remains s.told s.owner T s.log beside seats beside.acts refl k.log k.acts_then k.one (record { served = s.served; seated = s.seated; adds = s.adds }) in
     record {
       beside = with_acts beside k.acts_then;
@@ -110,6 +111,7 @@ serves_tried Holds Tells TellsFiles T beside office office' wire spool seats hel
       };
       sent = λ c. law (trace_of T.base k.log) (k.admitted s.admitted) c;
       requests = requests;
+      of_site = of_site;
     }
 
 -- ---- serving after requests
@@ -133,8 +135,9 @@ leaves_asked told owner T acts seats L _ (AsksMore command m M more) r =
 -- requests were answered: the connections of no seats need be open then
 pub serves_asked : {V W : Type 0} (Holds : V → Contents → Type 0) (Tells : W → ToldOfPorts → Type 0) (T : Trace) (beside : Beside)
     (office office' : Office V) (wire wire' : W) (seats : List Seat) (AreKept : Told → Exchanges → Type 0) (s : IsServing Holds Tells T beside office wire seats [])
-    (k : IsAsked Holds Tells T.base (length T.log) s.log s.told office' wire' AreKept) → IsServing Holds Tells T (record { acts = beside.acts; admin = k.is.told; x = k.x }) office' wire' seats []
-serves_asked Holds Tells T beside office office' wire wire' seats AreKept s k =
+    (site : Site) (k : IsAsked Holds Tells site T.base (length T.log) s.log s.told office' wire' AreKept)
+    → IsServing Holds Tells T (record { acts = beside.acts; admin = k.is.told; x = k.x }) office' wire' seats []
+serves_asked Holds Tells T beside office office' wire wire' seats AreKept s site k =
     let r = leaves_asked s.told s.owner T beside.acts seats s.log k.log k.grown (record { served = s.served; seated = s.seated; events = s.adds.events }) in
     record {
       log = k.log;

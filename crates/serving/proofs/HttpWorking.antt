@@ -8,6 +8,7 @@ use Rattle.std.proofs.lemmas.List.Folds.{list_any-append}
 use Rattle.std.proofs.Math.Seq.{take-add}
 use Rattle.vault.specs.Records.{Records}
 use Rattle.office.specs.Events.{Log}
+use Rattle.adminhttp.specs.Sites.{Site}
 use Rattle.serving.specs.Wires.{is_fault}
 use Rattle.serving.specs.Calls.{Call, Waited, Accepted, Looked, Read, Wrote, Closed}
 use Rattle.serving.specs.Requests.{octets_of}
@@ -63,15 +64,15 @@ module _ (now : ℕ) where
 
 -- ---- what is read of a request
 
-module _ (B : Records) (L : Log) (e e2 : Exchange) where
+module _ (site : Site) (B : Records) (L : Log) (e e2 : Exchange) where
   pub heard_piece : (n : ℕ) (piece : List ℕ) (g1 g2 : Log) (c1 c2 : List Call) → e.response ≡ None → e2.is_over ≡ false → IfNone e2.response (e2.read.items ≡ e.read.items ++ piece)
-      → e2.link ≡ e.link → e2.written ≡ e.written → g1 ≡ [] → c1 ≡ Read Admin e.link most_at_once (Count n) piece ∷ [] → (c2 ≡ []) × ComesTo B (g1 ++ L) (e.read.items ++ piece) g2 (response_of e2) → HasHeard B L e e2 (g2 ++ g1) (c1 ++ c2)
+      → e2.link ≡ e.link → e2.written ≡ e.written → g1 ≡ [] → c1 ≡ Read Admin e.link most_at_once (Count n) piece ∷ [] → (c2 ≡ []) × ComesTo site B (g1 ++ L) (e.read.items ++ piece) g2 (response_of e2) → HasHeard site B L e e2 (g2 ++ g1) (c1 ++ c2)
   heard_piece n piece g1 g2 c1 c2 none live reads link written none_given one_call q =
       let call = Read Admin e.link most_at_once (Count n) piece in
-      let comes = subst (λ g. ComesTo B (g ++ L) (e.read.items ++ piece) g2 (response_of e2)) none_given q.1 in
+      let comes = subst (λ g. ComesTo site B (g ++ L) (e.read.items ++ piece) g2 (response_of e2)) none_given q.1 in
       let given_is : g2 ++ g1 ≡ g2 = ap (λ g. g2 ++ g) none_given ∙ append-nil g2 in
       let calls_are : c1 ++ c2 ≡ call ∷ [] = ap (λ c. c ++ c2) one_call ∙ ap (λ c. call ∷ c) q.0 in
-      subst (λ g. HasHeard B L e e2 g (c1 ++ c2)) (sym given_is) (subst (HasHeard B L e e2 g2) (sym calls_are) (GaveAPiece n piece g2 none live comes reads link written))
+      subst (λ g. HasHeard site B L e e2 g (c1 ++ c2)) (sym given_is) (subst (HasHeard site B L e e2 g2) (sym calls_are) (GaveAPiece n piece g2 none live comes reads link written))
 
 -- ---- what is written of a response
 
@@ -314,39 +315,41 @@ told_later e r has goes less =
 
 -- ---- a link's turn, and another's
 
-pub turns_then : (now : ℕ) (B : Records) (L : Log) (h1 t1 h2 t2 : List Exchange) (g1 g2 : Log) (c1 c2 : List Call) → HadHttpTurns now B L h1 t1 g1 c1 → HadHttpTurns now B (g1 ++ L) h2 t2 g2 c2
-    → HadHttpTurns now B L (h1 ++ h2) (t1 ++ t2) (g2 ++ g1) (c1 ++ c2)
-turns_then now B _ _ _ h2 t2 _ g2 _ c2 (NoneHeld L) b = subst (λ g. HadHttpTurns now B L h2 t2 g c2) (sym (append-nil g2)) b
-turns_then now B _ _ _ h2 t2 _ g2 _ c2 (IsHeldOn L g given e e_then held held_then c calls turn live since rest) b =
-    let later = turns_then now B (g ++ L) held held_then h2 t2 given g2 calls c2 rest (subst (λ l. HadHttpTurns now B l h2 t2 g2 c2) (append_assoc given g L) b) in
-    subst (λ x. HadHttpTurns now B L (e ∷ (held ++ h2)) (e_then ∷ (held_then ++ t2)) (g2 ++ (given ++ g)) x) (sym (append_assoc c calls c2))
-    (subst (λ x. HadHttpTurns now B L (e ∷ (held ++ h2)) (e_then ∷ (held_then ++ t2)) x (c ++ (calls ++ c2))) (append_assoc g2 given g)
+pub turns_then : (site : Site) (now : ℕ) (B : Records) (L : Log) (h1 t1 h2 t2 : List Exchange) (g1 g2 : Log) (c1 c2 : List Call)
+    → HadHttpTurns site now B L h1 t1 g1 c1 → HadHttpTurns site now B (g1 ++ L) h2 t2 g2 c2
+    → HadHttpTurns site now B L (h1 ++ h2) (t1 ++ t2) (g2 ++ g1) (c1 ++ c2)
+turns_then site now B _ _ _ h2 t2 _ g2 _ c2 (NoneHeld L) b = subst (λ g. HadHttpTurns site now B L h2 t2 g c2) (sym (append-nil g2)) b
+turns_then site now B _ _ _ h2 t2 _ g2 _ c2 (IsHeldOn L g given e e_then held held_then c calls turn live since rest) b =
+    let later = turns_then site now B (g ++ L) held held_then h2 t2 given g2 calls c2 rest (subst (λ l. HadHttpTurns site now B l h2 t2 g2 c2) (append_assoc given g L) b) in
+    subst (λ x. HadHttpTurns site now B L (e ∷ (held ++ h2)) (e_then ∷ (held_then ++ t2)) (g2 ++ (given ++ g)) x) (sym (append_assoc c calls c2))
+    (subst (λ x. HadHttpTurns site now B L (e ∷ (held ++ h2)) (e_then ∷ (held_then ++ t2)) x (c ++ (calls ++ c2))) (append_assoc g2 given g)
     (IsHeldOn L g (g2 ++ given) e e_then (held ++ h2) (held_then ++ t2) c (calls ++ c2) turn live since later))
-turns_then now B _ _ _ h2 t2 _ g2 _ c2 (IsClosed L g given e e_then held held_then c calls turn over rest) b =
-    let later = turns_then now B (g ++ L) held held_then h2 t2 given g2 calls c2 rest (subst (λ l. HadHttpTurns now B l h2 t2 g2 c2) (append_assoc given g L) b) in
-    subst (λ x. HadHttpTurns now B L (e ∷ (held ++ h2)) (held_then ++ t2) (g2 ++ (given ++ g)) x) (sym (append_assoc c (Closed Admin e.link ∷ calls) c2))
-    (subst (λ x. HadHttpTurns now B L (e ∷ (held ++ h2)) (held_then ++ t2) x (c ++ (Closed Admin e.link ∷ (calls ++ c2)))) (append_assoc g2 given g)
+turns_then site now B _ _ _ h2 t2 _ g2 _ c2 (IsClosed L g given e e_then held held_then c calls turn over rest) b =
+    let later = turns_then site now B (g ++ L) held held_then h2 t2 given g2 calls c2 rest (subst (λ l. HadHttpTurns site now B l h2 t2 g2 c2) (append_assoc given g L) b) in
+    subst (λ x. HadHttpTurns site now B L (e ∷ (held ++ h2)) (held_then ++ t2) (g2 ++ (given ++ g)) x) (sym (append_assoc c (Closed Admin e.link ∷ calls) c2))
+    (subst (λ x. HadHttpTurns site now B L (e ∷ (held ++ h2)) (held_then ++ t2) x (c ++ (Closed Admin e.link ∷ (calls ++ c2)))) (append_assoc g2 given g)
     (IsClosed L g (g2 ++ given) e e_then (held ++ h2) (held_then ++ t2) c (calls ++ c2) turn over later))
 
-pub turn_served : (now : ℕ) (B : Records) (L : Log) (e e1 e2 : Exchange) (g1 g2 : Log) (c1 c2 : List Call) → is_late_at now e ≡ false → HasHeard B L e e1 g1 c1 → g2 ≡ [] → HasTold e1 e2 c2
-    → HasHttpTurn now B L e e2 (g2 ++ g1) (c1 ++ c2)
-turn_served now B L e e1 e2 g1 g2 c1 c2 late heard none told =
+pub turn_served : (site : Site) (now : ℕ) (B : Records) (L : Log) (e e1 e2 : Exchange) (g1 g2 : Log) (c1 c2 : List Call) → is_late_at now e ≡ false
+    → HasHeard site B L e e1 g1 c1 → g2 ≡ [] → HasTold e1 e2 c2
+    → HasHttpTurn site now B L e e2 (g2 ++ g1) (c1 ++ c2)
+turn_served site now B L e e1 e2 g1 g2 c1 c2 late heard none told =
     let is : g1 ≡ g2 ++ g1 = sym (ap (λ g. g ++ g1) none) in
-    subst (λ g. HasHttpTurn now B L e e2 g (c1 ++ c2)) is (IsServed e1 g1 c1 c2 late heard told)
+    subst (λ g. HasHttpTurn site now B L e e2 g (c1 ++ c2)) is (IsServed e1 g1 c1 c2 late heard told)
 
-module _ (now : ℕ) (B : Records) (L : Log) (e t : Exchange) (g : Log) (c : List Call) where
-  pub held_on : HasHttpTurn now B L e t g c → t.is_over ≡ false → t.since ≡ e.since → HadHttpTurns now B L (e ∷ []) (t ∷ []) g c
-  held_on turn live since = subst (HadHttpTurns now B L (e ∷ []) (t ∷ []) g) (append-nil c) (IsHeldOn L g [] e t [] [] c [] turn live since (NoneHeld (g ++ L)))
+module _ (site : Site) (now : ℕ) (B : Records) (L : Log) (e t : Exchange) (g : Log) (c : List Call) where
+  pub held_on : HasHttpTurn site now B L e t g c → t.is_over ≡ false → t.since ≡ e.since → HadHttpTurns site now B L (e ∷ []) (t ∷ []) g c
+  held_on turn live since = subst (HadHttpTurns site now B L (e ∷ []) (t ∷ []) g) (append-nil c) (IsHeldOn L g [] e t [] [] c [] turn live since (NoneHeld (g ++ L)))
 
-  closed : HasHttpTurn now B L e t g c → t.is_over ≡ true → (l : Link) → l ≡ e.link → HadHttpTurns now B L (e ∷ []) [] g (c ++ Closed Admin l ∷ [])
+  closed : HasHttpTurn site now B L e t g c → t.is_over ≡ true → (l : Link) → l ≡ e.link → HadHttpTurns site now B L (e ∷ []) [] g (c ++ Closed Admin l ∷ [])
   closed turn over l same =
-      subst (λ k. HadHttpTurns now B L (e ∷ []) [] g (c ++ Closed Admin k ∷ [])) (sym same) (IsClosed L g [] e t [] [] c [] turn over (NoneHeld (g ++ L)))
+      subst (λ k. HadHttpTurns site now B L (e ∷ []) [] g (c ++ Closed Admin k ∷ [])) (sym same) (IsClosed L g [] e t [] [] c [] turn over (NoneHeld (g ++ L)))
 
-pub closed_so : (now : ℕ) (B : Records) (L : Log) (e t : Exchange) (g1 g2 : Log) (c1 c2 : List Call) → HasHttpTurn now B L e t g1 c1 → t.is_over ≡ true → (l : Link) → l ≡ e.link → g2 ≡ [] → c2 ≡ Closed Admin l ∷ []
-    → HadHttpTurns now B L (e ∷ []) [] (g2 ++ g1) (c1 ++ c2)
-closed_so now B L e t g1 g2 c1 c2 turn over l same none call =
-    subst (λ g. HadHttpTurns now B L (e ∷ []) [] (g ++ g1) (c1 ++ c2)) (sym none)
-    (subst (λ c. HadHttpTurns now B L (e ∷ []) [] g1 (c1 ++ c)) (sym call) (closed now B L e t g1 c1 turn over l same))
+pub closed_so : (site : Site) (now : ℕ) (B : Records) (L : Log) (e t : Exchange) (g1 g2 : Log) (c1 c2 : List Call) → HasHttpTurn site now B L e t g1 c1 → t.is_over ≡ true → (l : Link) → l ≡ e.link → g2 ≡ [] → c2 ≡ Closed Admin l ∷ []
+    → HadHttpTurns site now B L (e ∷ []) [] (g2 ++ g1) (c1 ++ c2)
+closed_so site now B L e t g1 g2 c1 c2 turn over l same none call =
+    subst (λ g. HadHttpTurns site now B L (e ∷ []) [] (g ++ g1) (c1 ++ c2)) (sym none)
+    (subst (λ c. HadHttpTurns site now B L (e ∷ []) [] g1 (c1 ++ c)) (sym call) (closed site now B L e t g1 c1 turn over l same))
 
 -- ---- the links that are held
 
@@ -373,40 +376,41 @@ pub behind_held : (xs : List Exchange) (i : ℕ) (y : Exchange) → drop (i + 1)
 behind_held xs i y = drop-set-lt (i + 1) xs i y (omega arith)
 
 -- those in front of a place have had their turns, of those that were held at first
-pub record HadSome (now place : ℕ) (held held_then : List Exchange) (B : Records) (L : Log) (given : Log) (calls : List Call) : Type 0 where
+pub record HadSome (site : Site) (now place : ℕ) (held held_then : List Exchange) (B : Records) (L : Log) (given : Log) (calls : List Call) : Type 0 where
   pub done : List Exchange
   pub is : held ≡ done ++ drop place held_then
-  pub had : HadHttpTurns now B L done (take place held_then) given calls
+  pub had : HadHttpTurns site now B L done (take place held_then) given calls
 
-pub had_none : (now : ℕ) (held : List Exchange) (B : Records) (L : Log) → HadSome now 0 held held B L [] []
-had_none now held B L = record { done = []; is = refl; had = NoneHeld L }
+pub had_none : (site : Site) (now : ℕ) (held : List Exchange) (B : Records) (L : Log) → HadSome site now 0 held held B L [] []
+had_none site now held B L = record { done = []; is = refl; had = NoneHeld L }
 
-module _ (now place : ℕ) (xs ys zs : List Exchange) (B : Records) (L : Log) (g1 g2 : Log) (c1 c2 : List Call) where
-  rest_is : (n : ℕ) → (a : HadSome now place xs ys B L g1 c1) → drop n zs ≡ drop (place + 1) ys → xs ≡ (a.done ++ take 1 (drop place ys)) ++ drop n zs
+module _ (site : Site) (now place : ℕ) (xs ys zs : List Exchange) (B : Records) (L : Log) (g1 g2 : Log) (c1 c2 : List Call) where
+  rest_is : (n : ℕ) → (a : HadSome site now place xs ys B L g1 c1) → drop n zs ≡ drop (place + 1) ys → xs ≡ (a.done ++ take 1 (drop place ys)) ++ drop n zs
   rest_is n a behind =
       a.is ∙ (ap (λ l. a.done ++ l) (sym (take-append-drop 1 (drop place ys)))
       ∙ (sym (append_assoc a.done (take 1 (drop place ys)) (drop 1 (drop place ys)))
       ∙ ap (λ l. (a.done ++ take 1 (drop place ys)) ++ l) (drop-drop 1 place ys ∙ sym behind)))
 
-  pub had_held : HadSome now place xs ys B L g1 c1 → HadHttpTurns now B (g1 ++ L) (take 1 (drop place ys)) (take 1 (drop place zs)) g2 c2 → take place zs ≡ take place ys → drop (place + 1) zs ≡ drop (place + 1) ys
-      → HadSome now (place + 1) xs zs B L (g2 ++ g1) (c1 ++ c2)
+  pub had_held : HadSome site now place xs ys B L g1 c1 → HadHttpTurns site now B (g1 ++ L) (take 1 (drop place ys)) (take 1 (drop place zs)) g2 c2 → take place zs ≡ take place ys → drop (place + 1) zs ≡ drop (place + 1) ys
+      → HadSome site now (place + 1) xs zs B L (g2 ++ g1) (c1 ++ c2)
   had_held a turn front behind = record {
     done = a.done ++ take 1 (drop place ys);
     is = rest_is (place + 1) a behind;
-    had = subst (λ l. HadHttpTurns now B L (a.done ++ take 1 (drop place ys)) l (g2 ++ g1) (c1 ++ c2)) (ap (λ l. l ++ take 1 (drop place zs)) (sym front) ∙ sym (take-add place 1 zs))
-        (turns_then now B L a.done (take place ys) (take 1 (drop place ys)) (take 1 (drop place zs)) g1 g2 c1 c2 a.had turn);
+    had = subst (λ l. HadHttpTurns site now B L (a.done ++ take 1 (drop place ys)) l (g2 ++ g1) (c1 ++ c2)) (ap (λ l. l ++ take 1 (drop place zs)) (sym front) ∙ sym (take-add place 1 zs))
+        (turns_then site now B L a.done (take place ys) (take 1 (drop place ys)) (take 1 (drop place zs)) g1 g2 c1 c2 a.had turn);
   }
 
-  pub had_closed : HadSome now place xs ys B L g1 c1 → HadHttpTurns now B (g1 ++ L) (take 1 (drop place ys)) [] g2 c2 → take place zs ≡ take place ys → drop place zs ≡ drop (place + 1) ys
-      → HadSome now place xs zs B L (g2 ++ g1) (c1 ++ c2)
+  pub had_closed : HadSome site now place xs ys B L g1 c1 → HadHttpTurns site now B (g1 ++ L) (take 1 (drop place ys)) [] g2 c2 → take place zs ≡ take place ys → drop place zs ≡ drop (place + 1) ys
+      → HadSome site now place xs zs B L (g2 ++ g1) (c1 ++ c2)
   had_closed a turn front behind = record {
     done = a.done ++ take 1 (drop place ys);
     is = rest_is place a behind;
-    had = subst (λ l. HadHttpTurns now B L (a.done ++ take 1 (drop place ys)) l (g2 ++ g1) (c1 ++ c2)) (append-nil (take place ys) ∙ sym front)
-        (turns_then now B L a.done (take place ys) (take 1 (drop place ys)) [] g1 g2 c1 c2 a.had turn);
+    had = subst (λ l. HadHttpTurns site now B L (a.done ++ take 1 (drop place ys)) l (g2 ++ g1) (c1 ++ c2)) (append-nil (take place ys) ∙ sym front)
+        (turns_then site now B L a.done (take place ys) (take 1 (drop place ys)) [] g1 g2 c1 c2 a.had turn);
   }
 
-pub had_all : (now place : ℕ) (xs ys : List Exchange) (B : Records) (L : Log) (g : Log) (c : List Call) → length ys ≤ place → HadSome now place xs ys B L g c → HadHttpTurns now B L xs ys g c
-had_all now place xs ys B L g c h a =
+pub had_all : (site : Site) (now place : ℕ) (xs ys : List Exchange) (B : Records) (L : Log) (g : Log) (c : List Call) → length ys ≤ place
+    → HadSome site now place xs ys B L g c → HadHttpTurns site now B L xs ys g c
+had_all site now place xs ys B L g c h a =
     let is : xs ≡ a.done = a.is ∙ (ap (λ l. a.done ++ l) (drop_all place ys h) ∙ append-nil a.done) in
-    subst (λ l. HadHttpTurns now B L l ys g c) (sym is) (subst (λ l. HadHttpTurns now B L a.done l g c) (take_all place ys h) a.had)
+    subst (λ l. HadHttpTurns site now B L l ys g c) (sym is) (subst (λ l. HadHttpTurns site now B L a.done l g c) (take_all place ys h) a.had)

@@ -36,13 +36,13 @@ more_none k j f = none_if (j == k) (f j)
 
 -- ---- one link
 
--- what is said of a link stays, where the event isn't its connection's
+-- what is said of a link stays, if the event isn't its connection's
 pub stays : (B : Records) (L : Log) (e : Event) (m : EventTag) (o : Option ℕ) (r w : List ℕ) → IsServed B L o r w
     → ((d : ℕ) → o ≡ Some d → (given_by ((e, m) ∷ L) d ≡ given_by L d) × (all_taken_by B ((e, m) ∷ L) d ≡ all_taken_by B L d)) → IsServed B ((e, m) ∷ L) o r w
 stays B L e m None r w s h = s
 stays B L e m (Some d) r w s h = let k = h d refl in (s.0 ∙ sym k.0, s.1 ∙ sym k.1)
 
--- and where other lists are the same
+-- and if other lists are the same
 same_lists_served : (B : Records) (L : Log) (o : Option ℕ) (r w r2 w2 : List ℕ) → r2 ≡ r → w2 ≡ w → IsServed B L o r w → IsServed B L o r2 w2
 same_lists_served B L o r w r2 w2 a b s = rw (a, b) s
 
@@ -85,7 +85,7 @@ over_same k over = let q = eq-eqb k k refl in rw q refl
 over_other : (k j : ℕ) (over : ℕ → Bool) → (j ≡ k → ⊥) → over_at k true over j ≡ over j
 over_other k j over h = let q = ne_eqb j k h in rw q refl
 
--- a connection that isn't open stays so where none is opened
+-- a connection that isn't open stays so if none is opened
 pub stays_shut : (B : Records) (L after : Log) → Fewer B L after → (d : ℕ) → is_open (trace_of B L) d ≡ false → is_open (trace_of B after) d ≡ false
 stays_shut B L after f d shut = not_true (is_open (trace_of B after) d) (λ (e : is_open (trace_of B after) d ≡ true). true≢false (sym (f d e) ∙ shut))
 

@@ -10,6 +10,7 @@ pub mod NameTexts
 pub mod Parts
 pub mod Looking
 pub mod Origins
+pub mod Places
 pub mod Working
 pub mod Turns
 pub mod Arriving

@@ -72,7 +72,7 @@ seats_without c _ _ (suc i) d h is (IsAnothers s ns seats rest) =
 
 -- ---- who is noted anew
 
--- one more at the end is found, where nobody was
+-- one more at the end is found, if nobody was
 found_last : (c : ℕ) (n : Newcomer) (xs : List Newcomer) → (n.connection == c) ≡ true → newcomer c xs ≡ None → newcomer c (xs ++ n ∷ []) ≡ Some n
 found_last c n [] e none = found_here c n [] e
 found_last c n (x ∷ xs) e none =
@@ -178,6 +178,6 @@ module _ (now : ℕ) where
         noted = λ n m h. q.noted n m (p.noted n m h);
       }
 
--- those that came are those behind the first seats
+-- those that came are those after the first seats
 pub more_is : (xs ys zs seats : List Seat) → seats ≡ xs ++ ys → seats ≡ xs ++ zs → ys ≡ zs
 more_is xs ys zs seats a b = sym (drop-append_seam xs ys) ∙ (ap (drop (length xs)) (sym a ∙ b) ∙ drop-append_seam xs zs)

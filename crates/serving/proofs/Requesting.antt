@@ -24,6 +24,7 @@ use Rattle.office.specs.Taken.{trace_of, IsAdmitted}
 use Rattle.office.specs.Stands.{StandsFor}
 use Rattle.office.specs.declared.office.Office.{Office}
 use Rattle.adminhttp.specs.Request.{IsRequest}
+use Rattle.adminhttp.specs.Sites.{Site}
 use Rattle.adminhttp.specs.Responses.{fault_response, refusal_response}
 use Rattle.adminhttp.specs.declared.refusal.Refusal.TheVariants.{OutOfMemory}
 use Rattle.adminhttp.specs.declared.no_command.NoCommand.TheVariants.{BadPolicy}
@@ -57,10 +58,11 @@ command_mark B L G command Done = refl
 command_mark B L G command Failed = refl
 command_mark B L G command NoMemory = refl
 
-pub asked_one : {V : Type 0} (Holds : V → Contents → Type 0) (B : Records) (L : Log) (read : List ℕ) (office : Office V) (lent : ℕ → ℕ) (command : AdminCommand) (o : Outcome) (response : List ℕ)
+pub asked_one : {V : Type 0} (Holds : V → Contents → Type 0) (site : Site) (B : Records) (L : Log) (read : List ℕ) (office : Office V) (lent : ℕ → ℕ)
+    (command : AdminCommand) (o : Outcome) (response : List ℕ)
     → IsOutcome (trace_of B L) lent (event.Admin command) o → StandsFor Holds office (trace_of B ((event.Admin command, event_tag_of o) ∷ L))
-    → IsAdmitted (trace_of B L) (event.Admin command) (event_tag_of o) → IsRequest read (Ok command) → IsToldBy o response → HasAsked Holds B L read office (Some response)
-asked_one Holds B L read office lent command o response h s a q r =
+    → IsAdmitted (trace_of B L) (event.Admin command) (event_tag_of o) → IsRequest site read (Ok command) → IsToldBy o response → HasAsked Holds site B L read office (Some response)
+asked_one Holds site B L read office lent command o response h s a q r =
     let m : event_tag_of o ≡ Tagged h.tag = ap event_tag_of h.is ∙ command_mark B L (history (trace_of B L)) command h.tag in
     record {
       log = (event.Admin command, Tagged h.tag) ∷ L;
@@ -71,38 +73,39 @@ asked_one Holds B L read office lent command o response h s a q r =
     }
 
 -- the octets that ask for it come to this response
-pub comes_to : (B : Records) (L : Log) (read : List ℕ) (lent : ℕ → ℕ) (command : AdminCommand) (o : Outcome) (response : List ℕ)
-    → IsOutcome (trace_of B L) lent (event.Admin command) o → IsRequest read (Ok command) → IsToldBy o response → ComesTo B L read ((event.Admin command, event_tag_of o) ∷ []) (Some response)
-comes_to B L read lent command o response h q r =
+pub comes_to : (site : Site) (B : Records) (L : Log) (read : List ℕ) (lent : ℕ → ℕ) (command : AdminCommand) (o : Outcome) (response : List ℕ)
+    → IsOutcome (trace_of B L) lent (event.Admin command) o → IsRequest site read (Ok command) → IsToldBy o response
+    → ComesTo site B L read ((event.Admin command, event_tag_of o) ∷ []) (Some response)
+comes_to site B L read lent command o response h q r =
     let m : event_tag_of o ≡ Tagged h.tag = ap event_tag_of h.is ∙ command_mark B L (history (trace_of B L)) command h.tag in
     record {
       place = Some (length L);
-      is = subst (λ x. IsGiven B L read ((event.Admin command, x) ∷ L) (Some (length L)) (Some response)) (sym m)
+      is = subst (λ x. IsGiven site B L read ((event.Admin command, x) ∷ L) (Some (length L)) (Some response)) (sym m)
           (GivenOne command h.tag response q (answer_of B L command h.tag response (subst (λ x. IsToldBy x response) h.is r)));
     }
 
-pub asked_none : {V : Type 0} (Holds : V → Contents → Type 0) (B : Records) (L : Log) (read : List ℕ) (office : Office V) (r : Option (List ℕ))
-    → StandsFor Holds office (trace_of B L) → IsGiven B L read L None r → HasAsked Holds B L read office r
-asked_none Holds B L read office r s given = record { log = L; place = None; stands = s; admitted = λ before. before; given = given }
+pub asked_none : {V : Type 0} (Holds : V → Contents → Type 0) (site : Site) (B : Records) (L : Log) (read : List ℕ) (office : Office V) (r : Option (List ℕ))
+    → StandsFor Holds office (trace_of B L) → IsGiven site B L read L None r → HasAsked Holds site B L read office r
+asked_none Holds site B L read office r s given = record { log = L; place = None; stands = s; admitted = λ before. before; given = given }
 
 -- a policy's fault, or want of memory
-pub to_fault : (B : Records) (L : Log) (read response : List ℕ) (fault : PolicyFault) → IsRequest read (Err (BadPolicy fault))
-    → (response ≡ fault_response fault) ⊎ (response ≡ refusal_response OutOfMemory) → IsResponse B L read None response
-to_fault B L read response fault q (inl e) = subst (IsResponse B L read None) (sym e) (ToFault fault q)
-to_fault B L read response fault q (inr e) = subst (IsResponse B L read None) (sym e) ForMemory
+pub to_fault : (site : Site) (B : Records) (L : Log) (read response : List ℕ) (fault : PolicyFault) → IsRequest site read (Err (BadPolicy fault))
+    → (response ≡ fault_response fault) ⊎ (response ≡ refusal_response OutOfMemory) → IsResponse site B L read None response
+to_fault site B L read response fault q (inl e) = subst (IsResponse site B L read None) (sym e) (ToFault fault q)
+to_fault site B L read response fault q (inr e) = subst (IsResponse site B L read None) (sym e) ForMemory
 
 -- ---- a log with one event more
 
-response_grows : (B : Records) (L : Log) (e : Event) (m : EventTag) (read : List ℕ) (place : Option ℕ) (response : List ℕ) → IsResponse B L read place response → IsResponse B ((e, m) ∷ L) read place response
-response_grows B L e m read _ _ (ToRefusal refusal q) = ToRefusal refusal q
-response_grows B L e m read _ _ (ToFault fault q) = ToFault fault q
-response_grows B L e m read _ _ ForMemory = ForMemory
-response_grows B L e m read _ _ (ToCommand command t newer older response q is a) =
+response_grows : (site : Site) (B : Records) (L : Log) (e : Event) (m : EventTag) (read : List ℕ) (place : Option ℕ) (response : List ℕ) → IsResponse site B L read place response → IsResponse site B ((e, m) ∷ L) read place response
+response_grows site B L e m read _ _ (ToRefusal refusal q) = ToRefusal refusal q
+response_grows site B L e m read _ _ (ToFault fault q) = ToFault fault q
+response_grows site B L e m read _ _ ForMemory = ForMemory
+response_grows site B L e m read _ _ (ToCommand command t newer older response q is a) =
     ToCommand command t ((e, m) ∷ newer) older response q (ap (λ l. (e, m) ∷ l) is) a
 
-pub exchange_grows : (B : Records) (L : Log) (e : Event) (m : EventTag) (r : Option (List ℕ)) (place : Option ℕ) (read written : List ℕ) → IsExchange B L r place read written → IsExchange B ((e, m) ∷ L) r place read written
-exchange_grows B L e m None place read written x = x
-exchange_grows B L e m (Some response) place read written x = (response_grows B L e m read place response x.0, x.1)
+pub exchange_grows : (site : Site) (B : Records) (L : Log) (e : Event) (m : EventTag) (r : Option (List ℕ)) (place : Option ℕ) (read written : List ℕ) → IsExchange site B L r place read written → IsExchange site B ((e, m) ∷ L) r place read written
+exchange_grows site B L e m None place read written x = x
+exchange_grows site B L e m (Some response) place read written x = (response_grows site B L e m read place response x.0, x.1)
 
 one_first : {A : Type 0} {x y : A} {xs ys : List A} → x ∷ xs ≡ y ∷ ys → x ≡ y
 one_first e = cc
@@ -110,7 +113,7 @@ one_first e = cc
 one_rest : {A : Type 0} {x y : A} {xs ys : List A} → x ∷ xs ≡ y ∷ ys → xs ≡ ys
 one_rest e = cc
 
--- which commands' events there are behind one that is no command's
+-- which commands' events there are after one that is no command's
 no_command : (L : Log) (e : Event) (m : EventTag) → (IsCommand e → ⊥) → (newer older : Log) (command : AdminCommand) (m2 : EventTag) → (e, m) ∷ L ≡ newer ++ (event.Admin command, m2) ∷ older
     → (newer2 : Log) × (L ≡ newer2 ++ (event.Admin command, m2) ∷ older)
 no_command L e m none [] older command m2 is = absurd (none (subst IsCommand (sym (ap (λ (p : Event × EventTag). p.0) (one_first is))) tt))
@@ -118,7 +121,7 @@ no_command L e m none (y ∷ newer) older command m2 is = (newer, one_rest is)
 
 pub exchanged_more : (told : Told) (x : Exchanges) (B : Records) (start : ℕ) (L : Log) (e : Event) (m : EventTag) → (IsCommand e → ⊥) → AreExchanged told x B start L → AreExchanged told x B start ((e, m) ∷ L)
 exchanged_more told x B start L e m none a = record {
-  each = λ k. exchange_grows B L e m (x.response k) (x.place k) (told.read k) (told.written k) (a.each k);
+  each = λ k. exchange_grows x.site B L e m (x.response k) (x.place k) (told.read k) (told.written k) (a.each k);
   own = a.own;
   before = λ k n f. (let h = a.before k n f in omega (arith, h));
   asked = λ newer older command m2 is late. (let y = no_command L e m none newer older command m2 is in a.asked y.0 older command m2 y.1 late);
@@ -133,40 +136,41 @@ none_newer L newer older command m is late = omega (arith, ap length is, late, l
 -- ---- what comes of a piece
 
 -- the log that was, or one command's event more
-given_grows : (B : Records) (L M : Log) (whole : List ℕ) (p : Option ℕ) (r : Option (List ℕ)) → IsGiven B L whole M p r
-    → (r2 : Option (List ℕ)) (place : Option ℕ) (read written : List ℕ) → IsExchange B L r2 place read written → IsExchange B M r2 place read written
-given_grows B L _ whole _ _ (NotYet short) r2 place read written x = x
-given_grows B L _ whole _ _ (NoCommand response is) r2 place read written x = x
-given_grows B L _ whole _ _ (GivenOne command t response q a) r2 place read written x = exchange_grows B L (event.Admin command) (Tagged t) r2 place read written x
+given_grows : (site : Site) (B : Records) (L M : Log) (whole : List ℕ) (p : Option ℕ) (r : Option (List ℕ)) → IsGiven site B L whole M p r
+    → (r2 : Option (List ℕ)) (place : Option ℕ) (read written : List ℕ) → IsExchange site B L r2 place read written → IsExchange site B M r2 place read written
+given_grows site B L _ whole _ _ (NotYet short) r2 place read written x = x
+given_grows site B L _ whole _ _ (NoCommand response is) r2 place read written x = x
+given_grows site B L _ whole _ _ (GivenOne command t response q a) r2 place read written x = exchange_grows site B L (event.Admin command) (Tagged t) r2 place read written x
 
-given_new : (B : Records) (L M : Log) (whole written : List ℕ) (p : Option ℕ) (r : Option (List ℕ)) → IsGiven B L whole M p r → written ≡ [] → IsExchange B M r p whole written
-given_new B L _ whole written _ _ (NotYet short) w = (refl, w)
-given_new B L _ whole written _ _ (NoCommand response is) w = (is, rw w refl)
-given_new B L _ whole written _ _ (GivenOne command t response q a) w = (ToCommand command t [] L response q refl a, rw w refl)
+given_new : (site : Site) (B : Records) (L M : Log) (whole written : List ℕ) (p : Option ℕ) (r : Option (List ℕ)) → IsGiven site B L whole M p r → written ≡ [] → IsExchange site B M r p whole written
+given_new site B L _ whole written _ _ (NotYet short) w = (refl, w)
+given_new site B L _ whole written _ _ (NoCommand response is) w = (is, rw w refl)
+given_new site B L _ whole written _ _ (GivenOne command t response q a) w = (ToCommand command t [] L response q refl a, rw w refl)
 
-given_place : (B : Records) (L M : Log) (whole : List ℕ) (p : Option ℕ) (r : Option (List ℕ)) → IsGiven B L whole M p r → (n : ℕ) → p ≡ Some n → (n ≡ length L) × (length M ≡ suc (length L))
-given_place B L _ whole _ _ (NotYet short) n e = cc
-given_place B L _ whole _ _ (NoCommand response is) n e = cc
-given_place B L _ whole _ _ (GivenOne command t response q a) n e = (sym (some_one e), refl) where
+given_place : (site : Site) (B : Records) (L M : Log) (whole : List ℕ) (p : Option ℕ) (r : Option (List ℕ)) → IsGiven site B L whole M p r → (n : ℕ)
+    → p ≡ Some n → (n ≡ length L) × (length M ≡ suc (length L))
+given_place site B L _ whole _ _ (NotYet short) n e = cc
+given_place site B L _ whole _ _ (NoCommand response is) n e = cc
+given_place site B L _ whole _ _ (GivenOne command t response q a) n e = (sym (some_one e), refl) where
   some_one : {a b : ℕ} → Some a ≡ Some b → a ≡ b
   some_one e = cc
 
-given_length : (B : Records) (L M : Log) (whole : List ℕ) (p : Option ℕ) (r : Option (List ℕ)) → IsGiven B L whole M p r → length L ≤ length M
-given_length B L _ whole _ _ (NotYet short) = omega arith
-given_length B L _ whole _ _ (NoCommand response is) = omega arith
-given_length B L _ whole _ _ (GivenOne command t response q a) = omega arith
+given_length : (site : Site) (B : Records) (L M : Log) (whole : List ℕ) (p : Option ℕ) (r : Option (List ℕ)) → IsGiven site B L whole M p r → length L ≤ length M
+given_length site B L _ whole _ _ (NotYet short) = omega arith
+given_length site B L _ whole _ _ (NoCommand response is) = omega arith
+given_length site B L _ whole _ _ (GivenOne command t response q a) = omega arith
 
 -- whose a command's event is: that of the new place, or one that was there
 heads : {A : Type 0} {x y : A} {xs ys : List A} → x ∷ xs ≡ y ∷ ys → xs ≡ ys
 heads e = cc
 
-given_events : (B : Records) (L M : Log) (whole : List ℕ) (p : Option ℕ) (r : Option (List ℕ)) → IsGiven B L whole M p r
+given_events : (site : Site) (B : Records) (L M : Log) (whole : List ℕ) (p : Option ℕ) (r : Option (List ℕ)) → IsGiven site B L whole M p r
     → (newer older : Log) (command : AdminCommand) (m : EventTag) → M ≡ newer ++ (event.Admin command, m) ∷ older
     → (p ≡ Some (length older)) ⊎ ((newer2 : Log) × (L ≡ newer2 ++ (event.Admin command, m) ∷ older))
-given_events B L _ whole _ _ (NotYet short) newer older command m e = inr (newer, e)
-given_events B L _ whole _ _ (NoCommand response is) newer older command m e = inr (newer, e)
-given_events B L _ whole _ _ (GivenOne c t response q a) [] older command m e = inl (ap (λ l. Some (length l)) (heads e))
-given_events B L _ whole _ _ (GivenOne c t response q a) (y ∷ newer) older command m e = inr (newer, heads e)
+given_events site B L _ whole _ _ (NotYet short) newer older command m e = inr (newer, e)
+given_events site B L _ whole _ _ (NoCommand response is) newer older command m e = inr (newer, e)
+given_events site B L _ whole _ _ (GivenOne c t response q a) [] older command m e = inl (ap (λ l. Some (length l)) (heads e))
+given_events site B L _ whole _ _ (GivenOne c t response q a) (y ∷ newer) older command m e = inr (newer, heads e)
 
 -- ---- an exchange goes on
 
@@ -192,48 +196,48 @@ held_same told told2 x x2 e s h = record {
 -- a piece came on a link without a response, and the request came to this
 module _ (told told2 : Told) (x : Exchanges) (B : Records) (start : ℕ) (L M : Log) (n : ℕ) (whole : List ℕ) (p : Option ℕ) (r : Option (List ℕ)) where
   pub given_then : Exchanges
-  given_then = record { response = put_at n r x.response; place = put_at n p x.place }
+  given_then = record { site = x.site; response = put_at n r x.response; place = put_at n p x.place }
 
-  pub exchanged_given : IsGiven B L whole M p r → AreExchanged told x B start L → x.response n ≡ None → n < told.accepted → told2.accepted ≡ told.accepted
+  pub exchanged_given : IsGiven x.site B L whole M p r → AreExchanged told x B start L → x.response n ≡ None → n < told.accepted → told2.accepted ≡ told.accepted
       → told2.read n ≡ whole → ((k : ℕ) → (k ≡ n → ⊥) → told2.read k ≡ told.read k) → ((k : ℕ) → told2.written k ≡ told.written k) → told2.strayed ≡ false
-      → AreExchanged told2 (record { response = put_at n r x.response; place = put_at n p x.place }) B start M
+      → AreExchanged told2 (record { site = x.site; response = put_at n r x.response; place = put_at n p x.place }) B start M
   exchanged_given g a none within same_count at_n apart same_written straight =
-      let was : IsExchange B L None (x.place n) (told.read n) (told.written n) = subst (λ o. IsExchange B L o (x.place n) (told.read n) (told.written n)) none (a.each n) in
+      let was : IsExchange x.site B L None (x.place n) (told.read n) (told.written n) = subst (λ o. IsExchange x.site B L o (x.place n) (told.read n) (told.written n)) none (a.each n) in
       let other : (k m : ℕ) → (k ≡ n → ⊥) → put_at n p x.place k ≡ Some m → x.place k ≡ Some m = λ k m ne e. sym (put_other n p x.place k ne) ∙ e in
       let new : (k m : ℕ) → k ≡ n → put_at n p x.place k ≡ Some m → p ≡ Some m = λ k m e f. sym (put_same n p x.place) ∙ (ap (put_at n p x.place) (sym e) ∙ f) in
       record {
         each = λ k.
             ⊎_elim
             (λ (e : k ≡ n).
-            subst (λ i. IsExchange B M (put_at n r x.response i) (put_at n p x.place i) (told2.read i) (told2.written i)) (sym e)
-            (subst (λ o. IsExchange B M o (put_at n p x.place n) (told2.read n) (told2.written n)) (sym (put_same n r x.response))
-            (subst (λ o. IsExchange B M r o (told2.read n) (told2.written n)) (sym (put_same n p x.place))
-            (subst (λ o. IsExchange B M r p o (told2.written n)) (sym at_n)
-            (given_new B L M whole (told2.written n) p r g (same_written n ∙ was.1))))))
+            subst (λ i. IsExchange x.site B M (put_at n r x.response i) (put_at n p x.place i) (told2.read i) (told2.written i)) (sym e)
+            (subst (λ o. IsExchange x.site B M o (put_at n p x.place n) (told2.read n) (told2.written n)) (sym (put_same n r x.response))
+            (subst (λ o. IsExchange x.site B M r o (told2.read n) (told2.written n)) (sym (put_same n p x.place))
+            (subst (λ o. IsExchange x.site B M r p o (told2.written n)) (sym at_n)
+            (given_new x.site B L M whole (told2.written n) p r g (same_written n ∙ was.1))))))
             (λ (ne : k ≡ n → ⊥).
-            subst (λ o. IsExchange B M o (put_at n p x.place k) (told2.read k) (told2.written k)) (sym (put_other n r x.response k ne))
-            (subst (λ o. IsExchange B M (x.response k) o (told2.read k) (told2.written k)) (sym (put_other n p x.place k ne))
-            (subst (λ o. IsExchange B M (x.response k) (x.place k) o (told2.written k)) (sym (apart k ne))
-            (subst (λ o. IsExchange B M (x.response k) (x.place k) (told.read k) o) (sym (same_written k))
-            (given_grows B L M whole p r g (x.response k) (x.place k) (told.read k) (told.written k) (a.each k))))))
+            subst (λ o. IsExchange x.site B M o (put_at n p x.place k) (told2.read k) (told2.written k)) (sym (put_other n r x.response k ne))
+            (subst (λ o. IsExchange x.site B M (x.response k) o (told2.read k) (told2.written k)) (sym (put_other n p x.place k ne))
+            (subst (λ o. IsExchange x.site B M (x.response k) (x.place k) o (told2.written k)) (sym (apart k ne))
+            (subst (λ o. IsExchange x.site B M (x.response k) (x.place k) (told.read k) o) (sym (same_written k))
+            (given_grows x.site B L M whole p r g (x.response k) (x.place k) (told.read k) (told.written k) (a.each k))))))
             (cases_eq k n);
         own = λ j k m e f.
             ⊎_elim
             (λ (y : j ≡ n).
             ⊎_elim
             (λ (z : k ≡ n). y ∙ sym z)
-            (λ (z : k ≡ n → ⊥). (let low = a.before k m (other k m z f) in let high = (given_place B L M whole p r g m (new j m y e)).0 in absurd (omega (arith, low, high))))
+            (λ (z : k ≡ n → ⊥). (let low = a.before k m (other k m z f) in let high = (given_place x.site B L M whole p r g m (new j m y e)).0 in absurd (omega (arith, low, high))))
             (cases_eq k n))
             (λ (y : j ≡ n → ⊥).
             ⊎_elim
-            (λ (z : k ≡ n). (let low = a.before j m (other j m y e) in let high = (given_place B L M whole p r g m (new k m z f)).0 in absurd (omega (arith, low, high))))
+            (λ (z : k ≡ n). (let low = a.before j m (other j m y e) in let high = (given_place x.site B L M whole p r g m (new k m z f)).0 in absurd (omega (arith, low, high))))
             (λ (z : k ≡ n → ⊥). a.own j k m (other j m y e) (other k m z f))
             (cases_eq k n))
             (cases_eq j n);
         before = λ k m e.
             ⊎_elim
-            (λ (y : k ≡ n). (let q = given_place B L M whole p r g m (new k m y e) in let q0 = q.0 in let q1 = q.1 in omega (arith, q0, q1)))
-            (λ (y : k ≡ n → ⊥). (let low = a.before k m (other k m y e) in omega (arith, low, given_length B L M whole p r g)))
+            (λ (y : k ≡ n). (let q = given_place x.site B L M whole p r g m (new k m y e) in let q0 = q.0 in let q1 = q.1 in omega (arith, q0, q1)))
+            (λ (y : k ≡ n → ⊥). (let low = a.before k m (other k m y e) in omega (arith, low, given_length x.site B L M whole p r g)))
             (cases_eq k n);
         asked = λ newer older command m e late.
             ⊎_elim
@@ -242,7 +246,7 @@ module _ (told told2 : Told) (x : Exchanges) (B : Records) (start : ℕ) (L M : 
             (let found = a.asked y.0 older command m y.1 late in
             let ne : found.0 ≡ n → ⊥ = λ (z : found.0 ≡ n). none_some (sym was.0 ∙ (ap x.place (sym z) ∙ found.1)) in
             (found.0, put_other n p x.place found.0 ne ∙ found.1)))
-            (given_events B L M whole p r g newer older command m e);
+            (given_events x.site B L M whole p r g newer older command m e);
         still = λ k high.
             (let ne : k ≡ n → ⊥ = λ (z : k ≡ n). (let no : ⊥ = omega (arith, z, high, within, same_count) in no) in
             let was_still = a.still k (omega (arith, high, same_count)) in
@@ -268,8 +272,8 @@ module _ (told told2 : Told) (x : Exchanges) (B : Records) (start : ℕ) (L : Lo
       → told2.strayed ≡ false → AreExchanged told2 x B start L
   exchanged_same a same_count same_read same_written straight = record {
     each = λ k.
-        subst (λ o. IsExchange B L (x.response k) (x.place k) o (told2.written k)) (sym (same_read k))
-        (subst (λ o. IsExchange B L (x.response k) (x.place k) (told.read k) o) (sym (same_written k)) (a.each k));
+        subst (λ o. IsExchange x.site B L (x.response k) (x.place k) o (told2.written k)) (sym (same_read k))
+        (subst (λ o. IsExchange x.site B L (x.response k) (x.place k) (told.read k) o) (sym (same_written k)) (a.each k));
     own = a.own;
     before = a.before;
     asked = a.asked;
@@ -285,13 +289,13 @@ module _ (told told2 : Told) (x : Exchanges) (B : Records) (start : ℕ) (L : Lo
     each = λ k.
         ⊎_elim
         (λ (e : k ≡ n).
-        (let was : IsExchange B L (Some response) (x.place n) (told.read n) (told.written n) = subst (λ o. IsExchange B L o (x.place n) (told.read n) (told.written n)) has (a.each n) in
-        subst (λ i. IsExchange B L (x.response i) (x.place i) (told2.read i) (told2.written i)) (sym e)
-        (subst (λ o. IsExchange B L o (x.place n) (told2.read n) (told2.written n)) (sym has)
-        (subst (λ o. IsResponse B L o (x.place n) response) (sym (same_read n)) was.0, beginning w (told2.written n) response wrote))))
+        (let was : IsExchange x.site B L (Some response) (x.place n) (told.read n) (told.written n) = subst (λ o. IsExchange x.site B L o (x.place n) (told.read n) (told.written n)) has (a.each n) in
+        subst (λ i. IsExchange x.site B L (x.response i) (x.place i) (told2.read i) (told2.written i)) (sym e)
+        (subst (λ o. IsExchange x.site B L o (x.place n) (told2.read n) (told2.written n)) (sym has)
+        (subst (λ o. IsResponse x.site B L o (x.place n) response) (sym (same_read n)) was.0, beginning w (told2.written n) response wrote))))
         (λ (ne : k ≡ n → ⊥).
-        subst (λ o. IsExchange B L (x.response k) (x.place k) o (told2.written k)) (sym (same_read k))
-        (subst (λ o. IsExchange B L (x.response k) (x.place k) (told.read k) o) (sym (apart k ne)) (a.each k)))
+        subst (λ o. IsExchange x.site B L (x.response k) (x.place k) o (told2.written k)) (sym (same_read k))
+        (subst (λ o. IsExchange x.site B L (x.response k) (x.place k) (told.read k) o) (sym (apart k ne)) (a.each k)))
         (cases_eq k n);
     own = a.own;
     before = a.before;
@@ -338,10 +342,10 @@ kept_given : (told2 : Told) (x2 : Exchanges) (n : ℕ) (whole items : List ℕ) 
 kept_given told2 x2 n whole items None w has at_n wrote reads zero_w = (at_n ∙ sym reads, has, zero_w)
 kept_given told2 x2 n whole items (Some response) w has at_n wrote reads zero_w = (has, wrote ∙ ap (λ i. take i (octets_of response)) (sym zero_w))
 
-given_asks : (B : Records) (L first M : Log) (whole : List ℕ) (p : Option ℕ) (r : Option (List ℕ)) → IsGiven B L whole M p r → Asks first L → Asks first M
-given_asks B L first _ whole _ _ (NotYet short) a = a
-given_asks B L first _ whole _ _ (NoCommand response is) a = a
-given_asks B L first _ whole _ _ (GivenOne command t response q is) a = AsksMore command (Tagged t) L a
+given_asks : (site : Site) (B : Records) (L first M : Log) (whole : List ℕ) (p : Option ℕ) (r : Option (List ℕ)) → IsGiven site B L whole M p r → Asks first L → Asks first M
+given_asks site B L first _ whole _ _ (NotYet short) a = a
+given_asks site B L first _ whole _ _ (NoCommand response is) a = a
+given_asks site B L first _ whole _ _ (GivenOne command t response q is) a = AsksMore command (Tagged t) L a
 
 kept_none : (told : Told) (x : Exchanges) (n : ℕ) (items : List ℕ) (r : Option Response) (w : ℕ) → r ≡ None → IsKept told x n items r w → (told.read n ≡ items) × (x.response n ≡ None) × (w ≡ 0)
 kept_none told x n items r w e h = subst (λ o. IsKept told x n items o w) e h
@@ -364,33 +368,38 @@ others_same told told2 x x2 n n2 others e same h = λ k d within ne.
     (let apart = λ (q : (get_or others k d).link.number ≡ n). ne (q ∙ sym e) in
     held_same told told2 x x2 (get_or others k d) (same (get_or others k d).link.number apart) (h k d within apart))
 
-module _ {V W : Type 0} (Holds : V → Contents → Type 0) (Tells : W → ToldOfPorts → Type 0) (B : Records) (start : ℕ) (L : Log) (pop : Told) (others : List Exchange) (e e2 : Exchange) where
+module _ {V W : Type 0} (Holds : V → Contents → Type 0) (Tells : W → ToldOfPorts → Type 0) (site : Site) (B : Records) (start : ℕ) (L : Log)
+    (pop : Told) (others : List Exchange) (e e2 : Exchange) where
   -- a piece was read
-  pub heard : (office office2 : Office V) (wire wire2 : W) (count : ℕ) (piece : List ℕ) (s : IsAsked Holds Tells B start L pop office wire (AreKeptBeside others e))
-      → HasAsked Holds B s.log (e.read.items ++ piece) office2 (option_map octets_of e2.response) → e.response ≡ None → e.is_over ≡ false
+  pub heard : (office office2 : Office V) (wire wire2 : W) (count : ℕ) (piece : List ℕ) (s : IsAsked Holds Tells site B start L pop office wire (AreKeptBeside others e))
+      → HasAsked Holds site B s.log (e.read.items ++ piece) office2 (option_map octets_of e2.response) → e.response ≡ None → e.is_over ≡ false
       → e2.link ≡ e.link → e2.written ≡ e.written → e2.is_over ≡ e.is_over → IfNone e2.response (e2.read.items ≡ e.read.items ++ piece)
-      → Tells wire2 (record { pop = pop; admin = has_read s.is.told e.link.number (Count count) piece }) → IsAsked Holds Tells B start L pop office2 wire2 (AreKeptBeside others e2)
-  heard office office2 wire wire2 count piece s h none goes same_link same_written same_over reads tells =
+      → Tells wire2 (record { pop = pop; admin = has_read s.is.told e.link.number (Count count) piece }) → IsAsked Holds Tells site B start L pop office2 wire2 (AreKeptBeside others e2)
+  heard office office2 wire wire2 count piece s asked none goes same_link same_written same_over reads tells =
+      let h : HasAsked Holds s.x.site B s.log (e.read.items ++ piece) office2 (option_map octets_of e2.response) =
+      subst (λ (x : Site). HasAsked Holds x B s.log (e.read.items ++ piece) office2 (option_map octets_of e2.response)) (sym s.of_site) asked in
       let told = s.is.told in
       let n = e.link.number in
       let number : e2.link.number ≡ n = ap (λ k. k.number) same_link in
       let told2 = has_read told n (Count count) piece in
       let whole = e.read.items ++ piece in
       let r = option_map octets_of e2.response in
-      let x2 : Exchanges = record { response = put_at n r s.x.response; place = put_at n h.place s.x.place } in
+      let x2 : Exchanges = record { site = s.x.site; response = put_at n r s.x.response; place = put_at n h.place s.x.place } in
       let held = s.is.held.0 in
       let kept = kept_none told s.x n e.read.items e.response e.written none held.kept in
       let live = held.live goes in
-      let was : IsExchange B s.log None (s.x.place n) (told.read n) (told.written n) = subst (λ o. IsExchange B s.log o (s.x.place n) (told.read n) (told.written n)) kept.1 (s.is.exchanged.each n) in
+      let was : IsExchange s.x.site B s.log None (s.x.place n) (told.read n) (told.written n) =
+      subst (λ o. IsExchange s.x.site B s.log o (s.x.place n) (told.read n) (told.written n)) kept.1 (s.is.exchanged.each n) in
       let at_n : told2.read n ≡ whole = more_here n piece told.read ∙ ap (λ ys. ys ++ piece) kept.0 in
       let same : (k : ℕ) → (k ≡ n → ⊥) → SameAt told told2 s.x x2 k = λ k ne.
       record { accepted = omega arith; over = refl; read = more_apart n k piece told.read ne; written = refl; response = put_other n r s.x.response k ne } in
       record {
         log = h.log;
         x = x2;
+        of_site = s.of_site;
         stands = h.stands;
         admitted = λ before. h.admitted (s.admitted before);
-        grown = given_asks B s.log L h.log whole h.place r h.given s.grown;
+        grown = given_asks s.x.site B s.log L h.log whole h.place r h.given s.grown;
         is = record {
           told = told2;
           tells = tells;
@@ -609,12 +618,12 @@ pub answering_so : {W : Type 0} (Tells : W → ToldOfPorts → Type 0) (x : Exch
     (K K2 : Told → Exchanges → Type 0) → ((told : Told) → K told x → K2 told x) → IsAnswering Tells x B start L pop wire K → IsAnswering Tells x B start L pop wire K2
 answering_so Tells x B start L pop wire K K2 f s = record { told = s.told; tells = s.tells; exchanged = s.exchanged; held = f s.told s.held }
 
-module _ {V W : Type 0} (Holds : V → Contents → Type 0) (Tells : W → ToldOfPorts → Type 0) (B : Records) (start : ℕ) (L : Log) (pop : Told) where
+module _ {V W : Type 0} (Holds : V → Contents → Type 0) (Tells : W → ToldOfPorts → Type 0) (site : Site) (B : Records) (start : ℕ) (L : Log) (pop : Told) where
   -- the office is as it was
-  pub asked_still : (office : Office V) (wire wire2 : W) (K K2 : Told → Exchanges → Type 0) (s : IsAsked Holds Tells B start L pop office wire K)
-      → IsAnswering Tells s.x B start s.log pop wire2 K2 → IsAsked Holds Tells B start L pop office wire2 K2
-  asked_still office wire wire2 K K2 s is = record { log = s.log; x = s.x; stands = s.stands; admitted = s.admitted; grown = s.grown; is = is }
+  pub asked_still : (office : Office V) (wire wire2 : W) (K K2 : Told → Exchanges → Type 0) (s : IsAsked Holds Tells site B start L pop office wire K)
+      → IsAnswering Tells s.x B start s.log pop wire2 K2 → IsAsked Holds Tells site B start L pop office wire2 K2
+  asked_still office wire wire2 K K2 s is = record { log = s.log; x = s.x; of_site = s.of_site; stands = s.stands; admitted = s.admitted; grown = s.grown; is = is }
 
   pub asked_so : (office : Office V) (wire : W) (K K2 : Told → Exchanges → Type 0) → ((told : Told) (x : Exchanges) → K told x → K2 told x)
-      → IsAsked Holds Tells B start L pop office wire K → IsAsked Holds Tells B start L pop office wire K2
+      → IsAsked Holds Tells site B start L pop office wire K → IsAsked Holds Tells site B start L pop office wire K2
   asked_so office wire K K2 f s = asked_still office wire wire K K2 s (answering_so Tells s.x B start s.log pop wire K K2 (λ told. f told s.x) s.is)

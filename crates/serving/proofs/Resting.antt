@@ -55,7 +55,7 @@ polled_then p q r c1 c2 a b e =
 pub polled_behind : (p q r : Bool) (c1 c2 : List Call) → (r ≡ true → q ≡ true) → PollsBy p q c2 → PollsBy p r (c1 ++ c2)
 polled_behind p q r c1 c2 h b e = polled_then p p q c1 c2 (polled_same p c1) b (h e)
 
--- ---- where logins wait for locks
+-- ---- if logins wait for locks
 
 pub releases_then : (wait : ℕ) (p q : Bool) (c1 c2 : List Call) → (p ≡ true → q ≡ true) → Releases wait p c1 → Releases wait q c2 → Releases wait q (c1 ++ c2)
 releases_then wait p q c1 c2 still a b = λ on e.

@@ -36,7 +36,7 @@ set_other (z ∷ xs) zero (suc j) x h = refl
 set_other (z ∷ xs) (suc i) zero x h = refl
 set_other (z ∷ xs) (suc i) (suc j) x h = set_other xs i j x (λ (e : j ≡ i). h (ap suc e))
 
--- a view of a link stays, or has octets more, where the link is another
+-- a view of a link stays, or has octets more, if the link is another
 view_more : (view : Option ScriptLink → List ℕ) (f : ℕ → List ℕ) (xs : List ScriptLink) (i : ℕ) (x y : ScriptLink) (more : List ℕ)
     → ((k : ℕ) → f k ≡ view (slice_get xs k)) → slice_get xs i ≡ Some x → view (Some y) ≡ view (Some x) ++ more
     → (k : ℕ) → more_at i more f k ≡ view (slice_get (set xs i y) k)

@@ -1,4 +1,4 @@
--- Which connections stay open where something happens on one of them.
+-- Which connections stay open if something happens on one of them.
 use Rattle.std.proofs.Common.{◌≡◌, ℕ, Bool, true, false, ◌==◌, List, [], ◌∷◌, ◌++◌, drop, refl, sym, ◌∙◌, ap, None, Some, Option, max, ne_eqb, eq-eqb, ⊎_elim}
 use Rattle.std.specs.Bool.{⊤, if◌then◌else◌}
 use Rattle.std.proofs.lemmas.Bool.{cases_eq}
@@ -141,7 +141,7 @@ module _ (B : Records) (L : Log) where
   pub frame_gone : (c : ℕ) (t : Tag) → Frame B L ((event.Gone c, Tagged t) ∷ L) c
   frame_gone c t d ne = leaves B L (event.Gone c) (Tagged t) d (ne_eqb c d ne, tt) refl
 
-  -- it isn't open behind that
+  -- it isn't open after that
   pub gone_so : (c : ℕ) (t : Tag) → is_open (trace_of B ((event.Gone c, Tagged t) ∷ L)) c ≡ false
   gone_so c t = let q = eq-eqb c c refl in rw q refl
 

@@ -19,7 +19,7 @@ none_more : (b : Bool) → b ≡ (b || false)
 none_more true = refl
 none_more false = refl
 
--- a file is dealt with where it was removed or renamed
+-- a file is dealt with if it was removed or renamed
 pub dealt_so : (b : Bool) → b ≡ (b || false)
 dealt_so b = none_more b
 

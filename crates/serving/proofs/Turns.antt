@@ -61,7 +61,7 @@ only_one x s (suc k, w, is) = absurd (omega (arith, w))
 pub not_zero : (n : ℕ) → 0 < n → (n == 0) ≡ false
 not_zero n h = ⊎_elim (λ (e : (n == 0) ≡ true). (let z : n ≡ 0 = eqb-true n 0 e in absurd (omega (arith, h, z)))) (λ (e : (n == 0) ≡ false). e) (cases_Bool (n == 0))
 
--- where more logins may be kept back
+-- if more logins may be kept back
 pub kept_more : (T : Trace) (c : ℕ) (piece : List ℕ) (wait : ℕ) (may may2 : Bool) → (may ≡ true → may2 ≡ true) → IsKeptBack T c piece wait may → IsKeptBack T c piece wait may2
 kept_more T c piece wait may may2 more h =
     ⊎_elim

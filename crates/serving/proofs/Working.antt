@@ -446,7 +446,7 @@ pub shut_by : (b : Bool) (u : List ℕ) → rest_if b u ≡ [] → (b && is_empt
 shut_by true u e n o = let k : is_empty (rest_if true u) ≡ true = ap is_empty e in true≢false (sym k ∙ n)
 shut_by false u e n o = cc
 
--- nothing is owed where nothing is lent
+-- nothing is owed if nothing is lent
 pub nothing_left : (owed : List ℕ) (n : ℕ) (empty : Bool) → n ≡ min (length owed) 16384 → empty ≡ (n == 0) → empty ≡ true → owed ≡ []
 nothing_left [] n empty exact is e = refl
 nothing_left (x ∷ owed) n empty exact is e = let z : n ≡ 0 = eqb-true n 0 (sym is ∙ e) in absurd (omega (arith, exact, z))

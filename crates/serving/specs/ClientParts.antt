@@ -78,7 +78,7 @@ abbrev pub OwesNothing : {V : Type 0} (Holds : V → Contents → Type 0) (IsCle
 OwesNothing Holds IsClean office office_then c given =
     (B : Records) (L : Log) → StandsFor Holds office (trace_of B L) → IsClean (vault_of office_then) → rest (trace_of B (given ++ L)) c ≡ []
 
--- A link was written on so many times, so many octets; and it takes no more for now, or nothing more is owed, where that is over.
+-- A link was written on so many times, so many octets; and it takes no more for now, or nothing more is owed, if that is over.
 pub record IsWritten {V : Type 0} (Holds : V → Contents → Type 0) (IsClean : V → Type 0) (office office_then : Office V) (seat : Seat) (times octets : ℕ) (goes : Bool)
     (given : Log) (calls : List Call) : Type 0 where
   pub of_seat : IsQuietFor (seat ∷ []) given calls
@@ -86,7 +86,7 @@ pub record IsWritten {V : Type 0} (Holds : V → Contents → Type 0) (IsClean :
   pub octets_are : octets ≤ octets_taken seat.link calls
   pub ends : goes ≡ false → (list_any (is_later_of seat.link) calls ≡ true) ⊎ OwesNothing Holds IsClean office office_then seat.connection given
 
--- A link was written its share, or as often as it may be, where it goes on; or it takes no more for now, or nothing more is owed.
+-- A link was written its share, or as often as it may be, if it goes on; or it takes no more for now, or nothing more is owed.
 pub record IsWrittenOut {V : Type 0} (Holds : V → Contents → Type 0) (IsClean : V → Type 0) (office office_then : Office V) (seat : Seat) (share : ℕ) (goes : Bool)
     (given : Log) (calls : List Call) : Type 0 where
   pub of_seat : IsQuietFor (seat ∷ []) given calls
@@ -135,7 +135,7 @@ pub data HasLooked {V : Type 0} (Holds : V → Contents → Type 0) (office : Of
       → HasLooked Holds office seat pace refusals count login
       (Looked Pop seat.link (Count n) piece ∷ [])
 
--- A link was read from once, so many octets at most, where its connection waits for them.
+-- A link was read from once, so many octets at most, if its connection waits for them.
 pub data IsReadOnce {V : Type 0} (Holds : V → Contents → Type 0) (office : Office V) (seat : Seat)
     (room : ℕ) : Log → List Call → Type 0 where
   NotReady : IsNotReady Holds office seat.connection → IsReadOnce Holds office seat room [] []
@@ -184,7 +184,7 @@ pub record HadTurns {V : Type 0} (Holds : V → Contents → Type 0) (IsClean : 
       → IsClean (vault_of office_then)
       → All (IsNotedSo noted B L given calls way.wait way.may seats) these
 
--- logins are kept back behind sessions that ended, where they wait for a lock, and behind nothing
+-- logins are kept back after sessions that ended, if they wait for a lock, and after nothing
 -- else
 abbrev pub IsFreedBy : {V : Type 0} (Holds : V → Contents → Type 0) (IsClean : V → Type 0)
     (office office_then : Office V) (wait : ℕ) (freed : Bool) (seats : List Seat) (given : Log)
@@ -194,7 +194,7 @@ IsFreedBy Holds IsClean office office_then wait freed seats given =
     → StandsFor Holds office (trace_of B L) → IsClean (vault_of office_then)
     → HasFreed B L given seats)
 
--- the links of these seats had their turns, by these settings, and what was kept back behind a
+-- the links of these seats had their turns, by these settings, and what was kept back after a
 -- session that ended was so for that
 pub record WereServed {V : Type 0} (Holds : V → Contents → Type 0) (IsClean : V → Type 0)
     (office office_then : Office V) (set : Settings) (now : ℕ) (newcomers : List Newcomer)
@@ -212,7 +212,7 @@ pub record AreClosed (T : Trace) (seats seats_then : List Seat) (calls : List Ca
   pub calls_are : calls ≡ map closing (filter (is_shut_seat T) seats)
   pub left : seats_then ≡ filter (is_open_seat T) seats
 
--- exactly this seat's link is closed, where its connection isn't open
+-- exactly this seat's link is closed, if its connection isn't open
 pub record IsClosed (T : Trace) (seats seats_then : List Seat) (place : ℕ) (seat : Seat) (stays : Bool) (calls : List Call) : Type 0 where
   pub stays_if : stays ≡ is_open_seat T seat
   pub left : seats_then ≡ (if stays then seats else remove seats place)

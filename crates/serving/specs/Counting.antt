@@ -27,7 +27,7 @@ abbrev pub one_more_at : Port → Counts → Counts
 one_more_at Pop counts = record { clients = counts.clients + 1; requests = counts.requests }
 one_more_at Admin counts = record { clients = counts.clients; requests = counts.requests + 1 }
 
--- one more, where a link was accepted
+-- one more, if a link was accepted
 abbrev pub counted_with : Port → Option Link → Counts → Counts
 counted_with port None counts = counts
 counted_with port (Some link) counts = one_more_at port counts

@@ -14,14 +14,14 @@ o >>= f = option_and_then f o
 abbrev pub is_dot : ℕ → Bool
 is_dot b = b == 46
 
--- `id.eml`, behind the maildrop and the class
+-- `id.eml`, after the maildrop and the class
 unfoldable pub with_id : (maildrop class : List ℕ) → List ℕ → Option FileName
 with_id maildrop class text = do
   dot ← position is_dot text
   id ← deposit_id_of (take dot text)
   if bytes_eq (drop (dot + 1) text) (codes "eml") then Some (record { maildrop = maildrop; class = class; id = id }) else None
 
--- `class.id.eml`, behind the maildrop
+-- `class.id.eml`, after the maildrop
 unfoldable pub with_class : (maildrop : List ℕ) → List ℕ → Option FileName
 with_class maildrop text = do
   dot ← position is_dot text

@@ -1,11 +1,11 @@
--- Logins that were refused, and those that are kept back behind them: an address counts by a number,
+-- Logins that were refused, and those that are kept back after them: an address counts by a number,
 -- its origin, and a list has the last refusal of each origin and login name, the oldest refusal
 -- first.
 use Rattle.std.specs.Prelude.{◌≡◌, ℕ, Bool, true, false, not, ◌&&◌, ◌+◌, ◌-◌, ◌*◌, ◌==◌, nat_lt}
 use Rattle.std.specs.Prelude.{nat_le}
 use Rattle.std.specs.Prelude.{min, List, [], ◌∷◌, ◌++◌, length, drop, filter, find, slice_index}
 use Rattle.std.specs.Prelude.{Option, Some, None, if◌then◌else◌}
-use Rattle.std.specs.Net.Addr.{ipv4_bits, ipv6_segments}
+use Rattle.std.specs.Net.Addr.{ipv4_bits, ipv6_segments, IsCanonicalOf}
 use Rattle.std.specs.Str.{bytes_eq}
 use Rattle.creds.specs.declared.login_name.LoginName.{LoginName}
 use Rattle.std.specs.declared.net.ip_addr.IpAddr.{IpAddr}
@@ -24,6 +24,19 @@ network segments =
 abbrev pub origin : IpAddr → ℕ
 origin (V4 four) = ipv4_bits four
 origin (V6 six) = network (ipv6_segments six)
+
+-- an address counts by this number: an IPv4 address as itself, also if it is written as an IPv6 one
+abbrev pub CountsBy : IpAddr → (number : ℕ) → Type 0
+CountsBy (V4 four) number = number ≡ ipv4_bits four
+CountsBy (V6 six) number = (c : IpAddr) × IsCanonicalOf six c × (number ≡ origin c)
+
+-- By which number a client's guesses count: by none if guesses aren't slow, if the client is logged
+-- in, or if it isn't known from where it comes.
+abbrev pub IsOriginOf : (are_slow is_logged_in : Bool) → Option IpAddr → Option ℕ → Type 0
+IsOriginOf false is_logged_in address number = number ≡ None
+IsOriginOf true true address number = number ≡ None
+IsOriginOf true false None number = number ≡ None
+IsOriginOf true false (Some address) number = (n : ℕ) × (number ≡ Some n) × CountsBy address n
 
 -- ---- refusals
 
@@ -49,13 +62,13 @@ abbrev pub holds_back : (now : ℕ) → Option Refusal → Bool
 holds_back now None = false
 holds_back now (Some r) = nat_lt (now - r.at) r.seconds
 
--- for how many seconds a refusal at this moment does, by the refusal before it: 1 where none was
+-- for how many seconds a refusal at this moment does, by the refusal before it: 1 if none was
 -- within ten minutes, and else twice as many as that one, at most 15
 abbrev pub next_seconds : (now : ℕ) → Option Refusal → ℕ
 next_seconds now None = 1
 next_seconds now (Some r) = if nat_le 600 (now - r.at) then 1 else min (r.seconds * 2) 15
 
--- one refusal fewer, where 1,024 are there: the oldest goes
+-- one refusal fewer, if 1,024 are there: the oldest goes
 abbrev pub with_room : List Refusal → List Refusal
 with_room refusals = if nat_le 1024 (length refusals) then drop 1 refusals else refusals
 

@@ -1,5 +1,5 @@
 -- What a listener hears of a turn: accounts of connections, by the history.
-use Rattle.std.specs.Prelude.{ℕ, List, [], ◌∷◌, ◌++◌, map, filter}
+use Rattle.std.specs.Prelude.{ℕ, List, [], ◌∷◌, ◌++◌, map, filter, if◌then◌else◌}
 use Rattle.vault.specs.Records.{Records}
 use Rattle.vault.specs.Changes.{Contents}
 use Rattle.office.specs.Accounts.{account_of}
@@ -11,10 +11,12 @@ use Rattle.office.specs.Stands.{StandsFor, vault_of}
 use Rattle.office.specs.declared.office.Office.{Office}
 use Rattle.office.specs.declared.account.Account.{Account}
 use Rattle.office.specs.declared.account.Account.TheVariants as account
+use Rattle.office.specs.declared.account.End.{End}
 use Rattle.office.specs.declared.account.End.TheVariants as end
 use Rattle.serving.specs.Calls.{Call}
-use Rattle.serving.specs.Works.{is_shut_seat}
+use Rattle.serving.specs.Works.{is_late, is_shut_seat}
 use Rattle.serving.specs.declared.links.Seat.{Seat}
+use Rattle.serving.specs.declared.newcomers.Newcomer.{Newcomer}
 
 -- of which connection something is heard, and what
 abbrev pub Hearing : Type 0
@@ -27,7 +29,7 @@ abbrev pub heard_by : AdminCommand → Account → List Hearing
 heard_by (EndSession c) told = (c, told) ∷ []
 heard_by _ told = []
 
--- of an event: its account, where it is a client's or ends a session
+-- of an event: its account, if it is a client's or ends a session
 abbrev pub heard_of : Trace → Event → EventTag → List Hearing
 heard_of T (event.Bytes c piece) m = (c, account_of T (event.Bytes c piece) m) ∷ []
 heard_of T (event.Took c octets) m = (c, account_of T (event.Took c octets) m) ∷ []
@@ -35,7 +37,7 @@ heard_of T (event.Gone c) m = (c, account_of T (event.Gone c) m) ∷ []
 heard_of T (event.Admin command) m = heard_by command (account_of T (event.Admin command) m)
 heard_of T e m = []
 
--- of events behind an older log, in their order
+-- of events after an older log, in their order
 abbrev pub heard_of_all : Records → (older given : Log) → List Hearing
 heard_of_all B older [] = []
 heard_of_all B older ((e, m) ∷ given) =
@@ -43,21 +45,28 @@ heard_of_all B older ((e, m) ∷ given) =
 
 -- ---- of connections that the office was told to end, or that a moment ended
 
+-- why a client that is late is ended: its login seconds are over, or only those of a full house
+abbrev pub why_late : (now login_seconds : ℕ) → List Newcomer → (c : ℕ) → End
+why_late now seconds newcomers c =
+    if is_late now seconds newcomers c then end.TooLate else end.FullHouse
+
 -- of an event by which a client goes because it is late
-abbrev pub late_end : Event → List Hearing
-late_end (event.Gone c) = (c, account.Ended end.TooLate) ∷ []
-late_end e = []
+abbrev pub late_end : (now login_seconds : ℕ) → List Newcomer → Event → List Hearing
+late_end now seconds newcomers (event.Gone c) =
+    (c, account.Ended (why_late now seconds newcomers c)) ∷ []
+late_end now seconds newcomers e = []
 
 -- of such events, in their order
-abbrev pub late_ends : Log → List Hearing
-late_ends [] = []
-late_ends ((e, m) ∷ given) = late_ends given ++ late_end e
+abbrev pub late_ends : (now login_seconds : ℕ) → List Newcomer → Log → List Hearing
+late_ends now seconds newcomers [] = []
+late_ends now seconds newcomers ((e, m) ∷ given) =
+    late_ends now seconds newcomers given ++ late_end now seconds newcomers e
 
 -- of a seat whose connection was idle for too long
 abbrev pub idle_end : Seat → Hearing
 idle_end s = (s.connection, account.Ended end.Idle)
 
--- of each seat whose connection isn't open behind a moment
+-- of each seat whose connection isn't open after a moment
 abbrev pub idle_ends : (after : Trace) → List Seat → List Hearing
 idle_ends after seats = map idle_end (filter (is_shut_seat after) seats)
 
@@ -68,7 +77,7 @@ pub record WasTold {H : Type 0} (Heard : H → List Hearing → Type 0) (listene
     (more : List Hearing) : Type 0 where
   pub is : (before : List Hearing) → Heard listener before → Heard listener_then (before ++ more)
 
--- what is heard of these events, behind any log for which the office stands
+-- what is heard of these events, after any log for which the office stands
 pub record WasHeard {V H : Type 0} (Holds : V → Contents → Type 0) (IsClean : V → Type 0)
     (Heard : H → List Hearing → Type 0) (office : Office V) (listener : H)
     (office_then : Office V) (listener_then : H) (given : Log) : Type 0 where
@@ -85,7 +94,7 @@ WithHeard Holds IsClean Heard office listener office_then listener_then Facts gi
     WasHeard Holds IsClean Heard office listener office_then listener_then given
     × Facts given calls
 
--- the same of what was done behind a log
+-- the same of what was done after a log
 abbrev pub HeardApart : {H : Type 0} (Heard : H → List Hearing → Type 0)
     (listener listener_then : H) (Did : Records → Log → Log → List Call → Type 0)
     → Records → Log → Log → List Call → Type 0

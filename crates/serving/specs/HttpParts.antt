@@ -5,6 +5,7 @@ use Rattle.std.specs.Prelude.{take, drop, Option}
 use Rattle.vault.specs.Records.{Records}
 use Rattle.vault.specs.Changes.{Contents}
 use Rattle.office.specs.Events.{Log}
+use Rattle.adminhttp.specs.Sites.{Site}
 use Rattle.office.specs.Taken.{trace_of}
 use Rattle.office.specs.Stands.{StandsFor, vault_of}
 use Rattle.office.specs.declared.office.Office.{Office}
@@ -15,7 +16,7 @@ use Rattle.serving.specs.Works.{AreCaused}
 use Rattle.serving.specs.HttpTurns.{GoesOnAt}
 use Rattle.serving.specs.HttpWorks.{ComesTo, IsToldOf, HasToldAll, HadHttpTurns}
 
--- This was done behind any log for which the office stands, and the clients' links and openings
+-- This was done after any log for which the office stands, and the clients' links and openings
 -- were left alone.
 pub record DidApart {V : Type 0} (Holds : V → Contents → Type 0) (IsClean : V → Type 0)
     (office office_then : Office V) (Did : Records → Log → Log → List Call → Type 0)
@@ -26,9 +27,9 @@ pub record DidApart {V : Type 0} (Holds : V → Contents → Type 0) (IsClean : 
       → IsClean (vault_of office_then) → Did B L given calls
 
 -- what octets that were read come to, with no call
-abbrev pub ComeTo : (read : List ℕ) (response : Option (List ℕ)) → Records → Log → Log → List Call
-    → Type 0
-ComeTo read response B L given calls = ComesTo B L read given response
+abbrev pub ComeTo : Site → (read : List ℕ) (response : Option (List ℕ)) → Records → Log → Log
+    → List Call → Type 0
+ComeTo site read response B L given calls = ComesTo site B L read given response
 
 -- calls of the administration's links alone, of which this holds
 abbrev pub AskedApart : (List Call → Type 0) → List Call → Type 0
@@ -57,13 +58,13 @@ abbrev pub AsksApart : {W : Type 0} (Asked : W → List Call → Type 0) (wire w
 AsksApart Asked wire wire_then Facts = Asking Asked wire wire_then (AskedApart Facts)
 
 -- the link at a place had its turn, and whether it is held on
-abbrev pub HadTurnAt : (now place : ℕ) (stays : Bool) (held held_then : List Exchange)
+abbrev pub HadTurnAt : Site → (now place : ℕ) (stays : Bool) (held held_then : List Exchange)
     → Records → Log → Log → List Call → Type 0
-HadTurnAt now place stays held held_then B L given calls =
-    HadHttpTurns now B L (take 1 (drop place held))
+HadTurnAt site now place stays held held_then B L given calls =
+    HadHttpTurns site now B L (take 1 (drop place held))
     (take (if stays then 1 else 0) (drop place held_then)) given calls
 
--- What follows of a response was written once or more, and where that doesn't go on nothing more
+-- What follows of a response was written once or more, and if that doesn't go on nothing more
 -- can be written for now.
 pub record Tells (e e_then : Exchange) (times octets : ℕ) (goes : Bool) (calls : List Call)
     : Type 0 where

@@ -7,6 +7,7 @@ use Rattle.std.specs.Prelude.{None, option_map, is_some, IfNone}
 use Rattle.std.specs.List.{All, list_any}
 use Rattle.vault.specs.Records.{Records}
 use Rattle.office.specs.Events.{Log, Trace}
+use Rattle.adminhttp.specs.Sites.{Site}
 use Rattle.serving.specs.Wires.{is_fault}
 use Rattle.serving.specs.Calls.{Call, Accepted, Read, Wrote, Closed}
 use Rattle.serving.specs.Requests.{octets_of, HasOneMore, IsGiven}
@@ -22,7 +23,7 @@ use Rattle.serving.specs.declared.links.Links.{Links}
 
 -- ---- links that come
 
--- So many links came, one after the other: each is held behind the others, or closed at once, where
+-- So many links came, one after the other: each is held after the others, or closed at once, if
 -- as many are held as may be, or memory for it was refused.
 pub data HaveComeForAdmin (now : ℕ) : (held held_then : List Exchange) → (came : ℕ) → List Call
     → Type 0 where
@@ -39,7 +40,7 @@ pub data HaveComeForAdmin (now : ℕ) : (held held_then : List Exchange) → (ca
       → HaveComeForAdmin now held held_then (suc came)
       (Accepted Admin (Some link) ∷ Closed Admin link ∷ calls)
 
--- They came until none waited, or, where it goes on, so many or more had come.
+-- They came until none waited, or, if it goes on, so many or more had come.
 pub record HasAcceptedForAdmin (now most : ℕ) (goes : Bool) (held held_then : List Exchange)
     (calls : List Call) : Type 0 where
   pub came : ℕ
@@ -50,30 +51,31 @@ pub record HasAcceptedForAdmin (now most : ℕ) (goes : Bool) (held held_then : 
 
 -- ---- what is read of a request
 
--- the octets of the response, where there is one
+-- the octets of the response, if there is one
 abbrev pub response_of : Exchange → Option (List ℕ)
 response_of e = option_map octets_of e.response
 
 -- octets that were read come to this response, if to any yet, with the event of their command
-pub record ComesTo (B : Records) (L : Log) (read : List ℕ) (given : Log)
+pub record ComesTo (site : Site) (B : Records) (L : Log) (read : List ℕ) (given : Log)
     (response : Option (List ℕ)) : Type 0 where
   pub place : Option ℕ
-  pub is : IsGiven B L read (given ++ L) place response
+  pub is : IsGiven site B L read (given ++ L) place response
 
 -- A link was read from once, as many octets as are asked for at once, unless its response is there,
 -- or it is over: it gave its end, or nothing for now, or a piece.
-pub data HasHeard (B : Records) (L : Log) (e e_then : Exchange) : Log → List Call → Type 0 where
-  IsOver : e.is_over ≡ true → e_then ≡ e → HasHeard B L e e_then [] []
-  HasResponse : is_some e.response ≡ true → e_then ≡ e → HasHeard B L e e_then [] []
+pub data HasHeard (site : Site) (B : Records) (L : Log) (e e_then : Exchange) : Log
+    → List Call → Type 0 where
+  IsOver : e.is_over ≡ true → e_then ≡ e → HasHeard site B L e e_then [] []
+  HasResponse : is_some e.response ≡ true → e_then ≡ e → HasHeard site B L e e_then [] []
   GaveNothing : e.response ≡ None → e_then ≡ e
-      → HasHeard B L e e_then [] (Read Admin e.link most_at_once Later [] ∷ [])
+      → HasHeard site B L e e_then [] (Read Admin e.link most_at_once Later [] ∷ [])
   GaveItsEnd : (io : Io) → e.response ≡ None → is_fault io ≡ true → e_then.is_over ≡ true
-      → HasHeard B L e e_then [] (Read Admin e.link most_at_once io [] ∷ [])
+      → HasHeard site B L e e_then [] (Read Admin e.link most_at_once io [] ∷ [])
   GaveAPiece : (n : ℕ) (piece : List ℕ) (given : Log) → e.response ≡ None → e_then.is_over ≡ false
-      → ComesTo B L (e.read.items ++ piece) given (response_of e_then)
+      → ComesTo site B L (e.read.items ++ piece) given (response_of e_then)
       → IfNone e_then.response (e_then.read.items ≡ e.read.items ++ piece)
       → e_then.link ≡ e.link → e_then.written ≡ e.written
-      → HasHeard B L e e_then given (Read Admin e.link most_at_once (Count n) piece
+      → HasHeard site B L e e_then given (Read Admin e.link most_at_once (Count n) piece
       ∷ [])
 
 -- ---- what is written of a response
@@ -127,7 +129,7 @@ pub record IsToldOf (e e_then : Exchange) (times octets : ℕ) (calls : List Cal
   pub writes : AreWritesOf e.link e.response e.written calls e_then.written
   -- nothing is written on a link that is over
   pub idle : e.is_over ≡ true → calls ≡ []
-  -- it is over from now on exactly where its response is whole, or a write told its end
+  -- it is over from now on exactly if its response is whole, or a write told its end
   pub over : e_then.is_over ≡
       (e.is_over || (is_whole e_then.response e_then.written || list_any told_its_end calls))
   pub times_are : times ≤ length calls
@@ -150,27 +152,28 @@ pub record HasTold (e e_then : Exchange) (calls : List Call) : Type 0 where
 
 -- A link that was accepted 60 seconds ago, or longer, is over, and nothing is asked of it. Another
 -- is read from, and written on.
-pub data HasHttpTurn (now : ℕ) (B : Records) (L : Log) (e e_then : Exchange) : Log → List Call
-    → Type 0 where
-  IsLate : is_late_at now e ≡ true → e_then.is_over ≡ true → HasHttpTurn now B L e e_then [] []
+pub data HasHttpTurn (site : Site) (now : ℕ) (B : Records) (L : Log) (e e_then : Exchange)
+    : Log → List Call → Type 0 where
+  IsLate : is_late_at now e ≡ true → e_then.is_over ≡ true → HasHttpTurn site now B L e e_then [] []
   IsServed : (between : Exchange) (given : Log) (reads writes : List Call)
-      → is_late_at now e ≡ false → HasHeard B L e between given reads
+      → is_late_at now e ≡ false → HasHeard site B L e between given reads
       → HasTold between e_then writes
-      → HasHttpTurn now B L e e_then given (reads ++ writes)
+      → HasHttpTurn site now B L e e_then given (reads ++ writes)
 
 -- Each link that is held has its turn, one after the other: those that are over by then are closed,
 -- and the others are held on, with the moment at which they were accepted.
-pub data HadHttpTurns (now : ℕ) (B : Records) : (L : Log) → (held held_then : List Exchange) → Log
-    → List Call → Type 0 where
-  NoneHeld : (L : Log) → HadHttpTurns now B L [] [] [] []
+pub data HadHttpTurns (site : Site) (now : ℕ) (B : Records) : (L : Log)
+    → (held held_then : List Exchange) → Log → List Call → Type 0 where
+  NoneHeld : (L : Log) → HadHttpTurns site now B L [] [] [] []
   IsHeldOn : (L g given : Log) (e e_then : Exchange) (held held_then : List Exchange)
-      (c calls : List Call) → HasHttpTurn now B L e e_then g c → e_then.is_over ≡ false
-      → e_then.since ≡ e.since → HadHttpTurns now B (g ++ L) held held_then given calls
-      → HadHttpTurns now B L (e ∷ held) (e_then ∷ held_then) (given ++ g) (c ++ calls)
+      (c calls : List Call) → HasHttpTurn site now B L e e_then g c → e_then.is_over ≡ false
+      → e_then.since ≡ e.since → HadHttpTurns site now B (g ++ L) held held_then given calls
+      → HadHttpTurns site now B L (e ∷ held) (e_then ∷ held_then) (given ++ g) (c ++ calls)
   IsClosed : (L g given : Log) (e e_then : Exchange) (held held_then : List Exchange)
-      (c calls : List Call) → HasHttpTurn now B L e e_then g c → e_then.is_over ≡ true
-      → HadHttpTurns now B (g ++ L) held held_then given calls
-      → HadHttpTurns now B L (e ∷ held) held_then (given ++ g) (c ++ Closed Admin e.link ∷ calls)
+      (c calls : List Call) → HasHttpTurn site now B L e e_then g c → e_then.is_over ≡ true
+      → HadHttpTurns site now B (g ++ L) held held_then given calls
+      → HadHttpTurns site now B L (e ∷ held) held_then (given ++ g)
+      (c ++ Closed Admin e.link ∷ calls)
 
 -- So it is of a turn: those that were held, and those that came, among its calls and its events.
 pub record HttpWorks (T : Trace) (now : ℕ) (links links_then : Links) (given : Log)
@@ -189,7 +192,7 @@ pub record HttpWorks (T : Trace) (now : ℕ) (links links_then : Links) (given :
   pub later : Log
   pub given_are : given ≡ later ++ (commands ++ earlier)
   pub accepted : HasAcceptedForAdmin now 64 goes links.requests.exchanges.items held arrivals
-  pub served : HadHttpTurns now T.base
+  pub served : HadHttpTurns links.site now T.base
       (earlier ++ T.log) held links_then.requests.exchanges.items commands services
 
 -- ---- requests that aren't whole
@@ -198,7 +201,7 @@ pub record HttpWorks (T : Trace) (now : ℕ) (links links_then : Links) (given :
 abbrev pub most_asked : ℕ
 most_asked = 1056768
 
--- so many were read, where there is no response yet
+-- so many were read, if there is no response yet
 abbrev pub IsShort : Exchange → Type 0
 IsShort e = IfNone e.response (length e.read.items < most_asked)
 

@@ -16,7 +16,7 @@ use Rattle.serving.specs.Newcomers.{newcomer, lies_unread, CountsFrom}
 use Rattle.serving.specs.Works.{is_late, AreLateGone, LiesUnread}
 use Rattle.serving.specs.Calls.{Call}
 
--- a session lived on a connection behind some of these events
+-- a session lived on a connection after some of these events
 pub record HasLived (B : Records) (older given : Log) (c : ℕ) : Type 0 where
   pub later : Log
   pub front : Log
@@ -57,7 +57,7 @@ IsCountedOn newcomers_then B older given after calls wait may seats s =
     → HasLived B older given s.connection
     ⊎ LiesUnread B older given calls wait (may s.connection) seats s.connection
 
--- nothing is open on a connection behind these events
+-- nothing is open on a connection after these events
 abbrev pub IsShutBy : {V : Type 0} (Holds : V → Contents → Type 0) (IsClean : V → Type 0)
     (office office_then : Office V) (c : ℕ) (given : Log) → Type 0
 IsShutBy Holds IsClean office office_then c given =

@@ -9,11 +9,11 @@ use Rattle.serving.specs.declared.next_name.NextName.{NextName}
 abbrev pub is_file : List ℕ → Bool
 is_file name = is_some (file_name_of name)
 
--- it is, and comes behind the last one
+-- it is, and comes after the last one
 abbrev pub is_behind : (last : List ℕ) → List ℕ → Bool
 is_behind last name = is_file name && comes_before last name
 
--- the text of the name that was tried last; the empty text, which comes before every name, where none was
+-- the text of the name that was tried last; the empty text, which comes before every name, if none was
 abbrev pub last_text : Option FileName → List ℕ
 last_text None = []
 last_text (Some n) = text_of n
@@ -23,7 +23,7 @@ abbrev pub is_less : List ℕ → Option (List ℕ) → Bool
 is_less name None = true
 is_less name (Some least) = comes_before name least
 
--- the least one so far, behind a name that counts or doesn't
+-- the least one so far, after a name that counts or doesn't
 abbrev pub least_after : (counts : Bool) → (name : List ℕ) → Option (List ℕ) → Option (List ℕ)
 least_after counts name before = if counts && is_less name before then Some name else before
 
@@ -37,7 +37,7 @@ abbrev pub first_of : (front back : Option (List ℕ)) → Option (List ℕ)
 first_of None back = back
 first_of (Some name) back = Some name
 
--- the next name: the least one behind the last, else the least of all
+-- the next name: the least one after the last, else the least of all
 abbrev pub next_of : (last : Option FileName) → List (List ℕ) → Option FileName
 next_of last names = option_and_then file_name_of (first_of (least_of (is_behind (last_text last)) names) (least_of is_file names))
 

@@ -5,11 +5,11 @@ use Rattle.serving.specs.Calls.{Call, Waited, Accepted, Looked, Read, Wrote, Clo
 use Rattle.serving.specs.declared.notes.WireCall.{WireCall}
 use Rattle.serving.specs.declared.notes.WireCall.TheVariants as asked
 
--- of a port, where nothing was asked
+-- of a port, if nothing was asked
 abbrev pub nothing : Told
 nothing = record { accepted = 0; read = λ k. []; written = λ k. []; over = λ k. false; strayed = false }
 
--- behind a call
+-- after a call
 abbrev pub told_behind : Call → ToldOfPorts → ToldOfPorts
 told_behind (Accepted port (Some link)) t = at_port port has_accepted t
 told_behind (Read port link room io octets) t =
@@ -18,7 +18,7 @@ told_behind (Wrote port link io octets) t = at_port port (λ of. has_written of 
 told_behind (Closed port link) t = at_port port (λ of. has_closed of link.number) t
 told_behind _ t = t
 
--- behind calls, the newest last
+-- after calls, the newest last
 abbrev pub told_since : ToldOfPorts → List Call → ToldOfPorts
 told_since t [] = t
 told_since t (c ∷ calls) = told_since (told_behind c t) calls

@@ -5,14 +5,14 @@ use Rattle.serving.specs.Spools.{FileAct, WasRead, WasRemoved, WasRenamed, FileC
 use Rattle.serving.specs.declared.file_notes.FileAsked.{FileAsked}
 use Rattle.serving.specs.declared.file_notes.FileAsked.TheVariants as asked
 
--- behind a call
+-- after a call
 abbrev pub acts_behind : FileCall → List FileAct → List FileAct
 acts_behind (Read name (Some text)) acts = acts ++ WasRead name text ∷ []
 acts_behind (Removed name true) acts = acts ++ WasRemoved name ∷ []
 acts_behind (Renamed name true) acts = acts ++ WasRenamed name ∷ []
 acts_behind _ acts = acts
 
--- behind calls, the newest last
+-- after calls, the newest last
 abbrev pub acts_since : List FileAct → List FileCall → List FileAct
 acts_since acts [] = acts
 acts_since acts (c ∷ calls) = acts_since (acts_behind c acts) calls

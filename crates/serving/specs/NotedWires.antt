@@ -28,7 +28,7 @@ pub record WasAsked {W : Type 0} (Tells : W → ToldOfPorts → Type 0) (Asked :
   pub told : (t : ToldOfPorts) → Tells wire t → Tells wire_then (told_behind call t)
   pub called : (calls : List Call) → Asked wire calls → Asked wire_then (calls ++ call ∷ [])
 
--- so it is where it numbers its links as they were counted, and has fewer than may be
+-- so it is if it numbers its links as they were counted, and has fewer than may be
 abbrev pub WasAskedFor : {W : Type 0} (Tells : W → ToldOfPorts → Type 0) (Asked : W → List Call → Type 0) (port : Port) (counts : Counts) (wire wire_then : W) (call : Call) → Type 0
 WasAskedFor Tells Asked port counts wire wire_then call =
     (t : ToldOfPorts) → AreCounted counts t → count_at port counts < most_links → Tells wire t

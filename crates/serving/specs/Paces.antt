@@ -30,7 +30,7 @@ keeps pace refusals None = false
 keeps pace refusals (Some name) = pace.is_shut
     || (nat_lt pace.waited most_paced && is_paced pace.now pace.origin name refusals)
 
--- a session ended, where logins wait
+-- a session ended, if logins wait
 abbrev pub has_freed : (wait : ℕ) → (was_logged_in is_logged_in : Bool) → Bool
 has_freed wait was_logged_in is_logged_in = not (wait == 0) && (was_logged_in && not is_logged_in)
 
@@ -39,7 +39,7 @@ abbrev pub is_held : Trace → (connection : ℕ) → (piece : List ℕ) → Pac
 is_held T connection piece pace refusals =
     waits T connection piece pace.wait || keeps pace refusals (login_brought T connection piece)
 
--- how many octets the first line of a piece has, with its LF; all, where it has none
+-- how many octets the first line of a piece has, with its LF; all, if it has none
 abbrev pub line_by : (newline : Option ℕ) → (all : ℕ) → ℕ
 line_by None all = all
 line_by (Some at) all = suc at

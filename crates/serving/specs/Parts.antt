@@ -37,7 +37,7 @@ abbrev pub PollsBy : (polled polled_then : Bool) → List Call → Type 0
 PollsBy polled polled_then calls =
     polled_then ≡ true → (polled || has_moved calls) ≡ true
 
--- it doesn't wait where these calls moved something, if logins wait for locks
+-- it doesn't wait if these calls moved something, if logins wait for locks
 abbrev pub Releases : (wait : ℕ) (poll_now : Bool) → List Call → Type 0
 Releases wait poll_now calls = (wait == 0) ≡ false → has_moved calls ≡ true → poll_now ≡ true
 
@@ -46,15 +46,17 @@ abbrev pub Also : (Log → List Call → Type 0) → (List Call → Type 0) → 
     → Type 0
 Also Facts More given calls = Facts given calls × More calls
 
--- nobody is late who wasn't
+-- whoever is late was so before, by any number of seconds
 abbrev pub AreNoMoreLate : (now seconds : ℕ) → (newcomers newcomers_then : List Newcomer) → Type 0
-AreNoMoreLate now seconds newcomers newcomers_then = (c : ℕ) → is_late now seconds newcomers_then c ≡ true → is_late now seconds newcomers c ≡ true
+AreNoMoreLate now seconds newcomers newcomers_then = (c : ℕ)
+    → is_late now seconds newcomers_then c ≡ true
+    → (other : ℕ) → is_late now other newcomers c ≡ is_late now other newcomers_then c
 
 pub record WasGiven {V : Type 0} (Holds : V → Contents → Type 0) (IsClean : V → Type 0) (Faults : V → ℕ) (office office_then : Office V) (given : Log) : Type 0 where
   pub clean : IsClean (vault_of office_then) → IsClean (vault_of office)
   pub stands : (B : Records) (L : Log) → StandsFor Holds office (trace_of B L) → IsClean (vault_of office_then) → StandsFor Holds office_then (trace_of B (given ++ L))
   pub admitted : (B : Records) (L : Log) → StandsFor Holds office (trace_of B L) → IsClean (vault_of office_then) → AreNewlyAdmitted B L given
-  -- the count of faults never falls, and an event failed only where it grew
+  -- the count of faults never falls, and an event failed only if it grew
   pub counted : Faults (vault_of office) ≤ Faults (vault_of office_then)
   pub failed : (B : Records) (L : Log) → StandsFor Holds office (trace_of B L) → IsClean (vault_of office_then) → list_any is_failed given ≡ true
       → has_grown (Faults (vault_of office)) (Faults (vault_of office_then)) ≡ true

@@ -17,6 +17,7 @@ use Rattle.office.specs.Taken.{trace_of, AreAdmittedBy}
 use Rattle.office.specs.Stands.{StandsFor, vault_of}
 use Rattle.office.specs.declared.office.Office.{Office}
 use Rattle.adminhttp.specs.Request.{IsRequest}
+use Rattle.adminhttp.specs.Sites.{Site}
 use Rattle.adminhttp.specs.Responses.{answer_response, fault_response, refusal_response}
 use Rattle.adminhttp.specs.declared.refusal.Refusal.{Refusal}
 use Rattle.adminhttp.specs.declared.refusal.Refusal.TheVariants.{StoreFailed, OutOfMemory}
@@ -29,7 +30,7 @@ use Rattle.serving.specs.declared.requests.Exchange.{Exchange}
 
 -- ---- responses
 
--- the response to a command that was given behind this log, by what its event showed; want of memory may stand in place of an answer's
+-- the response to a command that was given after this log, by what its event showed; want of memory may stand in place of an answer's
 abbrev pub IsAnswer : Records → Log → AdminCommand → Tag → (response : List ℕ) → Type 0
 IsAnswer B L command Done response =
     (response ≡ answer_response (administered B (history (trace_of B L)) command)) ⊎ (response ≡ refusal_response OutOfMemory)
@@ -37,31 +38,34 @@ IsAnswer B L command Failed response = response ≡ refusal_response StoreFailed
 IsAnswer B L command NoMemory response = response ≡ refusal_response OutOfMemory
 
 -- A response to what was read from a link: that of its refusal, or of its policy's fault; or that of its command, whose own event stands in the
--- log behind so many others (`place`). Want of memory may stand in place of each.
-pub data IsResponse (B : Records) (L : Log) (read : List ℕ) : (place : Option ℕ) → (response : List ℕ) → Type 0 where
-  ToRefusal : (refusal : Refusal) → IsRequest read (Err (Bad refusal)) → IsResponse B L read None (refusal_response refusal)
-  ToFault : (fault : PolicyFault) → IsRequest read (Err (BadPolicy fault)) → IsResponse B L read None (fault_response fault)
-  ForMemory : IsResponse B L read None (refusal_response OutOfMemory)
-  ToCommand : (command : AdminCommand) (t : Tag) (newer older : Log) (response : List ℕ) → IsRequest read (Ok command)
+-- log after so many others (`place`). Want of memory may stand in place of each.
+pub data IsResponse (site : Site) (B : Records) (L : Log) (read : List ℕ) : (place : Option ℕ) → (response : List ℕ) → Type 0 where
+  ToRefusal : (refusal : Refusal) → IsRequest site read (Err (Bad refusal)) → IsResponse site B L read None (refusal_response refusal)
+  ToFault : (fault : PolicyFault) → IsRequest site read (Err (BadPolicy fault)) → IsResponse site B L read None (fault_response fault)
+  ForMemory : IsResponse site B L read None (refusal_response OutOfMemory)
+  ToCommand : (command : AdminCommand) (t : Tag) (newer older : Log) (response : List ℕ) → IsRequest site read (Ok command)
       → L ≡ newer ++ (event.Admin command, Tagged t) ∷ older → IsAnswer B older command t response
-      → IsResponse B L read (Some (length older)) response
+      → IsResponse site B L read (Some (length older)) response
 
 -- ---- exchanges
 
--- of each link's number: its response, once it has one, and the place of its command's event in the log
+-- the administration's site; and of each link's number: its response, once it has one, and the
+-- place of its command's event in the log
 pub record Exchanges : Type 0 where
+  pub site : Site
   pub response : ℕ → Option (List ℕ)
   pub place : ℕ → Option ℕ
 
 -- of one link: nothing is written before there is a response, and then only a beginning of it
-abbrev pub IsExchange : Records → Log → (response : Option (List ℕ)) (place : Option ℕ) (read written : List ℕ) → Type 0
-IsExchange B L None place read written = (place ≡ None) × (written ≡ [])
-IsExchange B L (Some response) place read written = IsResponse B L read place response × (written ≡ take (length written) response)
+abbrev pub IsExchange : Site → Records → Log → (response : Option (List ℕ)) (place : Option ℕ) (read written : List ℕ) → Type 0
+IsExchange site B L None place read written = (place ≡ None) × (written ≡ [])
+IsExchange site B L (Some response) place read written = IsResponse site B L read place response × (written ≡ take (length written) response)
 
 -- Each link has its own exchange, and each command's event since the first `start` ones is of one link. No octet came on a link that wasn't accepted
 -- yet, and nothing was read or written on a link that was over by then.
 pub record AreExchanged (told : Told) (x : Exchanges) (B : Records) (start : ℕ) (L : Log) : Type 0 where
-  pub each : (k : ℕ) → IsExchange B L (x.response k) (x.place k) (told.read k) (told.written k)
+  pub each : (k : ℕ)
+      → IsExchange x.site B L (x.response k) (x.place k) (told.read k) (told.written k)
   pub own : (j k n : ℕ) → x.place j ≡ Some n → x.place k ≡ Some n → j ≡ k
   pub before : (k n : ℕ) → x.place k ≡ Some n → n < length L
   pub asked : (newer older : Log) (command : AdminCommand) (m : EventTag)
@@ -83,7 +87,7 @@ IsKept told x number read None written = (told.read number ≡ read) × (x.respo
 IsKept told x number read (Some response) written =
     (x.response number ≡ Some (octets_of response)) × (told.written number ≡ take written (octets_of response))
 
--- a link that is held was accepted, and isn't over where it isn't known to be
+-- a link that is held was accepted, and isn't over if it isn't known to be
 pub record IsHeld (told : Told) (x : Exchanges) (e : Exchange) : Type 0 where
   pub accepted : e.link.number < told.accepted
   pub live : e.is_over ≡ false → told.over e.link.number ≡ false
@@ -132,10 +136,11 @@ pub record IsAnswering {W : Type 0} (Tells : W → ToldOfPorts → Type 0) (x : 
   pub held : AreKept told x
 
 -- An office answers the requests that come over a wire. What is said of them is said of some log, which has only commands' events more than this one.
-pub record IsAsked {V W : Type 0} (Holds : V → Contents → Type 0) (Tells : W → ToldOfPorts → Type 0) (B : Records) (start : ℕ) (L : Log) (pop : Told)
+pub record IsAsked {V W : Type 0} (Holds : V → Contents → Type 0) (Tells : W → ToldOfPorts → Type 0) (site : Site) (B : Records) (start : ℕ) (L : Log) (pop : Told)
     (office : Office V) (wire : W) (AreKept : Told → Exchanges → Type 0) : Type 0 where
   pub log : Log
   pub x : Exchanges
+  pub of_site : x.site ≡ site
   pub stands : StandsFor Holds office (trace_of B log)
   pub admitted : AreAdmittedBy B L → AreAdmittedBy B log
   pub grown : Asks L log
@@ -156,18 +161,18 @@ AllStillAnswer Tells wire held wire_then held_then =
     (x : Exchanges) (B : Records) (start : ℕ) (L : Log) (pop : Told) → IsAnswering Tells x B start L pop wire (λ told x. AreHeld told x held)
     → IsAnswering Tells x B start L pop wire_then (λ told x. AreHeld told x held_then)
 
--- and while requests are read, where the store is clean
+-- and while requests are read, if the store is clean
 abbrev pub StillAsked : {V W : Type 0} (Holds : V → Contents → Type 0) (IsClean : V → Type 0) (Tells : W → ToldOfPorts → Type 0)
-    (office : Office V) (wire : W) (e : Exchange) (office_then : Office V) (wire_then : W) (e_then : Exchange) → Type 0
-StillAsked Holds IsClean Tells office wire e office_then wire_then e_then =
-    (B : Records) (start : ℕ) (L : Log) (pop : Told) (others : List Exchange) → IsAsked Holds Tells B start L pop office wire (AreKeptBeside others e)
-    → IsClean (vault_of office_then) → IsAsked Holds Tells B start L pop office_then wire_then (AreKeptBeside others e_then)
+    (site : Site) (office : Office V) (wire : W) (e : Exchange) (office_then : Office V) (wire_then : W) (e_then : Exchange) → Type 0
+StillAsked Holds IsClean Tells site office wire e office_then wire_then e_then =
+    (B : Records) (start : ℕ) (L : Log) (pop : Told) (others : List Exchange) → IsAsked Holds Tells site B start L pop office wire (AreKeptBeside others e)
+    → IsClean (vault_of office_then) → IsAsked Holds Tells site B start L pop office_then wire_then (AreKeptBeside others e_then)
 
 abbrev pub AllStillAsked : {V W : Type 0} (Holds : V → Contents → Type 0) (IsClean : V → Type 0) (Tells : W → ToldOfPorts → Type 0)
-    (office : Office V) (wire : W) (held : List Exchange) (office_then : Office V) (wire_then : W) (held_then : List Exchange) → Type 0
-AllStillAsked Holds IsClean Tells office wire held office_then wire_then held_then =
-    (B : Records) (start : ℕ) (L : Log) (pop : Told) → IsAsked Holds Tells B start L pop office wire (λ told x. AreHeld told x held)
-    → IsClean (vault_of office_then) → IsAsked Holds Tells B start L pop office_then wire_then (λ told x. AreHeld told x held_then)
+    (site : Site) (office : Office V) (wire : W) (held : List Exchange) (office_then : Office V) (wire_then : W) (held_then : List Exchange) → Type 0
+AllStillAsked Holds IsClean Tells site office wire held office_then wire_then held_then =
+    (B : Records) (start : ℕ) (L : Log) (pop : Told) → IsAsked Holds Tells site B start L pop office wire (λ told x. AreHeld told x held)
+    → IsClean (vault_of office_then) → IsAsked Holds Tells site B start L pop office_then wire_then (λ told x. AreHeld told x held_then)
 
 -- a function that has another value at one number
 abbrev pub put_at : {A : Type 0} → (number : ℕ) → A → (ℕ → A) → ℕ → A
@@ -181,20 +186,21 @@ IsToldBy (outcome.Answered answer) response = (response ≡ answer_response answ
 IsToldBy outcome.NoMemory response = response ≡ refusal_response OutOfMemory
 IsToldBy _ response = response ≡ refusal_response StoreFailed
 
--- what comes of a request whose octets were read, behind a log: which log, which place the command's event has, and which response
-pub data IsGiven (B : Records) (L : Log) (read : List ℕ) : Log → (place : Option ℕ) → (response : Option (List ℕ)) → Type 0 where
+-- what comes of a request whose octets were read, after a log: which log, which place the command's event has, and which response
+pub data IsGiven (site : Site) (B : Records) (L : Log) (read : List ℕ) : Log → (place : Option ℕ) → (response : Option (List ℕ)) → Type 0 where
   -- the request isn't whole
-  NotYet : IsRequest read (Err More) → IsGiven B L read L None None
+  NotYet : IsRequest site read (Err More) → IsGiven site B L read L None None
   -- it asks for no command
-  NoCommand : (response : List ℕ) → IsResponse B L read None response → IsGiven B L read L None (Some response)
+  NoCommand : (response : List ℕ) → IsResponse site B L read None response → IsGiven site B L read L None (Some response)
   -- it asks for one
-  GivenOne : (command : AdminCommand) (t : Tag) (response : List ℕ) → IsRequest read (Ok command) → IsAnswer B L command t response
-      → IsGiven B L read ((event.Admin command, Tagged t) ∷ L) (Some (length L)) (Some response)
+  GivenOne : (command : AdminCommand) (t : Tag) (response : List ℕ) → IsRequest site read (Ok command) → IsAnswer B L command t response
+      → IsGiven site B L read ((event.Admin command, Tagged t) ∷ L) (Some (length L))
+      (Some response)
 
 -- an office was asked so
-pub record HasAsked {V : Type 0} (Holds : V → Contents → Type 0) (B : Records) (L : Log) (read : List ℕ) (office : Office V) (response : Option (List ℕ)) : Type 0 where
+pub record HasAsked {V : Type 0} (Holds : V → Contents → Type 0) (site : Site) (B : Records) (L : Log) (read : List ℕ) (office : Office V) (response : Option (List ℕ)) : Type 0 where
   pub log : Log
   pub place : Option ℕ
   pub stands : StandsFor Holds office (trace_of B log)
   pub admitted : AreAdmittedBy B L → AreAdmittedBy B log
-  pub given : IsGiven B L read log place response
+  pub given : IsGiven site B L read log place response

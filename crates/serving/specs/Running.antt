@@ -22,6 +22,7 @@ use Rattle.serving.specs.declared.links.Links.{Links}
 -- logged in have seats; and that the administration's links are few, and none of them is over.
 pub record LeavesAsFound (now : ℕ) (links links_then : Links) : Type 0 where
   pub set : settings links_then ≡ settings links
+  pub site : links_then.site ≡ links.site
   pub seated : AllHaveSeats links → AllHaveSeats links_then
   pub few : AreFew links → AreFew links_then
   pub ongoing : AllGoOn now links_then
@@ -59,12 +60,12 @@ pub record HasGoneOn {V W S H : Type 0} (Holds : V → Contents → Type 0) (Fau
   pub stands : StandsFor Holds office_then (trace_of T.base (given ++ T.log))
   -- each event has a tag that it may have
   pub admitted : AreNewlyAdmitted T.base T.log given
-  -- the store's count of faults never falls, and an event failed only where it grew
+  -- the store's count of faults never falls, and an event failed only if it grew
   pub counted : Faults (vault_of office) ≤ Faults (vault_of office_then)
   pub failed : list_any is_failed given ≡ true
       → has_grown (Faults (vault_of office)) (Faults (vault_of office_then)) ≡ true
 
--- what a clock answered: these moments, and behind them none, where it stopped
+-- what a clock answered: these moments, and after them none, if it stopped
 abbrev pub answers : (stopped : Bool) → (moments : List ℕ) → List (Option ℕ)
 answers stopped moments = map (λ m. Some m) moments ++ (if stopped then None ∷ [] else [])
 

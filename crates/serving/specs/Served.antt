@@ -10,6 +10,7 @@ use Rattle.office.specs.Log.{next_number, opened}
 use Rattle.office.specs.Trace.{is_open}
 use Rattle.office.specs.Taken.{trace_of, all_taken_by, AreAdmittedBy, IsSentExactly}
 use Rattle.office.specs.Stands.{StandsFor, vault_of}
+use Rattle.adminhttp.specs.Sites.{Site}
 use Rattle.office.specs.declared.office.Office.{Office}
 use Rattle.serving.specs.Wires.{Told, ToldOfPorts}
 use Rattle.serving.specs.Requests.{Exchanges, AreExchanged, AreHeld}
@@ -31,7 +32,7 @@ abbrev pub given_by : Log → ℕ → List ℕ
 given_by [] c = []
 given_by ((e, m) ∷ L) c = given_after e m (next_number L) c (given_by L c)
 
--- ---- links and their connections: `owner` has the connection of each link's number, None where it got none
+-- ---- links and their connections: `owner` has the connection of each link's number, None if it got none
 
 abbrev pub Owners : Type 0
 Owners = ℕ → Option ℕ
@@ -146,7 +147,7 @@ pub record IsServing {V W : Type 0} (Holds : V → Contents → Type 0) (Tells :
   -- as many openings were asked for as links came
   pub adds : Adds owner T.base T.log log beside told.accepted
 
--- it still does, where the store is clean
+-- it still does, if the store is clean
 abbrev pub StillServes : {V W : Type 0} (Holds : V → Contents → Type 0) (IsClean : V → Type 0) (Tells : W → ToldOfPorts → Type 0)
     (office : Office V) (wire : W) (seats these : List Seat) (office_then : Office V) (wire_then : W) (seats_then these_then : List Seat) → Type 0
 StillServes Holds IsClean Tells office wire seats these office_then wire_then seats_then these_then =
@@ -160,10 +161,11 @@ StillServesOne Holds IsClean Tells seat office wire office_then wire_then =
     (seats these : List Seat) → Contains seats seat → All (λ s. Precedes s seat) these → StillServes Holds IsClean Tells office wire seats these office_then wire_then seats these
 
 -- Between turns each seat's connection is open; what the spool tells is filed; each connection was sent exactly what the history sends it; and
--- each link of the administration that is open is held with its exchange.
-pub record Serves {V W S : Type 0} (Holds : V → Contents → Type 0) (Tells : W → ToldOfPorts → Type 0) (TellsFiles : S → List FileAct → Type 0) (T : Trace) (office : Office V) (wire : W) (spool : S) (seats : List Seat) (held : List Exchange) : Type 0 where
+-- each link of the administration that is open is held with its exchange, all of this site.
+pub record Serves {V W S : Type 0} (Holds : V → Contents → Type 0) (Tells : W → ToldOfPorts → Type 0) (TellsFiles : S → List FileAct → Type 0) (T : Trace) (office : Office V) (wire : W) (spool : S) (seats : List Seat) (held : List Exchange) (site : Site) : Type 0 where
   pub beside : Beside
   pub tells : TellsFiles spool beside.acts
   pub is : IsServing Holds Tells T beside office wire seats seats
   pub sent : (c : ℕ) → IsSentExactly (trace_of T.base is.log) c
   pub requests : AreHeld beside.admin beside.x held
+  pub of_site : beside.x.site ≡ site

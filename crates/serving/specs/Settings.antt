@@ -7,11 +7,11 @@ use Rattle.serving.specs.declared.links.Clients.{Clients}
 pub record Settings : Type 0 where
   -- for how many seconds a login waits for its maildrop's lock
   pub wait : ℕ
-  -- how many seconds a client has for its login; 0, where that has no limit of its own
+  -- how many seconds a client has for its login; 0, if that has no limit of its own
   pub login_seconds : ℕ
   -- the same while the house is full; 0, where that changes nothing
   pub full_house_seconds : ℕ
-  -- logins are kept back behind refused ones
+  -- logins are kept back after refused ones
   pub slow_guesses : Bool
 
 abbrev pub settings_of : Clients → Settings

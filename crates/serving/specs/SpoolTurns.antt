@@ -1,4 +1,4 @@
--- That a turn tries one file of its spool: the next one behind that which was tried last.
+-- That a turn tries one file of its spool: the next one after that which was tried last.
 use Rattle.std.specs.Prelude.{◌≡◌, ℕ, Bool, false, List, [], ◌∷◌, ◌++◌, Option, Some, None}
 use Rattle.std.specs.List.{list_any}
 use Rattle.vault.specs.Changes.{Contents}
@@ -28,14 +28,14 @@ disposing name is_done disposal.Leave = []
 abbrev pub deposit_of : FileName → (text : List ℕ) → Event
 deposit_of name text = event.Deposit name.maildrop name.class name.id text
 
--- A file is read, and where it could be, its text is deposited, and it is removed, renamed or left by the answer.
+-- A file is read, and if it could be, its text is deposited, and it is removed, renamed or left by the answer.
 pub data IsTrying (name : FileName) (T : Trace) : Log → List FileCall → Type 0 where
   CouldNotRead : IsTrying name T [] (Read name None ∷ [])
   WasTried : (text : List ℕ) (t : Tag) (is_done : Bool)
       → IsTrying name T ((deposit_of name text, Tagged t) ∷ [])
       (Read name (Some text) ∷ disposing name is_done (disposal_of (shown_at T.base T.log (history T) (deposit_of name text) t)))
 
--- The spool is asked for the next name behind that of the last file; the file of this name is tried, and is the last one then.
+-- The spool is asked for the next name after that of the last file; the file of this name is tried, and is the last one then.
 pub data IsSpoolTurn (last : Option FileName) : (last_then : Option FileName) → Trace → Log → List FileCall → Type 0 where
   NoFileThere : (T : Trace) → IsSpoolTurn last last T [] (Next last None ∷ [])
   TriesOne : (name : FileName) (T : Trace) (given : Log) (calls : List FileCall) → IsTrying name T given calls → IsSpoolTurn last (Some name) T given (Next last (Some name) ∷ calls)

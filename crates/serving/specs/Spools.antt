@@ -15,9 +15,9 @@ pub data FileAct : Type 0 where
 
 -- what a spool was asked, and what it answered
 pub data FileCall : Type 0 where
-  -- for the next name behind this one
+  -- for the next name after this one
   Next : (last next : Option FileName) → FileCall
-  -- to read a file, and its text where it was read
+  -- to read a file, and its text if it was read
   Read : FileName → (text : Option (List ℕ)) → FileCall
   -- to remove a file, and whether it was removed
   Removed : FileName → (is_done : Bool) → FileCall

@@ -25,12 +25,12 @@ use Rattle.serving.specs.Works.{has_moved}
 use Rattle.serving.specs.Hearing.{Hearing, WasTold, idle_ends, heard_of_all, late_ends}
 use Rattle.serving.specs.SpoolTurns.{IsSpoolTurn, has_dealt}
 use Rattle.serving.specs.HttpWorks.{HttpWorks}
-use Rattle.serving.specs.Newcomers.{newcomer, limit, AllHaveSeats, IsSettled}
+use Rattle.serving.specs.Newcomers.{newcomer, is_full_house, limit, AllHaveSeats, IsSettled}
 use Rattle.serving.specs.declared.newcomers.Newcomer.{Newcomer}
 use Rattle.serving.specs.Late.{HasLived, IsInTime, IsNotedSince, IsCountedOn}
 use Rattle.office.specs.Trace.{is_open}
 
--- how long a turn waits: not at all where more can be done at once
+-- how long a turn waits: not at all if more can be done at once
 abbrev pub millis_of : Links → ℕ
 millis_of links = if links.clients.poll_now || links.requests.poll_now then 0 else 1000
 
@@ -46,12 +46,19 @@ way_of now links links_then seats freed =
     way_by (settings links) now links.clients.newcomers.newcomers.items seats freed
     (millis_of links_then == 0)
 
+-- A connection goes because its client's login seconds are over, or those of a full house, while
+-- it is one.
+abbrev pub HasTimedOut : (now : ℕ) → Links → (seats : List Seat) → Event × EventTag → Type 0
+HasTimedOut now links seats x =
+    IsLateGone now (settings links).login_seconds links.clients.newcomers.newcomers.items x
+    ⊎ ((is_full_house (length seats) ≡ true) × IsLateGone now (settings links).full_house_seconds
+    links.clients.newcomers.newcomers.items x)
+
 -- an event has a cause: no connection goes but by its link's end, or because its client is late
 abbrev pub HasCauseInTurn : (now : ℕ) → Links → (seats : List Seat) → List Call
     → Event × EventTag → Type 0
 HasCauseInTurn now links seats calls x =
-    HasCause seats calls x
-    ⊎ IsLateGone now (limit links (length seats)) links.clients.newcomers.newcomers.items x
+    HasCause seats calls x ⊎ HasTimedOut now links seats x
 
 -- What a turn did since a trace, by the events that it gave to the office and the calls that it made
 -- of the wire; these seats had links then.
@@ -113,7 +120,8 @@ pub record IsFileTurn (T : Trace) (links links_then : Links) (given : Log) (file
 
 -- What a listener heard of a turn, in its order: of each seat whose connection the moment ended,
 -- that it was idle; the accounts of the events of clients and of commands, of which no connection
--- goes but by its link's end; and of each client that went because it is late, that.
+-- goes but by its link's end; and of each client that went because it is late, that its login
+-- seconds are over, or else those of a full house.
 pub record IsTurnHeard (T : Trace) (now : ℕ) (links : Links) (seats : List Seat)
     (calls : List Call) (given : Log) (heard : List Hearing) : Type 0 where
   pub event_tag : EventTag
@@ -127,7 +135,8 @@ pub record IsTurnHeard (T : Trace) (now : ℕ) (links : Links) (seats : List Sea
   pub caused : AreCaused seats calls told
   pub heard_are : heard
       ≡ idle_ends (trace_of T.base ((event.Tick now, event_tag) ∷ T.log)) links.clients.seats.items
-      ++ (heard_of_all T.base ((event.Tick now, event_tag) ∷ T.log) told ++ late_ends late)
+      ++ (heard_of_all T.base ((event.Tick now, event_tag) ∷ T.log) told
+      ++ late_ends now (settings links).login_seconds links.clients.newcomers.newcomers.items late)
 
 -- So it is of an office, a wire, a spool and a listener, since each trace.
 pub record Works {V W S H : Type 0} (Holds : V → Contents → Type 0) (Faults : V → ℕ)
@@ -142,21 +151,21 @@ pub record Works {V W S H : Type 0} (Holds : V → Contents → Type 0) (Faults 
   pub came : List Came
   pub seats : List Seat
   pub stands : StandsFor Holds office_then (trace_of T.base (given ++ T.log))
-  -- the store's count of faults never falls, and an event failed only where it grew
+  -- the store's count of faults never falls, and an event failed only if it grew
   pub counted : Faults (vault_of office) ≤ Faults (vault_of office_then)
   pub failed : list_any is_failed given ≡ true → has_grown (Faults (vault_of office)) (Faults (vault_of office_then)) ≡ true
   pub asked : WasAsked Asked wire wire_then calls
   pub asked_files : (before : List FileCall) → AskedFiles spool before → AskedFiles spool_then (before ++ file_calls)
   pub is : IsTurn T (trace_of T.base (given ++ T.log)) now links links_then came seats given calls
   pub files : IsFileTurn T links links_then given file_calls
-  -- behind a file that was removed or renamed the next turn doesn't wait
+  -- after a file that was removed or renamed the next turn doesn't wait
   pub dealt : has_dealt file_calls ≡ true → millis_of links_then ≡ 0
-  -- nor, where logins wait for locks, behind a session that ended, or a link whose connection did
+  -- nor, if logins wait for locks, after a session that ended, or a link whose connection did
   pub frees : is.freed ≡ true → millis_of links_then ≡ 0
   pub releases : (links.clients.wait == 0) ≡ false
       → list_any (is_shut_seat (trace_of T.base (given ++ T.log))) seats ≡ true
       → millis_of links_then ≡ 0
-  -- where nothing moved, no session ended and no file was dealt with, the next turn waits
+  -- if nothing moved, no session ended and no file was dealt with, the next turn waits
   pub rests : has_moved calls ≡ false → is.freed ≡ false → has_dealt file_calls ≡ false
       → millis_of links_then ≡ 1000
   pub http : HttpWorks T now links links_then given calls

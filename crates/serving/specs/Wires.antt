@@ -1,5 +1,6 @@
 -- What a wire tells of its links: each of a port has a number, from 0 on, in the order in which they were accepted.
 use Rattle.std.specs.Prelude.{◌≡◌, ◌≤◌, ◌<◌, ⊤, ℕ, Bool, true, false, not, ◌&&◌, ◌||◌, nat_lt, ◌+◌, ◌==◌, List, [], ◌++◌, take, Option, Some, None, if◌then◌else◌}
+use Rattle.std.specs.declared.net.ip_addr.IpAddr.{IpAddr}
 use Rattle.office.specs.Outcomes.{Outcome}
 use Rattle.office.specs.Outcomes as outcome
 use Rattle.serving.specs.declared.wire.Link.{Link}
@@ -66,7 +67,7 @@ is_live t k = nat_lt k t.accepted && not (t.over k)
 abbrev pub more_at : (number : ℕ) (more : List ℕ) → (ℕ → List ℕ) → ℕ → List ℕ
 more_at number more octets k = if k == number then octets k ++ more else octets k
 
--- one number is over from now on, where it is now
+-- one number is over from now on, if it is now
 abbrev pub over_at : (number : ℕ) (now : Bool) → (ℕ → Bool) → ℕ → Bool
 over_at number now over k = if now && k == number then true else over k
 
@@ -135,7 +136,11 @@ abbrev pub IsAccepted : (ToldOfPorts → Type 0) → Port → ToldOfPorts → Op
 IsAccepted Tells port t None = Tells t
 IsAccepted Tells port t (Some link) = (link.number ≡ (told_at port t).accepted) × Tells (at_port port has_accepted t)
 
--- the number that was opened, where one was
+-- from where each link of a port came, if that is known
+abbrev pub Addresses : Type 0
+Addresses = Port → Link → Option IpAddr
+
+-- the number that was opened, if one was
 abbrev pub opened_by : Outcome → Option ℕ
 opened_by (outcome.Opened c) = Some c
 opened_by _ = None

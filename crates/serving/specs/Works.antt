@@ -174,14 +174,14 @@ is_failed _ = false
 abbrev pub is_late : (now seconds : ℕ) → List Newcomer → (c : ℕ) → Bool
 is_late now seconds newcomers c = not (seconds == 0) && is_late_by now seconds (newcomer c newcomers)
 
--- each event behind an older log has a tag that it may have there
+-- each event after an older log has a tag that it may have there
 abbrev pub AreNewlyAdmitted : Records → (older given : Log) → Type 0
 AreNewlyAdmitted B older [] = ⊤
 AreNewlyAdmitted B older ((e, m) ∷ given) = IsAdmitted (trace_of B (given ++ older)) e m × AreNewlyAdmitted B older given
 
 -- ---- why a connection ends
 
--- A connection goes only where its link told its end or that it is broken; and nothing starts anew.
+-- A connection goes only if its link told its end or that it is broken; and nothing starts anew.
 abbrev pub HasCause : List Seat → List Call → Event × EventTag → Type 0
 HasCause seats calls (event.Gone c, m) = (s : Seat) × Contains seats s × (s.connection ≡ c) × (is_cut s.link calls ≡ true)
 HasCause seats calls (event.Restart boot, m) = ⊥
@@ -201,12 +201,12 @@ AreLateGone now seconds newcomers given = All (IsLateGone now seconds newcomers)
 
 -- ---- why a link isn't read
 
--- with this piece a connection's next line is a login that waits for its maildrop's lock, or one, where logins may be kept back
+-- with this piece a connection's next line is a login that waits for its maildrop's lock, or one, if logins may be kept back
 abbrev pub IsKeptBack : Trace → (c : ℕ) → (piece : List ℕ) → (wait : ℕ) (may : Bool) → Type 0
 IsKeptBack T c piece wait may =
     (waiting.waits T c piece wait ≡ true) ⊎ ((may ≡ true) × (brings_login T c piece ≡ true))
 
--- a link was looked at, which showed a piece that is kept back: so it is behind a front of these events
+-- a link was looked at, which showed a piece that is kept back: so it is after a front of these events
 pub record StaysUnread (B : Records) (older given : Log) (calls : List Call) (wait : ℕ) (may : Bool) (s : Seat) : Type 0 where
   pub piece : List ℕ
   pub io : Io
@@ -230,7 +230,7 @@ pub record IsReadByLine (calls : List Call) (by_line : Bool) (s : Seat) : Type 0
   pub shown : Contains calls (Looked Pop s.link io piece)
   pub read : Contains calls (Read Pop s.link (first_line piece) io_then octets)
 
--- so much of a link is kept back: all of it, or what is behind its first line
+-- so much of a link is kept back: all of it, or what is after its first line
 abbrev pub IsHeldBack : (B : Records) (older given : Log) (calls : List Call) (wait : ℕ)
     (by_line may : Bool) → Seat → Type 0
 IsHeldBack B older given calls wait by_line may s =
@@ -264,7 +264,7 @@ seat_for link (Some c) = Some (record { link = link; connection = c })
 abbrev pub seat_of : Came → Option Seat
 seat_of k = seat_for k.link k.connection
 
--- or the link, where it got none
+-- or the link, if it got none
 abbrev pub left_out : Link → Option ℕ → Option Link
 left_out link None = Some link
 left_out link (Some c) = None
@@ -320,7 +320,7 @@ way_by set now newcomers seats freed poll_now = record {
   poll_now = poll_now;
 }
 
--- a seat's link had its turn, or stays unread for a cause, where its connection is open by then
+-- a seat's link had its turn, or stays unread for a cause, if its connection is open by then
 abbrev pub HadTurn : Way → (B : Records) (older given : Log) → (after : Trace) → List Call → Seat → Type 0
 HadTurn way B older given after calls s = is_open after s.connection ≡ true
     → (had_its_turn way.share way.poll_now s.link calls ≡ true)
@@ -328,7 +328,7 @@ HadTurn way B older given after calls s = is_open after s.connection ≡ true
 
 -- ---- sessions that end
 
--- A connection's session ended by these events: it lived behind some of them, and no more behind
+-- A connection's session ended by these events: it lived after some of them, and no more after
 -- the next ones.
 pub record HasEnded (B : Records) (older given : Log) (c : ℕ) : Type 0 where
   pub later : Log

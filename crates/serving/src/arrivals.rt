@@ -14,7 +14,7 @@ use crate::wire::{Port, Wire};
 use office::{Event, Office, Outcome};
 use vault::Vault;
 
-/// The number of the connection that a Connect opened; `None` where it opened none.
+/// The number of the connection that a Connect opened; `None` if it opened none.
 fn opened(outcome: Outcome) -> Option<u64>
     ensures { result ≡ opened_by (outcome_seen outcome) }
 {
@@ -24,7 +24,7 @@ fn opened(outcome: Outcome) -> Option<u64>
     }
 }
 
-/// Accepts the next client's link. It gets a seat with its connection, or is closed where the
+/// Accepts the next client's link. It gets a seat with its connection, or is closed if the
 /// office opens none. Returns whether one came. While all 128 seats are taken none is accepted.
 fn accept_link<V: Vault, W: Wire, L: Listener>(
     office: &mut Office<V>,

@@ -31,10 +31,10 @@ const MOST_WRITES: usize = 64;
 /// How many octets are written in one turn on a link that is alone: 64 full writes.
 const SHARE_ALONE: usize = 1_048_576;
 
-/// How many where others are open, so that none of them waits long: one full write.
+/// How many if others are open, so that none of them waits long: one full write.
 const SHARE_BESIDE: usize = 16_384;
 
-/// Writes once what the office lends of a connection's output. Ends the connection where its link
+/// Writes once what the office lends of a connection's output. Ends the connection if its link
 /// is broken or at its end. Returns how many octets the link took.
 fn write_once<V: Vault, W: Wire, L: Listener>(
     office: &mut Office<V>,
@@ -100,7 +100,7 @@ fn write_owed<V: Vault, W: Wire, L: Listener>(
 }
 
 /// Reads once from a link whose connection waits for octets, at most as many as a buffer has, and
-/// ends the connection where the link is broken or at its end. Whether octets came.
+/// ends the connection if the link is broken or at its end. Whether octets came.
 fn read_once<V: Vault, W: Wire, L: Listener>(
     office: &mut Office<V>,
     wire: &mut W,
@@ -182,7 +182,7 @@ fn read_piece<V: Vault, W: Wire, L: Listener>(
     true
 }
 
-/// Writes on a link up to its share, and where all is written reads from it and writes what that
+/// Writes on a link up to its share, and if all is written reads from it and writes what that
 /// gave. Whether more can be written at once.
 fn serve_link<V: Vault, W: Wire, L: Listener>(
     office: &mut Office<V>,

@@ -11,7 +11,7 @@ pub struct Counts {
     pub requests: u64,
 }
 
-/// Counts a link of this number, where that is the next one. Whether it is.
+/// Counts a link of this number, if that is the next one. Whether it is.
 fn count_one(count: &mut u64, number: u64) -> bool
     ensures next { result ≡ (number == count.old && nat_lt number most_links) }
     ensures counted { count.new ≡ (if result then count.old + 1 else count.old) }
@@ -47,7 +47,7 @@ impl Counts {
         }
     }
 
-    /// Counts a link, where it has the port's next number. Whether it has. A port has at most
+    /// Counts a link, if it has the port's next number. Whether it has. A port has at most
     /// 2^64 - 1 links.
     pub(crate) fn count(&mut self, port: Port, link: Link) -> bool
         ensures next { result ≡ is_next port link.number self.old }

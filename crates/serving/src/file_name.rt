@@ -31,7 +31,7 @@ impl FileName {
       text_of,
     };
 
-    /// The name that a text is; `None` where it isn't of the form.
+    /// The name that a text is; `None` if it isn't of the form.
     #[tactic(auto, unfolding(crate::specs::FileNames::file_name_of))]
     pub fn read(text: &[u8]) -> Option<FileName>
         ensures { result ≡ file_name_of text.now }
@@ -41,7 +41,7 @@ impl FileName {
         FileName::with_class(maildrop, &text[dot + 1..])
     }
 
-    /// Reads what is behind the maildrop and its dot.
+    /// Reads what is after the maildrop and its dot.
     #[tactic(auto, unfolding(crate::specs::FileNames::with_class))]
     fn with_class(maildrop: Name, text: &[u8]) -> Option<FileName>
         ensures { result ≡ with_class_of maildrop text.now }
@@ -51,7 +51,7 @@ impl FileName {
         FileName::with_id(maildrop, class, &text[dot + 1..])
     }
 
-    /// Reads what is behind the class and its dot.
+    /// Reads what is after the class and its dot.
     #[tactic(auto, unfolding(crate::specs::FileNames::with_id))]
     fn with_id(maildrop: Name, class: Name, text: &[u8]) -> Option<FileName>
         ensures { result ≡ with_id_of maildrop class text.now }
@@ -69,7 +69,7 @@ impl FileName {
         }
     }
 
-    /// The text of the name. Its error is [`AllocError`], where memory was refused.
+    /// The text of the name. Its error is [`AllocError`], if memory was refused.
     pub fn text(&self, alloc: Global) -> Result<String, AllocError>
         ensures { IfOk result (λ text. string_bytes text ≡ text_of self.now) }
     {

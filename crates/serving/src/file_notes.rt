@@ -10,7 +10,7 @@ use std::marker::{Model, PhantomData};
 /// What a spool was asked, and what it answered. A text that was read stands beside it.
 #[derive(Clone, Copy, PartialEq, Eq, Debug)]
 pub(crate) enum FileAsked {
-    /// For the next name behind one, which there was.
+    /// For the next name after one, which there was.
     NextBehind(FileName, FileName),
     NoneBehind(FileName),
     /// For the first name.

@@ -16,18 +16,18 @@ use std::time::{Clock, Duration, SystemTime};
 /// The messages of a folder. Who puts a file there writes it under another name, and then renames
 /// it.
 ///
-/// A file is read only where it is a regular one, and its name in the folder is its only name. So
-/// no link is followed, and nothing that lies elsewhere is read, also where it takes a file's place
+/// A file is read only if it is a regular one, and its name in the folder is its only name. So
+/// no link is followed, and nothing that lies elsewhere is read, even if it takes a file's place
 /// meanwhile: what was opened is compared with what stands at the name then.
 ///
-/// A file is renamed by `.bad` behind its name, and where that file is there by `.bad.2` and so on,
-/// so that none takes another's place. Behind `.bad.100` it isn't renamed.
+/// A file is renamed by `.bad` after its name, and if that file is there by `.bad.2` and so on,
+/// so that none takes another's place. After `.bad.100` it isn't renamed.
 #[derive(Drop)]
 pub struct FolderSpool<'a, R: Files> {
     rt: &'a R,
     alloc: Global,
     folder: &'a str,
-    /// When the folder was changed last, where the last pass over it found nothing to try and any
+    /// When the folder was changed last, if the last pass over it found nothing to try and any
     /// later change shows.
     bare: Option<SystemTime>,
 }
@@ -62,7 +62,7 @@ impl<'a, R: Files + Clock + AllocGlobal + Clone + Drop> FolderSpool<'a, R> {
         }
     }
 
-    /// When the folder was changed last; `None` where it can't be looked at.
+    /// When the folder was changed last; `None` if it can't be looked at.
     fn changed(&self) -> Option<SystemTime> {
         fs::metadata(self.rt, self.folder).ok()?.modified().ok()
     }
@@ -96,7 +96,7 @@ impl<'a, R: Files + Clock + AllocGlobal + Clone + Drop> FolderSpool<'a, R> {
         true
     }
 
-    /// Opens a file of the folder's own; `None` where it is none.
+    /// Opens a file of the folder's own; `None` if it is none.
     fn open_own(&self, path: &str) -> Option<R::File> {
         // To open a pipe would block.
         if !fs::symlink_metadata(self.rt, path).ok()?.is_file() {
@@ -121,7 +121,7 @@ impl<'a, R: Files + Clock + AllocGlobal + Clone + Drop> FolderSpool<'a, R> {
     }
 
     /// The path at which the file of this number stands aside, among those of one name: `.bad` is
-    /// behind the name of the first, `.bad.2` behind that of the second.
+    /// after the name of the first, `.bad.2` after that of the second.
     fn path_aside(&self, name: &FileName, number: u64) -> Result<String, AllocError> {
         let first = self.path(name, ".bad")?;
         if number == 1 {
@@ -130,7 +130,7 @@ impl<'a, R: Files + Clock + AllocGlobal + Clone + Drop> FolderSpool<'a, R> {
         format!(in self.alloc; "{first}.{number}")
     }
 
-    /// The first path aside at which nothing stands. `None` where so many files of the name stand
+    /// The first path aside at which nothing stands. `None` if so many files of the name stand
     /// aside as may, or memory is short.
     fn free_path(&self, name: &FileName) -> Option<String> {
         for number in 1..=MOST_ASIDE {
@@ -142,7 +142,7 @@ impl<'a, R: Files + Clock + AllocGlobal + Clone + Drop> FolderSpool<'a, R> {
         None
     }
 
-    /// Reads a file of the folder's own; `None` where it is none, can't be read, or memory is
+    /// Reads a file of the folder's own; `None` if it is none, can't be read, or memory is
     /// short.
     fn read_file(&self, path: &str) -> Option<Vec<u8>> {
         let file = self.open_own(path)?;

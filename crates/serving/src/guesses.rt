@@ -74,7 +74,7 @@ fn canonical_origin(address: &IpAddr) -> u64
     }
 }
 
-/// The number by which an address counts: that of its 32 bits for an IPv4 address, also where it is
+/// The number by which an address counts: that of its 32 bits for an IPv4 address, even if it is
 /// written as an IPv6 one; for another IPv6 address that of its first 64 bits, since one client has
 /// all that begin with them.
 pub fn origin_of(address: &IpAddr) -> u64
@@ -110,7 +110,7 @@ fn first_of<'a>(refusals: &'a [Refusal], origin: u64, name: &LoginName) -> Optio
 /// The last refusal of each origin and login name, the oldest first, of 1,024 at most.
 #[derive(Drop)]
 pub struct Guesses {
-    /// Logins are kept back behind a refusal.
+    /// Logins are kept back after a refusal.
     pub(crate) are_slow: bool,
     pub(crate) refusals: ArrayVec<Refusal, MOST_REFUSALS>,
 }
@@ -154,7 +154,7 @@ impl Guesses {
             .retain(|refusal| !is_of(refusal, origin, name));
     }
 
-    /// Drops the oldest refusal, where 1,024 are there.
+    /// Drops the oldest refusal, if 1,024 are there.
     fn make_room(&mut self)
         ensures slow { self.new.are_slow ≡ self.old.are_slow }
         ensures refusals { self.new.refusals.items ≡ with_room self.old.refusals.items }

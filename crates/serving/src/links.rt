@@ -1,5 +1,5 @@
 //! The open links, each with its connection.
-ghost use Rattle.std.specs.Prelude.{◌≡◌, ◌||◌, [], min};
+ghost use Rattle.std.specs.Prelude.{◌≡◌, ◌||◌, [], None, min};
 ghost use Rattle.serving.specs.Settings.{settings, settings_of, none_set, with_wait};
 ghost use Rattle.serving.specs.Settings.{with_login_seconds, with_full_house_seconds};
 ghost use Rattle.serving.specs.Settings.{with_slow_guesses};
@@ -10,6 +10,7 @@ use crate::newcomers::Newcomers;
 use crate::requests::Requests;
 use crate::wire::Link;
 use arrayvec::ArrayVec;
+use creds::HostName;
 use std::alloc::Global;
 
 /// A link with its connection.
@@ -38,6 +39,8 @@ pub(crate) const PLACES: usize = 2 * MOST_LINKS;
 pub struct Links {
     pub(crate) clients: Clients,
     pub(crate) requests: Requests,
+    /// The administration's site, if it has one: only its own requests are served.
+    pub(crate) site: Option<HostName>,
 }
 
 impl Links {
@@ -47,11 +50,24 @@ impl Links {
         ensures seats { result.clients.seats.items ≡ [] }
         ensures newcomers { result.clients.newcomers.newcomers.items ≡ [] }
         ensures requests { result.requests.exchanges.items ≡ [] }
+        ensures site { result.site ≡ None }
     {
         Links {
             clients: Clients::new(),
             requests: Requests::new(alloc),
+            site: None,
         }
+    }
+
+    /// Gives the administration a site of this name, or none. If it has one, each request that
+    /// isn't its own is refused ([`adminhttp::Request::read`] says which these are). It is meant
+    /// to be given before the first turn. Links begin without: requests of every site are served.
+    pub fn set_site(&mut self, site: Option<HostName>)
+        ensures site { self.new.site ≡ site }
+        ensures clients { self.new.clients ≡ self.old.clients }
+        ensures requests { self.new.requests ≡ self.old.requests }
+    {
+        self.site = site;
     }
 
     /// Lets a login wait while another session holds its maildrop, until so many seconds, at most
@@ -62,11 +78,12 @@ impl Links {
         ensures wait { self.new.clients.wait ≡ min seconds 60 }
         ensures seats { self.new.clients.seats ≡ self.old.clients.seats }
         ensures requests { self.new.requests ≡ self.old.requests }
+        ensures site { self.new.site ≡ self.old.site }
     {
         self.clients.wait = seconds.min(MOST_WAIT);
     }
 
-    /// Gives each client that comes from now on so many seconds for its login, at most 600. Where
+    /// Gives each client that comes from now on so many seconds for its login, at most 600. If
     /// its link was accepted so long ago and it hasn't logged in, its connection is ended and the
     /// link closed, at the end of a turn. The seconds in which its login lies unread, for a lock or
     /// after a refusal, don't count. Links begin with 0: the office's idle time alone counts.
@@ -78,6 +95,7 @@ impl Links {
             ≡ self.old.clients.newcomers.newcomers }
         ensures seats { self.new.clients.seats ≡ self.old.clients.seats }
         ensures requests { self.new.requests ≡ self.old.requests }
+        ensures site { self.new.site ≡ self.old.site }
     {
         self.clients.newcomers.seconds = seconds.min(MOST_LOGIN_SECONDS);
     }
@@ -92,6 +110,7 @@ impl Links {
             ≡ self.old.clients.newcomers.newcomers }
         ensures seats { self.new.clients.seats ≡ self.old.clients.seats }
         ensures requests { self.new.requests ≡ self.old.requests }
+        ensures site { self.new.site ≡ self.old.site }
     {
         self.clients.newcomers.full_house_seconds = seconds.min(MOST_LOGIN_SECONDS);
     }
@@ -109,6 +128,7 @@ impl Links {
         ensures refusals { self.new.clients.guesses.refusals ≡ self.old.clients.guesses.refusals }
         ensures seats { self.new.clients.seats ≡ self.old.clients.seats }
         ensures requests { self.new.requests ≡ self.old.requests }
+        ensures site { self.new.site ≡ self.old.site }
     {
         self.clients.guesses.are_slow = slow;
     }
@@ -120,7 +140,7 @@ impl Links {
         self.clients.wait
     }
 
-    /// How many seconds each client has for its login; 0 where it has all that the office gives.
+    /// How many seconds each client has for its login; 0 if it has all that the office gives.
     pub fn login_seconds(&self) -> u64
         ensures { result ≡ (settings self.now).login_seconds }
     {
@@ -171,7 +191,7 @@ pub(crate) struct Clients {
     pub(crate) poll_now: bool,
     /// For how many seconds a login waits for its maildrop's lock.
     pub(crate) wait: u64,
-    /// Where logins wait: a session ended while this turn served the links. No further login is
+    /// If logins wait: a session ended while this turn served the links. No further login is
     /// read in it, so that in the next turn those who wait are tried by number.
     pub(crate) lock_released: bool,
     /// Who hasn't logged in, and how long each may take.

@@ -10,7 +10,7 @@ use office::Account;
 /// a request's body, and so no password and no secret.
 #[derive(Clone, Copy)]
 pub struct Asked<'a> {
-    /// The request's line; `None` where it is of no route.
+    /// The request's line; `None` if it is of no route.
     pub line: Option<RequestLine>,
     /// What the response tells.
     pub content: Content<'a>,

@@ -12,7 +12,7 @@ use std::alloc::{AllocError, Global};
 #[derive(Drop)]
 pub(crate) struct NextName {
     alloc: Global,
-    /// The name that was tried last; the empty text where none was.
+    /// The name that was tried last; the empty text if none was.
     last: String,
     /// The least name so far.
     least: Option<String>,
@@ -34,7 +34,7 @@ fn comes_before(first: &str, second: &str) -> bool
     first < second
 }
 
-/// Whether a text is a spool file's name behind the last one.
+/// Whether a text is a spool file's name after the last one.
 fn is_behind(last: &str, name: &str) -> bool
     ensures { result ≡ follows last.now name.now }
 {
@@ -51,7 +51,7 @@ fn is_less(name: &str, least: &Option<String>) -> bool
     }
 }
 
-/// Keeps a name that counts, where it is less than the least one so far.
+/// Keeps a name that counts, if it is less than the least one so far.
 fn keep_least(
     alloc: Global,
     name: &str,
@@ -72,7 +72,7 @@ impl NextName {
     ghost use Rattle.serving.specs.NextNames.{HasSeen, next_of};
     ghost use Rattle.serving.specs.declared.file_name.FileName.{FileName as TheName};
 
-    /// No name was seen. Its error is [`AllocError`], where memory was refused.
+    /// No name was seen. Its error is [`AllocError`], if memory was refused.
     pub(crate) fn new(alloc: Global, last: &Option<FileName>) -> Result<NextName, AllocError>
         ensures { IfOk result (λ next. HasSeen last.now [] next) }
     {
@@ -88,7 +88,7 @@ impl NextName {
         })
     }
 
-    /// Sees a name; one that isn't of the form is passed over. Its error is [`AllocError`], where
+    /// Sees a name; one that isn't of the form is passed over. Its error is [`AllocError`], if
     /// memory was refused: don't ask for the next name then.
     pub(crate) fn see(&mut self, name: &str) -> Result<(), AllocError>
         ensures { OnOk result ((last : Option TheName) (names : List (List ℕ))
@@ -102,7 +102,7 @@ impl NextName {
     }
 
     /// The next name of those seen: the least one greater than the last one, else the least of all;
-    /// `None` where none was of the form.
+    /// `None` if none was of the form.
     pub(crate) fn get(&self) -> Option<FileName>
         ensures { (last : Option TheName) (names : List (List ℕ)) → HasSeen last names self.now
             → result ≡ next_of last names }

@@ -36,7 +36,7 @@ fn asked_next(last: &Option<FileName>, next: &Option<FileName>) -> FileAsked
     }
 }
 
-/// Notes that a file was to be read, and its text where it was read.
+/// Notes that a file was to be read, and its text if it was read.
 fn note_text(notes: &mut FileNotes, name: &FileName, text: &Option<Vec<u8>>)
     ensures { notes.new.calls ≡ notes.old.calls
         ++ call.Read name.now (option_map (λ text. text.items) text.now) ∷ [] }

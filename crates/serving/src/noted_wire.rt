@@ -40,7 +40,7 @@ impl<W: Wire> NotedWire<W> {
         }
     }
 
-    /// The next link of the wire inside, where it has the port's next number.
+    /// The next link of the wire inside, if it has the port's next number.
     fn accept_next(&mut self, port: Port) -> Option<Link>
         ensures next { IfSome result (λ link. link.number ≡ count_at port self.old.counts) }
         ensures counts { self.new.counts ≡ counted_with port result self.old.counts }
@@ -61,6 +61,8 @@ impl<W: Wire> Wire for NotedWire<W> {
     ghost tells = { λ noted t. AreTold noted.counts noted.notes.calls t };
 
     ghost asked = { λ noted calls. calls ≡ noted.notes.calls };
+
+    ghost address_of = { λ noted. W.address_of noted.wire };
 
     ghost tells_once = { λ noted t u a b. tells_once noted.counts noted.notes.calls t u a b };
 

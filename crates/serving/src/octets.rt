@@ -1,7 +1,7 @@
 //! Parts of octets.
 ghost use Rattle.std.specs.Prelude.{◌≡◌, drop, take};
 
-/// The octets from a place on; none where it lies behind their end.
+/// The octets from a place on; none if it lies after their end.
 pub(crate) fn rest_of(octets: &[u8], at: usize) -> &[u8]
     ensures { result.now ≡ drop at octets.now }
 {

@@ -6,7 +6,7 @@ ghost use Rattle.office.specs.Events.{Trace};
 ghost use Rattle.office.specs.Trace.{history};
 ghost use Rattle.office.specs.Sessions.{live};
 ghost use Rattle.office.specs.Logins.{login_brought as login_brought_at, refusals};
-ghost use Rattle.serving.specs.Guesses.{AreNotedSo};
+ghost use Rattle.serving.specs.Guesses.{AreNotedSo, IsOriginOf};
 ghost use Rattle.office.specs.Stands.{StandsFor};
 ghost use Rattle.serving.specs.Wires.{ToldOfPorts};
 ghost use Rattle.serving.specs.Parts.{Asking};
@@ -52,8 +52,8 @@ pub(crate) struct Part {
     pub(crate) login: Option<LoginName>,
 }
 
-/// By which number a client's guesses count: by none where guesses aren't slow, where the client is
-/// logged in, or where its address isn't known.
+/// By which number a client's guesses count: by none if guesses aren't slow, if the client is
+/// logged in, or if its address isn't known.
 fn origin_at<V: Vault, W: Wire>(
     office: &Office<V>,
     wire: &W,
@@ -61,6 +61,9 @@ fn origin_at<V: Vault, W: Wire>(
     guesses: &Guesses,
 ) -> Option<u64>
     ensures fast { guesses.now.are_slow ≡ false → result ≡ None }
+    ensures whose { (T : Trace) → StandsFor V.holds office.now T
+        → IsOriginOf guesses.now.are_slow (live (history T) seat.connection)
+        (W.address_of wire.now Port.Pop seat.link) result }
 {
     if !guesses.are_slow {
         return None;
@@ -93,6 +96,9 @@ pub(crate) fn pace_at<V: Vault, W: Wire>(
     now: u64,
 ) -> Pace
     ensures fast { links.now.guesses.are_slow ≡ false → result.origin ≡ None }
+    ensures whose { (T : Trace) → StandsFor V.holds office.now T
+        → IsOriginOf links.now.guesses.are_slow (live (history T) seat.connection)
+        (W.address_of wire.now Port.Pop seat.link) result.origin }
     ensures pace { IsPaceAt links.now seat.connection now result }
     ensures lines { result.by_line ≡ true
         → reads_lines_by result.wait result.is_shut result.origin ≡ true }
@@ -164,7 +170,7 @@ fn first_newline(piece: &[u8]) -> Option<usize>
     piece.iter().position(|octet| *octet == b'\n')
 }
 
-/// How many octets the first line of a piece has, with its LF; all, where it has none.
+/// How many octets the first line of a piece has, with its LF; all, if it has none.
 fn first_line(piece: &[u8]) -> usize
     ensures value { result ≡ first_line_of piece.now }
     ensures some { 0 < length piece.now → 0 < result }

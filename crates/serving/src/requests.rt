@@ -8,6 +8,7 @@ ghost use Rattle.office.specs.Taken.{trace_of};
 ghost use Rattle.office.specs.Seen.{answer_seen, command_seen, outcome_seen};
 ghost use Rattle.office.specs.Stands.{StandsFor, vault_of};
 ghost use Rattle.adminhttp.specs.Request.{IsRequest};
+ghost use Rattle.adminhttp.specs.Sites.{Site};
 ghost use Rattle.adminhttp.specs.Responses.{answer_response, refusal_response, fault_response};
 ghost use Rattle.adminhttp.specs.Contents.{response_of as response_of_content};
 ghost use Rattle.adminhttp.specs.declared.refusal.Refusal.TheVariants.{OutOfMemory};
@@ -28,6 +29,7 @@ use crate::wire::{Io, Link, Port, Wire};
 use adminhttp::{
     Content, Got, Method, Refusal, Request, RequestLine, Target, policy_response, response,
 };
+use creds::HostName;
 use office::{Account, AdminCommand, Answer, Event, Office, Outcome};
 use policy::PolicyFault;
 use std::alloc::{AllocError, Global};
@@ -200,13 +202,15 @@ fn command<V: Vault, L: Listener>(
     link: Link,
     command: &AdminCommand,
 ) -> Response
-    ensures works { (read : List ℕ) → IsRequest read (Ok (command_seen command.now))
+    ensures works { (site : Site) (read : List ℕ)
+        → IsRequest site read (Ok (command_seen command.now))
         → GivesApart V.holds V.is_clean V.faults office.old office.new
-        (HeardApart L.heard listener.old listener.new (ComeTo read (Some (octets_of result)))) }
-    ensures asked { (B : Records) (L : Log) (read : List ℕ)
+        (HeardApart L.heard listener.old listener.new
+        (ComeTo site read (Some (octets_of result)))) }
+    ensures asked { (site : Site) (B : Records) (L : Log) (read : List ℕ)
         → StandsFor V.holds office.old (trace_of B L)
-        → IsRequest read (Ok (command_seen command.now)) → V.is_clean (vault_of office.new)
-        → HasAsked V.holds B L read office.new (Some (octets_of result)) }
+        → IsRequest site read (Ok (command_seen command.now)) → V.is_clean (vault_of office.new)
+        → HasAsked V.holds site B L read office.new (Some (octets_of result)) }
     ensures clean { V.is_clean (vault_of office.new) → V.is_clean (vault_of office.old) }
 {
     let mut account = Account::Nothing;
@@ -267,23 +271,24 @@ fn refuse_policy<L: Listener>(
     response
 }
 
-/// The response to what was read of a request; `None` while the request isn't whole. A command is
-/// given to the office.
+/// The response to what was read of a request to a site; `None` while the request isn't whole. A
+/// command is given to the office.
 fn respond_to<V: Vault, L: Listener>(
     alloc: Global,
     office: &mut Office<V>,
     listener: &mut L,
+    site: &Option<HostName>,
     link: Link,
     read: &[u8],
 ) -> Option<Response>
     ensures works { GivesApart V.holds V.is_clean V.faults office.old office.new
         (HeardApart L.heard listener.old listener.new
-        (ComeTo read.now (option_map octets_of result))) }
+        (ComeTo site.now read.now (option_map octets_of result))) }
     ensures asked { (B : Records) (L : Log) → StandsFor V.holds office.old (trace_of B L)
-        → V.is_clean (vault_of office.new) → HasAsked V.holds B L read.now office.new
+        → V.is_clean (vault_of office.new) → HasAsked V.holds site.now B L read.now office.new
         (option_map octets_of result) }
 {
-    match Request::read(alloc, read) {
+    match Request::read(alloc, site, read) {
         Got::More => None,
         Got::Bad(refusal) => Some(refuse(alloc, listener, link, read, refusal)),
         Got::BadPolicy(fault) => Some(refuse_policy(alloc, listener, link, &fault)),
@@ -297,14 +302,15 @@ fn take_piece<V: Vault, L: Listener>(
     alloc: Global,
     office: &mut Office<V>,
     listener: &mut L,
+    site: &Option<HostName>,
     exchange: &mut Exchange,
     piece: &[u8],
 )
     ensures works { GivesApart V.holds V.is_clean V.faults office.old office.new
         (HeardApart L.heard listener.old listener.new
-        (ComeTo (exchange.old.read.items ++ piece.now) (response_of exchange.new))) }
+        (ComeTo site.now (exchange.old.read.items ++ piece.now) (response_of exchange.new))) }
     ensures asked { (B : Records) (L : Log) → StandsFor V.holds office.old (trace_of B L)
-        → V.is_clean (vault_of office.new) → HasAsked V.holds B L
+        → V.is_clean (vault_of office.new) → HasAsked V.holds site.now B L
         (exchange.old.read.items ++ piece.now) office.new
         (option_map octets_of exchange.new.response) }
     ensures read { IfNone exchange.new.response
@@ -318,22 +324,30 @@ fn take_piece<V: Vault, L: Listener>(
         exchange.response = Some(response);
         return;
     }
-    exchange.response = respond_to(alloc, office, listener, link, exchange.read.as_slice());
+    exchange.response = respond_to(
+        alloc,
+        office,
+        listener,
+        site,
+        link,
+        exchange.read.as_slice(),
+    );
 }
 
-/// Reads a piece of a request that isn't whole. The exchange is over where the link is at its end
+/// Reads a piece of a request that isn't whole. The exchange is over if the link is at its end
 /// or broken.
 fn read_request<V: Vault, W: Wire, L: Listener>(
     alloc: Global,
     office: &mut Office<V>,
     wire: &mut W,
     listener: &mut L,
+    site: &Option<HostName>,
     exchange: &mut Exchange,
 )
     ensures works { DoesApart V.holds V.is_clean V.faults W.asked office.old wire.old office.new
         wire.new (HeardApart L.heard listener.old listener.new
-        (λ B L. HasHeard B L exchange.old exchange.new)) }
-    ensures asked { StillAsked V.holds V.is_clean W.tells office.old wire.old exchange.old
+        (λ B L. HasHeard site.now B L exchange.old exchange.new)) }
+    ensures asked { StillAsked V.holds V.is_clean W.tells site.now office.old wire.old exchange.old
         office.new wire.new exchange.new }
     ensures keeps { KeepsLink exchange.old exchange.new }
 {
@@ -345,13 +359,13 @@ fn read_request<V: Vault, W: Wire, L: Listener>(
     }
     let mut room = [0; MOST_AT_ONCE];
     match wire.read(Port::Admin, exchange.link, &mut room) {
-        Io::Count(count) => take_piece(alloc, office, listener, exchange, &room[..count]),
+        Io::Count(count) => take_piece(alloc, office, listener, site, exchange, &room[..count]),
         Io::Later => {}
         Io::End | Io::Broken => exchange.is_over = true,
     }
 }
 
-/// Writes once of a response. How many octets were taken. The exchange is over where nothing is
+/// Writes once of a response. How many octets were taken. The exchange is over if nothing is
 /// left, or the link is broken.
 fn write_some<W: Wire>(wire: &mut W, exchange: &mut Exchange) -> usize
     ensures works { AsksApart W.asked wire.old wire.new
@@ -410,12 +424,13 @@ fn write_response<W: Wire>(wire: &mut W, exchange: &mut Exchange) -> bool
 }
 
 /// Reads of a request, and writes of its response. Whether more can be written at once. The
-/// exchange is over where its link was accepted 60 seconds ago or more.
+/// exchange is over if its link was accepted 60 seconds ago or more.
 fn serve_exchange<V: Vault, W: Wire, L: Listener>(
     alloc: Global,
     office: &mut Office<V>,
     wire: &mut W,
     listener: &mut L,
+    site: &Option<HostName>,
     exchange: &mut Exchange,
     now: u64,
 ) -> bool
@@ -423,8 +438,8 @@ fn serve_exchange<V: Vault, W: Wire, L: Listener>(
         office.old wire.old office.new wire.new
         (Also (DidApart V.holds V.is_clean office.old office.new
         (HeardApart L.heard listener.old listener.new
-        (λ B L. HasHttpTurn now B L exchange.old exchange.new))) (PollsBy false result)) }
-    ensures asked { StillAsked V.holds V.is_clean W.tells office.old wire.old exchange.old
+        (λ B L. HasHttpTurn site.now now B L exchange.old exchange.new))) (PollsBy false result)) }
+    ensures asked { StillAsked V.holds V.is_clean W.tells site.now office.old wire.old exchange.old
         office.new wire.new exchange.new }
     ensures keeps { KeepsLink exchange.old exchange.new }
     ensures timely { exchange.new.is_over ≡ false → is_late_at now exchange.new ≡ false }
@@ -433,16 +448,17 @@ fn serve_exchange<V: Vault, W: Wire, L: Listener>(
         exchange.is_over = true;
         return false;
     }
-    read_request(alloc, office, wire, listener, exchange);
+    read_request(alloc, office, wire, listener, site, exchange);
     write_response(wire, exchange)
 }
 
-/// Serves the link at one place, and closes it where its exchange is over. Whether it stays.
+/// Serves the link at one place, and closes it if its exchange is over. Whether it stays.
 fn serve_place<V: Vault, W: Wire, L: Listener>(
     office: &mut Office<V>,
     wire: &mut W,
     listener: &mut L,
     requests: &mut Requests,
+    site: &Option<HostName>,
     place: usize,
     now: u64,
 ) -> bool
@@ -451,17 +467,19 @@ fn serve_place<V: Vault, W: Wire, L: Listener>(
         office.old wire.old office.new wire.new
         (Also (DidApart V.holds V.is_clean office.old office.new
         (HeardApart L.heard listener.old listener.new
-        (HadTurnAt now place result requests.old.exchanges.items requests.new.exchanges.items)))
+        (HadTurnAt site.now now place result requests.old.exchanges.items
+        requests.new.exchanges.items)))
         (PollsBy requests.old.poll_now requests.new.poll_now)) }
-    ensures asked { AllStillAsked V.holds V.is_clean W.tells office.old wire.old
+    ensures asked { AllStillAsked V.holds V.is_clean W.tells site.now office.old wire.old
         requests.old.exchanges.items office.new wire.new requests.new.exchanges.items }
     ensures left { length requests.new.exchanges.items + (if result then 0 else 1)
         ≡ length requests.old.exchanges.items }
     ensures held { ServesPlace now place result requests.old.exchanges.items
         requests.new.exchanges.items }
 {
+    let alloc = requests.alloc;
     let exchange = &mut requests.exchanges[place];
-    requests.poll_now |= serve_exchange(requests.alloc, office, wire, listener, exchange, now);
+    requests.poll_now |= serve_exchange(alloc, office, wire, listener, site, exchange, now);
     if !exchange.is_over {
         return true;
     }
@@ -477,15 +495,17 @@ pub(crate) fn serve_requests<V: Vault, W: Wire, L: Listener>(
     wire: &mut W,
     listener: &mut L,
     requests: &mut Requests,
+    site: &Option<HostName>,
     now: u64,
 )
     ensures works { Part V.holds V.is_clean V.faults W.asked
         office.old wire.old office.new wire.new
         (Also (DidApart V.holds V.is_clean office.old office.new
         (HeardApart L.heard listener.old listener.new
-        (λ B L. HadHttpTurns now B L requests.old.exchanges.items requests.new.exchanges.items)))
+        (λ B L. HadHttpTurns site.now now B L requests.old.exchanges.items
+        requests.new.exchanges.items)))
         (PollsBy false requests.new.poll_now)) }
-    ensures asked { AllStillAsked V.holds V.is_clean W.tells office.old wire.old
+    ensures asked { AllStillAsked V.holds V.is_clean W.tells site.now office.old wire.old
         requests.old.exchanges.items office.new wire.new requests.new.exchanges.items }
     ensures stay { TheseGoOn now requests.new.exchanges.items }
     ensures no_more { length requests.new.exchanges.items ≤ length requests.old.exchanges.items }
@@ -493,13 +513,13 @@ pub(crate) fn serve_requests<V: Vault, W: Wire, L: Listener>(
     requests.poll_now = false;
     let mut place = 0;
     while place < requests.exchanges.len() {
-        if serve_place(office, wire, listener, requests, place, now) {
+        if serve_place(office, wire, listener, requests, site, place, now) {
             place += 1;
         }
     }
 }
 
-/// Accepts a link of the administration; or closes it, where eight are open or memory for it was
+/// Accepts a link of the administration; or closes it, if eight are open or memory for it was
 /// refused.
 /// Whether one came.
 fn accept_request<W: Wire>(wire: &mut W, requests: &mut Requests, now: u64) -> bool

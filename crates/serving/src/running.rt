@@ -25,7 +25,7 @@ pub trait Clock {
     /// `gave c answers`: c gave these answers, the newest last.
     ghost gave: { Self → List (Option ℕ) → Type 0 };
 
-    /// The moment of the next turn, in whole seconds; `None` where no further turn is to be done.
+    /// The moment of the next turn, in whole seconds; `None` if no further turn is to be done.
     fn moment(&mut self) -> Option<u64>
         ensures called { (a : List (Option ℕ)) → gave self.old a
             → gave self.new (a ++ result ∷ []) };
@@ -44,10 +44,10 @@ pub fn serve_while<V: Vault, W: Wire, S: Spool, L: Listener, C: Clock>(
 )
     ensures serves { (T : Trace)
         → Serves V.holds W.tells S.tells T office.old wire.old spool.old
-        links.old.clients.seats.items links.old.requests.exchanges.items
+        links.old.clients.seats.items links.old.requests.exchanges.items links.old.site
         → V.is_clean (vault_of office.new)
         → Serves V.holds W.tells S.tells T office.new wire.new spool.new
-        links.new.clients.seats.items links.new.requests.exchanges.items }
+        links.new.clients.seats.items links.new.requests.exchanges.items links.new.site }
     ensures clean { V.is_clean (vault_of office.new) → V.is_clean (vault_of office.old) }
     ensures runs { HasRun V.holds V.is_clean V.faults W.asked S.asked L.heard C.gave most
         links.old office.old wire.old spool.old listener.old clock.old
@@ -57,6 +57,7 @@ pub fn serve_while<V: Vault, W: Wire, S: Spool, L: Listener, C: Clock>(
     ensures short { (T : Trace) → StandsFor V.holds office.old T → V.is_clean (vault_of office.new)
         → AreShort links.old → AreShort links.new }
     ensures settings { settings links.new ≡ settings links.old }
+    ensures site { links.new.site ≡ links.old.site }
 {
     for _turn in 0..most {
         let Some(now) = clock.moment() else {

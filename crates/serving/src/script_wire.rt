@@ -1,7 +1,7 @@
 //! A wire in memory: links whose octets are given, and which keep what is written on them.
 ghost use Rattle.std.specs.Prelude.{◌≡◌};
 ghost use Rattle.serving.specs.Wires.{ToldOfPorts, AreFresh};
-ghost use Rattle.serving.specs.Scripts.{TellsOf, tells_once};
+ghost use Rattle.serving.specs.Scripts.{TellsOf, tells_once, address_in};
 
 use crate::script_links::{ScriptLinks, Stop};
 use crate::wire::{Io, Link, Port, Wire};
@@ -18,7 +18,7 @@ pub struct ScriptWire {
     requests: ScriptLinks,
     /// From where the clients come, in the order in which they are accepted.
     addresses: Vec<IpAddr>,
-    /// Behind its octets each link is at its end; else nothing more comes for now.
+    /// After its octets each link is at its end; else nothing more comes for now.
     ends: bool,
     /// How many reads and writes there were.
     calls: u64,
@@ -65,7 +65,7 @@ impl ScriptWire {
     }
 
     /// From where the clients come, in the order in which they are accepted. Until then, and of
-    /// those behind the last of these, no address is known.
+    /// those after the last of these, no address is known.
     pub fn set_addresses(&mut self, addresses: Vec<IpAddr>)
         ensures addresses { self.new.addresses ≡ addresses }
         ensures clients { self.new.clients ≡ self.old.clients }
@@ -140,7 +140,7 @@ impl ScriptWire {
         self.clients.strayed || self.requests.strayed
     }
 
-    /// The fault that comes in place of this read or write, where one does.
+    /// The fault that comes in place of this read or write, if one does.
     fn next_stop(&mut self) -> Option<Stop>
         ensures clients { self.new.clients ≡ self.old.clients }
         ensures requests { self.new.requests ≡ self.old.requests }
@@ -159,6 +159,8 @@ impl Wire for ScriptWire {
         × TellsOf wire.requests.accepted.items wire.requests.strayed t.admin };
 
     ghost asked = { λ _ _. ⊥ };
+
+    ghost address_of = { λ wire. address_in wire.addresses.items };
 
     ghost tells_once = { λ wire t u a b. (
       tells_once wire.clients.accepted.items

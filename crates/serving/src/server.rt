@@ -9,6 +9,7 @@ ghost use Rattle.serving.specs.HttpTurns.{AreFew};
 ghost use Rattle.serving.specs.HttpWorks.{AreShort};
 ghost use Rattle.serving.specs.Newcomers.{AllHaveSeats};
 ghost use Rattle.serving.specs.Settings.{settings, none_set};
+ghost use Rattle.adminhttp.specs.Sites.{Site};
 
 use crate::links::Links;
 use crate::noted_spool::NotedSpool;
@@ -37,10 +38,10 @@ pub fn begin_noted<V: Vault, W: Wire, S: Spool>(
     wire: W,
     spool: S,
 ) -> Server<W, S>
-    ensures serves { (T : Trace) → StandsFor V.holds office.now T → AreAdmitted T
+    ensures serves { (T : Trace) (site : Site) → StandsFor V.holds office.now T → AreAdmitted T
         → ((c : ℕ) → is_open T c ≡ false) → Serves V.holds ⟦<NotedWire<W> as Wire>⟧.tells
         ⟦<NotedSpool<S> as Spool>⟧.tells T office.now result.wire result.spool
-        result.links.clients.seats.items result.links.requests.exchanges.items }
+        result.links.clients.seats.items result.links.requests.exchanges.items site }
     ensures few { AreFew result.links }
     ensures seated { AllHaveSeats result.links }
     ensures short { AreShort result.links }

@@ -22,14 +22,14 @@ pub trait Spool {
     /// `asked s calls`: s was asked these calls and answered them so, the newest last.
     ghost asked: { Self → List FileCall → Type 0 };
 
-    /// The least name behind this one, in the order of octets; the least one where none is behind
-    /// it, or no name is given. `None` where there is no file, or the folder can't be listed.
+    /// The least name after this one, in the order of octets; the least one if none is after
+    /// it, or no name is given. `None` if there is no file, or the folder can't be listed.
     fn next_name(&mut self, last: &Option<FileName>) -> Option<FileName>
         ensures told { (a : List FileAct) → tells self.old a → tells self.new a }
         ensures called { (a : List FileCall) → asked self.old a
             → asked self.new (a ++ Next last.now result ∷ []) };
 
-    /// The first [`MOST_OCTETS`] octets of a file; `None` where it can't be read, or isn't
+    /// The first [`MOST_OCTETS`] octets of a file; `None` if it can't be read, or isn't
     /// a file of the folder's own.
     fn read(&mut self, name: &FileName) -> Option<Vec<u8>>
         ensures told { (a : List FileAct) → tells self.old a
@@ -45,7 +45,7 @@ pub trait Spool {
         ensures called { (a : List FileCall) → asked self.old a
             → asked self.new (a ++ Removed name.now result ∷ []) };
 
-    /// Renames a file, by `.bad` behind its name, or by `.bad.2` and so on where such a file is
+    /// Renames a file, by `.bad` after its name, or by `.bad.2` and so on if such a file is
     /// there. Whether it was renamed.
     fn rename(&mut self, name: &FileName) -> bool
         ensures told { (a : List FileAct) → tells self.old a

@@ -14,6 +14,7 @@ ghost use Rattle.serving.specs.Turns.{Works, millis_of};
 ghost use Rattle.serving.specs.HttpTurns.{AllGoOn, AreFew};
 ghost use Rattle.serving.specs.HttpWorks.{AreShort};
 ghost use Rattle.serving.specs.declared.links.Seat as declared;
+ghost use Rattle.adminhttp.specs.Sites.{Site};
 
 use crate::arrivals::accept_links;
 use crate::clients::serve_links;
@@ -43,14 +44,14 @@ fn pass_time<V: Vault, W: Wire>(office: &mut Office<V>, wire: &mut W, millis: u3
     let _ = office.step(Event::Tick(now));
 }
 
-/// How many milliseconds a turn waits at most: none where more can be done at once.
+/// How many milliseconds a turn waits at most: none if more can be done at once.
 fn millis_for(links: &Links) -> u32
     ensures { result ≡ millis_of links.now }
 {
     if links.poll_now() { 0 } else { MOST_MILLIS }
 }
 
-/// One turn: waits for at most a second, and not at all where more can be done at once; tells the
+/// One turn: waits for at most a second, and not at all if more can be done at once; tells the
 /// office the moment, in seconds; accepts the links that came, at most 64 at each port; serves each
 /// client's link, and then each link of the administration; ends the clients that took too long to
 /// log in; closes the links whose connections ended; and tries one file of the spool. The listener
@@ -65,9 +66,9 @@ pub fn serve_turn<V: Vault, W: Wire, S: Spool, L: Listener>(
     now: u64,
 )
     ensures serves { (T : Trace) → Serves V.holds W.tells S.tells T office.old wire.old spool.old
-        links.old.clients.seats.items links.old.requests.exchanges.items
+        links.old.clients.seats.items links.old.requests.exchanges.items links.old.site
         → V.is_clean (vault_of office.new) → Serves V.holds W.tells S.tells T office.new wire.new
-        spool.new links.new.clients.seats.items links.new.requests.exchanges.items }
+        spool.new links.new.clients.seats.items links.new.requests.exchanges.items links.new.site }
     ensures clean { V.is_clean (vault_of office.new) → V.is_clean (vault_of office.old) }
     ensures works { (T : Trace) → StandsFor V.holds office.old T → V.is_clean (vault_of office.new)
         → Works V.holds V.faults W.asked S.asked L.heard T now
@@ -79,6 +80,7 @@ pub fn serve_turn<V: Vault, W: Wire, S: Spool, L: Listener>(
     ensures short { (T : Trace) → StandsFor V.holds office.old T → V.is_clean (vault_of office.new)
         → AreShort links.old → AreShort links.new }
     ensures settings { settings links.new ≡ settings links.old }
+    ensures site { links.new.site ≡ links.old.site }
 {
     let millis = millis_for(links);
     links.clients.poll_now = false;
@@ -87,7 +89,8 @@ pub fn serve_turn<V: Vault, W: Wire, S: Spool, L: Listener>(
     accept_links(office, wire, listener, &mut links.clients, now);
     accept_requests(wire, &mut links.requests, MOST_LINKS, now);
     serve_links(office, wire, listener, &mut links.clients, now);
-    serve_requests(office, wire, listener, &mut links.requests, now);
+    let site = &links.site;
+    serve_requests(office, wire, listener, &mut links.requests, site, now);
     let seconds = links.clients.newcomers.limit(links.clients.seats.len());
     end_late_ones(office, wire, listener, &mut links.clients, now, seconds);
     close_links(office, wire, &mut links.clients);
@@ -103,10 +106,11 @@ pub fn begin<V: Vault, W: Wire, S: Spool>(
     _wire: &W,
     _spool: &S,
 ) -> Links
-    ensures serves { (T : Trace) (t : ToldOfPorts) → StandsFor V.holds _office.now T → AreAdmitted T
-        → ((c : ℕ) → is_open T c ≡ false) → W.tells _wire.now t → AreFresh t → S.tells _spool.now []
+    ensures serves { (T : Trace) (t : ToldOfPorts) (site : Site) → StandsFor V.holds _office.now T
+        → AreAdmitted T → ((c : ℕ) → is_open T c ≡ false) → W.tells _wire.now t → AreFresh t
+        → S.tells _spool.now []
         → Serves V.holds W.tells S.tells T _office.now _wire.now _spool.now
-        result.clients.seats.items result.requests.exchanges.items }
+        result.clients.seats.items result.requests.exchanges.items site }
     ensures few { AreFew result }
     ensures seated { AllHaveSeats result }
     ensures short { AreShort result }

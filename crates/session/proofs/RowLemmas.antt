@@ -25,7 +25,7 @@ flag_at [] i = false
 flag_at (row ∷ rows) zero = row.is_marked
 flag_at (row ∷ rows) (suc i) = flag_at rows i
 
--- the numbers of the rows behind a first one, by whether that is marked
+-- the numbers of the rows after a first one, by whether that is marked
 abbrev first_of : Row → ℕ → List (ℕ × Row) → Bool → List (ℕ × Row)
 first_of row n rest b = cond b ((n, row) ∷ rest) rest
 
@@ -63,7 +63,7 @@ behind_at : (row : Row) (n m : ℕ) (rest : List (ℕ × Row)) → n < m → (b 
 behind_at row n m rest lt true = or_false (n == m) (is_marked (map number_of rest) m) (ne_eqb n m (λ same. omega arith))
 behind_at row n m rest lt false = refl
 
--- a number is marked where its row is
+-- a number is marked if its row is
 is_marked-marked_from : (rows : List Row) (n i m : ℕ) → m ≡ n + i → is_marked (marked_from n rows) m ≡ flag_at rows i
 is_marked-marked_from [] n i m e = refl
 is_marked-marked_from (row ∷ rows) n zero m e =
@@ -356,7 +356,7 @@ octets-le (row ∷ rows) =
     rw (sum_by-cons octets_unless_marked row rows, sum_by-cons octets_of row.head (heads_of rows))
     (octets_at row (sum_by octets_of (heads_of rows)) (sum_by octets_unless_marked rows) (octets-le rows) row.is_marked)
 
--- a total that is capped is exact where the view's octets fit
+-- a total that is capped is exact if the view's octets fit
 pub exact_total : (rows : List Row) (octets : ℕ) → octets ≡ min (sum_by octets_unless_marked rows) (2 ^ 64 - 1) → sum_by octets_of (heads_of rows) < 2 ^ 64 →
     octets ≡ total_of octets_of (unmarked (marks_of rows) (heads_of rows))
 exact_total rows octets capped fits =

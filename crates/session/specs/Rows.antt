@@ -51,7 +51,7 @@ unmarked_row head = record { head = head; is_marked = false }
 abbrev pub octets_unless_marked : Row → ℕ
 octets_unless_marked row = if row.is_marked then 0 else row.head.octets
 
--- `no_such` where there is no row, `deleted` where it is marked, else `found` of its head
+-- `no_such` if there is no row, `deleted` if it is marked, else `found` of its head
 abbrev pub row_referred : {B : Type 0} → Option Row → (no_such deleted : B) → (found : Head → B) → B
 row_referred None no_such deleted found = no_such
 row_referred (Some row) no_such deleted found = referred (Some row.head) row.is_marked no_such deleted found

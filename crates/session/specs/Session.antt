@@ -49,7 +49,7 @@ started policy removals clerk maildrop heads =
 abbrev pub picked : Session → ℕ → Result Head Pick
 picked s n = refer s.marks s.view n (Err NoSuch) (Err Deleted) (λ head. Ok head)
 
--- the head where the decision allows its reading, else the rule that denies it
+-- the head if the decision allows its reading, else the rule that denies it
 abbrev pub read_answer : Decision → Head → Result Head Pick
 read_answer decision head = if decision.allowed then Ok head else Err (Denied decision.rule)
 
@@ -57,8 +57,8 @@ read_answer decision head = if decision.allowed then Ok head else Err (Denied de
 abbrev pub picked_for : Policy → Session → ℕ → Result Head Pick
 picked_for policy s n = refer s.marks s.view n (Err NoSuch) (Err Deleted) (λ head. read_answer (retrieval policy s.name head.class) head)
 
--- The answer to a DELE of an unmarked message, by the decision on its removal. Where removals are
--- judged at the DELE, a denial refuses it with the rule's name; where they are judged at the QUIT,
+-- The answer to a DELE of an unmarked message, by the decision on its removal. If removals are
+-- judged at the DELE, a denial refuses it with the rule's name; if they are judged at the QUIT,
 -- the message is marked whatever the decision.
 abbrev pub mark_answer : Removals → Decision → Result (Unit {0}) Pick
 mark_answer JudgedAtDele decision = if decision.allowed then Ok tt else Err (Denied decision.rule)

@@ -52,7 +52,7 @@ unmarked marks view = filter (λ row. not (is_marked marks row.0)) (numbered vie
 abbrev pub marked : {A : Type 0} → List ℕ → List A → List (ℕ × A)
 marked marks view = filter (λ row. is_marked marks row.0) (numbered view)
 
--- `no_such` where there is no row, `deleted` where it is marked, else `found` of the row
+-- `no_such` if there is no row, `deleted` if it is marked, else `found` of the row
 abbrev pub referred : {A B : Type 0} → Option A → (is_marked : Bool) → (no_such deleted : B) → (found : A → B) → B
 referred None is_marked no_such deleted found = no_such
 referred (Some row) true no_such deleted found = deleted

@@ -9,6 +9,6 @@ pub enum Pick {
     /// The message is marked as deleted.
     Deleted,
     /// The policy denies the reading or the removal, by the rule of this name, or by `default`
-    /// where none matches.
+    /// if none matches.
     Denied(Name),
 }

@@ -37,7 +37,7 @@ pub(crate) fn removal(lane: &Lane<'_>, class: &Name) -> Decision
     lane.decide(class, Action::Remove)
 }
 
-/// Whether a DELE may mark a message of a class: `Denied` where removals are judged at the DELE
+/// Whether a DELE may mark a message of a class: `Denied` if removals are judged at the DELE
 /// and the policy denies this one.
 pub(crate) fn judge_mark(removals: Removals, lane: &Lane<'_>, class: &Name) -> Result<(), Pick>
     ensures { result ≡ mark_answer removals
@@ -97,7 +97,7 @@ pub(crate) fn marked_count(rows: &[Row]) -> usize
     rows.iter().filter(|row| row.is_marked).count()
 }
 
-/// The head of message `n`, counted from 1. `NoSuch` where there is none, `Deleted` where it is
+/// The head of message `n`, counted from 1. `NoSuch` if there is none, `Deleted` if it is
 /// marked.
 pub(crate) fn head_at(rows: &[Row], n: u64) -> Result<Head, Pick>
     ensures answer { result ≡ row_picked rows.now n }

@@ -121,7 +121,7 @@ impl Session {
         Uids::new(&self.rows)
     }
 
-    /// The head of message `n`. `NoSuch` where the view has no such message, `Deleted` where it is
+    /// The head of message `n`. `NoSuch` if the view has no such message, `Deleted` if it is
     /// marked. It allocates nothing.
     pub fn pick(&self, n: u64) -> Result<Head, Pick>
         ensures { result ≡ picked self.now n }
@@ -129,11 +129,11 @@ impl Session {
         head_at(&self.rows, n)
     }
 
-    /// The head of message `n`, where this policy lets the clerk read its class (RFC 1939, 5: RETR;
+    /// The head of message `n`, if this policy lets the clerk read its class (RFC 1939, 5: RETR;
     /// 7: TOP).
     ///
-    /// `NoSuch` where the view has no such message, else `Deleted` where it is marked, else
-    /// `Denied` where the policy denies it. It allocates nothing.
+    /// `NoSuch` if the view has no such message, else `Deleted` if it is marked, else
+    /// `Denied` if the policy denies it. It allocates nothing.
     pub fn pick_for(&self, n: u64, policy: &Policy) -> Result<Head, Pick>
         ensures { result ≡ picked_for policy.now self.now n }
     {
@@ -147,11 +147,11 @@ impl Session {
     }
 
     /// Marks message `n` as deleted (RFC 1939, 5: DELE). The policy must let the clerk remove its
-    /// class where removals are judged at the DELE, and isn't asked where they are judged at the
+    /// class if removals are judged at the DELE, and isn't asked if they are judged at the
     /// QUIT.
     ///
-    /// `NoSuch` where the view has no such message, else `Deleted` where it is marked already, else
-    /// `Denied` where the policy denies it at the DELE. After an error the marks are as they were.
+    /// `NoSuch` if the view has no such message, else `Deleted` if it is marked already, else
+    /// `Denied` if the policy denies it at the DELE. After an error the marks are as they were.
     /// It allocates nothing.
     pub fn mark(&mut self, n: u64, policy: &Policy) -> Result<(), Pick>
         ensures answer { result ≡ marking policy.now self.old n }
@@ -175,7 +175,7 @@ impl Session {
     }
 
     /// What a QUIT removes under this policy (RFC 1939, 6): the keys of the marked messages that
-    /// the clerk may remove, in order. Where the policy denies the removal of marked messages, the
+    /// the clerk may remove, in order. If the policy denies the removal of marked messages, the
     /// name of the rule that denies the lowest numbered of them. An `Err` is want of memory.
     pub fn to_remove(&self, policy: &Policy) -> Result<(Vec<MessageKey>, Option<Name>), AllocError>
         ensures keys { IfOk result (λ r. r.0.items

@@ -1,4 +1,4 @@
--- Queries one behind the other, and what a store that is made and a store that is judged come to.
+-- Queries one after the other, and what a store that is made and a store that is judged come to.
 use Rattle.std.proofs.Common.{◌≡◌, ◌⊎◌, inl, inr, Bool, true, false, IsTrue, Result, Ok, Err, refl, sym, ap, subst, ◌∙◌, true≢false}
 use Rattle.mailsql.specs.Tables.{no_schema}
 use Rattle.sqlite.specs.declared.error.Error.{Error}

@@ -41,7 +41,7 @@ marked_otherwise rows c (meta_row, found, other) k =
     let e : our_meta_row ≡ meta_row = cc in
     other (sym (ap (λ (m : MetaRow). m.value) e))
 
--- where no contents have the rows, any might be left
+-- if no contents have the rows, any might be left
 none_kept : (stopped first : State) → FindsLeft stopped first → RulesOut stopped → ((c : Contents) → Keeps (rows_in first.now.trees) c → ⊥) → ⊥
 none_kept stopped first f out none = out.1 (first.committed.trees, f.left, λ c k. absurd (none c (seen_as_left stopped first c f k)))
 

@@ -1,4 +1,4 @@
--- Queries one behind the other, of rows that may be no contents.
+-- Queries one after the other, of rows that may be no contents.
 use Rattle.std.proofs.Common.{inl, Result, Ok, Err}
 use Rattle.std.specs.Prelude.{IsTrue, OnOk, OnErr, IsErrAnd}
 use Rattle.sqlite_trees.specs.declared.store.Store.{Ghosts}
@@ -72,7 +72,7 @@ asks_err a = record {
   stop = a.stop;
 }
 
--- an error that came behind it is passed on
+-- an error that came after it is passed on
 pub asks_passed : {S A B E F : Type 0} {store : Ghosts S} {old new : Held S} {x : A}
     (r : Result B F) (P : F → Type 0) → IsErrAnd r P
     → (let q : Result A E = Ok x in Asks store old new q) → Asks store old new r
@@ -154,7 +154,7 @@ pub reads_err : {S A B : Type 0} {store : Ghosts S} {old new : Held S} {e f : Er
     → (let r : Result B Error = Err f in Reads store old new r)
 reads_err a = record { clean = a.clean; goes = λ clean tables. a.goes clean tables; stop = a.stop }
 
--- an error that came behind it is passed on
+-- an error that came after it is passed on
 pub reads_passed : {S A B : Type 0} {store : Ghosts S} {old new : Held S} {x : A}
     (r : Result B Error) (P : Error → Type 0) → IsErrAnd r P
     → (let q : Result A Error = Ok x in Reads store old new q) → Reads store old new r
@@ -187,7 +187,7 @@ reads_then {store = store} {old = old} {mid = mid} {new = new} {r = r} a b = rec
       (a.stop before ready) (b.stop clean);
 }
 
--- behind a query that was answered
+-- after a query that was answered
 same_gone : {A : Type 0} (s0 s1 s2 : State) (r : Result A Error) → IsUnchanged s0 s1
     → Goes s1 s2 r → OnOk r (IsUnchanged s0 s2)
 same_gone s0 s1 s2 (Ok x) a b = unchanged_stays s0 s1 s2 a b

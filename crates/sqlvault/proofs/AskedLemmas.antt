@@ -1,4 +1,4 @@
--- The rows of deposits and of counts tell of sound deposits just where the numbers of the deposits are those that the counts ask for.
+-- The rows of deposits and of counts tell of sound deposits exactly if the numbers of the deposits are those that the counts ask for.
 use Rattle.std.proofs.Common.{◌≡◌, inl, inr, ℕ, zero, suc, ℤ, pos, negsuc, ◌+◌, ◌<◌, ◌≤◌, Bool, true, false, not, cond, ◌&&◌, ◌||◌, ◌⊎◌, List, [], ◌∷◌, ◌++◌, length, map, Option}
 use Rattle.std.proofs.Common.{Some, None, refl, sym, ap, subst, ◌∙◌, arith, ⊎_elim, true≢false}
 use Rattle.std.specs.Prelude.{◌==◌, nat_le, nat_lt, filter, flat_map, find, sum_by}

@@ -1,4 +1,4 @@
--- What is found of the rows behind queries that changed nothing is so of the rows before them.
+-- What is found of the rows after queries that changed nothing is so of the rows before them.
 use Rattle.std.proofs.Common.{◌≡◌, Bool, List, Result, Ok, sym, subst}
 use Rattle.sqlite_trees.specs.declared.store.Store.{Ghosts}
 use Rattle.sqlite.specs.Held.{Held, state}
@@ -38,7 +38,7 @@ found_behind {store = store} {old = old} Are b is test a clean tables apart foun
     subst (Finds (Are (rows_in (state store old).now.trees))) test
     (said_behind (λ rows. Finds (Are rows) b) a clean tables apart found)
 
--- what is told of rows and their deposits behind parts that changed nothing is so of the rows before
+-- what is told of rows and their deposits after parts that changed nothing is so of the rows before
 -- them; `x` was answered, and tested to be `y`
 pub told_behind : {A : Type 0} (P : Rows → A → Type 0) (old new : State) (deposits : List Receipt)
     {x y : A} → x ≡ y → Stays old new → HasTables old

@@ -1,4 +1,4 @@
--- Statements of one transaction that carries a store over, and what is left where one is refused.
+-- Statements of one transaction that carries a store over, and what is left if one is refused.
 use Rattle.std.proofs.Common.{◌≡◌, ◌⊎◌, inl, inr, IsTrue, Bool, true, false, cond, not, [], ◌∷◌, ◌++◌, map, filter, refl, sym, ap, subst, ◌∙◌, true≢false}
 use Rattle.std.specs.Prelude.{codes, flat_map, find, Some, pos, Result, Ok, Err, OnErr}
 use Rattle.sqlite_trees.specs.Tree.{Trees}
@@ -20,7 +20,7 @@ use Rattle.mailsql.specs.declared.rows.MetaRow.{MetaRow}
 use Rattle.vault.specs.declared.fault.VaultFault.{VaultFault}
 use Rattle.sqlvault.specs.Stands.{LeavesNoMore}
 
--- ---- one statement behind another
+-- ---- one statement after another
 
 pub goes_then : (a b c : State) → GoesOn a b → GoesOn b c → GoesOn a c
 goes_then a b c p q = record { was_open = p.was_open; is_open = q.is_open; now_is = refl; committed_is = q.committed_is ∙ p.committed_is; mode = q.mode }
@@ -209,7 +209,7 @@ order_uncarried carried s is other = (of_version carried (rows_in s.now.trees) i
     one_version true false e = let m : old_meta_row true ≡ old_meta_row false = cc in let v : pos 1 ≡ pos 2 = ap (λ (x : MetaRow). x.value) m in cc
     one_version false true e = let m : old_meta_row false ≡ old_meta_row true = cc in let v : pos 2 ≡ pos 1 = ap (λ (x : MetaRow). x.value) m in cc
 
--- ---- behind queries that changed nothing
+-- ---- after queries that changed nothing
 
 pub older_on : (carried : Bool) (s0 s1 : State) → IsUnchanged s0 s1 → HasOlder s0 → is_carried s1.now.trees ≡ carried → s0.in_transaction ≡ false
     → (IsTrue s0.is_open → s0.now ≡ s0.committed) → (rows_in s0.now.trees).meta_rows ≡ old_meta_row carried ∷ [] → IsOlder carried s1

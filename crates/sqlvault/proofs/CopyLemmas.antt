@@ -86,7 +86,7 @@ copied_all buffer whole rest n left fits none h =
 
 -- ---- the sheets from a place on
 
--- the first of them and those behind it
+-- the first of them and those after it
 pub one_sheet : (sheets : List Sheet) (place end : ℕ) (o : Option Sheet) → place < end → o ≡ find (is_at (pos place)) sheets
     → octets_from (end - place) sheets place ≡ with_behind o (octets_from (end - (place + 1)) sheets (place + 1))
 one_sheet sheets place end o below found =

@@ -81,7 +81,7 @@ pub used : (rows : Rows) (c : Contents) (asked d named id : List ℕ) (row : Dep
     → (r : Receipt) × (receipt_of id (receipts_of d c.deposits) ≡ Some r) × (row ≡ deposit_row r)
 used rows c asked d named id row k e f is = some_receipt row (receipt_of id (receipts_of d c.deposits)) (is ∙ receipt_seen rows c asked d named id k e f)
 
--- and where there is no row, there is no receipt
+-- and if there is no row, there is no receipt
 pub unused : (rows : Rows) (c : Contents) (asked d named id : List ℕ) → Keeps rows c → asked ≡ d → named ≡ id → (let r : Option Deposit = None in r) ≡ find (is_deposit asked named) rows.deposits
     → receipt_of id (receipts_of d c.deposits) ≡ None
 unused rows c asked d named id k e f is = no_receipt (receipt_of id (receipts_of d c.deposits)) (is ∙ receipt_seen rows c asked d named id k e f)

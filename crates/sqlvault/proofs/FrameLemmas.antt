@@ -277,7 +277,7 @@ met_whole {S} {A} {store = store} {new = new} after expected e look =
     (Err (fault_of e)) look (not_own A e)
     (λ clean c h held. refused (Holds (state store new)) c (after c) (expected c) e held)
 
--- ---- a statement outside a transaction, behind queries
+-- ---- a statement outside a transaction, after queries
 
 -- what is known before it: the connection is open, the call is answered so, and the change keeps
 -- the rows those of the contents after it
@@ -288,7 +288,7 @@ MayChange store mid Change c after expected x =
     IsTrue (state store mid).is_open × (expected ≡ Ok x)
     × ((from to : Rows) → Change from to → Keeps from c → Keeps to after)
 
--- where it was made or not, a stop leaves the one or the other
+-- if it was made or not, a stop leaves the one or the other
 changed_stops : {S A : Type 0} (store : Ghosts S) (mid new : Held S)
     (Change : Rows → Rows → Type 0) (c after : Contents) (expected : Result A VaultFault) (x : A)
     → Survives (state store mid) (state store new) (MayLeave Change (state store mid))

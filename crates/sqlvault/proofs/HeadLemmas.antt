@@ -32,7 +32,7 @@ use Rattle.sqlvault.specs.RowForms.{AreMailRows}
 use Rattle.sqlvault.proofs.SmallLemmas.{nat_lt-true, all_at}
 use Rattle.sqlvault.proofs.RemoveLemmas.{num_same}
 
--- a message that stands where there is none
+-- a message that stands if there is none
 nobody : Keyed
 nobody = record { key = 0; message = record { maildrop = []; class = []; k = 0; text = [] } }
 
@@ -129,7 +129,7 @@ no_maildrop d c none = rw none refl
 pub shown_heads : (d : List ℕ) (c : Contents) (shown : List Head) → is_one_of d c.maildrops ≡ true → shown ≡ heads d c → heads_result d c ≡ Ok shown
 shown_heads d c shown there is = rw there (ap Ok (sym is))
 
--- an error in the reading of rows, where nothing was changed
+-- an error in the reading of rows, if nothing was changed
 pub unread_heads : {V : Type 0} (items : V → List Head) (Held : Contents → Type 0) (d : List ℕ) (c : Contents) (e : Error) (result : Result V Refusal)
     → IsErrAnd result (λ r. r ≡ Met e) → Held c → AreHeads Held c d (seen_as (answer_of result) items)
 unread_heads items Held d c e (Ok v) is h = absurd is

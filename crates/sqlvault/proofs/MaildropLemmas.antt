@@ -38,7 +38,7 @@ keeps_names rows c names k s = record {
   sound = s;
 }
 
--- a name more, behind the others
+-- a name more, after the others
 pub keeps_added : (c : Contents) (name : List ℕ) → is_name name ≡ true → is_one_of name c.maildrops ≡ false → length c.maildrops < most_maildrops
     → (from to : Rows) → AddsMaildrop name from to → Keeps from c → Keeps to (with_maildrops (c.maildrops ++ name ∷ []) c)
 keeps_added c name form new room from to change k =

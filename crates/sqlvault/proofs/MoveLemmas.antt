@@ -1,4 +1,4 @@
--- Parts of the transaction that carries a store over, one behind the other; and the messages of version 1 that come into the tables of ours.
+-- Parts of the transaction that carries a store over, one after the other; and the messages of version 1 that come into the tables of ours.
 use Rattle.std.proofs.Common.{◌≡◌, inl, inr, IsTrue, ℕ, zero, suc, ◌+◌, ◌<◌, ◌≤◌, ℤ, ◌<ℤ◌, Bool, true, false, cond, List, [], ◌∷◌, ◌++◌, length, map, take, take_all, get_or, Some}
 use Rattle.std.proofs.Common.{None, Less, int_cmp, is_eq, refl, sym, ap, ap₂, subst, ◌∙◌, true≢false, arith}
 use Rattle.std.specs.Prelude.{Result, Ok, Err, flat_map, OnOk, OnErr}
@@ -79,7 +79,7 @@ part_refused a b i undone stop = record { halted = stops_making a a b (inside_st
 pub asked_carried : (a b : State) → IsInside a → is_carried a.now.trees ≡ true → HasCleanDisk b → Survives a b (λ _. IsTrue (is_carried a.now.trees) → ¬ IsOurs a.now) → LeavesNoMore a b
 asked_carried a b i carried clean s db may = elim (s.crash clean db may) [ inl was ↦ was | inr none ↦ absurd (none carried i.tables.0) ]
 
--- ---- one behind another
+-- ---- one after another
 
 pub part_then : (First Then Both : Rows → Rows → Type 0) (a b c : State) → ((from mid to : Rows) → First from mid → Then mid to → Both from to)
     → DoesPart First a b → DoesPart Then b c → DoesPart Both a c
@@ -209,7 +209,7 @@ next_body bodies heads i head are rising low is =
     let same : length heads ≡ length bodies = ap length are ∙ length-map bodies body_head in
     next_at bodies i head (omega (arith, low, same)) rising (is ∙ ap (λ hs. get_or hs i head) are)
 
--- where a message of version 1 is found, the store was carried over from it
+-- if a message of version 1 is found, the store was carried over from it
 carried_by : (db : Trees) (key : ℤ) (body : Body) → find (is_body key) (rows_in db).bodies ≡ Some body → is_carried db ≡ true
 carried_by db key body found = go (is_carried db) found
   where

@@ -1,4 +1,4 @@
--- Numbers of deposits: different numbers out of 1 to n are all of these, where there are n.
+-- Numbers of deposits: different numbers out of 1 to n are all of these, if there are n.
 use Rattle.std.proofs.Common.{◌≡◌, inl, inr, ℕ, zero, suc, ◌+◌, ◌<◌, ◌≤◌, true, not, ◌&&◌, ◌⊎◌, List, [], ◌∷◌, ◌++◌, length, map, refl, sym, subst, ◌∙◌, arith, ⊎_elim, true≢false}
 use Rattle.std.specs.Prelude.{◌==◌, nat_lt, nat_le, filter}
 use Rattle.std.specs.Str.{bytes_eq}
@@ -23,7 +23,7 @@ use Rattle.sqlvault.proofs.SmallLemmas.{nat_le-true, nat_lt-true}
 
 -- ---- lists in which no element stands twice
 
--- no element is among those behind it
+-- no element is among those after it
 abbrev pub Differ : {A : Type 0} → List A → Type 0
 Differ [] = Unit {0}
 Differ (x ∷ xs) = (In x xs → ⊥) × Differ xs
@@ -56,7 +56,7 @@ no_more xs ys differ inside =
     let r = placed xs ys differ inside in
     omega (arith, length_permutation (xs ++ r.0) ys r.1, length-append xs r.0)
 
--- and all of it, where they are as many
+-- and all of it, if they are as many
 pub as_many : {A : Type 0} (xs ys : List A) → Differ xs → ((x : A) → In x xs → In x ys) → length ys ≤ length xs → IsPermutation xs ys
 as_many {A} xs ys differ inside few =
     let r = placed xs ys differ inside in

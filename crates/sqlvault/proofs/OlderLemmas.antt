@@ -56,7 +56,7 @@ looked_older store old new r same s = record {
   stop = λ clean is. asked_old (state store old) (state store new) is.0 clean s;
 }
 
--- one behind another, which was answered
+-- one after another, which was answered
 pub older_then : {S A E : Type 0} (store : Ghosts S) (old mid new : Held S) (r : Result A E)
     → (HasCleanDisk (state store mid) → HasOldTables (state store old)
     → IsUnchanged (state store old) (state store mid))
@@ -277,7 +277,7 @@ module _ {S : Type 0} {store : Ghosts S} {first mid : Held S} {x : Unit {0}} (ca
       midway carried (state store first) (state store mid) b (state store last)
       (part.part clean (begun_older carried (state store first) (state store mid) b))
 
--- ---- behind queries that changed nothing
+-- ---- after queries that changed nothing
 
 pub carries_behind : (s0 s1 s2 : State) (r : Result (Unit {0}) Refusal) → IsUnchanged s0 s1
     → LeavesNoMore s0 s1 → CarriesOlder s1 s2 r → CarriesOlder s0 s2 r

@@ -1,4 +1,4 @@
--- Parts of the rows that are judged one behind the other.
+-- Parts of the rows that are judged one after the other.
 use Rattle.std.proofs.Common.{◌≡◌, Bool, true, false, List, [], ◌∷◌, ℕ, Result, Ok, Some, refl, sym, subst}
 use Rattle.std.specs.List.{list_all}
 use Rattle.sqlite_trees.specs.declared.store.Store.{Ghosts}
@@ -106,7 +106,7 @@ parts rows c k =
       ),
     )
 
--- ---- one part behind another
+-- ---- one part after another
 
 -- Queries that were answered, and what they found of the rows before them.
 pub record Tests {S : Type 0} (store : Ghosts S) (old new : Held S) (P : Rows → Type 0) : Type 0 where
@@ -127,7 +127,7 @@ tests {store = store} {old = old} P x is test asks judged = record {
       subst (P (rows_in (state store old).now.trees)) test (judged clean tables apart);
 }
 
--- what is found of the mail where the maildrops and the deposits are sound
+-- what is found of the mail if the maildrops and the deposits are sound
 abbrev FindsMail : Bool → Rows → Type 0
 FindsMail is rows =
     MaildropsAre rows rows.maildrops → Finds (DepositsAre rows) true → Finds (MailIs rows) is
@@ -157,7 +157,7 @@ tests_mail {store = store} {old = old} b is test asks judged = record {
       (λ own ds d. judged ds clean tables apart own d);
 }
 
--- one part behind another
+-- one part after another
 pub tests_then : {S : Type 0} {store : Ghosts S} {old mid new : Held S} {P Q : Rows → Type 0}
     → Tests store old mid P → Tests store mid new Q → Tests store old new (λ rows. P rows × Q rows)
 tests_then {Q = Q} p q = record {
@@ -167,7 +167,7 @@ tests_then {Q = Q} p q = record {
       (p.so before tables apart, said_behind Q p.asks before tables apart (q.so clean));
 }
 
--- what was found, where the keys hold
+-- what was found, if the keys hold
 pub found : {S : Type 0} {store : Ghosts S} {old new : Held S} {P : Rows → Type 0}
     → Tests store old new P → HasCleanDisk (state store new) → HasTables (state store old)
     → (IsReady (state store old) → AreApart (rows_in (state store old).now.trees))
@@ -176,7 +176,7 @@ found p clean tables keys =
     let up = (p.asks.same clean tables).0.was_open in
     p.so clean tables (keys (up, tables up))
 
--- where a part isn't sound, the rows are no contents
+-- if a part isn't sound, the rows are no contents
 none_kept : (rows : Rows) (part : Part) → IsFirstUnsound rows part → (c : Contents) → Keeps rows c
     → ⊥
 none_kept rows Clerks none c k = let p = parts rows c k in none p.0.0.0.0 p.1.0.0.0

@@ -23,7 +23,7 @@ short_permuted [] (y ∷ ys) h short = let n = length_permutation [] (y ∷ ys) 
 short_permuted (x ∷ []) ys h short = sym (one_permutation x ys h)
 short_permuted (x ∷ y ∷ xs) ys h short = absurd (omega (arith, short))
 
--- where one element at most passes, the same is found
+-- if one element at most passes, the same is found
 pub find_permuted : {X : Type 0} (p : X → Bool) (xs ys : List X) → IsPermutation xs ys → length (filter p xs) ≤ 1 → find p xs ≡ find p ys
 find_permuted p xs ys h short =
     sym (slice_get-filter p xs) ∙ ap (λ zs. slice_get zs 0) (short_permuted (filter p xs) (filter p ys) (filter_permuted p xs ys h) short) ∙ slice_get-filter p ys

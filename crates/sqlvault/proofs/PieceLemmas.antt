@@ -79,7 +79,7 @@ part_more rows mail octets place size text piece part low is p =
           (eq-or-lt_of_le (let le : q ≤ place = omega (arith, less) in le));
     }
 
--- where a sheet is missing, there is no such text
+-- if a sheet is missing, there is no such text
 pub part_lacks : (rows : Rows) (mail : ℤ) (octets place size : ℕ) → place < div_ceil octets 4096 → size ≡ min 4096 (octets - place * 4096) → ((piece : List ℕ) → IsPiece rows mail place size piece → ⊥)
     → (text : List ℕ) → HasText rows mail octets text → ⊥
 part_lacks rows mail octets place size low is none text h =

@@ -44,7 +44,7 @@ key_told a b p q = bool_same (same_int (row_key a) (row_key b)) (b == a)
 
 -- ---- lists
 
--- what passes a test, where another says the same of each element
+-- what passes a test, if another says the same of each element
 filter_alike : {X : Type 0} (p q : X → Bool) (xs : List X) → ((x : X) → In x xs → p x ≡ q x) → filter p xs ≡ filter q xs
 filter_alike p q [] same = refl
 filter_alike p q (x ∷ xs) same = rw (same x (inl refl)) (ap (λ l. cond (q x) (x ∷ l) l) (filter_alike p q xs (λ y i. same y (inr i))))
@@ -66,7 +66,7 @@ no_matter : {X : Type 0} (b : Bool) (xs : List X) → xs ≡ cond b xs xs
 no_matter true xs = refl
 no_matter false xs = refl
 
--- where all elements of a list pass a test alike
+-- if all elements of a list pass a test alike
 passes_alike : {X Y : Type 0} (f : X → Y) (p : Y → Bool) (b : Bool) (xs : List X) → ((x : X) → p (f x) ≡ b) → filter p (map f xs) ≡ cond b (map f xs) []
 passes_alike f p b [] same = no_matter b []
 passes_alike f p b (x ∷ xs) same = rw (same x, passes_alike f p b xs same) (go b)
@@ -75,7 +75,7 @@ passes_alike f p b (x ∷ xs) same = rw (same x, passes_alike f p b xs same) (go
     go true = refl
     go false = refl
 
--- elements that are apart are the same where they have one key
+-- elements that are apart are the same if they have one key
 pub only_one : (ms : List Keyed) (x y : Keyed) → are_distinct (λ (a b : Keyed). a.key == b.key) ms ≡ true → In x ms → In y ms → x.key ≡ y.key → x ≡ y
 only_one [] x y apart i j same = absurd i
 only_one (m ∷ ms) x y apart i j same =
@@ -116,14 +116,14 @@ module _ (key : ℕ) (d : List ℕ) (ms : List Keyed) (fits : key < 2 ^ 64) (low
   turned false true = refl
   turned false false = refl
 
-  -- the row is found by its key and maildrop just where the message is the one
+  -- the row is found by its key and maildrop exactly if the message is the one
   row_found : (x : Keyed) → In x ms → is_message (row_key key) d (message_row x) ≡ is_it key d x
   row_found x i = rw (key_told x.key key (low_keys x i) fits) (turned (key == x.key) (bytes_eq x.message.maildrop d))
 
   messages_left : filter (λ (m : Message). not (is_message (row_key key) d m)) (map message_row ms) ≡ map message_row (filter (λ x. not (is_it key d x)) ms)
   messages_left = mapped_left message_row (λ (m : Message). not (is_message (row_key key) d m)) (λ x. not (is_it key d x)) ms (λ x i. ap not (row_found x i))
 
-  -- a sheet is of a message that goes just where its own message goes
+  -- a sheet is of a message that goes exactly if its own message goes
   sheet_goes : are_distinct (λ (a b : Keyed). a.key == b.key) ms ≡ true → (x : Keyed) → In x ms
       → list_any (λ (m : Message). is_message (row_key key) d m && same_int (row_key x.key) m.key) (map message_row ms) ≡ is_it key d x
   sheet_goes apart x i =

@@ -152,7 +152,7 @@ items_more rs items grown i r s lt is read grows held =
 abbrev pub IsPolicyOf : List Group → List Rule → Policy → Type 0
 IsPolicyOf groups rows p = (groups ≡ p.groups) × (map (at_place (pos 0)) rows ≡ map (rule_row (pos 0)) p.rules) × (is_sound_policy p ≡ true)
 
--- where the rows have been read, the groups and the rules tell
+-- if the rows have been read, the groups and the rules tell
 pub read_judged : (groups : List Group) (rows : List Rule) (items : List rule.Rule) (b : Bool) → map (at_place (pos 0)) rows ≡ map (rule_row (pos 0)) items
     → ((rs : List rule.Rule) → list_all is_sound_rule rs ≡ true → map (at_place (pos 0)) rows ≡ map (rule_row (pos 0)) rs → items ≡ rs)
     → b ≡ is_some (policy_with groups items) → Finds (IsPolicyOf groups rows) b
@@ -165,7 +165,7 @@ read_judged groups rows items b held all e = at (is_sound_policy (record { group
     at false true f e = absurd (true≢false e)
     at false false f e = λ p m. true≢false (sym m.2 ∙ ap is_sound_policy (λ i. let made : Policy = record { groups = sym m.0 i; rules = sym (all p.rules (sound_rules p m.2) m.1) i } in made) ∙ f)
 
--- where a row is no sound rule's, there is no policy
+-- if a row is no sound rule's, there is no policy
 pub none_judged : (groups : List Group) (rows : List Rule)
     → ((rs : List rule.Rule) → list_all is_sound_rule rs ≡ true → map (at_place (pos 0)) rows ≡ map (rule_row (pos 0)) rs → ⊥) → Finds (IsPolicyOf groups rows) false
 none_judged groups rows none = λ p m. none p.rules (sound_rules p m.2) m.1

@@ -40,7 +40,7 @@ some_same {A} o x y a b = ap value (sym a ∙ b)
     value (Some z) = z
     value None = x
 
--- nothing was read, where something was there to read
+-- nothing was read, if something was there to read
 pub never : {A : Type 0} (P : Type 0) (o : Option A) (x : A) → o ≡ None → o ≡ Some x → P
 never P o x none some = absurd (none_some (sym none ∙ some))
   where

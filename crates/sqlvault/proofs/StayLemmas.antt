@@ -78,7 +78,7 @@ asked old new clean s ready db may = elim (s.crash clean db may) [ inl was ↦ w
 pub leaves_on : (old mid new : State) → Stays old mid → IsReady old → LeavesNoMore old mid → (IsReady mid → LeavesNoMore mid new) → LeavesNoMore old new
 leaves_on old mid new a ready first then db may = first db (then (a.stays_open ready.0, subst IsKept (sym a.now_is) ready.1) db may)
 
--- ---- tests behind a query that changed nothing
+-- ---- tests after a query that changed nothing
 
 pub unchanged_stays : (old mid new : State) → IsUnchanged old mid → Stays mid new → IsUnchanged old new
 unchanged_stays old mid new a b = (

@@ -140,7 +140,7 @@ not_counted deposits row most k is above n = clash (class_count row.class (recei
     clash : (n k : ℕ) (most z : ℤ) → most ≡ pos n → z ≡ pos k → most <ℤ z → k ≤ n → ⊥
     clash n k most z a b c d = omega (arith, ints, a, b, c, d)
 
--- where nothing is counted, no number was given
+-- if nothing is counted, no number was given
 pub none_told : (rows : Rows) (deposits : List Receipt) (row : Message) (asked named : List ℕ) (o : Option Count) → DepositsAre rows deposits → asked ≡ row.maildrop → named ≡ row.class
     → o ≡ find (is_count asked named) rows.counts → o ≡ None → pos 0 ≡ pos (class_count row.class (receipts_of row.maildrop deposits))
 none_told rows deposits row asked named o d a n is e =

@@ -56,7 +56,7 @@ pub found_here : (s : State) → HasTables s ⊎ HasOldTables s → (found : Opt
 found_here s (inl ours) found is _ some = sym (is ours) ∙ some
 found_here s (inr older) found _ is some = sym (is older) ∙ some
 
--- every row of `meta`, behind a query that changed nothing
+-- every row of `meta`, after a query that changed nothing
 pub all_then : (s0 s1 : State) → HasTables s0 ⊎ HasOldTables s0
     → (HasCleanDisk s1 → HasTables s0 → IsUnchanged s0 s1)
     → (HasCleanDisk s1 → HasOldTables s0 → IsUnchanged s0 s1) → HasCleanDisk s1

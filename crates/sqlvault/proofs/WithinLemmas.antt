@@ -90,7 +90,7 @@ pub makes_none : {A : Type 0} (Change : A → Rows → Rows → Type 0) (s : Sta
 makes_none Change s (Ok x) P failed = absurd failed
 makes_none Change s (Err e) P failed = λ base rows w. (inl (record { inside = w.inside; under = w.under; base_is = w.base_is }), w.stop)
 
--- a part behind a step that was done
+-- a part after a step that was done
 pub makes_after : (First Second Both : Rows → Rows → Type 0) (s0 s1 s2 : State) (r : Result (Unit {0}) Error)
     → ((base : Contents) (rows : Rows) → Within s0 base rows → (mid : Rows) × First rows mid × Within s1 base mid) → Makes (λ _. Second) s1 s2 r
     → ((from mid to : Rows) → First from mid → Second mid to → Both from to) → Makes (λ _. Both) s0 s2 r

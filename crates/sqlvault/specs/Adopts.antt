@@ -1,4 +1,4 @@
--- What adopting a connection does: the store then holds what its tables held, or nothing where it
+-- What adopting a connection does: the store then holds what its tables held, or nothing if it
 -- had no table.
 use Rattle.std.specs.Prelude.{◌≡◌, ◌≢◌, ◌⊎◌, true, false, IsTrue, ⊤, Result, Ok, Err, OnErr, Some, []}
 use Rattle.std.specs.Prelude.{◌∷◌, codes}
@@ -134,7 +134,7 @@ abbrev pub IsVersionRefused : {A : Type 0} → State → State → Result A Vaul
 IsVersionRefused old new (Ok _) = ⊥
 IsVersionRefused old new (Err fault) = RefusesVersion old new fault
 
--- what the rows of `meta` are where the check of the version answers this fault
+-- what the rows of `meta` are if the check of the version answers this fault
 abbrev pub JudgesVersion : Rows → VaultFault → Type 0
 JudgesVersion rows Store = ⊤
 JudgesVersion rows NoMemory = ⊤

@@ -98,7 +98,7 @@ IsOfRows NoMemory = ⊤
 IsOfRows NotOurs = ⊤
 IsOfRows _ = ⊥
 
--- what an older store's rows of `meta` are where the check of the version answers this fault
+-- what an older store's rows of `meta` are if the check of the version answers this fault
 abbrev pub JudgesOlder : Rows → VaultFault → Type 0
 JudgesOlder rows Store = ⊤
 JudgesOlder rows NoMemory = ⊤

@@ -29,7 +29,7 @@ IsMet (Ok _) = ⊤
 IsMet (Err (Answered _)) = ⊤
 IsMet (Err (Met _)) = ⊥
 
--- what is held: what was made of the contents where the part is done, else the contents
+-- what is held: what was made of the contents if the part is done, else the contents
 abbrev pub MadeOr : {A E : Type 0} → Result A E → ((Contents → Type 0) → Type 0) → Contents
     → (Contents → Type 0) → Type 0
 MadeOr (Ok _) Made c Held = Made Held
@@ -84,7 +84,7 @@ module _ {S : Type 0} (store : Ghosts S) (old new : Held S) where
         → Makes Change (state store old) (state store new) result
 
   -- Queries of rows that may be no contents. A connection that is clean at their end was clean
-  -- before. Where our tables are there, it is as it was; after an error its transaction may be
+  -- before. If our tables are there, it is as it was; after an error its transaction may be
   -- gone. A stop leaves no more than before.
   pub record Asks {A E : Type 0} (result : Result A E) : Type 0 where
     pub clean : WasClean (state store old) (state store new)
@@ -96,7 +96,7 @@ module _ {S : Type 0} (store : Ghosts S) (old new : Held S) where
         → LeavesNoMore (state store old) (state store new)
 
   -- A part of such queries, which may be none. A connection that is clean at its end was clean
-  -- before; where our tables are there it sees what it saw, or after an error its transaction may
+  -- before; if our tables are there it sees what it saw, or after an error its transaction may
   -- be gone. A stop leaves no more than before.
   pub record Reads {A : Type 0} (result : Result A Error) : Type 0 where
     pub clean : WasClean (state store old) (state store new)
@@ -105,7 +105,7 @@ module _ {S : Type 0} (store : Ghosts S) (old new : Held S) where
     pub stop : HasCleanDisk (state store new) → IsReady (state store old)
         → LeavesNoMore (state store old) (state store new)
 
--- a change whose end is known: the contents are `after` where it is done, and else what they were
+-- a change whose end is known: the contents are `after` if it is done, and else what they were
 abbrev pub Becomes : {S A E : Type 0} → Ghosts S → (old new : Held S) → Result A E
     → (after c : Contents) → Type 0
 Becomes store old new result after c =

@@ -64,7 +64,7 @@ clerk_row c = record { name = c.name; kind = kind_of c.credential; secret = secr
 abbrev pub deposit_row : Receipt → Deposit
 deposit_row r = record { maildrop = r.maildrop; id = r.id; class = r.class; k = pos r.k; digest = r.digest }
 
--- the number of a count; 0 where there is none
+-- the number of a count; 0 if there is none
 abbrev pub number_in : Option Count → ℤ
 number_in None = pos 0
 number_in (Some c) = c.k

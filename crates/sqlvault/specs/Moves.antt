@@ -25,7 +25,7 @@ body_head b = b.head
 abbrev pub body_sheets : Body → List Sheet
 body_sheets b = sheets_of b.head.key b.body
 
--- these messages are added behind the others
+-- these messages are added after the others
 abbrev pub Moves : List Body → Rows → Rows → Type 0
 Moves bodies old new = new ≡ record old { messages = old.messages ++ map body_head bodies; sheets = old.sheets ++ flat_map body_sheets bodies }
 
@@ -42,7 +42,7 @@ MovesOld true old new = MovesAll old new
 abbrev pub AreBelow : ℤ → Rows → Type 0
 AreBelow key rows = AllByRecursion (λ (m : Message). m.key <ℤ key) rows.messages
 
--- the message is added behind the others, whose keys are below its own
+-- the message is added after the others, whose keys are below its own
 abbrev pub MovesBody : Body → Rows → Rows → Type 0
 MovesBody body old new = AreBelow body.head.key old → Moves (body ∷ []) old new
 
@@ -97,7 +97,7 @@ Part Change old new (Ok x) = DoesPart Change old new
 Part Change old new (Err e) = HaltsPart old new
 
 -- A part of the transaction that makes a store, or carries one over, in one word: a connection that
--- is clean at its end was clean before, and where `Begun` held the part makes this change of the
+-- is clean at its end was clean before, and if `Begun` held the part makes this change of the
 -- rows, or an error came.
 pub record Builds {S A : Type 0} (store : Ghosts S) (old new : Held S) (Begun : State → Type 0)
     (Change : Rows → Rows → Type 0) (result : Result A Error) : Type 0 where

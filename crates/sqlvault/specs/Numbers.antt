@@ -27,12 +27,12 @@ has_number ns q = list_any (λ (x : Number). is_eq (number_cmp x q)) ns
 abbrev pub IsSetOf : List Number → BTreeSet Number → Type 0
 IsSetOf ns s = (q : Number) → contains number_cmp s q ≡ has_number ns q
 
--- the number of a row as a natural; 0 where it is negative
+-- the number of a row as a natural; 0 if it is negative
 abbrev pub natural : ℤ → ℕ
 natural (pos n) = n
 natural (negsuc n) = 0
 
--- the number of a row as a natural; `None` where it is negative
+-- the number of a row as a natural; `None` if it is negative
 abbrev pub natural_of : ℤ → Option ℕ
 natural_of (pos n) = Some n
 natural_of (negsuc n) = None

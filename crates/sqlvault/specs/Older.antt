@@ -28,7 +28,7 @@ pub record IsBegunOlder (carried : Bool) (s : State) : Type 0 where
 abbrev pub Brings : (carried : Bool) → Rows → Rows → Type 0
 Brings carried old new = new ≡ brought carried old
 
--- Queries of an older store. A connection that is clean at their end was clean before. Where the
+-- Queries of an older store. A connection that is clean at their end was clean before. If the
 -- older tables are there, it is as it was; after an error its transaction may be gone. A stop
 -- leaves no more than before.
 pub record AsksOlder {S A E : Type 0} (store : Ghosts S) (old new : Held S)

@@ -8,7 +8,7 @@ use Rattle.mailsql.specs.Rows.{same_int}
 abbrev pub is_at : ℤ → Sheet → Bool
 is_at place s = same_int s.place place
 
--- the octets of a sheet and what stands behind it; nothing where the sheet isn't there
+-- the octets of a sheet and what stands after it; nothing if the sheet isn't there
 abbrev pub with_behind : Option Sheet → List ℕ → List ℕ
 with_behind None behind = []
 with_behind (Some s) behind = s.octets ++ behind

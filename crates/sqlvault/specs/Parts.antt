@@ -13,7 +13,7 @@ use Rattle.vault.specs.Records.{Records, most_clerks, most_maildrops, most_messa
 use Rattle.mailsql.specs.Columns.{Rows}
 use Rattle.sqlvault.specs.Keeps.{clerk_row, deposit_row, count_in, message_row, message_sheets, groups_in, rule_row, at_place}
 
--- A check answers true where some x has P, and false where none has.
+-- A check answers true if some x has P, and false if none has.
 abbrev pub Finds : {X : Type 0} → (X → Type 0) → Bool → Type 0
 Finds {X} P true = (x : X) × P x
 Finds {X} P false = (x : X) → P x → ⊥

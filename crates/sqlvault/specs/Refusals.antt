@@ -1,4 +1,4 @@
--- What a call answers where a statement was refused, and how refusals are counted.
+-- What a call answers if a statement was refused, and how refusals are counted.
 use Rattle.std.specs.Prelude.{◌+◌, ℕ, Bool, true, false, Result, Ok, Err, min, if◌then◌else◌}
 use Rattle.sqlite.specs.declared.error.Error.{Error}
 use Rattle.sqlite.specs.declared.error.Error.TheVariants.{SqliteFailure}
@@ -39,7 +39,7 @@ abbrev pub is_store : VaultFault → Bool
 is_store fault.Store = true
 is_store _ = false
 
--- the count of faults after this one: one more, but never above the greatest, where it is `Store`
+-- the count of faults after this one: one more, but never above the greatest, if it is `Store`
 abbrev pub counted_by : VaultFault → ℕ → ℕ
 counted_by f n = if is_store f then min (n + 1) greatest_count else n
 

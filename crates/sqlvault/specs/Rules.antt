@@ -33,7 +33,7 @@ all_member_rows place (g ∷ gs) = member_rows (pos place) 1 g.members ++ all_me
 abbrev pub AddsMembers : (group : ℤ) → List Name → Rows → Rows → Type 0
 AddsMembers group names old new = new ≡ record old { members = old.members ++ member_rows group 1 names }
 
--- if this is the next place, the group and its members are added behind the others
+-- if this is the next place, the group and its members are added after the others
 abbrev pub AddsGroup : (place : ℤ) → Group → Rows → Rows → Type 0
 AddsGroup place g old new = next_group old.groups ≡ place → new ≡ record old { groups = old.groups ++ group_row place g ∷ []; members = old.members ++ member_rows place 1 g.members }
 
@@ -47,7 +47,7 @@ SetsGroups gs old new = new ≡ record old { groups = group_rows 1 gs; members =
 
 -- ---- rules
 
--- these rules are added behind the others, at any places, and nothing else changes
+-- these rules are added after the others, at any places, and nothing else changes
 pub record AddsRules (rules : List policy.Rule) (old new : Rows) : Type 0 where
   pub added : map (at_place (pos 0)) new.rules ≡ map (at_place (pos 0)) old.rules ++ map (rule_row (pos 0)) rules
   pub others : new ≡ record old { rules = new.rules }

@@ -11,7 +11,7 @@ use Rattle.sqlvault.specs.Keeps.{Keeps}
 use Rattle.sqlvault.specs.Stands.{Holds, Leaves}
 
 -- These contents may be held after a stop: it may leave rows such that all contents for which they
--- stand say the same as these. Where the rows left stand for no contents, any contents may be held.
+-- stand say the same as these. If the rows left stand for no contents, any contents may be held.
 abbrev pub MayHold : State → Contents → Type 0
 MayHold s left = (db : Trees) × s.may_leave db × ((c : Contents) → Keeps (rows_in db) c → SaySame left c)
 

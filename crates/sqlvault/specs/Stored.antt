@@ -39,12 +39,12 @@ abbrev pub Tells : Type 0 → Bool → Type 0
 Tells P true = P
 Tells P false = P → ⊥
 
--- a check answers n, 2^64 - 1 at most, where P is so, and else `None`
+-- a check answers n, 2^64 - 1 at most, if P is so, and else `None`
 abbrev pub Counts : Type 0 → ℕ → Option ℕ → Type 0
 Counts P n (Some m) = P × (m ≡ min n (2 ^ 64 - 1))
 Counts P n None = P → ⊥
 
--- a search answers an x whose `f x` has P, or `None` where nothing has P
+-- a search answers an x whose `f x` has P, or `None` if nothing has P
 abbrev pub Brings : {X Y : Type 0} → (X → Y) → (Y → Type 0) → Option X → Type 0
 Brings f P (Some x) = P (f x)
 Brings {X} {Y} f P None = (y : Y) → P y → ⊥

@@ -11,7 +11,7 @@ use Rattle.sqlvault.specs.Stands.{Halted, Holds, WasClean}
 use Rattle.sqlvault.specs.Stops.{LeavesLast}
 
 module _ {S : Type 0} (store : Ghosts S) (old new : Held S) where
-  -- It is begun over what was last committed, where none was under way, or an error came. A stop
+  -- It is begun over what was last committed, if none was under way, or an error came. A stop
   -- leaves what it left before.
   pub record Begins (result : Result (Unit {0}) Error) : Type 0 where
     pub law : LeavesLast (state store old)

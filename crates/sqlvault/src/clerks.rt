@@ -72,7 +72,7 @@ pub(crate) fn digest_of(octets: &[u8]) -> [u8; 32]
     digest
 }
 
-/// The credential of a clerk's row; `None` where the row is no clerk's.
+/// The credential of a clerk's row; `None` if the row is no clerk's.
 pub(crate) fn read_credential(row: &Clerk) -> Option<Credential>
     ensures sound { is_some result ≡ is_credential_row row.now }
     ensures read { (c : vault.Clerk) → row.now ≡ clerk_row c
@@ -95,7 +95,7 @@ pub(crate) fn read_credential(row: &Clerk) -> Option<Credential>
     }
 }
 
-/// The credential of a clerk, where there is one of that name.
+/// The credential of a clerk, if there is one of that name.
 pub(crate) fn find_credential<S: Alter>(
     alloc: Global,
     conn: &mut Connection<S>,
@@ -260,7 +260,7 @@ pub(crate) fn put_clerk<S: Alter>(
 
 /// Drops a clerk.
 ///
-/// Answers [`VaultFault::NoClerk`] where there is none of that name. After any refusal the clerks
+/// Answers [`VaultFault::NoClerk`] if there is none of that name. After any refusal the clerks
 /// are as they were.
 pub(crate) fn drop_clerk<S: Alter>(
     alloc: Global,

@@ -36,7 +36,7 @@ pub(crate) const MAX_MESSAGES: u64 = 10_000;
 /// The greatest number of deposits of one class under one maildrop name.
 pub(crate) const MAX_DEPOSITS: u64 = 1_000_000_000;
 
-/// The number of a row. An error where it is below 0, which a sound store's never is.
+/// The number of a row. An error if it is below 0, which a sound store's never is.
 pub(crate) fn read_number(number: i64) -> Result<u64, Error>
     ensures { (n : ℕ) → number ≡ pos n → result ≡ Ok n }
 {
@@ -46,7 +46,7 @@ pub(crate) fn read_number(number: i64) -> Result<u64, Error>
     Ok(number.cast_unsigned())
 }
 
-/// The number of a count; 0 where there is none.
+/// The number of a count; 0 if there is none.
 fn number_of(count: &Option<rows::Count>) -> Result<u64, Error>
     ensures { (n : ℕ) → number_in count.now ≡ pos n → result ≡ Ok n }
 {
@@ -63,7 +63,7 @@ fn is_same(row: &rows::Deposit, class: &Name, digest: &[u8; 32]) -> bool
     row.class.as_slice() == class.as_bytes() && row.digest.as_slice() == digest.as_slice()
 }
 
-/// The answer to a deposit whose id was used before, by this row: the old unique-id where class and
+/// The answer to a deposit whose id was used before, by this row: the old unique-id if class and
 /// text are the same, else `Conflict`.
 fn known_or_conflict(
     row: &rows::Deposit,
@@ -284,8 +284,8 @@ fn receipt_for(maildrop: &Name, class: &Name, id: &DepositId, k: u64, digest: [u
 /// Puts a message into a maildrop, once for each deposit id under the maildrop's name. The message,
 /// its sheets, its receipt and the count of its class are committed together.
 ///
-/// Answers [`VaultFault::NoMaildrop`] where the maildrop is missing, else [`VaultFault::Conflict`]
-/// where the id was used with another class or text, else [`VaultFault::Full`] where the maildrop
+/// Answers [`VaultFault::NoMaildrop`] if the maildrop is missing, else [`VaultFault::Conflict`]
+/// if the id was used with another class or text, else [`VaultFault::Full`] if the maildrop
 /// has 10,000 messages or there were 1,000,000,000 deposits of the class under its name. After any
 /// error nothing is changed.
 pub(crate) fn deposit<S: Alter>(

@@ -50,7 +50,7 @@ impl SqlVault<MemStore> {
     /// A new store in memory, which holds nothing. Its tables are those of a store in a file; it is
     /// gone with the process.
     ///
-    /// Answers [`VaultFault::NoMemory`] where memory was refused, and [`VaultFault::Store`] where
+    /// Answers [`VaultFault::NoMemory`] if memory was refused, and [`VaultFault::Store`] if
     /// SQLite refused a statement.
     pub fn in_memory(alloc: Global) -> Result<SqlVault<MemStore>, VaultFault>
         ensures empty { IfOk result (λ vault. IsTrue (state over_memory vault.conn).is_open
@@ -76,7 +76,7 @@ impl<S: Start> SqlVault<FileStore<FileFrom<S>>> {
     /// none, is a store without a table.
     ///
     /// Answers what `adopt` answers; [`VaultFault::NotOurs`] for a file that is no database,
-    /// [`VaultFault::NoMemory`] where memory was refused, and [`VaultFault::Store`] where the file
+    /// [`VaultFault::NoMemory`] if memory was refused, and [`VaultFault::Store`] if the file
     /// can't be opened for another cause. The path `:memory:` names no file, and gets `Store`.
     pub fn open(
         rt: &HostRuntime,
@@ -106,7 +106,7 @@ fn open_fault(error: &Error) -> VaultFault
     }
 }
 
-/// Adopts a connection, and drops it where it is refused.
+/// Adopts a connection, and drops it if it is refused.
 fn take<S: Alter + Drop>(alloc: Global, conn: Connection<S>) -> Result<SqlVault<S>, VaultFault>
     ensures adopted { IfOk result (λ vault. HasCleanDisk (state S.Store vault.conn)
         → HasCleanDisk (state S.Store conn) × (IsKnown (state S.Store conn)
@@ -155,7 +155,7 @@ impl<D: Disk + Drop> SqlVault<FileStore<D>> {
     ghost use Rattle.sqlite.specs.Files.{file_state};
     ghost use Rattle.sqlite.specs.State.{IsLive};
 
-    /// Adopts a connection to two files, as [`SqlVault::adopt`] does. Where it is refused, it is
+    /// Adopts a connection to two files, as [`SqlVault::adopt`] does. If it is refused, it is
     /// dropped, and the files with it, as [`let_go`] does.
     pub fn adopt_files(
         alloc: Global,
@@ -278,8 +278,8 @@ impl<S: Alter> SqlVault<S> {
 
     /// The names of the clerks, in the order of their octets; 1,000 at most. Nothing is changed.
     ///
-    /// Answers [`VaultFault::NoMemory`] where memory was refused, and [`VaultFault::Store`], which
-    /// is counted, where SQLite refused the query for another cause.
+    /// Answers [`VaultFault::NoMemory`] if memory was refused, and [`VaultFault::Store`], which
+    /// is counted, if SQLite refused the query for another cause.
     pub fn clerk_names(&mut self) -> Result<Vec<Name>, VaultFault>
         ensures done { (c : Contents) → Holds (state S.Store self.old.conn) c
             → HasCleanDisk (state S.Store self.new.conn)
@@ -322,7 +322,7 @@ impl<S: Alter> SqlVault<S> {
         self.told(answer)
     }
 
-    /// The answer with its refusal as the vault's fault, which is counted where it is `Store`.
+    /// The answer with its refusal as the vault's fault, which is counted if it is `Store`.
     fn told<T: Drop>(&mut self, answer: Result<T, Refusal>) -> Result<T, VaultFault>
         ensures answer { result ≡ answer_of answer }
         ensures conn { self.new.conn ≡ self.old.conn }

@@ -141,7 +141,7 @@ fn ran<D: Disk + Drop>(
     }
 }
 
-/// Runs statements over a store, and gives its files as they then are: as an error where a
+/// Runs statements over a store, and gives its files as they then are: as an error if a
 /// statement failed.
 fn filled<D: Disk + Drop>(conn: Connection<FileStore<D>>, sql: &str) -> Result<Files<D>, Files<D>> {
     let mut conn = conn;
@@ -286,7 +286,7 @@ fn run_to(
     Ok((end, files))
 }
 
-/// How many acts were answered, by what was printed. Fails where what was printed after them isn't
+/// How many acts were answered, by what was printed. Fails if what was printed after them isn't
 /// a beginning of the next act's answer.
 fn acts_told(acts: &[Act], told: &[u8]) -> Result<usize, Fail> {
     let mut rest = told;
@@ -326,7 +326,7 @@ fn look_after(row: &Row<'_>, done: usize) -> &'static str {
     }
 }
 
-/// The two things that a look may print after a run: that of the acts that were answered and, where
+/// The two things that a look may print after a run: that of the acts that were answered and, if
 /// the store was opened, that of the next act too.
 fn looks_of(row: &Row<'_>, end: End) -> (&'static str, &'static str) {
     let without = look_after(row, end.done);

@@ -37,7 +37,7 @@ answer known note.1
 answer note.1 4
 ";
 
-/// A maildrop and a deposit, behind an event that doesn't call the store.
+/// A maildrop and a deposit, after an event that doesn't call the store.
 static DEPOSIT: [Act; 3] = [
     Act {
         line: "sessions",
@@ -68,7 +68,7 @@ static MAILDROP: &str = "> maildrop add orders
 answer added
 ";
 
-/// A maildrop is dropped, and added again, behind an event that doesn't call the store.
+/// A maildrop is dropped, and added again, after an event that doesn't call the store.
 static DROP: [Act; 3] = [
     Act {
         line: "sessions",
@@ -261,7 +261,7 @@ ended 1
     },
 ];
 
-/// Asks what is held after a restart, and makes the deposit that comes behind it again.
+/// Asks what is held after a restart, and makes the deposit that comes after it again.
 const RESTARTED_LOOK: &str = r"maildrops
 list orders
 deposit orders todo d6 A: 2\n
@@ -294,7 +294,7 @@ answer note.2 15
 answer todo.2 6
 ";
 
-/// What `RESTARTED_LOOK` prints with the deposit behind the restart.
+/// What `RESTARTED_LOOK` prints with the deposit after the restart.
 const RESTARTED_ARRIVED: &str = "answer orders 4 61
 answer note.1 21
 answer pay.1 19
@@ -457,7 +457,7 @@ answer new note.1
 answer note.1 4
 ";
 
-/// A clerk and a policy, behind an event that doesn't call the store.
+/// A clerk and a policy, after an event that doesn't call the store.
 static CLERK: [Act; 5] = [
     Act {
         line: "sessions",

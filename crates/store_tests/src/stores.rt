@@ -1,4 +1,4 @@
-//! What no clause says: that the calls of a vault succeed where there is memory, and the sample
+//! What no clause says: that the calls of a vault succeed if there is memory, and the sample
 //! store's deposits, counts and pages.
 use creds::{Credential, DepositId, Name, Secret};
 use mailtext::canon;
@@ -312,7 +312,7 @@ fn story_of_a_store_over_tables(rt: HostRuntime) -> Result<(), Fail> {
 /// The sample store's first deposit.
 const FIRST: Call = Call::Deposit("note", "d1", "Subject: a\n\nhi\n.\n");
 
-/// Makes the sample store's first deposit. Where memory for it is refused, nothing of it may be
+/// Makes the sample store's first deposit. If memory for it is refused, nothing of it may be
 /// left, and it is made again.
 fn is_deposited<V: Vault>(alloc: Global, vault: &mut V) -> Result<(), Fail> {
     let first = said(alloc, vault, FIRST)?;
@@ -326,7 +326,7 @@ fn is_deposited<V: Vault>(alloc: Global, vault: &mut V) -> Result<(), Fail> {
     )
 }
 
-/// The pages of its kept text, one behind its end, and one of no message.
+/// The pages of its kept text, one after its end, and one of no message.
 static PAGES: [(Call, &str); 5] = [
     (Call::Page(1, 0), "Subject:"),
     (Call::Page(1, 8), " a\r\n\r\nhi"),
@@ -335,7 +335,7 @@ static PAGES: [(Call, &str); 5] = [
     (Call::Page(u64::MAX, 0), ""),
 ];
 
-/// This passes too where one of the deposit's growths of memory is refused.
+/// This passes too if one of the deposit's growths of memory is refused.
 #[test]
 fn pages_join_to_the_kept_text(rt: HostRuntime) -> Result<(), Fail> {
     let mut vault = PlainVault::new(rt.alloc());

@@ -12,7 +12,7 @@ impl Chance {
         Chance { state: seed }
     }
 
-    /// The next number below `bound`; 0 where that is 0. By the linear congruential generator of
+    /// The next number below `bound`; 0 if that is 0. By the linear congruential generator of
     /// Knuth (MMIX): of each state the high 32 bits.
     pub fn below(&mut self, bound: u64) -> u64 {
         let state = self

@@ -13,7 +13,7 @@ use vault::PlainVault;
 pub struct Guest {
     port: Port,
     link: u64,
-    /// Its connection's number; 0 where it has none.
+    /// Its connection's number; 0 if it has none.
     connection: u64,
     /// What it sent and was not read.
     comes: Stream,
@@ -30,7 +30,7 @@ pub struct Guest {
     stalls: bool,
 }
 
-/// Opens a connection. Its number, or 0 where none is opened.
+/// Opens a connection. Its number, or 0 if none is opened.
 fn connect(office: &mut Office<PlainVault>) -> u64 {
     match office.step(Event::Connect) {
         Outcome::Opened(connection) => connection,
@@ -65,14 +65,14 @@ fn take_all(
     Ok(())
 }
 
-/// Puts what an office answers to a request behind `told`.
+/// Puts what an office answers to a request after `told`.
 fn answer(
     alloc: Global,
     office: &mut Office<PlainVault>,
     request: &[u8],
     told: &mut Stream,
 ) -> Result<(), AllocError> {
-    match Request::read(alloc, request) {
+    match Request::read(alloc, &None, request) {
         Got::Command(command) => match office.step(Event::Admin(&command)) {
             Outcome::Answered(answer) => told.add(response(alloc, &answer)?.as_slice()),
             _ => Ok(()),
@@ -117,7 +117,7 @@ impl Guest {
         self.port == port && self.link == link
     }
 
-    /// Its connection's number; 0 where it has none.
+    /// Its connection's number; 0 if it has none.
     pub fn connection(&self) -> u64 {
         self.connection
     }
@@ -201,7 +201,7 @@ impl Guest {
         }
     }
 
-    /// A client's next line acts, where there is one.
+    /// A client's next line acts, if there is one.
     fn act_line(
         &mut self,
         office: &mut Office<PlainVault>,
@@ -224,7 +224,7 @@ impl Guest {
         Ok(true)
     }
 
-    /// A request acts, where it is whole.
+    /// A request acts, if it is whole.
     fn act_request(
         &mut self,
         alloc: Global,
@@ -238,7 +238,7 @@ impl Guest {
         Ok(true)
     }
 
-    /// The next line, or the request, acts, where it is whole and all is told before it. Whether
+    /// The next line, or the request, acts, if it is whole and all is told before it. Whether
     /// one did.
     pub fn act(
         &mut self,

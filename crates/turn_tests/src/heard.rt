@@ -1,7 +1,7 @@
 //! What was judged, line by line: as a server's listener heard it, and as the office that reckons
 //! told it.
-use creds::LoginName;
-use office::{Account, Removal, Verdict, Way};
+use creds::{LoginName, Name, Uid};
+use office::{Account, MessageCommand, MessageRow, Removal, Verdict, Way};
 use serving::{Asked, Link, Listener};
 use session::Removed;
 use std::alloc::{AllocError, Global};
@@ -72,7 +72,27 @@ fn quit_text(alloc: Global, removal: &Removal) -> Result<String, AllocError> {
     )
 }
 
-/// An account; empty where no line was judged. Of the office that reckons all is taken at once, so
+/// A message that a RETR or TOP began to send.
+fn sent_text(alloc: Global, command: &str, message: &MessageRow) -> Result<String, AllocError> {
+    format!(in alloc; "{command} {} {}", message.uid, message.octets)
+}
+
+/// A command that a rule denied.
+fn denied_text(
+    alloc: Global,
+    command: MessageCommand,
+    uid: Uid,
+    rule: Name,
+) -> Result<String, AllocError> {
+    let command = match command {
+        MessageCommand::Dele => "dele",
+        MessageCommand::Retr => "retr",
+        MessageCommand::Top => "top",
+    };
+    format!(in alloc; "denied {command} {uid} {rule}")
+}
+
+/// An account; empty if no line was judged. Of the office that reckons all is taken at once, so
 /// that a connection may end at another event.
 fn account_text(alloc: Global, account: &Account) -> Result<String, AllocError> {
     match account {
@@ -82,6 +102,9 @@ fn account_text(alloc: Global, account: &Account) -> Result<String, AllocError> 
         Account::Unmarked => String::from_str(alloc, "unmarked"),
         Account::Quit(removal) => quit_text(alloc, removal),
         Account::QuitBeforeLogin => String::from_str(alloc, "quit before a login"),
+        Account::Retrieved(message) => sent_text(alloc, "retrieved", message),
+        Account::Topped(message) => sent_text(alloc, "topped", message),
+        Account::Denied(command, uid, rule) => denied_text(alloc, *command, *uid, *rule),
         Account::Ended(_) | Account::Nothing => Ok(String::new(alloc)),
     }
 }
@@ -96,7 +119,7 @@ impl Heard {
         }
     }
 
-    /// Keeps an account, where something was judged.
+    /// Keeps an account, if something was judged.
     fn keep(&mut self, connection: u64, account: &Account) -> Result<(), AllocError> {
         let text = account_text(self.alloc, account)?;
         if text.is_empty() {

@@ -14,7 +14,7 @@ const LET_IN: &str = "+OK POP3 server ready <2.7@h.test>\r\n+OK send PASS\r\n\
     +OK maildrop has 1 messages (21 octets)\r\n";
 
 /// Two come at moment 5: one is silent, ann logs in. With ten seconds for a login the silent one is
-/// closed at moment 15, and ann stays, also behind her QUIT.
+/// closed at moment 15, and ann stays, also after her QUIT.
 static SILENT: [Act; 19] = [
     Act::Comes(0),
     Act::Turns(1, 5),
@@ -67,7 +67,7 @@ static NO_LIMIT: [Act; 6] = [
     Act::Closed(0),
 ];
 
-/// Plays acts where each client has so many seconds for its login.
+/// Plays acts if each client has so many seconds for its login.
 fn plays(alloc: Global, acts: &[Act], login_seconds: u64) -> Result<(), Fail> {
     let settings = Settings {
         wait: 0,

@@ -166,7 +166,7 @@ fn serve_with_file(game: &mut Game) -> Result<(), Fail> {
     Ok(())
 }
 
-/// Behind a turn the links of clients that are over are closed, and no others.
+/// After a turn the links of clients that are over are closed, and no others.
 fn look_at_links(links: &Links, reckoning: &mut Reckoning) {
     let (clients, requests) = reckoning.open();
     if links.count() != clients || links.requests() != requests {

@@ -1,6 +1,6 @@
 //! A wire whose reads and writes go well, wait, end or break by chance, and which looks at each
 //! beside a reckoning.
-ghost use Rattle.std.specs.Prelude.{◌≡◌, length};
+ghost use Rattle.std.specs.Prelude.{◌≡◌, length, None};
 ghost use Rattle.serving.specs.Wires.{IsWithin};
 
 use crate::chance::Chance;
@@ -54,7 +54,7 @@ impl RandomWire {
         if self.is_calm { usize::MAX } else { size }
     }
 
-    /// What comes in place of the next read or write of a link, where it doesn't go well.
+    /// What comes in place of the next read or write of a link, if it doesn't go well.
     fn stop(&mut self, place: usize) -> Option<Io> {
         let number = self.chance.below(400);
         if self.is_calm {
@@ -145,6 +145,8 @@ impl Wire for RandomWire {
     ghost tells = { λ _ _. ⊥ };
 
     ghost asked = { λ _ _. ⊥ };
+
+    ghost address_of = { λ _ _ _. None };
 
     ghost tells_once = { λ wire t u a b. absurd a };
 

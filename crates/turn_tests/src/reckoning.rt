@@ -193,7 +193,7 @@ impl Reckoning {
         }
     }
 
-    /// A link's next line, or its request, acts, where it may.
+    /// A link's next line, or its request, acts, if it may.
     fn act(&mut self, port: Port, place: usize) -> Result<(), AllocError> {
         let Some(guest) = self.guests.get_mut(place) else {
             return Ok(());

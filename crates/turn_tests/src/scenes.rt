@@ -23,7 +23,7 @@ pub enum Act {
     Stalls(usize),
     /// So many turns, at a moment.
     Turns(u64, u64),
-    /// A guest was told a text, so many times over, behind what it was told before, and nothing
+    /// A guest was told a text, so many times over, after what it was told before, and nothing
     /// else.
     Told(usize, &'static str, u64),
     /// A guest's link is open.
@@ -166,7 +166,7 @@ fn sends(wire: &mut ScriptWire, guest: &Guest, text: &str, times: u64) -> Result
     Ok(())
 }
 
-/// A guest must be told a text, so many times over, behind what it was told before.
+/// A guest must be told a text, so many times over, after what it was told before.
 fn wants(guest: &mut Guest, text: &str, times: u64) -> Result<(), AllocError> {
     for _ in 0..times {
         guest.wanted.extend_from_slice(text.as_bytes())?;

@@ -17,7 +17,7 @@ const SEND_PASS: &str = "+OK send PASS\r\n";
 
 const FAILED: &str = "-ERR login failed\r\n";
 
-/// What a guess is told, and one behind which a second one waits.
+/// What a guess is told, and one after which a second one waits.
 const GUESS_FAILED: &str = "+OK send PASS\r\n-ERR login failed\r\n";
 
 const ONE_FAILED: &str = "+OK send PASS\r\n-ERR login failed\r\n+OK send PASS\r\n";
@@ -29,7 +29,7 @@ const LET_IN: &str = "+OK maildrop has 1 messages (21 octets)\r\n";
 const LET_IN_AT_ONCE: &str = "+OK send PASS\r\n+OK maildrop has 1 messages (21 octets)\r\n";
 
 /// Three guesses in one piece, at moment 3: the second is kept back until moment 4, the third for
-/// two seconds behind that, and then the link is closed.
+/// two seconds after that, and then the link is closed.
 static THREE: [Act; 15] = [
     Act::Comes(0),
     Act::Turns(1, 3),
@@ -48,7 +48,7 @@ static THREE: [Act; 15] = [
     Act::Turns(1, 6),
 ];
 
-/// Behind these the next one from there waits for four seconds, on another link too; one that is
+/// After these the next one from there waits for four seconds, on another link too; one that is
 /// right is let in then, and the next guess from there isn't kept back.
 static FOUR: [Act; 14] = [
     Act::Told(1, "+OK POP3 server ready <2.7@h.test>\r\n", 1),

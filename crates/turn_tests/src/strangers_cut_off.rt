@@ -1,7 +1,7 @@
 //! Strangers, each also with its link at its end or broken in place of each read and write: that
 //! link alone is closed, its maildrop is free, and all others are told what they are told without
 //! that fault. How many calls a scene has is reckoned by the rules of a turn: a link whose
-//! connection is ready is read once, and what is owed before and behind that is written as long as
+//! connection is ready is read once, and what is owed before and after that is written as long as
 //! it is taken.
 
 use crate::scenes::{Act, Scene, Stage, cut_by, cut_off, staged, turns};
@@ -24,7 +24,7 @@ const BOB: &str = "USER bob/orders\r\nPASS hunter\r\nSTAT\r\nQUIT\r\n";
 const BOB_TOLD: &str =
     "+OK send PASS\r\n+OK maildrop has 1 messages (21 octets)\r\n+OK 1 21\r\n+OK bye\r\n";
 
-/// Behind a stranger bob comes, and gets the maildrop.
+/// After a stranger bob comes, and gets the maildrop.
 static THEN_BOB: [Act; 8] = [
     Act::Comes(1),
     Act::Turns(6, 1199),
@@ -179,7 +179,7 @@ const LENGTH_REQUIRED: &str = "HTTP/1.1 411 Length Required\r\nContent-Type: tex
 const NOT_FOUND: &str = "HTTP/1.1 404 Not Found\r\nContent-Type: text/plain\r\n\
     Content-Length: 10\r\nConnection: close\r\n\r\nnot found\n";
 
-/// Bob came before the requests; behind them he gets the maildrop.
+/// Bob came before the requests; after them he gets the maildrop.
 static NOW_BOB: [Act; 5] = [
     Act::Open(0),
     Act::Sends(0, BOB, 1),
@@ -405,7 +405,7 @@ fn folder_in_the_spool(rt: HostRuntime) -> Result<(), Fail> {
     Ok(())
 }
 
-/// Whether a client's link was closed, and it was told this or a beginning of it. Fails where its
+/// Whether a client's link was closed, and it was told this or a beginning of it. Fails if its
 /// link is open, and it was told anything else.
 fn is_lost(stage: &Stage, place: usize, greeting: &[u8]) -> Result<bool, Fail> {
     let told = stage.wire.written(place);

@@ -1,4 +1,4 @@
-//! Octets that come one behind the other, and go from the first on.
+//! Octets that come one after the other, and go from the first on.
 use std::alloc::{AllocError, Global};
 
 /// Octets, of which the first ones are gone.

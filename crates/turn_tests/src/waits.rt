@@ -52,7 +52,7 @@ static ENDS_IN_TIME: [Act; 6] = [
     Act::Open(1),
 ];
 
-/// She doesn't: ten seconds behind what he took last bob is told so.
+/// She doesn't: ten seconds after what he took last bob is told so.
 static ENDS_TOO_LATE: [Act; 5] = [
     Act::Turns(2, 12),
     Act::Told(1, "", 0),
@@ -101,7 +101,7 @@ static BY_NUMBER: [Act; 9] = [
 const LATE_TOLD: &str = "+OK POP3 server ready <21.7@h.test>\r\n+OK send PASS\r\n\
     +OK maildrop has 1 messages (21 octets)\r\n";
 
-/// She logs in behind twenty silent clients.
+/// She logs in after twenty silent clients.
 static BEHIND_MANY: [Act; 3] = [
     Act::Sends(20, ANN, 1),
     Act::Turns(4, 0),

@@ -106,7 +106,7 @@ looks_self vault v x settled = record {
   stop = λ c clean up held. settled c clean up held;
 }
 
--- an answer of another type, which tells of a fault of the store only where that one did
+-- an answer of another type, which tells of a fault of the store only if that one did
 pub looks_as : {V A B : Type 0} (vault : Ghosts V) {old new : V} {was : Result A VaultFault}
     (answered : Result B VaultFault)
     → Looks vault.holds vault.faults vault.is_clean vault.is_up vault.may_leave old new was

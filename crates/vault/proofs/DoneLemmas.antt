@@ -15,7 +15,7 @@ held_after : (after c next : Contents) (ok : Bool) → IsKept c → next ≡ (if
 held_after after c next true h e f = let k = f refl h in record { same = sym e; sound = k.sound; keys = k.keys }
 held_after after c next false h e f = record { same = sym e; sound = h.sound; keys = h.keys }
 
--- a call that changes the contents k by `after`, where it is not refused, and answers as expected of them
+-- a call that changes the contents k by `after`, if it is not refused, and answers as expected of them
 pub done : {A : Type 0} (after : Contents → Contents) (expected : Contents → Result A VaultFault) (k v c next : Contents) (r : Result A VaultFault)
     → k ≡ v → HoldsKept v c → IsAnswer (expected k) r → next ≡ (if is_ok r then after k else k) → (is_ok r ≡ true → IsKept k → IsKept (after k))
     → IsDone (HoldsKept next) c (after c) (expected c) r

@@ -54,7 +54,7 @@ any_of p (y ∷ ys) x i h = ⊎_elim
     (λ (e : x ≡ y). or_first (p y) (list_any p ys) (subst (λ z. p z ≡ true) e h))
     (λ k. or_true (p y) (list_any p ys) (any_of p ys x k h)) i
 
--- an element that passes, where one does
+-- an element that passes, if one does
 pub found : {A : Type 0} (p : A → Bool) (xs : List A) → list_any p xs ≡ true → (x : A) × In x xs × (p x ≡ true)
 found p [] h = absurd (true≢false (sym h))
 found p (x ∷ xs) h = ⊎_elim

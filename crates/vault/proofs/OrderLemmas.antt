@@ -62,7 +62,7 @@ one_way [] (y ∷ ys) h = refl
 one_way (x ∷ xs) [] h = absurd (true≢false (sym h))
 one_way (x ∷ xs) (y ∷ ys) h = one_way_at x y (comes_before xs ys) (comes_before ys xs) (one_way xs ys) h
 
--- what isn't behind x comes before what is
+-- what isn't after x comes before what is
 goes_first_at : (x y z : ℕ) (p q r : Bool) → (p ≡ true → q ≡ false → r ≡ true) → cond (x == y) p (nat_lt x y) ≡ true → cond (x == z) q (nat_lt x z) ≡ false
     → cond (z == y) r (nat_lt z y) ≡ true
 goes_first_at x y z p q r f h k = grind (arith, nat_tests)

@@ -8,7 +8,7 @@ use Rattle.std.specs.List.{concat}
 use Rattle.vault.specs.Changes.{IsPage}
 use Rattle.vault.specs.Pages.{are_pages}
 
--- a page of a part is a page of the text, where the part lies there
+-- a page of a part is a page of the text, if the part lies there
 pub page_of_part : (text part rest : List ℕ) (from at room : ℕ) (octets : List ℕ) → drop from text ≡ drop at part ++ rest
     → (from < length text → at < length part) → IsPage part at room octets → IsPage text from room octets
 page_of_part text part rest from at room octets e inside h =
@@ -35,7 +35,7 @@ last_fits p h = grind (arith, nat_tests)
 drop_past : (p rest : List ℕ) (n : ℕ) → length p ≡ 4096 → drop (4096 + n) (p ++ rest) ≡ drop n rest
 drop_past p rest n e = sym (drop-drop n 4096 (p ++ rest)) ∙ ap (drop n) (drop_at p rest 4096 e)
 
--- the octets from a place on are those of its page, and of the pages behind it
+-- the octets from a place on are those of its page, and of the pages after it
 pub at_page : (ps : List (List ℕ)) (i from at : ℕ) → are_pages ps ≡ true → i < length ps → at < 4096 → from ≡ i * 4096 + at
     → drop from (concat ps) ≡ drop at (get_or ps i []) ++ concat (drop (suc i) ps)
 at_page [] i from at h lt small e = absurd (omega arith)
@@ -63,7 +63,7 @@ in_page (p ∷ q ∷ ps) (suc i) from at h lt small e inside =
     in_page (q ∷ ps) i (i * 4096 + at) at (rest_are_pages p q ps h) (omega arith) small refl
     (omega (arith, length-append p (concat (q ∷ ps)), first_is_whole p q ps h))
 
--- a place behind all pages is past the text's end
+-- a place after all pages is past the text's end
 pub past_pages : (ps : List (List ℕ)) (i : ℕ) → are_pages ps ≡ true → length ps ≤ i → length (concat ps) ≤ i * 4096
 past_pages [] i h le = omega arith
 past_pages (p ∷ []) zero h le = absurd (omega arith)
@@ -103,7 +103,7 @@ pub page_and_rest : (left : List ℕ) (n : ℕ) → n ≡ min (length left) 4096
     → take n left ++ take (length left - length (take n left)) (drop (length (take n left)) left) ≡ left
 page_and_rest left n e = rw (page_size left n e, take_rest left n) (take-append-drop n left)
 
--- a page behind which octets are left is whole
+-- a page after which octets are left is whole
 pub page_is_whole : (left : List ℕ) (n : ℕ) → n ≡ min (length left) 4096
     → 0 < length (take (length left - length (take n left)) (drop (length (take n left)) left)) → length (take n left) ≡ 4096
 page_is_whole left n e some =

@@ -8,8 +8,8 @@ use Rattle.vault.specs.Stops.{StaysUp, LeavesBefore, LeavesEither}
 
 module _ {V : Type 0} (holds : V → Contents → Type 0) (faults : V → ℕ) (is_clean is_up : V → Type 0)
     (may_leave : V → Contents → Type 0) (old new : V) where
-  -- Faults are counted, and the store doesn't become clean again. Where it is clean, it holds what
-  -- it held, it is up still behind an answer of the call's own, and a stop leaves what is held.
+  -- Faults are counted, and the store doesn't become clean again. If it is clean, it holds what
+  -- it held, it is up still after an answer of the call's own, and a stop leaves what is held.
   pub record Looks {A : Type 0} (answered : Result A VaultFault) : Type 0 where
     pub counted : CountsFaults (faults old) (faults new) answered
     pub clean : is_clean new → is_clean old
@@ -19,8 +19,8 @@ module _ {V : Type 0} (holds : V → Contents → Type 0) (faults : V → ℕ) (
     pub stop : (c : Contents) → is_clean new → is_up old → holds old c
         → LeavesBefore (may_leave new) c
 
-  -- Faults are counted, and the store doesn't become clean again. Where it is clean, it is up still
-  -- behind an answer of the call's own, and a stop leaves what was held, or what the call makes of
+  -- Faults are counted, and the store doesn't become clean again. If it is clean, it is up still
+  -- after an answer of the call's own, and a stop leaves what was held, or what the call makes of
   -- it (`Done`).
   pub record Commits {A : Type 0}
       (Done : Contents → (Contents → Type 0) → Result A VaultFault → Type 0)

@@ -1,6 +1,6 @@
 -- What each call of a vault promises: its answer, by the contents before, and the contents after.
 -- A refused call leaves the contents as they were. `NoMemory` and `Store` may come in place of any
--- other answer; `Store` comes only where the count of faults grew.
+-- other answer; `Store` comes only if the count of faults grew.
 use Rattle.std.specs.Prelude.{◌≡◌, ◌≤◌, ◌||◌, ℕ, Bool, true, false, nat_le, nat_lt, List, [], ◌==◌, length, take, ⊤, Option, is_some, unwrap_or, Result, Ok, Err, is_ok, if◌then◌else◌}
 use Rattle.std.specs.List.{find}
 use Rattle.std.specs.Option.{option_map}
@@ -36,7 +36,7 @@ abbrev pub IsAnswer : {A : Type 0} → (expected answered : Result A VaultFault)
 IsAnswer expected (Ok x) = expected ≡ Ok x
 IsAnswer expected (Err e) = IsRefusal expected e
 
--- the call is answered as expected; the contents are then `after` or, where it is refused, `before`
+-- the call is answered as expected; the contents are then `after` or, if it is refused, `before`
 pub record IsDone {A : Type 0} (Holds : Contents → Type 0) (before after : Contents) (expected answered : Result A VaultFault) : Type 0 where
   pub answer : IsAnswer expected answered
   pub held : Holds (if is_ok answered then after else before)
@@ -49,7 +49,7 @@ greatest_count = 18446744073709551615
 abbrev pub has_grown : (before now : ℕ) → Bool
 has_grown before now = nat_lt before now || nat_le greatest_count now
 
--- the count of faults never falls, and `Store` is answered only where it grew
+-- the count of faults never falls, and `Store` is answered only if it grew
 pub record CountsFaults {A : Type 0} (before now : ℕ) (answered : Result A VaultFault) : Type 0 where
   pub kept : before ≤ now
   pub cause : answered ≡ Err fault.Store → has_grown before now ≡ true
@@ -94,7 +94,7 @@ heads_result d c = if is_one_of d c.maildrops then Ok (heads d c) else Err fault
 abbrev pub AreHeads : (Contents → Type 0) → Contents → (maildrop : List ℕ) → Result (List Head) VaultFault → Type 0
 AreHeads Holds c d answered = IsDone Holds c c (heads_result d c) answered
 
--- the text of the message under a key; no octets where there is none
+-- the text of the message under a key; no octets if there is none
 abbrev pub text_under : ℕ → List Keyed → List ℕ
 text_under key ms = unwrap_or (option_map (λ (x : Keyed). x.message.text) (find (λ (x : Keyed). x.key == key) ms)) []
 

@@ -106,7 +106,7 @@ kept_in d ms = filter (λ (x : Keyed). bytes_eq x.message.maildrop d) ms
 abbrev pub heads : List ℕ → Contents → List Head
 heads d c = map head_of (kept_in d c.messages)
 
--- octets of a text from octet `from` on: at most `room`, and at least one where there is one left
+-- octets of a text from octet `from` on: at most `room`, and at least one if there is one left
 -- and room for it
 pub record IsPage (text : List ℕ) (from room : ℕ) (octets : List ℕ) : Type 0 where
   pub next : octets ≡ take (length octets) (drop from text)
@@ -147,13 +147,13 @@ with_clerks clerks c = record { clerks = clerks; maildrops = c.maildrops; messag
 
 -- ---- maildrops
 
--- the answer where a name is put: it was new, it was there, or there is no room for a new one
+-- the answer if a name is put: it was new, it was there, or there is no room for a new one
 pub data PutAnswer : Type 0 where
   WasNew : PutAnswer
   WasThere : PutAnswer
   NoRoom : PutAnswer
 
--- the answer for a name, where there are `count` names of at most `most`
+-- the answer for a name, if there are `count` names of at most `most`
 abbrev pub put_answer : (is_there : Bool) → (count most : ℕ) → PutAnswer
 put_answer true count most = WasThere
 put_answer false count most = if nat_le most count then NoRoom else WasNew
@@ -178,7 +178,7 @@ without_maildrop name maildrops = filter (λ d. not (bytes_eq d name)) maildrops
 abbrev pub with_maildrops : List (List ℕ) → Contents → Contents
 with_maildrops maildrops c = record { clerks = c.clerks; maildrops = maildrops; messages = c.messages; deposits = c.deposits; policy = c.policy }
 
--- the answer where a maildrop is dropped: only an empty one goes
+-- the answer if a maildrop is dropped: only an empty one goes
 pub data DropAnswer : Type 0 where
   Gone : DropAnswer
   NotThere : DropAnswer

@@ -5,7 +5,7 @@ use Rattle.vault.specs.declared.vault.Vault.{Ghosts}
 use Rattle.vault.specs.Changes.{Contents}
 use Rattle.vault.specs.Stops.{LeavesBefore}
 
--- The count of faults doesn't fall, and the store doesn't become clean again. Where it is clean, it
+-- The count of faults doesn't fall, and the store doesn't become clean again. If it is clean, it
 -- holds what it held, it is up still if the part ended as `Own` says, and a stop leaves what is
 -- held.
 pub record OnlyLooks {V : Type 0} (vault : Ghosts V) (old new : V) (Own : Type 0) : Type 0 where

@@ -47,7 +47,7 @@ pub(crate) fn put_name(names: &mut Vec<Name>, name: &Name) -> Result<bool, Vault
     Ok(true)
 }
 
-/// Drops a maildrop's name. Answers `NoMaildrop` where it isn't there, else `NotEmpty` where a
+/// Drops a maildrop's name. Answers `NoMaildrop` if it isn't there, else `NotEmpty` if a
 /// message lies in the maildrop.
 pub(crate) fn drop_name(
     names: &mut Vec<Name>,

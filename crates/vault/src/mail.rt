@@ -38,7 +38,7 @@ fn heads_in(alloc: Global, messages: &[Keyed], maildrop: &Name) -> Result<Vec<He
         .collect(alloc)
 }
 
-/// The heads of a maildrop's messages, or `NoMaildrop` where it isn't there.
+/// The heads of a maildrop's messages, or `NoMaildrop` if it isn't there.
 pub(crate) fn heads_of(
     alloc: Global,
     names: &[Name],

@@ -113,7 +113,7 @@ impl PagedText {
     }
 
     /// Copies octets, from octet `from` on, into the front of the buffer: through the end of a
-    /// page, or as many as fit. Returns how many: at least one where any is left and the buffer
+    /// page, or as many as fit. Returns how many: at least one if any is left and the buffer
     /// isn't empty.
     pub(crate) fn read(&self, from: usize, buffer: &mut [u8]) -> usize
         ensures within { result ≤ length buffer.new }

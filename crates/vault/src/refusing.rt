@@ -19,7 +19,7 @@ use std::marker::Model;
 /// Counts down to the refused call.
 #[derive(Clone, Copy)]
 struct Countdown {
-    /// How many calls are to come, the refused one counted; 0 where none will be refused.
+    /// How many calls are to come, the refused one counted; 0 if none will be refused.
     to_come: u64,
     /// How many calls were refused. The count stops at 2^64 - 1.
     refusals: u64,

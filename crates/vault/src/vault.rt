@@ -17,7 +17,7 @@ use policy::Policy;
 /// A mail store: it keeps clerks, maildrops, messages, deposits and the policy.
 ///
 /// Contracts see the contents that it holds, how many faults it counted, and whether it is clean.
-/// Beyond safety, a call promises something only where the store is clean when the call ends. The
+/// Beyond safety, a call promises something only if the store is clean when the call ends. The
 /// contents of a clean store are sound. A store that isn't clean may hold any contents, and never
 /// becomes clean again. A refused call changes no contents.
 ///
@@ -26,8 +26,8 @@ use policy::Policy;
 /// call or, if the call changes records, those from after it. Once the call has answered, with
 /// neither `Store` nor `NoMemory`, the device is still up, and a stop leaves just what is held.
 ///
-/// Beside the refusals that each call names, any call may answer [`VaultFault::NoMemory`], where
-/// memory ran out, and [`VaultFault::Store`], where what the store stands on refused a statement;
+/// Beside the refusals that each call names, any call may answer [`VaultFault::NoMemory`], if
+/// memory ran out, and [`VaultFault::Store`], if what the store stands on refused a statement;
 /// then the count of faults has grown.
 pub trait Vault {
     /// The store holds these contents.
@@ -49,9 +49,9 @@ pub trait Vault {
     /// deposit of an id, with the same class and text, answers [`Deposited::Known`] and changes
     /// nothing, even if the message is gone.
     ///
-    /// Answers [`VaultFault::NoMaildrop`] where the maildrop is missing, else
-    /// [`VaultFault::Conflict`] where the id was used with another class or text, else
-    /// [`VaultFault::Full`] where the maildrop has 10,000 messages or its name had 1,000,000,000
+    /// Answers [`VaultFault::NoMaildrop`] if the maildrop is missing, else
+    /// [`VaultFault::Conflict`] if the id was used with another class or text, else
+    /// [`VaultFault::Full`] if the maildrop has 10,000 messages or its name had 1,000,000,000
     /// deposits of the class.
     fn deposit(
         &mut self,
@@ -67,21 +67,21 @@ pub trait Vault {
 
     /// The heads of a maildrop's messages, in order of arrival.
     ///
-    /// Answers [`VaultFault::NoMaildrop`] where the maildrop is missing.
+    /// Answers [`VaultFault::NoMaildrop`] if the maildrop is missing.
     fn heads(&mut self, maildrop: &Name) -> Result<Vec<Head>, VaultFault>
         ensures done { (c : Contents) → holds self.old c → is_clean self.new
             → AreHeads (holds self.new) c maildrop.now (seen_as result (λ v. v.items)) }
         ensures looks { Looks holds faults is_clean is_up may_leave self.old self.new result };
 
     /// Reads octets of a message, from octet `from` on, into the front of the buffer. Returns how
-    /// many: at least one where any is left and the buffer isn't empty, else 0. Under an unknown
+    /// many: at least one if any is left and the buffer isn't empty, else 0. Under an unknown
     /// key there are none.
     fn page(&mut self, key: MessageKey, from: u64, buffer: &mut [u8]) -> Result<usize, VaultFault>
         ensures done { (c : Contents) → holds self.old c → is_clean self.new
             → IsPaged (holds self.new) c key from buffer.new result }
         ensures looks { Looks holds faults is_clean is_up may_leave self.old self.new result };
 
-    /// Removes the maildrop's messages that have these keys: all of them or, where it is refused,
+    /// Removes the maildrop's messages that have these keys: all of them or, if it is refused,
     /// none. Keys without a message in the maildrop are ignored.
     fn remove(&mut self, maildrop: &Name, keys: &[MessageKey]) -> Result<(), VaultFault>
         ensures done { (c : Contents) → holds self.old c → is_clean self.new
@@ -96,7 +96,7 @@ pub trait Vault {
             → AreTotals (holds self.new) c (seen_as result (λ v. v.items)) }
         ensures looks { Looks holds faults is_clean is_up may_leave self.old self.new result };
 
-    /// The credential of a clerk; `None` where there is no clerk of that name.
+    /// The credential of a clerk; `None` if there is no clerk of that name.
     fn credential(&mut self, clerk: &Name) -> Result<Option<Credential>, VaultFault>
         ensures done { (c : Contents) → holds self.old c → is_clean self.new
             → IsCredential (holds self.new) c clerk.now result }
@@ -114,7 +114,7 @@ pub trait Vault {
 
     /// Drops a clerk.
     ///
-    /// Answers [`VaultFault::NoClerk`] where there is none of that name.
+    /// Answers [`VaultFault::NoClerk`] if there is none of that name.
     fn drop_clerk(&mut self, clerk: &Name) -> Result<(), VaultFault>
         ensures done { (c : Contents) → holds self.old c → is_clean self.new
             → IsClerkDropped (holds self.new) c clerk.now result }
@@ -134,8 +134,8 @@ pub trait Vault {
     /// Drops an empty maildrop. The deposits of its name stay known, so that its counts and ids go
     /// on when it is added again.
     ///
-    /// Answers [`VaultFault::NoMaildrop`] where the maildrop is missing, else
-    /// [`VaultFault::NotEmpty`] where it has a message.
+    /// Answers [`VaultFault::NoMaildrop`] if the maildrop is missing, else
+    /// [`VaultFault::NotEmpty`] if it has a message.
     fn drop_maildrop(&mut self, maildrop: &Name) -> Result<(), VaultFault>
         ensures done { (c : Contents) → holds self.old c → is_clean self.new
             → IsMaildropDropped (holds self.new) c maildrop.now result }

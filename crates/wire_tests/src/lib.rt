@@ -18,6 +18,8 @@ mod requests_refused;
 #[cfg(test)]
 mod requests_served;
 #[cfg(test)]
+mod sites;
+#[cfg(test)]
 mod spools;
 #[cfg(test)]
 mod strangers;

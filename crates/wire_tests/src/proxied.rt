@@ -27,7 +27,7 @@ impl Clock for HandClock {
 type TestWire = ProxiedWire<ScriptWire, HandClock>;
 
 /// What comes on a link, what is read from it, and from where it came: an address, `peer` for that
-/// of the wire inside, `none` where it isn't known, `broken` where the link was closed.
+/// of the wire inside, `none` if it isn't known, `broken` if the link was closed.
 static LINKS: [(&str, &str, &str); 17] = [
     (
         "PROXY TCP4 203.0.113.7 127.0.0.1 51234 1110\r\nCAPA\r\n",
@@ -109,7 +109,7 @@ fn wire_of(alloc: Global, comes: &str, piece: usize) -> Result<TestWire, AllocEr
     Ok(ProxiedWire::new(alloc, inside, HandClock { seconds: 5 }))
 }
 
-/// Reads 200 times from a link; `false` where it is over then.
+/// Reads 200 times from a link; `false` if it is over then.
 fn read_on(wire: &mut TestWire, link: Link, heard: &mut Vec<u8>) -> Result<bool, AllocError> {
     let mut room = [0; 4096];
     for _ in 0..200 {
@@ -162,7 +162,7 @@ fn first_lines(rt: HostRuntime) -> Result<(), Fail> {
     Ok(())
 }
 
-/// A line that isn't whole ten seconds behind the acceptance closes its link, and not before.
+/// A line that isn't whole ten seconds after the acceptance closes its link, and not before.
 #[test]
 fn late_line(rt: HostRuntime) -> Result<(), Fail> {
     let mut wire = wire_of(rt.alloc(), "PROXY TCP4 203.0", 4096)?;
@@ -178,7 +178,7 @@ fn late_line(rt: HostRuntime) -> Result<(), Fail> {
     Ok(())
 }
 
-/// What lies behind a line is looked at in the next turn, which doesn't wait.
+/// What lies after a line is looked at in the next turn, which doesn't wait.
 #[test]
 fn looked_at_behind(rt: HostRuntime) -> Result<(), Fail> {
     let mut wire = wire_of(rt.alloc(), "PROXY UNKNOWN\r\nCAPA\r\n", 4096)?;

@@ -70,7 +70,7 @@ static REFUSED: [(&str, Refusal); 20] = [
 
 /// Whether a request is refused so.
 fn is_refused(alloc: Global, octets: &[u8], refusal: Refusal) -> bool {
-    match Request::read(alloc, octets) {
+    match Request::read(alloc, &None, octets) {
         Got::Bad(told) => told == refusal,
         _ => false,
     }
@@ -78,12 +78,12 @@ fn is_refused(alloc: Global, octets: &[u8], refusal: Refusal) -> bool {
 
 /// Whether more of a request is to come.
 fn is_unfinished(alloc: Global, octets: &[u8]) -> bool {
-    matches!(Request::read(alloc, octets), Got::More)
+    matches!(Request::read(alloc, &None, octets), Got::More)
 }
 
 /// Whether a request is read as a command.
 fn is_command(alloc: Global, octets: &[u8]) -> bool {
-    matches!(Request::read(alloc, octets), Got::Command(_))
+    matches!(Request::read(alloc, &None, octets), Got::Command(_))
 }
 
 #[test]
@@ -159,7 +159,7 @@ fn method_not_allowed(rt: HostRuntime) -> Result<(), Fail> {
 
 /// The response to a request whose body is no policy.
 fn told_fault(alloc: Global, octets: &[u8]) -> Option<Vec<u8>> {
-    match Request::read(alloc, octets) {
+    match Request::read(alloc, &None, octets) {
         Got::BadPolicy(fault) => policy_response(alloc, &fault).ok(),
         _ => None,
     }
@@ -177,7 +177,7 @@ fn policy_with_a_fault(rt: HostRuntime) -> Result<(), Fail> {
     let request = b"PUT /policy HTTP/1.1\r\nContent-Length: 1\r\n\r\n\xff";
     assert!(rt;
         matches!(
-            Request::read(alloc, request),
+            Request::read(alloc, &None, request),
             Got::BadPolicy(PolicyFault::NotToml)
         )
     );
@@ -277,7 +277,7 @@ static ANSWERED: [(&str, &str); 16] = [
 
 /// The response of an office to a request.
 fn answer_to(alloc: Global, office: &mut Office<PlainVault>, octets: &[u8]) -> Option<Vec<u8>> {
-    let Got::Command(command) = Request::read(alloc, octets) else {
+    let Got::Command(command) = Request::read(alloc, &None, octets) else {
         return None;
     };
     match office.step(Event::Admin(&command)) {

@@ -8,7 +8,7 @@ use transcripts::offices::deposit;
 use transcripts::playing::{expect, run_at};
 use vault::PlainVault;
 
-/// A command: its request's method and target, its body where it has one, and its line in a script.
+/// A command: its request's method and target, its body if it has one, and its line in a script.
 type Row = (&'static str, Option<&'static str>, &'static str);
 
 /// A rule, as a body.
@@ -109,7 +109,7 @@ fn request_text(alloc: Global, row: &Row) -> Result<String, AllocError> {
     }
 }
 
-/// Puts the lines of a response's body behind `text`, as replay prints an answer.
+/// Puts the lines of a response's body after `text`, as replay prints an answer.
 fn put_answer(text: &mut String, body: &str) -> Result<(), AllocError> {
     if body.is_empty() {
         writeln!(text, "answer")?;
@@ -121,7 +121,7 @@ fn put_answer(text: &mut String, body: &str) -> Result<(), AllocError> {
 }
 
 /// Makes the requests of these rows, the first on the wire's request link number `from`, and puts
-/// their answers behind `text`.
+/// their answers after `text`.
 fn ask_all(
     bench: &mut Bench<PlainVault>,
     rows: &[Row],
@@ -156,7 +156,7 @@ fn told_over_http(alloc: Global) -> Result<String, Fail> {
     Ok(text)
 }
 
-/// Puts the lines of these rows behind a script.
+/// Puts the lines of these rows after a script.
 fn put_lines(script: &mut String, rows: &[Row]) -> Result<(), AllocError> {
     for (_, _, line) in rows {
         writeln!(script, "{line}")?;

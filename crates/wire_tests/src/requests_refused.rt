@@ -1,6 +1,6 @@
-//! Requests of the administration where a growth of memory or a call of the store is refused. Each
+//! Requests of the administration if a growth of memory or a call of the store is refused. Each
 //! is answered as ever, or that memory ran out, or that the store failed; the link of the first may
-//! be closed instead, where there is no memory to keep it. A command is done wholly or not at all.
+//! be closed instead, if there is no memory to keep it. A command is done wholly or not at all.
 //!
 //! Without a refusal the tests of growths pass too. tools/check-growths runs them with each growth
 //! refused, and counts them by the rows that they print.
@@ -14,11 +14,11 @@ use transcripts::looks::look;
 use transcripts::worked::{Setting, filled};
 use vault::{PlainVault, Refusing, Vault};
 
-/// The response where memory ran out.
+/// The response if memory ran out.
 static OUT_OF_MEMORY: &[u8] =
     b"HTTP/1.1 503 Service Unavailable\r\nContent-Type: text/plain\r\nContent-Length: 14\r\nConnection: close\r\n\r\nout of memory\n";
 
-/// The response where the store refused a call.
+/// The response if the store refused a call.
 static STORE_FAILED: &[u8] =
     b"HTTP/1.1 503 Service Unavailable\r\nContent-Type: text/plain\r\nContent-Length: 13\r\nConnection: close\r\n\r\nstore failed\n";
 
@@ -62,7 +62,7 @@ static ANN: &[u8] = b"USER ann/orders\r\nPASS s3 cret\r\n";
 
 static ANN_IS_IN: &[u8] = b"+OK maildrop has 4 messages (80 octets)\r\n";
 
-/// The last reply to ann where the store refused a call of her login.
+/// The last reply to ann if the store refused a call of her login.
 static REFUSED: &[u8] = b"-ERR store failed\r\n";
 
 /// An office that is sent requests, and how many came.
@@ -78,7 +78,7 @@ fn asked_over<V: Vault + Drop>(alloc: Global, vault: V) -> Result<Asked<V>, Fail
     Ok(Asked { bench, came: 0 })
 }
 
-/// The response to a request. Fails unless its link is closed behind it.
+/// The response to a request. Fails unless its link is closed after it.
 fn told<V: Vault>(asked: &mut Asked<V>, text: &str) -> Result<Vec<u8>, Fail> {
     let place = asked.came;
     request(&mut asked.bench, text.as_bytes())?;
@@ -97,7 +97,7 @@ fn is_as_ever(said: &[u8], row: &Row) -> bool {
     said.starts_with(begins.as_bytes()) && said.ends_with(ends.as_bytes())
 }
 
-/// The response of the office in which nothing is to be refused. Where it isn't the row's, memory
+/// The response of the office in which nothing is to be refused. If it isn't the row's, memory
 /// was refused to the test itself.
 fn told_as_ever(free: &mut Asked<PlainVault>, row: &Row) -> Result<Vec<u8>, Fail> {
     let said = told(free, row.0)?;
@@ -119,7 +119,7 @@ fn keep_the_same<V: Vault>(
 }
 
 /// Gives the other office a request that was refused. Fails unless the tested office had done it
-/// not at all or, where memory ran out, wholly. Answers the response that the tested office must
+/// not at all or, if memory ran out, wholly. Answers the response that the tested office must
 /// give when the request comes again.
 fn whole_or_nothing<V: Vault>(
     tested: &mut Asked<V>,
@@ -138,7 +138,7 @@ fn whole_or_nothing<V: Vault>(
     told(free, row.0)
 }
 
-/// Whether a response is this refusal or, where memory ran out for the first link, empty.
+/// Whether a response is this refusal or, if memory ran out for the first link, empty.
 fn is_told(said: &[u8], refusal: &[u8], came: usize) -> bool {
     said == refusal || (refusal == OUT_OF_MEMORY && said.is_empty() && came == 1)
 }
@@ -197,7 +197,7 @@ fn ask_rows<V: Vault>(
     if !is_refused && refusal == STORE_FAILED {
         return Ok(false);
     }
-    // where memory is refused to the first look, the second decides
+    // if memory is refused to the first look, the second decides
     if keep_the_same(tested, free)? || keep_the_same(tested, free)? {
         Ok(is_refused)
     } else {
@@ -258,7 +258,7 @@ fn growths_of_requests_over_tables(rt: HostRuntime) -> Result<(), Fail> {
     Ok(())
 }
 
-/// Whether a request is refused where an empty store, of vectors or of tables, refuses call `call`.
+/// Whether a request is refused if an empty store, of vectors or of tables, refuses call `call`.
 fn is_refused(alloc: Global, call: u64, is_over_tables: bool) -> Result<bool, Fail> {
     if is_over_tables {
         let vault = Refusing::new(SqlVault::in_memory(alloc)?, call);
@@ -269,7 +269,7 @@ fn is_refused(alloc: Global, call: u64, is_over_tables: bool) -> Result<bool, Fa
     }
 }
 
-/// How many calls the requests make over empty stores, behind the opening's: each is refused once.
+/// How many calls the requests make over empty stores, after the opening's: each is refused once.
 fn calls_refused(alloc: Global, is_over_tables: bool) -> Result<u64, Fail> {
     for call in 2..MOST_CALLS {
         if !is_refused(alloc, call, is_over_tables)? {
@@ -279,7 +279,7 @@ fn calls_refused(alloc: Global, is_over_tables: bool) -> Result<u64, Fail> {
     Err(Fail::new("a call was refused in each run"))
 }
 
-/// Whether a request is refused where a sample store refuses call `call`, with ann logged in.
+/// Whether a request is refused if a sample store refuses call `call`, with ann logged in.
 fn is_refused_with_ann(alloc: Global, call: u64, is_over_tables: bool) -> Result<bool, Fail> {
     if is_over_tables {
         let sample = filled(alloc, SqlVault::in_memory(alloc)?, Setting::Sample)?;

@@ -109,7 +109,7 @@ fn new_bench(alloc: Global, piece: usize) -> Result<Bench<PlainVault>, Fail> {
     bench_over(alloc, PlainVault::new(alloc), piece)
 }
 
-/// Whether each row's request has its response, where both come in pieces of `piece` octets and
+/// Whether each row's request has its response, if both come in pieces of `piece` octets and
 /// `count` turns are served.
 fn rows_in_pieces(alloc: Global, piece: usize, count: u32) -> Result<bool, Fail> {
     let mut bench = new_bench(alloc, piece)?;
@@ -157,12 +157,12 @@ fn ninth_link(rt: HostRuntime) -> Result<(), Fail> {
     Ok(())
 }
 
-/// Serves a turn, so many seconds behind a moment.
+/// Serves a turn, so many seconds after a moment.
 fn turn_behind(bench: &mut Bench<PlainVault>, first: u64, seconds: u64) {
     turns(bench, 1, first.saturating_add(seconds));
 }
 
-/// Whether a link is closed 60 seconds after it was accepted, even where its request isn't whole or
+/// Whether a link is closed 60 seconds after it was accepted, even if its request isn't whole or
 /// its response isn't taken. The first one comes at this moment.
 fn is_closed_by_time(alloc: Global, first: u64) -> Result<bool, Fail> {
     let mut bench = new_bench(alloc, 16)?;
@@ -183,7 +183,7 @@ fn is_closed_by_time(alloc: Global, first: u64) -> Result<bool, Fail> {
     Ok(first_stays && first_ends && second_stays && second_ends)
 }
 
-/// So it is at the start, behind a day, and behind more seconds than 32 bits count.
+/// So it is at the start, after a day, and after more seconds than 32 bits count.
 #[test]
 fn sixty_seconds(rt: HostRuntime) -> Result<(), Fail> {
     for first in [5u64, 100_000, 5_000_000_000] {

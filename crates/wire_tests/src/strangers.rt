@@ -54,7 +54,7 @@ fn sixty_four_links_and_one_more(rt: HostRuntime) -> Result<(), Fail> {
     Ok(())
 }
 
-/// A link that sends lines but takes nothing isn't read behind its first line, and every turn waits
+/// A link that sends lines but takes nothing isn't read after its first line, and every turn waits
 /// as if it weren't there.
 #[test]
 fn a_link_that_never_takes(rt: HostRuntime) -> Result<(), Fail> {

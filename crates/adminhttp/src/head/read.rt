@@ -6,6 +6,7 @@ ghost use Rattle.httparse.specs.Spans.{IsRequestAt, IsRequestWithin};
 ghost use Rattle.adminhttp.specs.Head.{IsHead, IsNoHead, IsLent, most_headers};
 ghost use Rattle.adminhttp.specs.Request.{IsRequest};
 ghost use Rattle.adminhttp.specs.RequestLines.{IsLine};
+ghost use Rattle.adminhttp.specs.Sites.{Site};
 
 use super::{Head, MAX_HEAD, front_of, locate};
 use crate::no_command::NoCommand;
@@ -30,12 +31,12 @@ fn parse_head(text: &[u8], headers: &mut [HeaderSpan]) -> Option<RequestSpans>
 
 /// The head of a request, whose headers' spans are put into `headers`.
 ///
-/// [`NoCommand::More`] where it hasn't ended in at most 8,192 octets; [`Refusal::BadRequest`] where
+/// [`NoCommand::More`] if it hasn't ended in at most 8,192 octets; [`Refusal::BadRequest`] if
 /// it hasn't in more, or is no head of at most 64 headers.
 pub fn read_head<'b>(octets: &'b [u8], headers: &mut [HeaderSpan]) -> Result<Head<'b>, NoCommand>
     requires { length headers.old ≡ most_headers }
     ensures ok { IfOk result (IsLent octets.now headers.new) }
-    ensures stop { IfErr result (λ stop. IsRequest octets.now (Err stop)) }
+    ensures stop { IfErr result (λ stop. (site : Site) → IsRequest site octets.now (Err stop)) }
     ensures none { IfErr result (λ _. IsLine octets.now None) }
 {
     let Some((start, len)) = locate(front_of(octets)) else {

@@ -22,6 +22,9 @@ impl Refusal {
             Refusal::BadRequest =>
                 "HTTP/1.1 400 Bad Request\r\nContent-Type: text/plain\r\nContent-Length: 12\r\n\
              Connection: close\r\n\r\nbad request\n",
+            Refusal::ForeignSite =>
+                "HTTP/1.1 403 Forbidden\r\nContent-Type: text/plain\r\nContent-Length: 23\r\n\
+             Connection: close\r\n\r\nanother site's request\n",
             Refusal::NotFound =>
                 "HTTP/1.1 404 Not Found\r\nContent-Type: text/plain\r\nContent-Length: 10\r\n\
              Connection: close\r\n\r\nnot found\n",

@@ -20,7 +20,7 @@ use policy::Action;
 use std::alloc::Global;
 use std::str;
 
-/// What a target names; [`Refusal::NotFound`] where it is of no route, or a part of it has not its
+/// What a target names; [`Refusal::NotFound`] if it is of no route, or a part of it has not its
 /// form.
 pub fn read_target(alloc: Global, target: &[u8]) -> Result<Target, NoCommand>
     requires { IsUtf8 target.now }
@@ -63,14 +63,14 @@ fn read_on(route: Route, path: &[u8]) -> Option<Target>
     }
 }
 
-/// The target, where the path is this word.
+/// The target, if the path is this word.
 fn alone(path: &[u8], word: &[u8], target: Target) -> Option<Target>
     ensures { result ≡ target_alone word.now target path.now }
 {
     if path == word { Some(target) } else { None }
 }
 
-/// What stands behind this beginning of a path.
+/// What stands after this beginning of a path.
 fn behind<'p>(path: &'p [u8], word: &[u8]) -> Option<&'p [u8]>
     ensures { option_map (λ r. r.now) result ≡ text_behind word.now path.now }
 {
@@ -99,7 +99,7 @@ fn read_explain(text: &[u8]) -> Option<Target>
     })
 }
 
-/// The part before the first slash, and what stands behind that slash.
+/// The part before the first slash, and what stands after that slash.
 fn take_part(text: &[u8]) -> Option<(&[u8], &[u8])>
     ensures { option_map (λ r. (r.0.now, r.1.now)) result ≡ first_part text.now }
 {

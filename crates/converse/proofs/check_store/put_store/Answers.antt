@@ -1,5 +1,15 @@
-use Rattle.std.proofs.Common.{◌∙◌, ◌<◌, ◌≤◌, arith, length}
+use Rattle.std.proofs.Common.{◌≡◌, ◌∙◌, ◌<◌, ◌≤◌, arith, length, ap, true, false, Err}
+use Rattle.std.specs.List as list
+use Rattle.vault.specs.declared.answer.Total.{Total}
+use Rattle.vault.specs.declared.fault.VaultFault.{VaultFault}
+use Rattle.vault.specs.Calls.{has_grown}
+use Rattle.vault.specs.Records.{is_one_of}
+use Rattle.converse.specs.Causes.{IsExportFault, IsRefusedCheck, IsRefusedRead}
+use Rattle.converse.specs.Checked.{AreKnown}
 use Rattle.converse.proofs.Checking.{store_differs, store_whole, does_differ, differs_not, totals_answered, rules_answered}
+use Rattle.converse.proofs.Exporting.{cause_still, counts_on, look_refused, refused_since}
+use Rattle.converse.proofs.Refusals.{refused_known, refused_of_since, totals_there}
+use Rattle.converse.proofs.TextWriting.{handed_as}
 use Rattle.converse.proofs.check_store.put_store.Goals as goal
 
 pub returns-in-Ok-print_last-clause-told : goal.returns-in-Ok-print_last-clause-told
@@ -56,3 +66,65 @@ returns-then-after-before-clause-intact g c = λ rs are d h k.
     let long : length c.tell_clerks.new.text.items < length c.tell_differing.new.text.items = omega arith in
     does_differ rs d c.as_slice-2.result.now c.tell_clerks.new.text.items c.tell_differing.new.text.items
     (c.as_slice-2.ensures.value ∙ totals_answered _ _ first.answer) (c.in_ok-tell_differing.ensures.told rs are d third k) long
+
+pub returns-in_err-tell_clerks-clause-cause : goal.returns-in_err-tell_clerks-clause-cause
+returns-in_err-tell_clerks-clause-cause g c =
+    let faults = g.V.Vault.faults in
+    let t = c.in_err-tell_clerks.ensures in
+    let first = c.args.vault.now in
+    let before = c.policy.new.self in
+    let now = c.tell_clerks.new.vault in
+    let Late : VaultFault → Type 0 = IsRefusedCheck g.V.Vault.holds g.V.Vault.is_clean faults before now (AreKnown c.args.clerks.now) in
+    let All : VaultFault → Type 0 = IsRefusedCheck g.V.Vault.holds g.V.Vault.is_clean faults first now (AreKnown c.args.clerks.now) in
+    handed_as c.from_residual-in_err-tell_clerks.result _ (IsExportFault false false All) c.from_residual-in_err-tell_clerks.ensures.1
+    (cause_still false false false false Late All (λ e. e) (λ e. e)
+    (λ e r d h k.
+    let k2 = t.clean k in
+    let k1 = c.in_ok-policy.ensures.looks.clean k2 in
+    let second = c.in_ok-policy.ensures.done d (c.in_ok-totals.ensures.done d h k1).held k2 in
+    refused_of_since (AreKnown c.args.clerks.now d) (AreKnown c.args.clerks.now d) (λ all. all) (faults first) (faults before) (faults now)
+    (counts_on _ _ _ c.in_ok-totals.ensures.looks.counted.kept c.in_ok-policy.ensures.looks.counted.kept) e (r d second.held k))
+    _ t.cause)
+
+pub returns-in_err-tell_differing-clause-cause : goal.returns-in_err-tell_differing-clause-cause
+returns-in_err-tell_differing-clause-cause g c =
+    let faults = g.V.Vault.faults in
+    let t = c.in_err-tell_differing.ensures in
+    let first = c.args.vault.now in
+    let before = c.tell_clerks.new.vault in
+    let now = c.tell_differing.new.vault in
+    let Read : VaultFault → Type 0 = IsRefusedRead g.V.Vault.holds g.V.Vault.is_clean faults before now (λ d. list.All (λ (x : Total). is_one_of x.maildrop d.maildrops ≡ true) c.as_slice-2.result.now) in
+    let All : VaultFault → Type 0 = IsRefusedCheck g.V.Vault.holds g.V.Vault.is_clean faults first now (AreKnown c.args.clerks.now) in
+    handed_as c.from_residual-in_err-tell_differing.result _ (IsExportFault false false All) c.from_residual-in_err-tell_differing.ensures.1
+    (cause_still false false false false Read All (λ e. e) (λ e. e)
+    (λ e r d h k.
+    let k3 = t.clean k in
+    let k2 = c.in_ok-tell_clerks.ensures.clean k3 in
+    let k1 = c.in_ok-policy.ensures.looks.clean k2 in
+    let one = c.in_ok-totals.ensures.done d h k1 in
+    let second = c.in_ok-policy.ensures.done d one.held k2 in
+    let third = c.in_ok-tell_clerks.ensures.held d second.held k3 in
+    let there = totals_there d c.as_slice-2.result.now (c.as_slice-2.ensures.value ∙ totals_answered _ _ one.answer) in
+    let early = counts_on _ _ _ (counts_on _ _ _ c.in_ok-totals.ensures.looks.counted.kept c.in_ok-policy.ensures.looks.counted.kept) c.in_ok-tell_clerks.ensures.counted in
+    refused_known (AreKnown c.args.clerks.now d) (has_grown (faults first) (faults now)) e
+    (refused_since true (faults first) (faults before) (faults now) early e (r d third k there)))
+    _ t.cause)
+
+pub returns-in_err-totals-clause-cause : goal.returns-in_err-totals-clause-cause
+returns-in_err-totals-clause-cause g c =
+    let faults = g.V.Vault.faults in
+    let All : VaultFault → Type 0 = IsRefusedCheck g.V.Vault.holds g.V.Vault.is_clean faults c.args.vault.now c.maildrops.new.self (AreKnown c.args.clerks.now) in
+    handed_as c.from_residual.result _ (IsExportFault false false All) c.from_residual.ensures.1
+    (λ d h k. refused_known (AreKnown c.args.clerks.now d) _ _ (look_refused true _ _ _ (c.in_err-totals.ensures.done d h k).answer (λ e. c.in_err-totals.ensures.looks.counted.cause (ap Err e))))
+
+pub returns-in_err-policy-clause-cause : goal.returns-in_err-policy-clause-cause
+returns-in_err-policy-clause-cause g c =
+    let faults = g.V.Vault.faults in
+    let All : VaultFault → Type 0 = IsRefusedCheck g.V.Vault.holds g.V.Vault.is_clean faults c.args.vault.now c.policy.new.self (AreKnown c.args.clerks.now) in
+    handed_as c.from_residual-in_err-policy.result _ (IsExportFault false false All) c.from_residual-in_err-policy.ensures.1
+    (λ d h k.
+    let k1 = c.in_err-policy.ensures.looks.clean k in
+    let one = c.in_ok-totals.ensures.done d h k1 in
+    refused_known (AreKnown c.args.clerks.now d) _ _
+    (refused_since true (faults c.args.vault.now) (faults c.maildrops.new.self) (faults c.policy.new.self) c.in_ok-totals.ensures.looks.counted.kept _
+    (look_refused true _ _ _ (c.in_err-policy.ensures.done d one.held k).answer (λ e. c.in_err-policy.ensures.looks.counted.cause (ap Err e)))))

@@ -33,7 +33,7 @@ returns-clause-answered g c d held clean =
             may = search rules;
             cause = search rules;
             account = λ fresh.
-                let told : c.of_line.result ≡ line_account (reading x) (Says (reply_of c.match-reply_to.reply.2 j t None x)) t.user = search rules in
+                let told : c.of_line.result ≡ line_account (reading x) (Says (reply_of c.match-reply_to.reply.2 j t None x)) t.user None = search rules in
                 told ∙ authorization_told c.match-reply_to.reply.2 p (reading x) (Says (reply_of c.match-reply_to.reply.2 j t None x)) t.user;
           }
       | in-Err w ↦
@@ -51,7 +51,7 @@ returns-clause-answered g c d held clean =
             may = λ f. asked;
             cause = search rules;
             account = λ fresh.
-                let said : c.of_line.result ≡ line_account (reading x) (Says (reply_of c.match-reply_to.reply.2 j t None x)) t.user = rw (failed, told) (search rules) in
+                let said : c.of_line.result ≡ line_account (reading x) (Says (reply_of c.match-reply_to.reply.2 j t None x)) t.user None = rw (failed, told) (search rules) in
                 said ∙ authorization_told c.match-reply_to.reply.2 p (reading x) (Says (reply_of c.match-reply_to.reply.2 j t None x)) t.user;
           }
     ]

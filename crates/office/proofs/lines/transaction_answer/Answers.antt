@@ -2,7 +2,7 @@ use Rattle.std.proofs.Common.{◌≡◌, true, false, sym, ◌∙◌, ap, subst,
 use Rattle.session.specs.Session.{Session}
 use Rattle.office.specs.History.{Says}
 use Rattle.office.specs.Connections.{reading, is_quit}
-use Rattle.office.specs.Accounts.{transaction_account, removal_told}
+use Rattle.office.specs.Accounts.{transaction_account, removal_told, named_in}
 use Rattle.office.specs.declared.account.Account.TheVariants as account
 use Rattle.creds.specs.declared.login_name.LoginName.{LoginName}
 use Rattle.office.specs.Sessions.{logs_in}
@@ -26,8 +26,8 @@ returns-then-is_quit-clause-answered g c d v held clean sits =
     let s = c.args.session in
     let q : is_quit (reading x) ≡ true = sym c.is_quit.ensures ∙ c.if-is_quit.true in
     let so = did.answered d sits.0 held clean sits.1 in
-    let told : account.Quit (removal_told w p c.answer.new.session) ≡ transaction_account w p s (reading x) (Says (transaction_reply w p v x)) =
-    ap (λ (s : Session). account.Quit (removal_told w p s)) (c.answer.ensures.quits q) ∙ sym (quitting w p s (reading x) _ q) in
+    let told : account.Quit (removal_told w p c.answer.new.session) ≡ transaction_account w p s (reading x) (Says (transaction_reply w p v x)) (named_in v (reading x)) =
+    ap (λ (s : Session). account.Quit (removal_told w p s)) (c.answer.ensures.quits q) ∙ sym (quitting w p s (reading x) _ _ q) in
     record {
       owed = subst (λ (v : Transaction). OwesReply d (session_if true c.answer.new.session) c.answer.new.output (transaction_reply w p v x)) (sym sits.2)
           (subst (λ b. OwesReply d (session_if b c.answer.new.session) c.answer.new.output (transaction_reply w p (transaction_of s sits.0) x)) q so.owed);
@@ -62,8 +62,8 @@ returns-clause-answered g c d v held clean sits =
       may = λ failed. subst (λ (v : Transaction). transaction_asks p v (reading x) ≡ true) (sym sits.2) (so.may failed);
       cause = so.cause;
       account = λ fresh. state_told d p s v w c.args.state.now.user x _ sits (λ failed. subst (λ (v : Transaction). transaction_asks p v (reading x) ≡ true) (sym sits.2) (so.may failed))
-          (subst (λ (v : Transaction). c.answer.new.account ≡ transaction_account w p s (reading x) (Says (transaction_reply w p v x))) (sym sits.2)
-          (did.account q fresh d sits.0 sits.1 ∙ sym (not_quitting w p s (reading x) _ q)));
+          (subst (λ (v : Transaction). c.answer.new.account ≡ transaction_account w p s (reading x) (Says (transaction_reply w p v x)) (named_in v (reading x))) (sym sits.2)
+          (did.account q fresh d sits.0 sits.1 ∙ sym (not_quitting w p s (reading x) _ _ q)));
     }
 
 pub returns-in_err-outcome-clause-err : goal.returns-in_err-outcome-clause-err

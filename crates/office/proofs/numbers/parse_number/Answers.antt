@@ -11,7 +11,7 @@ use Rattle.office.proofs.numbers.parse_number.Goals as goal
 numeral_is_text : (bs : List ℕ) → IsNumeral 10 bs → IsUtf8 bs
 numeral_is_text bs h = IsUtf8-from_ascii bs (IsAscii-from_digits bs h.1)
 
--- what a refusal says, where nothing was read
+-- what a refusal says, if nothing was read
 refused : {T E : Type 0} (r : Result T E) (P : T → Type 0) (Q : E → Type 0) (U : Type 0) → None ≡ result_ok r → MatchResult r P (λ e. ¬ U × Q e) → ¬ U
 refused (Ok x) P Q U e h = cc
 refused (Err e) P Q U _ h = h.0

@@ -1,6 +1,7 @@
 use Rattle.std.proofs.Common.{sym, ap, ◌∙◌}
 use Rattle.popline.specs.Seen.{reply_seen}
-use Rattle.office.specs.Connections.{is_quit}
+use Rattle.office.specs.Accounts.{named_in}
+use Rattle.office.specs.Connections.{is_quit, reading}
 use Rattle.office.specs.History.{Done}
 use Rattle.office.specs.Replying.{InTransaction}
 use Rattle.office.specs.Transaction.{transaction_of, transaction_asks, tag_of}
@@ -47,7 +48,7 @@ returns-in-Err-clause-account g c other fresh = if_ok_so _ c.say.result c.say.en
     let p = c.args.policy.now in
     let v = transaction_of c.args.session.now kept in
     let h = c.in-Err.ensures.err in
-    rw (e, sym (refused_reply p v c.args.line.now _ h Done)) (fresh ∙ sym (refused_silent p v c.args.line.now _ h)))
+    rw (e, sym (refused_reply p v c.args.line.now _ h Done)) (fresh ∙ sym (refused_silent p v c.args.line.now _ h (named_in v (reading c.args.line.now)))))
 
 pub returns-in-Ok-clause-quits : goal.returns-in-Ok-clause-quits
 returns-in-Ok-clause-quits g c quits =

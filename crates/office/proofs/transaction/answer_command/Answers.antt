@@ -1,4 +1,4 @@
-use Rattle.std.proofs.Common.{◌≡◌, true, Ok, rules, true≢false}
+use Rattle.std.proofs.Common.{◌≡◌, ◌∙◌, ap₂, true, Ok, rules, true≢false}
 use Rattle.popline.specs.Seen.{command_seen, reply_seen}
 use Rattle.office.specs.Transaction.{transaction_of}
 use Rattle.office.specs.Telling.{is_told}
@@ -6,16 +6,19 @@ use Rattle.office.proofs.Accounts.{told_so}
 use Rattle.office.proofs.Obeying.{if_ok_so, if_ok_both, said_so, listed, identified}
 use Rattle.office.proofs.Telling.{stays_held, told_not_quit}
 use Rattle.office.proofs.Quitting.{none_asked}
+use Rattle.office.proofs.Naming.{heads_name, retrieved_so, topped_so}
+use Rattle.office.specs.Accounts.{sending_told}
+use Rattle.office.specs.declared.account.MessageCommand.TheVariants as to
 use Rattle.office.proofs.transaction.answer_command.Goals as goal
 
 pub returns-in-Quit-clause-done : goal.returns-in-Quit-clause-done
 returns-in-Quit-clause-done g c = rw c.in-Quit.is c.quit.ensures.done
 
 pub returns-in-Retr-clause-done : goal.returns-in-Retr-clause-done
-returns-in-Retr-clause-done g c = rw c.in-Retr.is c.retrieve.ensures.done
+returns-in-Retr-clause-done g c = rw c.in-Retr.is c.retrieve-answered.ensures.done
 
 pub returns-in-Top-clause-done : goal.returns-in-Top-clause-done
-returns-in-Top-clause-done g c = rw c.in-Top.is c.top.ensures.done
+returns-in-Top-clause-done g c = rw c.in-Top.is c.top-answered.ensures.done
 
 pub returns-in-List-None-clause-done : goal.returns-in-List-None-clause-done
 returns-in-List-None-clause-done g c =
@@ -46,19 +49,27 @@ pub returns-in-Quit-clause-unasked : goal.returns-in-Quit-clause-unasked
 returns-in-Quit-clause-unasked g c = rw c.in-Quit.is (λ d kept lies none. c.quit.ensures.unasked (none_asked d c.args.policy.now c.args.session.now kept lies none))
 
 pub returns-in-Retr-clause-unasked : goal.returns-in-Retr-clause-unasked
-returns-in-Retr-clause-unasked g c = rw c.in-Retr.is (λ d kept lies none. c.retrieve.ensures.unasked d kept lies none)
+returns-in-Retr-clause-unasked g c = rw c.in-Retr.is (λ d kept lies none. c.retrieve-answered.ensures.unasked d kept lies none)
 
 pub returns-in-Top-clause-unasked : goal.returns-in-Top-clause-unasked
-returns-in-Top-clause-unasked g c = rw c.in-Top.is (λ d kept lies none. c.top.ensures.unasked d kept lies none)
+returns-in-Top-clause-unasked g c = rw c.in-Top.is (λ d kept lies none. c.top-answered.ensures.unasked d kept lies none)
 
 pub returns-in-Quit-clause-account : goal.returns-in-Quit-clause-account
 returns-in-Quit-clause-account g c = rw c.in-Quit.is (λ no. absurd (true≢false no))
 
 pub returns-in-Retr-clause-account : goal.returns-in-Retr-clause-account
-returns-in-Retr-clause-account g c other fresh = rw c.in-Retr.is (if_ok_so _ c.retrieve.result c.retrieve.ensures.done (λ w h d kept lies. fresh))
+returns-in-Retr-clause-account g c other fresh = rw c.in-Retr.is (if_ok_so _ c.retrieve-answered.result c.settle.ensures.ok (λ w so d kept lies.
+    let p = c.args.policy.now in
+    let s = c.args.session.now in
+    let names = rw c.in-Retr.is at c.message_named-named.ensures in
+    retrieved_so d p s kept lies _ w _ _ (c.of_sending-told.ensures ∙ ap₂ (sending_told to.Retr) c.pick_for-readable.ensures names) so))
 
 pub returns-in-Top-clause-account : goal.returns-in-Top-clause-account
-returns-in-Top-clause-account g c other fresh = rw c.in-Top.is (if_ok_so _ c.top.result c.top.ensures.done (λ w h d kept lies. fresh))
+returns-in-Top-clause-account g c other fresh = rw c.in-Top.is (if_ok_so _ c.top-answered.result c.settle-in-Top.ensures.ok (λ w so d kept lies.
+    let p = c.args.policy.now in
+    let s = c.args.session.now in
+    let names = rw c.in-Top.is at c.message_named-named.ensures in
+    topped_so d p s kept lies _ w _ _ _ (c.of_sending-told-in-Top.ensures ∙ ap₂ (sending_told to.Top) c.pick_for-readable-in-Top.ensures names) so))
 
 pub returns-in-List-None-clause-account : goal.returns-in-List-None-clause-account
 returns-in-List-None-clause-account g c other fresh =
@@ -74,7 +85,8 @@ pub returns-in_default-clause-account : goal.returns-in_default-clause-account
 returns-in_default-clause-account g c other fresh = if_ok_both _ c.put.result c.put.ensures.outcome c.put.ensures.account (λ w e so d kept lies.
     let p = c.args.policy.now in
     let s = c.args.session.now in
-    told_so p (transaction_of s kept) w (command_seen c.args.command.now) (reply_seen c.plain_reply-reply.result) c.put.new.account e (c.plain_reply-reply.ensures.said d kept lies) so)
+    told_so p (transaction_of s kept) w (command_seen c.args.command.now) (reply_seen c.plain_reply-reply.result) _ c.put.new.account e (c.plain_reply-reply.ensures.said d kept lies)
+    (c.message_named-named.ensures ∙ heads_name d s kept lies (Ok (command_seen c.args.command.now))) so)
 
 pub returns-in-Quit-clause-acts : goal.returns-in-Quit-clause-acts
 returns-in-Quit-clause-acts g c = rw c.in-Quit.is c.quit.ensures.acts

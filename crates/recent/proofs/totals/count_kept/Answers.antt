@@ -1,4 +1,4 @@
--- Where nothing is kept, nothing is asked.
+-- If nothing is kept, nothing is asked.
 use Rattle.vault.proofs.CallLemmas.{looks_self}
 use Rattle.recent.proofs.totals.count_kept.Goals as goal
 

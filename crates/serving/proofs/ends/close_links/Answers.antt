@@ -19,7 +19,7 @@ use Rattle.serving.proofs.ends.close_links.Goals as goal
 no_seat : Seat
 no_seat = record { link = record { number = 0 }; connection = 0 }
 
--- who is open is noted as before, where who isn't is forgotten
+-- who is open is noted as before, if who isn't is forgotten
 others_open : (T : Trace) (q c : ℕ) (xs ys : List Newcomer) → ys ≡ others c xs → is_open T q ≡ true → is_open T c ≡ false → newcomer q ys ≡ newcomer q xs
 others_open T q c xs ys is here shut = ap (newcomer q) is ∙ others_of q c xs (λ e. true≢false (sym here ∙ (ap (is_open T) e ∙ shut)))
 

@@ -8,45 +8,47 @@ use Rattle.serving.proofs.Hearing.{told_none, told_same}
 use Rattle.serving.proofs.requests.respond_to.Goals as goal
 
 pub returns-in-More-clause-asked : goal.returns-in-More-clause-asked
-returns-in-More-clause-asked g c = λ B L stands clean. asked_none g.V.Vault.holds B L c.args.read.now c.args.office.now None stands (NotYet c.in-More.ensures)
+returns-in-More-clause-asked g c = λ B L stands clean. asked_none g.V.Vault.holds c.args.site.now B L c.args.read.now c.args.office.now None stands (NotYet c.in-More.ensures)
 
 pub returns-in-Bad-clause-asked : goal.returns-in-Bad-clause-asked
 returns-in-Bad-clause-asked g c = λ B L stands clean.
     (let response = octets_of c.refuse.result in
-    asked_none g.V.Vault.holds B L c.args.read.now c.args.office.now (Some response) stands
-    (NoCommand response (subst (λ (r : List ℕ). IsResponse B L c.args.read.now None r) (sym c.refuse.ensures.told) (ToRefusal c.in-Bad.refusal c.in-Bad.ensures))))
+    asked_none g.V.Vault.holds c.args.site.now B L c.args.read.now c.args.office.now (Some response) stands
+    (NoCommand response (subst (λ (r : List ℕ). IsResponse c.args.site.now B L c.args.read.now None r) (sym c.refuse.ensures.told) (ToRefusal c.in-Bad.refusal c.in-Bad.ensures))))
 
 pub returns-in-BadPolicy-clause-asked : goal.returns-in-BadPolicy-clause-asked
 returns-in-BadPolicy-clause-asked g c = λ B L stands clean.
     (let response = octets_of c.refuse_policy.result in
-    asked_none g.V.Vault.holds B L c.args.read.now c.args.office.now (Some response) stands
-    (NoCommand response (to_fault B L c.args.read.now response c.in-BadPolicy.fault c.in-BadPolicy.ensures c.refuse_policy.ensures.told)))
+    asked_none g.V.Vault.holds c.args.site.now B L c.args.read.now c.args.office.now (Some response) stands
+    (NoCommand response (to_fault c.args.site.now B L c.args.read.now response c.in-BadPolicy.fault c.in-BadPolicy.ensures c.refuse_policy.ensures.told)))
 
 pub returns-in-NoMemory-clause-asked : goal.returns-in-NoMemory-clause-asked
 returns-in-NoMemory-clause-asked g c = λ B L stands clean.
     (let response = octets_of c.refuse-in-NoMemory.result in
-    asked_none g.V.Vault.holds B L c.args.read.now c.args.office.now (Some response) stands
-    (NoCommand response (subst (λ (r : List ℕ). IsResponse B L c.args.read.now None r) (sym c.refuse-in-NoMemory.ensures.told) ForMemory)))
+    asked_none g.V.Vault.holds c.args.site.now B L c.args.read.now c.args.office.now (Some response) stands
+    (NoCommand response (subst (λ (r : List ℕ). IsResponse c.args.site.now B L c.args.read.now None r) (sym c.refuse-in-NoMemory.ensures.told) ForMemory)))
 
 pub returns-in-More-clause-works : goal.returns-in-More-clause-works
 returns-in-More-clause-works g c =
-    gives_none g.V.Vault.holds g.V.Vault.is_clean g.V.Vault.faults c.args.office.now (HeardApart g.L.Listener.heard c.args.listener.now c.args.listener.now (ComeTo c.args.read.now None))
+    gives_none g.V.Vault.holds g.V.Vault.is_clean g.V.Vault.faults c.args.office.now
+    (HeardApart g.L.Listener.heard c.args.listener.now c.args.listener.now (ComeTo c.args.site.now c.args.read.now None))
     (λ B L. (told_none g.L.Listener.heard c.args.listener.now, record { place = None; is = NotYet c.in-More.ensures }))
 
 pub returns-in-Bad-clause-works : goal.returns-in-Bad-clause-works
 returns-in-Bad-clause-works g c =
     let response = octets_of c.refuse.result in
-    gives_none g.V.Vault.holds g.V.Vault.is_clean g.V.Vault.faults c.args.office.now (HeardApart g.L.Listener.heard c.args.listener.now c.refuse.new.listener (ComeTo c.args.read.now (Some response)))
-    (λ B L. (told_same g.L.Listener.heard c.args.listener.now c.refuse.new.listener c.refuse.ensures.heard, record { place = None; is = NoCommand response (subst (λ (r : List ℕ). IsResponse B L c.args.read.now None r) (sym c.refuse.ensures.told) (ToRefusal c.in-Bad.refusal c.in-Bad.ensures)) }))
+    gives_none g.V.Vault.holds g.V.Vault.is_clean g.V.Vault.faults c.args.office.now
+    (HeardApart g.L.Listener.heard c.args.listener.now c.refuse.new.listener (ComeTo c.args.site.now c.args.read.now (Some response)))
+    (λ B L. (told_same g.L.Listener.heard c.args.listener.now c.refuse.new.listener c.refuse.ensures.heard, record { place = None; is = NoCommand response (subst (λ (r : List ℕ). IsResponse c.args.site.now B L c.args.read.now None r) (sym c.refuse.ensures.told) (ToRefusal c.in-Bad.refusal c.in-Bad.ensures)) }))
 
 pub returns-in-BadPolicy-clause-works : goal.returns-in-BadPolicy-clause-works
 returns-in-BadPolicy-clause-works g c =
     let response = octets_of c.refuse_policy.result in
-    gives_none g.V.Vault.holds g.V.Vault.is_clean g.V.Vault.faults c.args.office.now (HeardApart g.L.Listener.heard c.args.listener.now c.refuse_policy.new.listener (ComeTo c.args.read.now (Some response)))
-    (λ B L. (told_same g.L.Listener.heard c.args.listener.now c.refuse_policy.new.listener c.refuse_policy.ensures.heard, record { place = None; is = NoCommand response (to_fault B L c.args.read.now response c.in-BadPolicy.fault c.in-BadPolicy.ensures c.refuse_policy.ensures.told) }))
+    gives_none g.V.Vault.holds g.V.Vault.is_clean g.V.Vault.faults c.args.office.now (HeardApart g.L.Listener.heard c.args.listener.now c.refuse_policy.new.listener (ComeTo c.args.site.now c.args.read.now (Some response)))
+    (λ B L. (told_same g.L.Listener.heard c.args.listener.now c.refuse_policy.new.listener c.refuse_policy.ensures.heard, record { place = None; is = NoCommand response (to_fault c.args.site.now B L c.args.read.now response c.in-BadPolicy.fault c.in-BadPolicy.ensures c.refuse_policy.ensures.told) }))
 
 pub returns-in-NoMemory-clause-works : goal.returns-in-NoMemory-clause-works
 returns-in-NoMemory-clause-works g c =
     let response = octets_of c.refuse-in-NoMemory.result in
-    gives_none g.V.Vault.holds g.V.Vault.is_clean g.V.Vault.faults c.args.office.now (HeardApart g.L.Listener.heard c.args.listener.now c.refuse-in-NoMemory.new.listener (ComeTo c.args.read.now (Some response)))
-    (λ B L. (told_same g.L.Listener.heard c.args.listener.now c.refuse-in-NoMemory.new.listener c.refuse-in-NoMemory.ensures.heard, record { place = None; is = NoCommand response (subst (λ (r : List ℕ). IsResponse B L c.args.read.now None r) (sym c.refuse-in-NoMemory.ensures.told) ForMemory) }))
+    gives_none g.V.Vault.holds g.V.Vault.is_clean g.V.Vault.faults c.args.office.now (HeardApart g.L.Listener.heard c.args.listener.now c.refuse-in-NoMemory.new.listener (ComeTo c.args.site.now c.args.read.now (Some response)))
+    (λ B L. (told_same g.L.Listener.heard c.args.listener.now c.refuse-in-NoMemory.new.listener c.refuse-in-NoMemory.ensures.heard, record { place = None; is = NoCommand response (subst (λ (r : List ℕ). IsResponse c.args.site.now B L c.args.read.now None r) (sym c.refuse-in-NoMemory.ensures.told) ForMemory) }))

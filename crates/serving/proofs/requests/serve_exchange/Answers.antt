@@ -15,14 +15,14 @@ use Rattle.serving.proofs.requests.serve_exchange.Goals as goal
 pub returns-then-is_late-clause-asked : goal.returns-then-is_late-clause-asked
 returns-then-is_late-clause-asked g c = λ B start L pop others s clean.
     (let e = c.args.exchange.now in
-    asked_still g.V.Vault.holds g.W.Wire.tells B start L pop c.args.office.now c.args.wire.now c.args.wire.now (AreKeptBeside others e) (AreKeptBeside others _) s
+    asked_still g.V.Vault.holds g.W.Wire.tells c.args.site.now B start L pop c.args.office.now c.args.wire.now c.args.wire.now (AreKeptBeside others e) (AreKeptBeside others _) s
     (waited g.W.Wire.tells B start pop others e _ s.x s.log c.args.wire.now c.args.wire.now s.is s.is.told s.is.tells refl (λ k. refl) (λ k. refl) (λ k ne. refl)
     s.is.exchanged.straight refl refl refl refl (λ q. cc)))
 
 pub returns-clause-asked : goal.returns-clause-asked
 returns-clause-asked g c = λ B start L pop others s clean.
     (let k = c.read_request.ensures.asked B start L pop others s clean in
-    asked_still g.V.Vault.holds g.W.Wire.tells B start L pop c.read_request.new.office c.read_request.new.wire c.write_response.new.wire (AreKeptBeside others c.read_request.new.exchange) (AreKeptBeside others c.write_response.new.exchange) k
+    asked_still g.V.Vault.holds g.W.Wire.tells c.args.site.now B start L pop c.read_request.new.office c.read_request.new.wire c.write_response.new.wire (AreKeptBeside others c.read_request.new.exchange) (AreKeptBeside others c.write_response.new.exchange) k
     (c.write_response.ensures.answers k.x B start k.log pop others k.is))
 
 pub returns-then-is_late-clause-timely : goal.returns-then-is_late-clause-timely
@@ -37,7 +37,7 @@ pub returns-then-is_late-clause-works : goal.returns-then-is_late-clause-works
 returns-then-is_late-clause-works g c =
     let yes : c.is_late.result ≡ true = search rules in
     also_from g.V.Vault.holds g.V.Vault.is_clean g.V.Vault.faults g.W.Wire.asked c.args.office.now c.args.office.now c.args.wire.now c.args.wire.now _ (PollsBy false false) (polled_same false)
-    (did_none g.V.Vault.holds g.V.Vault.is_clean g.V.Vault.faults g.W.Wire.asked c.args.office.now c.args.wire.now (HeardApart g.L.Listener.heard c.args.listener.now c.args.listener.now (λ B L. HasHttpTurn c.args.now B L c.args.exchange.now _))
+    (did_none g.V.Vault.holds g.V.Vault.is_clean g.V.Vault.faults g.W.Wire.asked c.args.office.now c.args.wire.now (HeardApart g.L.Listener.heard c.args.listener.now c.args.listener.now (λ B L. HasHttpTurn c.args.site.now c.args.now B L c.args.exchange.now _))
     (λ B L. (told_none g.L.Listener.heard c.args.listener.now, IsLate (sym c.is_late.ensures ∙ yes) refl)))
 
 pub returns-clause-works : goal.returns-clause-works
@@ -49,7 +49,7 @@ returns-clause-works g c =
     let l = c.args.listener.now in
     let l1 = c.read_request.new.listener in
     also_then g.V.Vault.holds g.V.Vault.is_clean g.V.Vault.faults g.W.Wire.asked c.args.office.now c.read_request.new.office c.read_request.new.office c.args.wire.now c.read_request.new.wire c.write_response.new.wire
-    (HeardApart g.L.Listener.heard l l1 (λ B L. HasHeard B L e e1)) (NoEvent (HasTold e1 e2)) (HeardApart g.L.Listener.heard l l1 (λ B L. HasHttpTurn c.args.now B L e e2)) (PollsBy false false) (PollsBy false c.write_response.result) (PollsBy false c.write_response.result)
-    (λ B L g1 g2 c1 c2 p q. (apart_still g.L.Listener.heard l l1 B L g1 g2 q.0 p.0, turn_served c.args.now B L e e1 e2 g1 g2 c1 c2 (sym c.is_late.ensures ∙ no) p.1 q.0 q.1)) (λ c1 c2 m n. polled_then false false c.write_response.result c1 c2 m n)
+    (HeardApart g.L.Listener.heard l l1 (λ B L. HasHeard c.args.site.now B L e e1)) (NoEvent (HasTold e1 e2)) (HeardApart g.L.Listener.heard l l1 (λ B L. HasHttpTurn c.args.site.now c.args.now B L e e2)) (PollsBy false false) (PollsBy false c.write_response.result) (PollsBy false c.write_response.result)
+    (λ B L g1 g2 c1 c2 p q. (apart_still g.L.Listener.heard l l1 B L g1 g2 q.0 p.0, turn_served c.args.site.now c.args.now B L e e1 e2 g1 g2 c1 c2 (sym c.is_late.ensures ∙ no) p.1 q.0 q.1)) (λ c1 c2 m n. polled_then false false c.write_response.result c1 c2 m n)
     (also_from g.V.Vault.holds g.V.Vault.is_clean g.V.Vault.faults g.W.Wire.asked c.args.office.now c.read_request.new.office c.args.wire.now c.read_request.new.wire _ (PollsBy false false) (polled_same false) c.read_request.ensures.works)
     (also_asked g.V.Vault.holds g.V.Vault.is_clean g.V.Vault.faults g.W.Wire.asked c.read_request.new.office c.read_request.new.wire c.write_response.new.wire (HasTold e1 e2) (PollsBy false c.write_response.result) c.write_response.ensures.works)

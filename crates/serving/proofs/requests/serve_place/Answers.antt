@@ -23,10 +23,10 @@ returns-then-not-exchange-clause-asked g c = λ B start L pop s clean.
     let e = c.index_mut-exchange.result.now in
     let e2 = c.serve_exchange.new.exchange in
     let value = c.index_mut-exchange.ensures.value in
-    let one = asked_so g.V.Vault.holds g.W.Wire.tells B start L pop c.args.office.now c.args.wire.now (λ told x. AreHeld told x xs) (AreKeptBeside xs e)
+    let one = asked_so g.V.Vault.holds g.W.Wire.tells c.args.site.now B start L pop c.args.office.now c.args.wire.now (λ told x. AreHeld told x xs) (AreKeptBeside xs e)
     (λ told x a. subst (λ y. AreKeptBeside xs y told x) (sym value) (one_held told x xs place e c.requires a)) s in
     let k = c.serve_exchange.ensures.asked B start L pop xs one clean in
-    asked_so g.V.Vault.holds g.W.Wire.tells B start L pop c.serve_exchange.new.office c.serve_exchange.new.wire (AreKeptBeside xs e2) (λ told x. AreHeld told x (set xs place e2))
+    asked_so g.V.Vault.holds g.W.Wire.tells c.args.site.now B start L pop c.serve_exchange.new.office c.serve_exchange.new.wire (AreKeptBeside xs e2) (λ told x. AreHeld told x (set xs place e2))
     (λ told x a. held_again told x xs place e2 e c.requires s.is.held.ascend (c.serve_exchange.ensures.keeps.link ∙ ap (λ y. y.link) value) a) k)
 
 pub returns-clause-asked : goal.returns-clause-asked
@@ -37,16 +37,16 @@ returns-clause-asked g c = λ B start L pop s clean.
     let e2 = c.serve_exchange.new.exchange in
     let ys = set xs place e2 in
     let value = c.index_mut-exchange.ensures.value in
-    let one = asked_so g.V.Vault.holds g.W.Wire.tells B start L pop c.args.office.now c.args.wire.now (λ told x. AreHeld told x xs) (AreKeptBeside xs e)
+    let one = asked_so g.V.Vault.holds g.W.Wire.tells c.args.site.now B start L pop c.args.office.now c.args.wire.now (λ told x. AreHeld told x xs) (AreKeptBeside xs e)
     (λ told x a. subst (λ y. AreKeptBeside xs y told x) (sym value) (one_held told x xs place e c.requires a)) s in
     let k = c.serve_exchange.ensures.asked B start L pop xs one clean in
-    let all = asked_so g.V.Vault.holds g.W.Wire.tells B start L pop c.serve_exchange.new.office c.serve_exchange.new.wire (AreKeptBeside xs e2) (λ told x. AreHeld told x ys)
+    let all = asked_so g.V.Vault.holds g.W.Wire.tells c.args.site.now B start L pop c.serve_exchange.new.office c.serve_exchange.new.wire (AreKeptBeside xs e2) (λ told x. AreHeld told x ys)
     (λ told x a. held_again told x xs place e2 e c.requires s.is.held.ascend (c.serve_exchange.ensures.keeps.link ∙ ap (λ y. y.link) value) a) k in
     let n = e2.link.number in
     let told = all.is.told in
     let told2 = has_closed told n in
     let within : place < length ys = (let h = c.requires in omega (arith, h, length-set xs place e2)) in
-    asked_still g.V.Vault.holds g.W.Wire.tells B start L pop c.serve_exchange.new.office c.serve_exchange.new.wire c.close.new.self (λ told x. AreHeld told x ys) (λ told x. AreHeld told x c.remove.new.self.items) all
+    asked_still g.V.Vault.holds g.W.Wire.tells c.args.site.now B start L pop c.serve_exchange.new.office c.serve_exchange.new.wire c.close.new.self (λ told x. AreHeld told x ys) (λ told x. AreHeld told x c.remove.new.self.items) all
     (record {
       told = told2;
       tells = c.close.ensures.told (record { pop = pop; admin = told }) all.is.tells;
@@ -70,10 +70,10 @@ returns-then-not-exchange-clause-works g c =
     let is : take 1 (drop place xs) ≡ e ∷ [] = one_at xs place e c.requires ∙ ap (λ y. y ∷ []) (sym c.index_mut-exchange.ensures.value) in
     let left = one_set xs place e2 c.requires in
     also_so g.V.Vault.holds g.V.Vault.is_clean g.V.Vault.faults g.W.Wire.asked c.args.office.now c.serve_exchange.new.office c.args.wire.now c.serve_exchange.new.wire
-    (HeardApart g.L.Listener.heard l l1 (λ B L. HasHttpTurn now B L e e2)) (HeardApart g.L.Listener.heard l l1 (λ B L. HadHttpTurns now B L (take 1 (drop place xs)) (take 1 (drop place (set xs place e2))))) (PollsBy false polled) (PollsBy before (before || polled))
+    (HeardApart g.L.Listener.heard l l1 (λ B L. HasHttpTurn c.args.site.now now B L e e2)) (HeardApart g.L.Listener.heard l l1 (λ B L. HadHttpTurns c.args.site.now now B L (take 1 (drop place xs)) (take 1 (drop place (set xs place e2))))) (PollsBy false polled) (PollsBy before (before || polled))
     (λ B L given calls turn. (
       turn.0,
-      subst (λ v. HadHttpTurns now B L v (take 1 (drop place (set xs place e2))) given calls) (sym is) (subst (λ v. HadHttpTurns now B L (e ∷ []) v given calls) (sym left) (held_on now B L e e2 given calls turn.1 live c.serve_exchange.ensures.keeps.since)),
+      subst (λ v. HadHttpTurns c.args.site.now now B L v (take 1 (drop place (set xs place e2))) given calls) (sym is) (subst (λ v. HadHttpTurns c.args.site.now now B L (e ∷ []) v given calls) (sym left) (held_on c.args.site.now now B L e e2 given calls turn.1 live c.serve_exchange.ensures.keeps.since)),
     ))
     (admin_polled before polled)
     c.serve_exchange.ensures.works
@@ -96,11 +96,13 @@ returns-clause-works g c =
     let over : e2.is_over ≡ true = search rules in
     let is : take 1 (drop place xs) ≡ e ∷ [] = one_at xs place e c.requires ∙ ap (λ y. y ∷ []) (sym c.index_mut-exchange.ensures.value) in
     also_then g.V.Vault.holds g.V.Vault.is_clean g.V.Vault.faults g.W.Wire.asked c.args.office.now o1 o1 c.args.wire.now w1 w2
-    (HeardApart g.L.Listener.heard l l1 (λ B L. HasHttpTurn now B L e e2)) (NoEvent (IsOne call)) (HeardApart g.L.Listener.heard l l1 (λ B L. HadHttpTurns now B L (take 1 (drop place xs)) []))
+    (HeardApart g.L.Listener.heard l l1 (λ B L. HasHttpTurn c.args.site.now now B L e e2)) (NoEvent (IsOne call))
+    (HeardApart g.L.Listener.heard l l1 (λ B L. HadHttpTurns c.args.site.now now B L (take 1 (drop place xs)) []))
     (PollsBy false polled) (PollsBy false false) (PollsBy before (before || polled))
     (λ B L g1 g2 c1 c2 turn q. (
       apart_still g.L.Listener.heard l l1 B L g1 g2 q.0 turn.0,
-      subst (λ v. HadHttpTurns now B L v [] (g2 ++ g1) (c1 ++ c2)) (sym is) (closed_so now B L e e2 g1 g2 c1 c2 turn.1 over e2.link c.serve_exchange.ensures.keeps.link q.0 q.1),
+      subst (λ v. HadHttpTurns c.args.site.now now B L v [] (g2 ++ g1) (c1 ++ c2)) (sym is)
+          (closed_so c.args.site.now now B L e e2 g1 g2 c1 c2 turn.1 over e2.link c.serve_exchange.ensures.keeps.link q.0 q.1),
     ))
     (λ c1 c2 m n. closed_polled before polled c1 c2 m)
     c.serve_exchange.ensures.works

@@ -11,9 +11,9 @@ use Rattle.serving.proofs.running.serve_while.Given as goal
 
 abbrev pub invariant-loop-turn : goal.invariant-loop-turn
 invariant-loop-turn g l = record {
-  serves : (T : Trace) → Serves g.V.Vault.holds g.W.Wire.tells g.S.Spool.tells T l.fn.office l.fn.wire l.fn.spool l.fn.links.clients.seats.items l.fn.links.requests.exchanges.items
+  serves : (T : Trace) → Serves g.V.Vault.holds g.W.Wire.tells g.S.Spool.tells T l.fn.office l.fn.wire l.fn.spool l.fn.links.clients.seats.items l.fn.links.requests.exchanges.items l.fn.links.site
       → g.V.Vault.is_clean (vault_of l.office)
-      → Serves g.V.Vault.holds g.W.Wire.tells g.S.Spool.tells T l.office l.wire l.spool l.links.clients.seats.items l.links.requests.exchanges.items;
+      → Serves g.V.Vault.holds g.W.Wire.tells g.S.Spool.tells T l.office l.wire l.spool l.links.clients.seats.items l.links.requests.exchanges.items l.links.site;
   clean : g.V.Vault.is_clean (vault_of l.office) → g.V.Vault.is_clean (vault_of l.fn.office);
   turned : (moments : List ℕ) × (length moments ≡ l._turn)
       × HasTurned g.V.Vault.holds g.V.Vault.is_clean g.V.Vault.faults g.W.Wire.asked g.S.Spool.asked g.L.Listener.heard g.C.Clock.gave false moments
@@ -22,4 +22,5 @@ invariant-loop-turn g l = record {
   seated : AllHaveSeats l.fn.links → AllHaveSeats l.links;
   short : (T : Trace) → StandsFor g.V.Vault.holds l.fn.office T → g.V.Vault.is_clean (vault_of l.office) → AreShort l.fn.links → AreShort l.links;
   settings : settings l.links ≡ settings l.fn.links;
+  site : l.links.site ≡ l.fn.links.site;
 }

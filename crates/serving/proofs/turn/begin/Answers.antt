@@ -12,9 +12,9 @@ use Rattle.serving.specs.Newcomers.{HaveSeats, NoSeat}
 use Rattle.serving.proofs.turn.begin.Goals as goal
 
 pub returns-clause-serves : goal.returns-clause-serves
-returns-clause-serves g c = λ T t stands admitted none tells fresh files.
+returns-clause-serves g c = λ T t site stands admitted none tells fresh files.
     record {
-      beside = record { acts = []; admin = t.admin; x = record { response = λ k. None; place = λ k. None } };
+      beside = record { acts = []; admin = t.admin; x = record { site = site; response = λ k. None; place = λ k. None } };
       tells = files;
       is = record {
         log = T.log;
@@ -45,8 +45,9 @@ returns-clause-serves g c = λ T t stands admitted none tells fresh files.
         };
       };
       sent = λ n. c.taken_is_sent.ensures T admitted n;
-      requests = subst (λ held. AreHeld t.admin (record { response = λ k. None; place = λ k. None }) held) (sym c.new.ensures.requests)
-          (record { each = All-nil (IsHeld t.admin (record { response = λ k. None; place = λ k. None })); ascend = λ i j d low within. absurd (omega (arith, within)) });
+      requests = subst (λ held. AreHeld t.admin (record { site = site; response = λ k. None; place = λ k. None }) held) (sym c.new.ensures.requests)
+          (record { each = All-nil (IsHeld t.admin (record { site = site; response = λ k. None; place = λ k. None })); ascend = λ i j d low within. absurd (omega (arith, within)) });
+      of_site = refl;
     }
 
 pub returns-clause-few : goal.returns-clause-few

@@ -25,7 +25,7 @@ use Rattle.serving.specs.Parts.{Giving}
 use Rattle.serving.specs.Late.{HasEndedLate}
 use Rattle.serving.proofs.Timely.{late_both}
 use Rattle.serving.specs.Hearing.{WasTold, WithHeard, late_ends}
-use Rattle.serving.proofs.Hearing.{told_same}
+use Rattle.serving.proofs.Hearing.{told_same, late_heard}
 use Rattle.serving.proofs.Finishing.{turn_done}
 use Rattle.serving.proofs.Bounds.{all_short}
 use Rattle.serving.proofs.turn.serve_turn.Goals as goal
@@ -53,6 +53,7 @@ returns-clause-serves g c = λ T s clean.
     (record {
       log = links.log;
       x = b2.x;
+      of_site = s.of_site;
       stands = links.stands;
       admitted = λ before. before;
       grown = AsksNone;
@@ -60,12 +61,12 @@ returns-clause-serves g c = λ T s clean.
     })
     asked_clean in
     let b3 : Beside = record { acts = b.acts; admin = k.is.told; x = k.x } in
-    let answered = serves_asked Holds Tells T b2 _ _ _ _ _ _ links k in
+    let answered = serves_asked Holds Tells T b2 _ _ _ _ _ _ links _ k in
     let late = c.end_late_ones.ensures.serves T b3 answered late_clean in
     let closed = c.close_links.ensures.serves T b3 late late_clean in
     let tried = c.serve_spool.ensures.tried (trace_of T.base closed.log) b.acts closed.stands s.tells clean in
-    let serves = serves_tried Holds Tells g.S.Spool.tells T b3 _ _ _ _ _ _ closed c.taken_is_sent.ensures k.is.held tried in
-    subst (λ seats. Serves Holds Tells g.S.Spool.tells T c.serve_spool.new.office c.close_links.new.wire c.serve_spool.new.spool seats.items c.serve_requests.new.requests.exchanges.items) (sym c.serve_spool.ensures.keeps.seats) serves)
+    let serves = serves_tried Holds Tells g.S.Spool.tells T b3 _ _ _ _ _ _ _ closed c.taken_is_sent.ensures k.is.held k.of_site tried in
+    subst (λ seats. Serves Holds Tells g.S.Spool.tells T c.serve_spool.new.office c.close_links.new.wire c.serve_spool.new.spool seats.items c.serve_requests.new.requests.exchanges.items c.args.links.now.site) (sym c.serve_spool.ensures.keeps.seats) serves)
 
 pub returns-clause-clean : goal.returns-clause-clean
 returns-clause-clean g c = λ clean.
@@ -113,8 +114,15 @@ returns-clause-works g c = λ T s clean.
     ∙ (ap (λ (s : Settings). limit_by (length seats2) s.login_seconds s.full_house_seconds) set)) in
     let less = late_then now most old.newcomers.newcomers.items came.newcomers.newcomers.items served.newcomers.newcomers.items (late_comers now most old.newcomers.newcomers.items came.newcomers.newcomers.items c.accept_links.ensures.comers.each)
     (late_settled now most came.newcomers.newcomers.items served.newcomers.newcomers.items settled) in
-    let late = late_both Holds IsClean g.V.Vault.faults now c.limit-seconds.result most old.newcomers.newcomers.items served.newcomers.newcomers.items ended.newcomers.newcomers.items seats2 o4 o5 (λ given. WasTold Heard l4 l5 (late_ends given)) seconds less
-    (subst (λ v. Giving Holds IsClean g.V.Vault.faults o4 o5 (λ given. HasEndedLate Holds IsClean o4 o5 now c.limit-seconds.result served.newcomers.newcomers.items ended.newcomers.newcomers.items v.items given × WasTold Heard l4 l5 (late_ends given))) c.serve_links.ensures.keeps.seats c.end_late_ones.ensures.works) in
+    let login_same : served.newcomers.seconds ≡ old.newcomers.seconds = ap (λ (s : Settings). s.login_seconds) set in
+    let late = late_both Holds IsClean g.V.Vault.faults now c.limit-seconds.result most old.newcomers.newcomers.items served.newcomers.newcomers.items ended.newcomers.newcomers.items seats2 o4 o5
+    (λ given. WasTold Heard l4 l5 (late_ends now served.newcomers.seconds served.newcomers.newcomers.items given))
+    (λ given. WasTold Heard l4 l5 (late_ends now old.newcomers.seconds old.newcomers.newcomers.items given)) seconds less
+    (λ given gone told. late_heard Heard now most old.newcomers.seconds served.newcomers.seconds old.newcomers.newcomers.items served.newcomers.newcomers.items less login_same l4 l5 given gone told)
+    (subst (λ v. Giving Holds IsClean g.V.Vault.faults o4 o5
+    (λ given. HasEndedLate Holds IsClean o4 o5 now c.limit-seconds.result served.newcomers.newcomers.items ended.newcomers.newcomers.items v.items given
+    × WasTold Heard l4 l5 (late_ends now served.newcomers.seconds served.newcomers.newcomers.items given)))
+    c.serve_links.ensures.keeps.seats c.end_late_ones.ensures.works) in
     let keeps : (n : ℕ) (x : Newcomer) → newcomer n old.newcomers.newcomers.items ≡ Some x → IsSettled now (Some x) (newcomer n served.newcomers.newcomers.items) =
     λ n x h. subst (λ m. IsSettled now m (newcomer n served.newcomers.newcomers.items)) (c.accept_links.ensures.comers.noted n x h) (settled.each n) in
     let comers = c.accept_links.ensures.comers in
@@ -129,7 +137,8 @@ returns-clause-works g c = λ T s clean.
     let tried = subst (λ l. SpoolPart Holds IsClean g.V.Vault.faults g.S.Spool.asked o5 c.args.spool.now c.serve_spool.new.office c.serve_spool.new.spool (λ U given calls. IsSpoolTurn l c.serve_spool.new.links.last U given calls × (c.serve_spool.new.links.poll_now ≡ (c.close_links.new.links.poll_now || has_dealt calls)))) last c.serve_spool.ensures.works in
     let waits : ended.wait ≡ old.wait = ap (λ (s : Settings). s.wait) (c.end_late_ones.ensures.keeps.keeps.set ∙ (c.serve_links.ensures.keeps.keeps.set ∙ c.accept_links.ensures.comers.keeps.set)) in
     let seats_same = c.end_late_ones.ensures.keeps.seats ∙ c.serve_links.ensures.keeps.seats in
-    turn_done Holds IsClean g.V.Vault.faults Asked g.S.Spool.asked Heard T now links (record { clients = c.serve_spool.new.links; requests = c.serve_requests.new.requests })
+    turn_done Holds IsClean g.V.Vault.faults Asked g.S.Spool.asked Heard T now links
+    (record { clients = c.serve_spool.new.links; requests = c.serve_requests.new.requests; site = c.args.links.now.site })
     c.args.office.now o1 o2 o3 o4 o5 c.serve_spool.new.office
     c.args.wire.now w1 c.accept_links.new.wire w3 w4 w5 w6 c.args.spool.now c.serve_spool.new.spool c.args.listener.now l1 l2 l3 l4 l5
     seats2 a.0 c.accept_requests.new.requests.exchanges.items c.accept_requests.ensures.works.0 served.lock_released served.poll_now c.close_links.new.links.poll_now came.newcomers.newcomers.items served.newcomers.newcomers.items ended.newcomers.newcomers.items passed c.tell_idle_ones.ensures a.1 c.accept_requests.ensures.works.1 (told_same Heard l1 l2 c.accept_links.ensures.heard) turned c.serve_links.ensures.frees
@@ -153,7 +162,7 @@ returns-clause-few g c = λ few. (let a = c.accept_requests.ensures.few few in l
 pub returns-clause-short : goal.returns-clause-short
 returns-clause-short g c = λ T s clean short.
     (let w = returns-clause-works g c T s clean in
-    all_short T c.args.now c.args.links.now (record { clients = c.serve_spool.new.links; requests = c.serve_requests.new.requests }) w.given w.calls w.http short)
+    all_short T c.args.now c.args.links.now (record { clients = c.serve_spool.new.links; requests = c.serve_requests.new.requests; site = c.args.links.now.site }) w.given w.calls w.http short)
 
 pub returns-clause-seated : goal.returns-clause-seated
 returns-clause-seated g c = λ h.

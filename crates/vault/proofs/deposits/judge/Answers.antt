@@ -1,4 +1,4 @@
--- Full where there is no room, else the class's next number.
+-- Full if there is no room, else the class's next number.
 use Rattle.std.proofs.Common.{rules}
 use Rattle.vault.proofs.deposits.judge.Goals as goal
 

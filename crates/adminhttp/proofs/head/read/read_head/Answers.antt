@@ -3,11 +3,11 @@ use Rattle.std.proofs.lemmas.List.{take_rest}
 use Rattle.adminhttp.proofs.head.read.read_head.Goals as goal
 
 pub returns-in_default-parse_head-clause-stop : goal.returns-in_default-parse_head-clause-stop
-returns-in_default-parse_head-clause-stop c =
-    let width : (c.in-Some.start + c.in-Some.len) - c.in-Some.start ≡ c.in-Some.len = omega arith in
+returns-in_default-parse_head-clause-stop c = λ site.
+    (let width : (c.in-Some.start + c.in-Some.len) - c.in-Some.start ≡ c.in-Some.len = omega arith in
     let place = rw c.front_of.ensures.value at (sym c.locate.ensures.value ∙ c.in-Some.is) in
     let none = rw width at c.in_default-parse_head.ensures.none in
-    rw place (inr (none, refl))
+    rw place (inr (none, refl)))
 
 pub returns-clause-ok : goal.returns-clause-ok
 returns-clause-ok c =

@@ -1,4 +1,4 @@
--- The clerk stands in front of the slash, the maildrop behind it.
+-- The clerk stands in front of the slash, the maildrop after it.
 use Rattle.std.proofs.Common.{arith}
 use Rattle.std.proofs.lemmas.Grind.{common_steps}
 use Rattle.creds.specs.LoginName.{login_name}

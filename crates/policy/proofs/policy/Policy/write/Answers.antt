@@ -1,4 +1,4 @@
--- The text stands behind what was there.
+-- The text stands after what was there.
 use Rattle.std.proofs.Common.{rules}
 use Rattle.policy.proofs.policy.Policy.write.Goals as goal
 

@@ -1,4 +1,4 @@
--- The least name behind the last one is the next, where there is one.
+-- The least name after the last one is the next, if there is one.
 use Rattle.std.proofs.Common.{rules}
 use Rattle.serving.proofs.next_name.NextName.get.Goals as goal
 

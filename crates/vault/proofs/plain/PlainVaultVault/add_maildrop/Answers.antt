@@ -1,4 +1,4 @@
--- A maildrop's name more, where it wasn't there.
+-- A maildrop's name more, if it wasn't there.
 use Rattle.std.proofs.Common.{rules}
 use Rattle.vault.specs.Changes.{put_maildrop_answer, with_maildrop, with_maildrops}
 use Rattle.vault.specs.Calls.{put_result}
