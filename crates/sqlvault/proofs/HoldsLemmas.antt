@@ -6,7 +6,7 @@ use Rattle.sqlite.specs.declared.error.Error.{Error}
 use Rattle.sqlite.specs.State.{State, IsUnchanged, IsRolledBack}
 use Rattle.vault.specs.declared.fault.VaultFault.{VaultFault}
 use Rattle.vault.specs.declared.fault.VaultFault.TheVariants as fault
-use Rattle.vault.specs.Changes.{Contents}
+use Rattle.vault.specs.Changes.{Contents, AreSound}
 use Rattle.vault.specs.Calls.{IsAnswer, IsDone, IsRefusal}
 use Rattle.mailsql.specs.Rows.{Rows, rows_in, IsKept, HasTables, Changes, IsUndone}
 use Rattle.sqlvault.specs.Keeps.{Keeps}
@@ -30,16 +30,21 @@ holds_unchanged old new c same h = record {
   sound = h.sound;
 }
 
+-- outside a transaction, over a database that is committed
+pub holds_at : (d : Database) (s : State) (c : Contents) → s.in_transaction ≡ false → (IsTrue s.is_open → (s.now ≡ d) × (s.committed ≡ d))
+    → (IsTrue s.is_open → IsKept d × Keeps (rows_in d.trees) c) → AreSound c → Holds s c
+holds_at d s c out at kept sound = record {
+  autocommit = out;
+  tables = λ o. subst IsKept (sym (at o).0) (kept o).0;
+  settled = λ o. (at o).1 ∙ sym (at o).0;
+  rows = λ o. subst (λ (x : Database). Keeps (rows_in x.trees) c) (sym (at o).0) (kept o).1;
+  sound = sound;
+}
+
 holds_rolled_back : (old new : State) (c : Contents) → IsRolledBack old new → Holds old c → Holds new c
-holds_rolled_back old new c back h =
-    let was : IsTrue new.is_open → new.now ≡ old.now = λ o. (back.undone o).0 ∙ h.settled (back.was_open o) in
-    record {
-      autocommit = back.autocommit;
-      tables = λ o. subst IsKept (sym (was o)) (h.tables (back.was_open o));
-      settled = λ o. (back.undone o).1 ∙ sym (back.undone o).0;
-      rows = λ o. subst (λ (d : Database). Keeps (rows_in d.trees) c) (sym (was o)) (h.rows (back.was_open o));
-      sound = h.sound;
-    }
+holds_rolled_back old new c back h = holds_at old.now new c back.autocommit
+    (λ o. let e = h.settled (back.was_open o) in ((back.undone o).0 ∙ e, (back.undone o).1 ∙ e))
+    (λ o. (h.tables (back.was_open o), h.rows (back.was_open o))) h.sound
 
 pub holds_undone : (old new : State) (c : Contents) → IsUndone old new → Holds old c → Holds new c
 holds_undone old new c (inl same) h = holds_unchanged old new c same h

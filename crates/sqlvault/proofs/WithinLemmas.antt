@@ -8,6 +8,7 @@ use Rattle.mailsql.specs.Rows.{Rows, rows_in, IsKept, IsReady, MayLeave, Changes
 use Rattle.sqlvault.specs.Keeps.{Keeps}
 use Rattle.sqlvault.specs.Stands.{Holds, Leaves, Within, Under, Halted, Makes}
 use Rattle.sqlvault.specs.Stops.{LeavesLast}
+use Rattle.sqlvault.proofs.HoldsLemmas.{holds_at}
 use Rattle.std.specs.Prelude.{OnOk, OnErr, IsErrAnd}
 use Rattle.std.proofs.Common.{Result, Ok, Err}
 use Rattle.sqlite.specs.declared.error.Error.{Error}
@@ -41,23 +42,11 @@ step_ok Change Other old new base rows clean does s w =
     )
 
 pub rolled_back : (old new : State) (base : Contents) (rows : Rows) → IsRolledBack old new → Within old base rows → Holds new base
-rolled_back old new base rows back w = record {
-  autocommit = back.autocommit;
-  tables = λ o. subst IsKept (sym (back.undone o).0) w.under;
-  settled = λ o. (back.undone o).1 ∙ sym (back.undone o).0;
-  rows = λ o. subst (λ (d : Database). Keeps (rows_in d.trees) base) (sym (back.undone o).0) w.base_is;
-  sound = w.base_is.sound;
-}
+rolled_back old new base rows back w = holds_at old.committed new base back.autocommit back.undone (λ _. (w.under, w.base_is)) w.base_is.sound
 
 -- the transaction is gone
 pub gone_held : (old new : State) (base : Contents) (rows : Rows) → IsGone old new → Within old base rows → Holds new base
-gone_held old new base rows gone w = record {
-  autocommit = gone.autocommit;
-  tables = λ o. subst IsKept (sym (gone.undone o).0) w.under;
-  settled = λ o. (gone.undone o).1 ∙ sym (gone.undone o).0;
-  rows = λ o. subst (λ (d : Database). Keeps (rows_in d.trees) base) (sym (gone.undone o).0) w.base_is;
-  sound = w.base_is.sound;
-}
+gone_held old new base rows gone w = holds_at old.committed new base gone.autocommit gone.undone (λ _. (w.under, w.base_is)) w.base_is.sound
 
 -- after an error of a part of several statements
 pub halted : (old new : State) (base : Contents) (rows : Rows) → IsHalted old new → Within old base rows → Halted new base
@@ -150,13 +139,7 @@ pub goes_still : (s : State) (base : Contents) (rows : Rows) → Within s base r
 goes_still s base rows w = record { was_open = w.is_open; is_open = w.is_open; now_is = refl; committed_is = refl; mode = w.inside }
 
 pub undone_holds : (old new : State) (base : Contents) → IsRolledBack old new → Under old base → Holds new base
-undone_holds old new base back u = record {
-  autocommit = back.autocommit;
-  tables = λ o. subst IsKept (sym (back.undone o).0) u.under;
-  settled = λ o. (back.undone o).1 ∙ sym (back.undone o).0;
-  rows = λ o. subst (λ (d : Database). Keeps (rows_in d.trees) base) (sym (back.undone o).0) u.base_is;
-  sound = u.base_is.sound;
-}
+undone_holds old new base back u = holds_at old.committed new base back.autocommit back.undone (λ _. (u.under, u.base_is)) u.base_is.sound
 
 pub autocommit_holds : (s : State) (base : Contents) → s.in_transaction ≡ false → Halted s base → Holds s base
 autocommit_holds s base out (inl u) = absurd (true≢false (sym u.inside ∙ out))

@@ -1,8 +1,7 @@
 //! A deposit, in one transaction.
 ghost use Rattle.std.specs.Prelude.{◌≡◌, ◌≤◌, ◌&&◌, ◌+◌, ℕ, List, length, pos, true, None, Ok};
-ghost use Rattle.std.specs.Prelude.{Option, IfOk};
+ghost use Rattle.std.specs.Prelude.{IfOk};
 ghost use Rattle.std.specs.Str.{bytes_eq};
-ghost use Rattle.mailtext.specs.MailText.{IsMailText};
 ghost use Rattle.creds.specs.Names.{is_name, is_deposit_id};
 ghost use Rattle.creds.specs.Digests.{text_digest};
 ghost use Rattle.creds.specs.declared.uid.Uid as uid;

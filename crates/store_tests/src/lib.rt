@@ -3,6 +3,8 @@
 #![tactic(auto)]
 
 #[cfg(test)]
+mod checkpoints;
+#[cfg(test)]
 mod older_stores;
 #[cfg(test)]
 mod opened_twice;

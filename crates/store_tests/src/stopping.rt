@@ -83,7 +83,7 @@ fn is_stop(octets: &[u8]) -> bool {
 
 /// Opens the store in two files, or gives the files back. Its log is copied into the database file
 /// once it has eight pages. The cache has only 32 pages, since making a larger one takes time.
-fn adopted<D: Disk + Drop>(
+pub fn adopted<D: Disk + Drop>(
     alloc: Global,
     files: Files<D>,
 ) -> Result<SqlVault<FileStore<D>>, Files<D>> {
@@ -113,7 +113,7 @@ fn taken<D: Disk + Drop>(
 }
 
 /// The files of a store, as they are.
-fn files_of<D: Disk + Drop>(vault: SqlVault<FileStore<D>>) -> Files<D> {
+pub fn files_of<D: Disk + Drop>(vault: SqlVault<FileStore<D>>) -> Files<D> {
     vault.into_connection().into_store().close()
 }
 

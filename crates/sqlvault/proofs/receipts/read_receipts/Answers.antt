@@ -1,5 +1,4 @@
 use Rattle.std.proofs.Common.{◌≡◌, length, arith, ap, ◌∙◌, List, take_all}
-use Rattle.vault.specs.declared.record.Receipt.{Receipt}
 use Rattle.vault.proofs.ListLemmas.{length-map}
 use Rattle.mailsql.specs.declared.rows.Deposit.{Deposit}
 use Rattle.sqlvault.specs.Keeps.{deposit_row}
