@@ -89,6 +89,8 @@ cause_text (account.Ended end.StoreFailed) = codes " cause=\"store failed\""
 cause_text (account.Ended end.SessionEnded) = codes " cause=\"session ended\""
 cause_text (account.Ended end.Idle) = codes " cause=idle"
 cause_text (account.Ended end.TooLate) = codes " cause=\"too late to log in\""
+cause_text (account.Ended end.FullHouse) =
+    codes " cause=\"no login while all places were taken\""
 cause_text (account.Login name by judged.ThirdWrongCredential) =
     codes " cause=\"login failed, closing\""
 cause_text (account.Login name by judged.Accepted) = []

@@ -171,6 +171,7 @@ pub fn cause_text(account: &Account) -> &'static str
         Account::Ended(End::SessionEnded) => " cause=\"session ended\"",
         Account::Ended(End::Idle) => " cause=idle",
         Account::Ended(End::TooLate) => " cause=\"too late to log in\"",
+        Account::Ended(End::FullHouse) => " cause=\"no login while all places were taken\"",
         Account::Login(_, _, Verdict::ThirdWrongCredential) => " cause=\"login failed, closing\"",
         Account::Login(_, _, Verdict::Accepted | Verdict::WrongCredential) => "",
         Account::Login(_, _, Verdict::Denied(_) | Verdict::NoSuchMaildrop) => "",

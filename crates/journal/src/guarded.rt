@@ -45,6 +45,8 @@ impl<W: Wire, X: Watch> Wire for Guarded<W, X> {
 
     ghost asked = { λ r calls. IsGuarded W.asked X.answered r.inner r.watch calls };
 
+    ghost address_of = { λ r. W.address_of r.inner };
+
     ghost tells_once = { λ r. W.tells_once r.inner };
 
     fn wait(&mut self, millis: u32) {

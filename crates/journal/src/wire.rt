@@ -109,6 +109,8 @@ impl<W: Wire + Peers> Wire for LoggedWire<'_, W> {
 
     ghost asked = { λ r. W.asked r.wire };
 
+    ghost address_of = { λ r. W.address_of r.wire };
+
     ghost tells_once = { λ r. W.tells_once r.wire };
 
     fn wait(&mut self, millis: u32) {

@@ -1,6 +1,8 @@
 -- Why a link was refused, and from where one came, by what is kept of it.
 use Rattle.std.specs.Prelude.{ℕ, ◌==◌, Option, Some, None, if◌then◌else◌}
 use Rattle.std.specs.declared.net.ip_addr.IpAddr.{IpAddr}
+use Rattle.serving.specs.Wires.{Addresses}
+use Rattle.serving.specs.declared.wire.Port.TheVariants.{Pop, Admin}
 use Rattle.proxy.specs.declared.wire.Refusal.{Refusal}
 use Rattle.proxy.specs.declared.wire.Refused.{Refused}
 
@@ -14,3 +16,8 @@ abbrev pub address_by : (known : Option (Option IpAddr)) → (inside : Option Ip
 address_by None inside = None
 address_by (Some None) inside = inside
 address_by (Some (Some source)) inside = Some source
+
+-- of each link, by the sources that are known of clients' links
+abbrev pub address_behind : (known : ℕ → Option (Option IpAddr)) → (inside : Addresses) → Addresses
+address_behind known inside Pop link = address_by (known link.number) (inside Pop link)
+address_behind known inside Admin link = inside Admin link

@@ -17,7 +17,7 @@ ghost use Rattle.proxy.specs.Proxied.{TellsProxy, TellsProxied, proxy_once, IsLi
 ghost use Rattle.proxy.specs.Proxied.{IsAsFarAs, has_line, IsAddressOf};
 ghost use Rattle.proxy.specs.Behind.{TakesLine, AskedAmid, AskedBehind};
 ghost use Rattle.proxy.specs.Lines.{IsProxyLine};
-ghost use Rattle.proxy.specs.Refusals.{refusal_of, address_by};
+ghost use Rattle.proxy.specs.Refusals.{refusal_of, address_by, address_behind};
 ghost use Rattle.proxy.specs.declared.wire.Progress.{Progress as HowFar};
 
 use crate::line::{MOST_OCTETS, ProxyLine};
@@ -397,6 +397,8 @@ impl<W: Wire, C: Clock> Wire for ProxiedWire<W, C> {
 
     ghost asked = { λ r calls. AskedBehind W.asked r.wire (get nat_cmp r.known) r.hurries calls };
 
+    ghost address_of = { λ r. address_behind (get nat_cmp r.known) (W.address_of r.wire) };
+
     ghost tells_once = { λ r u v a b. proxy_once W.tells W.tells_once r.wire (get nat_cmp r.begun)
         (get nat_cmp r.known) u v a b };
 
@@ -443,6 +445,8 @@ impl<W: Wire, C: Clock> Wire for ProxiedWire<W, C> {
     ///
     /// What it tells of a client's link is what that line says, or that line says no address.
     fn address(&self, port: Port, link: Link) -> Option<IpAddr>
+        ensures is { result ≡ address_behind (get nat_cmp self.now.known)
+            (W.address_of self.now.wire) port link }
         ensures told { (source : Address) → port ≡ ThePop
             → get nat_cmp self.now.known link.number ≡ Some (Some source) → result ≡ Some source }
         ensures open_yet { port ≡ ThePop → get nat_cmp self.now.known link.number ≡ None

@@ -35,6 +35,7 @@ use Rattle.serving.proofs.Turns.{served_so}
 use Rattle.serving.proofs.Freeing.{freed_left, freed_right}
 use Rattle.serving.specs.Newcomers.{newcomer, limit, lies_unread, waited_of, AllHaveSeats, IsSettled, CountsFrom, IsComer}
 use Rattle.serving.specs.Late.{HasLived, IsNotedSince, HasEndedLate}
+use Rattle.serving.proofs.Late.{timed_out}
 use Rattle.serving.proofs.Timely.{lived_left, lived_right}
 use Rattle.serving.proofs.Settling.{late_still, may_same}
 use Rattle.serving.proofs.Working.{or_true, given_then, asked_then, none_of, count_joined, any_left, any_right, lies_left, lies_right, quiet_none, caused_more, fewer_quiet, fewer_gone, none_joined, turned_left, turned_right}
@@ -166,7 +167,9 @@ module _ {V W S H : Type 0} (Holds : V → Contents → Type 0) (IsClean : V →
       → ((c : ℕ) → waited_of now (newcomer c n0) ≡ waited_of now (newcomer c links.clients.newcomers.newcomers.items))
       → ((c : ℕ) (n : Newcomer) → newcomer c links.clients.newcomers.newcomers.items ≡ Some n → IsSettled now (Some n) (newcomer c n1))
       → (AllHaveSeats links → All (IsComer now links.clients.newcomers.newcomers.items n1) (filter_map seat_of acc.facts.came))
-      → Giving Holds IsClean Faults o4 o5 (λ g. AreLateGone now (limit links (length seats2)) links.clients.newcomers.newcomers.items g × HasEndedLate Holds IsClean o4 o5 now (limit links (length seats2)) n1 n2 seats2 g × WasTold Heard l4 l5 (late_ends g))
+      → Giving Holds IsClean Faults o4 o5
+      (λ g. AreLateGone now (limit links (length seats2)) links.clients.newcomers.newcomers.items g × HasEndedLate Holds IsClean o4 o5 now (limit links (length seats2)) n1 n2 seats2 g
+      × WasTold Heard l4 l5 (late_ends now links.clients.newcomers.seconds links.clients.newcomers.newcomers.items g))
       → ((U : Trace) → StandsFor Holds o5 U → (c : ℕ) → is_open U c ≡ true → newcomer c links_then.clients.newcomers.newcomers.items ≡ newcomer c n2)
       → ((U : Trace) → StandsFor Holds o5 U → Asking Asked w5 w6 (λ calls. AreClosed U seats2 links_then.clients.seats.items calls × PollsBy polling polled calls × Releases links.clients.wait polled calls))
       → SpoolPart Holds IsClean Faults AskedFiles o5 f o6 f1 (λ U given calls. IsSpoolTurn (last_tried links) (last_tried links_then) U given calls × (links_then.clients.poll_now ≡ (polled || has_dealt calls)))
@@ -229,7 +232,7 @@ module _ {V W S H : Type 0} (Holds : V → Contents → Type 0) (IsClean : V →
       let idle_heard = idle_ends (trace_of B (moment ∷ L)) links.clients.seats.items in
       let links_heard = heard_of_all B (G1 ++ L) gl in
       let reqs_heard = heard_of_all B (G2 ++ L) gr in
-      let late_heard = late_ends gz in
+      let late_heard = late_ends now links.clients.newcomers.seconds newcomers gz in
       let came = acc.facts.came in
       let quiet = deposits_quiet gs spool.deposits in
       let hush = late_quiet now seconds newcomers gz late.facts.0 in
@@ -252,7 +255,8 @@ module _ {V W S H : Type 0} (Holds : V → Contents → Type 0) (IsClean : V →
       let P = HasCause seats2 C5 in
       let Q = HasCauseInTurn now links seats2 C5 in
       let by_cause : (g : Log) → All P g → All Q g = λ g h. All-weaker P Q (λ y p. inl p) g h in
-      let caused_z : All Q gz = All-weaker (IsLateGone now seconds newcomers) Q (λ y p. inr p) gz late.facts.0 in
+      let caused_z : All Q gz = All-weaker (IsLateGone now seconds newcomers) Q
+      (λ y p. inr (timed_out now (length seats2) links.clients.newcomers.seconds links.clients.newcomers.full_house_seconds newcomers y p)) gz late.facts.0 in
       let lq = served.facts.1.0.turns.of_seats.quiet in
       let rq = reqs.facts.0.quiet in
       let waits_x : waits cx ≡ [] = ap waits x.facts.0.calls_are ∙ waits_of (filter (is_shut_seat trace4) seats2) in

@@ -14,12 +14,14 @@ use Rattle.office.specs.Stands.{StandsFor, vault_of}
 use Rattle.office.specs.declared.office.Office.{Office}
 use Rattle.office.specs.declared.account.Account.{Account}
 use Rattle.serving.specs.declared.links.Seat.{Seat}
-use Rattle.serving.specs.Works.{is_open_seat, is_shut_seat}
-use Rattle.serving.specs.Parts.{WasGiven}
+use Rattle.serving.specs.declared.newcomers.Newcomer.{Newcomer}
+use Rattle.serving.specs.Works.{is_open_seat, is_shut_seat, AreLateGone}
+use Rattle.serving.specs.Parts.{WasGiven, AreNoMoreLate}
 use Rattle.serving.specs.ClientParts.{IsOpening}
 use Rattle.serving.specs.Hearing.{Hearing, heard_by, heard_of, heard_of_all, late_end, late_ends, idle_end, idle_ends, WasTold, WasHeard}
 use Rattle.serving.proofs.Seating.{whole_front}
 use Rattle.serving.proofs.Arriving.{take_next}
+use Rattle.serving.proofs.Late.{same_ends}
 
 -- ---- events
 
@@ -31,9 +33,11 @@ heard_joined B L g1 ((e, m) ∷ g2) =
     let x = heard_of (trace_of B (g2 ++ (g1 ++ L))) e m in
     ap (λ l. heard_of_all B L (g2 ++ g1) ++ heard_of (trace_of B l) e m) (append_assoc g2 g1 L) ∙ (ap (λ h. h ++ x) (heard_joined B L g1 g2) ∙ append_assoc a b x)
 
-late_joined : (g1 g2 : Log) → late_ends (g2 ++ g1) ≡ late_ends g1 ++ late_ends g2
-late_joined g1 [] = sym (append-nil (late_ends g1))
-late_joined g1 ((e, m) ∷ g2) = ap (λ h. h ++ late_end e) (late_joined g1 g2) ∙ append_assoc (late_ends g1) (late_ends g2) (late_end e)
+late_joined : (now seconds : ℕ) (ns : List Newcomer) (g1 g2 : Log) → late_ends now seconds ns (g2 ++ g1) ≡ late_ends now seconds ns g1 ++ late_ends now seconds ns g2
+late_joined now seconds ns g1 [] = sym (append-nil (late_ends now seconds ns g1))
+late_joined now seconds ns g1 ((e, m) ∷ g2) =
+    let x = late_end now seconds ns e in
+    ap (λ h. h ++ x) (late_joined now seconds ns g1 g2) ∙ append_assoc (late_ends now seconds ns g1) (late_ends now seconds ns g2) x
 
 -- nothing is heard of openings
 pub openings_unheard : (B : Records) (L given : Log) → All IsOpening given → heard_of_all B L given ≡ []
@@ -107,8 +111,16 @@ module _ {H : Type 0} (Heard : H → List Hearing → Type 0) where
   idle_whole l l1 T seats n h a = subst (λ v. WasTold Heard l l1 (idle_ends T v)) (whole_front seats n h) a
 
   -- clients that are late
-  pub late_told : (l l1 l2 : H) (g1 g2 : Log) → WasTold Heard l l1 (late_ends g1) → WasTold Heard l1 l2 (late_ends g2) → WasTold Heard l l2 (late_ends (g2 ++ g1))
-  late_told l l1 l2 g1 g2 a b = subst (WasTold Heard l l2) (sym (late_joined g1 g2)) (told_then l l1 l2 (late_ends g1) (late_ends g2) a b)
+  pub late_told : (now seconds : ℕ) (ns : List Newcomer) (l l1 l2 : H) (g1 g2 : Log) → WasTold Heard l l1 (late_ends now seconds ns g1) → WasTold Heard l1 l2 (late_ends now seconds ns g2)
+      → WasTold Heard l l2 (late_ends now seconds ns (g2 ++ g1))
+  late_told now seconds ns l l1 l2 g1 g2 a b =
+      subst (WasTold Heard l l2) (sym (late_joined now seconds ns g1 g2)) (told_then l l1 l2 (late_ends now seconds ns g1) (late_ends now seconds ns g2) a b)
+
+  -- the same by who was noted before
+  pub late_heard : (now seconds other other_then : ℕ) (xs ys : List Newcomer) → AreNoMoreLate now seconds xs ys → other_then ≡ other → (l l1 : H) (g : Log) → AreLateGone now seconds ys g
+      → WasTold Heard l l1 (late_ends now other_then ys g) → WasTold Heard l l1 (late_ends now other xs g)
+  late_heard now seconds other other_then xs ys less is l l1 g gone a =
+      subst (WasTold Heard l l1) (ap (λ n. late_ends now n ys g) is ∙ same_ends now seconds other xs ys less g gone) a
 
   -- of what was done behind a log
   pub apart_then : (l l1 l2 : H) (B : Records) (L g1 g2 : Log) → WasTold Heard l l1 (heard_of_all B L g1) → WasTold Heard l1 l2 (heard_of_all B (g1 ++ L) g2) → WasTold Heard l l2 (heard_of_all B L (g2 ++ g1))

@@ -10,6 +10,8 @@ pub mod NameTexts
 pub mod Parts
 pub mod Looking
 pub mod Origins
+pub mod Places
+pub mod Pacing
 pub mod Working
 pub mod Turns
 pub mod Arriving

@@ -2,15 +2,17 @@
 -- its origin, and a list has the last refusal of each origin and login name, the oldest refusal
 -- first.
 use Rattle.std.specs.Prelude.{◌≡◌, ℕ, Bool, true, false, not, ◌&&◌, ◌+◌, ◌-◌, ◌*◌, ◌==◌, nat_lt}
-use Rattle.std.specs.Prelude.{nat_le}
+use Rattle.std.specs.Prelude.{nat_le, ◌≤◌}
+use Rattle.std.specs.List.{All}
 use Rattle.std.specs.Prelude.{min, List, [], ◌∷◌, ◌++◌, length, drop, filter, find, slice_index}
 use Rattle.std.specs.Prelude.{Option, Some, None, if◌then◌else◌}
-use Rattle.std.specs.Net.Addr.{ipv4_bits, ipv6_segments}
+use Rattle.std.specs.Net.Addr.{ipv4_bits, ipv6_segments, IsCanonicalOf}
 use Rattle.std.specs.Str.{bytes_eq}
 use Rattle.creds.specs.declared.login_name.LoginName.{LoginName}
 use Rattle.std.specs.declared.net.ip_addr.IpAddr.{IpAddr}
 use Rattle.std.specs.declared.net.ip_addr.IpAddr.TheVariants.{V4, V6}
 use Rattle.serving.specs.declared.guesses.Refusal.{Refusal}
+use Rattle.serving.specs.declared.links.Links.{Links}
 
 -- ---- origins
 
@@ -24,6 +26,19 @@ network segments =
 abbrev pub origin : IpAddr → ℕ
 origin (V4 four) = ipv4_bits four
 origin (V6 six) = network (ipv6_segments six)
+
+-- an address counts by this number: an IPv4 address as itself, also if it is written as an IPv6 one
+abbrev pub CountsBy : IpAddr → (number : ℕ) → Type 0
+CountsBy (V4 four) number = number ≡ ipv4_bits four
+CountsBy (V6 six) number = (c : IpAddr) × IsCanonicalOf six c × (number ≡ origin c)
+
+-- By which number a client's guesses count: by none if guesses aren't slow, if the client is logged
+-- in, or if it isn't known from where it comes.
+abbrev pub IsOriginOf : (are_slow is_logged_in : Bool) → Option IpAddr → Option ℕ → Type 0
+IsOriginOf false is_logged_in address number = number ≡ None
+IsOriginOf true true address number = number ≡ None
+IsOriginOf true false None number = number ≡ None
+IsOriginOf true false (Some address) number = (n : ℕ) × (number ≡ Some n) × CountsBy address n
 
 -- ---- refusals
 
@@ -67,6 +82,17 @@ one_more now origin name refusals = record {
   at = now;
   seconds = next_seconds now (refusal_of origin name refusals);
 }
+
+-- a refusal keeps the next login back for 1 to 15 seconds
+abbrev pub IsPacing : Refusal → Type 0
+IsPacing r = (1 ≤ r.seconds) × (r.seconds ≤ 15)
+
+abbrev pub ArePacing : List Refusal → Type 0
+ArePacing refusals = All IsPacing refusals
+
+-- so each does that serving keeps
+abbrev pub AllArePacing : Links → Type 0
+AllArePacing links = ArePacing links.clients.guesses.refusals.items
 
 -- What becomes of the refusals behind a line of a client that counts by an origin: where it was a
 -- login that was refused, one more under its name; where the client is logged in by it, none of its

@@ -1,5 +1,5 @@
 -- What a listener hears of a turn: accounts of connections, by the history.
-use Rattle.std.specs.Prelude.{ℕ, List, [], ◌∷◌, ◌++◌, map, filter}
+use Rattle.std.specs.Prelude.{ℕ, List, [], ◌∷◌, ◌++◌, map, filter, if◌then◌else◌}
 use Rattle.vault.specs.Records.{Records}
 use Rattle.vault.specs.Changes.{Contents}
 use Rattle.office.specs.Accounts.{account_of}
@@ -11,10 +11,12 @@ use Rattle.office.specs.Stands.{StandsFor, vault_of}
 use Rattle.office.specs.declared.office.Office.{Office}
 use Rattle.office.specs.declared.account.Account.{Account}
 use Rattle.office.specs.declared.account.Account.TheVariants as account
+use Rattle.office.specs.declared.account.End.{End}
 use Rattle.office.specs.declared.account.End.TheVariants as end
 use Rattle.serving.specs.Calls.{Call}
-use Rattle.serving.specs.Works.{is_shut_seat}
+use Rattle.serving.specs.Works.{is_late, is_shut_seat}
 use Rattle.serving.specs.declared.links.Seat.{Seat}
+use Rattle.serving.specs.declared.newcomers.Newcomer.{Newcomer}
 
 -- of which connection something is heard, and what
 abbrev pub Hearing : Type 0
@@ -43,15 +45,22 @@ heard_of_all B older ((e, m) ∷ given) =
 
 -- ---- of connections that the office was told to end, or that a moment ended
 
+-- why a client that is late is ended: its login seconds are over, or only those of a full house
+abbrev pub why_late : (now login_seconds : ℕ) → List Newcomer → (c : ℕ) → End
+why_late now seconds newcomers c =
+    if is_late now seconds newcomers c then end.TooLate else end.FullHouse
+
 -- of an event by which a client goes because it is late
-abbrev pub late_end : Event → List Hearing
-late_end (event.Gone c) = (c, account.Ended end.TooLate) ∷ []
-late_end e = []
+abbrev pub late_end : (now login_seconds : ℕ) → List Newcomer → Event → List Hearing
+late_end now seconds newcomers (event.Gone c) =
+    (c, account.Ended (why_late now seconds newcomers c)) ∷ []
+late_end now seconds newcomers e = []
 
 -- of such events, in their order
-abbrev pub late_ends : Log → List Hearing
-late_ends [] = []
-late_ends ((e, m) ∷ given) = late_ends given ++ late_end e
+abbrev pub late_ends : (now login_seconds : ℕ) → List Newcomer → Log → List Hearing
+late_ends now seconds newcomers [] = []
+late_ends now seconds newcomers ((e, m) ∷ given) =
+    late_ends now seconds newcomers given ++ late_end now seconds newcomers e
 
 -- of a seat whose connection was idle for too long
 abbrev pub idle_end : Seat → Hearing

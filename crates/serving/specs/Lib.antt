@@ -20,6 +20,7 @@ pub mod Turns
 pub mod Running
 pub mod Deposits
 pub mod Scripts
+pub mod Places
 pub mod ScriptSpools
 pub mod Guesses
 pub mod Newcomers

@@ -31,11 +31,15 @@ is_late_by now seconds (Some n) = nat_le seconds (spent now n)
 abbrev pub smaller_limit : (one other : ℕ) → ℕ
 smaller_limit one other = if one == 0 then other else if other == 0 then one else min one other
 
--- How many seconds a client has for its login while so many seats are taken; 0 for no limit. From 64
--- seats on the house is full, and it is the smaller of both limits.
+-- from 64 taken seats on the house is full
+abbrev pub is_full_house : (taken : ℕ) → Bool
+is_full_house taken = nat_le 64 taken
+
+-- How many seconds a client has for its login while so many seats are taken; 0 for no limit. In a
+-- full house it is the smaller of both limits.
 abbrev pub limit_by : (taken seconds full_house_seconds : ℕ) → ℕ
 limit_by taken seconds full_house_seconds =
-    if nat_le 64 taken then smaller_limit seconds full_house_seconds else seconds
+    if is_full_house taken then smaller_limit seconds full_house_seconds else seconds
 
 abbrev pub limit : Links → (taken : ℕ) → ℕ
 limit links taken =

@@ -1,7 +1,9 @@
 -- What a wire in memory tells.
 use Rattle.std.specs.Prelude.{◌≡◌, ◌<◌, ℕ, Bool, false, List, [], length, take, Option, Some, None, slice_get}
 use Rattle.std.proofs.Common.{sym, ◌∙◌, subst}
-use Rattle.serving.specs.Wires.{Told, SayAlike}
+use Rattle.std.specs.declared.net.ip_addr.IpAddr.{IpAddr}
+use Rattle.serving.specs.Wires.{Told, SayAlike, Addresses}
+use Rattle.serving.specs.declared.wire.Port.TheVariants.{Pop, Admin}
 use Rattle.serving.specs.declared.script_links.ScriptLink.{ScriptLink}
 
 -- what was taken of what comes on a link
@@ -30,6 +32,11 @@ pub record TellsOf (links : List ScriptLink) (strayed : Bool) (t : Told) : Type 
   pub written : (k : ℕ) → t.written k ≡ written_by (slice_get links k)
   pub over : (k : ℕ) → k < length links → t.over k ≡ is_over_by (slice_get links k)
   pub astray : t.strayed ≡ strayed
+
+-- from where the clients come, in the order in which they are accepted
+abbrev pub address_in : List IpAddr → Addresses
+address_in addresses Pop link = slice_get addresses link.number
+address_in addresses Admin link = None
 
 -- it tells one thing
 pub tells_once : (links : List ScriptLink) (strayed : Bool) (t u : Told) → TellsOf links strayed t → TellsOf links strayed u → SayAlike t u

@@ -25,7 +25,7 @@ use Rattle.serving.specs.Works.{has_moved}
 use Rattle.serving.specs.Hearing.{Hearing, WasTold, idle_ends, heard_of_all, late_ends}
 use Rattle.serving.specs.SpoolTurns.{IsSpoolTurn, has_dealt}
 use Rattle.serving.specs.HttpWorks.{HttpWorks}
-use Rattle.serving.specs.Newcomers.{newcomer, limit, AllHaveSeats, IsSettled}
+use Rattle.serving.specs.Newcomers.{newcomer, is_full_house, limit, AllHaveSeats, IsSettled}
 use Rattle.serving.specs.declared.newcomers.Newcomer.{Newcomer}
 use Rattle.serving.specs.Late.{HasLived, IsInTime, IsNotedSince, IsCountedOn}
 use Rattle.office.specs.Trace.{is_open}
@@ -46,12 +46,19 @@ way_of now links links_then seats freed =
     way_by (settings links) now links.clients.newcomers.newcomers.items seats freed
     (millis_of links_then == 0)
 
+-- A connection goes because its client's login seconds are over, or those of a full house, while
+-- it is one.
+abbrev pub HasTimedOut : (now : ℕ) → Links → (seats : List Seat) → Event × EventTag → Type 0
+HasTimedOut now links seats x =
+    IsLateGone now (settings links).login_seconds links.clients.newcomers.newcomers.items x
+    ⊎ ((is_full_house (length seats) ≡ true) × IsLateGone now (settings links).full_house_seconds
+    links.clients.newcomers.newcomers.items x)
+
 -- an event has a cause: no connection goes but by its link's end, or because its client is late
 abbrev pub HasCauseInTurn : (now : ℕ) → Links → (seats : List Seat) → List Call
     → Event × EventTag → Type 0
 HasCauseInTurn now links seats calls x =
-    HasCause seats calls x
-    ⊎ IsLateGone now (limit links (length seats)) links.clients.newcomers.newcomers.items x
+    HasCause seats calls x ⊎ HasTimedOut now links seats x
 
 -- What a turn did since a trace, by the events that it gave to the office and the calls that it made
 -- of the wire; these seats had links then.
@@ -113,7 +120,8 @@ pub record IsFileTurn (T : Trace) (links links_then : Links) (given : Log) (file
 
 -- What a listener heard of a turn, in its order: of each seat whose connection the moment ended,
 -- that it was idle; the accounts of the events of clients and of commands, of which no connection
--- goes but by its link's end; and of each client that went because it is late, that.
+-- goes but by its link's end; and of each client that went because it is late, that its login
+-- seconds are over, or else those of a full house.
 pub record IsTurnHeard (T : Trace) (now : ℕ) (links : Links) (seats : List Seat)
     (calls : List Call) (given : Log) (heard : List Hearing) : Type 0 where
   pub event_tag : EventTag
@@ -127,7 +135,8 @@ pub record IsTurnHeard (T : Trace) (now : ℕ) (links : Links) (seats : List Sea
   pub caused : AreCaused seats calls told
   pub heard_are : heard
       ≡ idle_ends (trace_of T.base ((event.Tick now, event_tag) ∷ T.log)) links.clients.seats.items
-      ++ (heard_of_all T.base ((event.Tick now, event_tag) ∷ T.log) told ++ late_ends late)
+      ++ (heard_of_all T.base ((event.Tick now, event_tag) ∷ T.log) told
+      ++ late_ends now (settings links).login_seconds links.clients.newcomers.newcomers.items late)
 
 -- So it is of an office, a wire, a spool and a listener, since each trace.
 pub record Works {V W S H : Type 0} (Holds : V → Contents → Type 0) (Faults : V → ℕ)

@@ -1,5 +1,6 @@
 -- What a wire tells of its links: each of a port has a number, from 0 on, in the order in which they were accepted.
 use Rattle.std.specs.Prelude.{◌≡◌, ◌≤◌, ◌<◌, ⊤, ℕ, Bool, true, false, not, ◌&&◌, ◌||◌, nat_lt, ◌+◌, ◌==◌, List, [], ◌++◌, take, Option, Some, None, if◌then◌else◌}
+use Rattle.std.specs.declared.net.ip_addr.IpAddr.{IpAddr}
 use Rattle.office.specs.Outcomes.{Outcome}
 use Rattle.office.specs.Outcomes as outcome
 use Rattle.serving.specs.declared.wire.Link.{Link}
@@ -134,6 +135,10 @@ IsWithin room _ = ⊤
 abbrev pub IsAccepted : (ToldOfPorts → Type 0) → Port → ToldOfPorts → Option Link → Type 0
 IsAccepted Tells port t None = Tells t
 IsAccepted Tells port t (Some link) = (link.number ≡ (told_at port t).accepted) × Tells (at_port port has_accepted t)
+
+-- from where each link of a port came, if that is known
+abbrev pub Addresses : Type 0
+Addresses = Port → Link → Option IpAddr
 
 -- the number that was opened, where one was
 abbrev pub opened_by : Outcome → Option ℕ

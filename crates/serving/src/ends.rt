@@ -58,24 +58,29 @@ pub(crate) fn tell_idle_ones<V: Vault, L: Listener>(
     }
 }
 
-/// Ends the connection of a seat, where it is open, and tells the listener that its client is late.
+/// Ends the connection of a seat, if it is open, whose client is late at a moment. The listener
+/// hears whether its login seconds are over, or only those of a full house.
 fn end_seat<V: Vault, W: Wire, L: Listener>(
     office: &mut Office<V>,
     _wire: &W,
     listener: &mut L,
+    links: &Clients,
     seat: Seat,
+    now: u64,
 )
     ensures serves { StillServesOne V.holds V.is_clean W.tells seat office.old _wire.now office.new
         _wire.now }
     ensures works { Giving V.holds V.is_clean V.faults office.old office.new (λ given.
         IsEnded V.holds V.is_clean office.old office.new seat.connection given
-        × WasTold L.heard listener.old listener.new (late_ends given)) }
+        × WasTold L.heard listener.old listener.new (late_ends now links.now.newcomers.seconds
+        links.now.newcomers.newcomers.items given)) }
 {
     if office.ended(seat.connection) {
         return;
     }
     let _ = office.step(Event::Gone(seat.connection));
-    listener.hear(seat.connection, &Account::Ended(End::TooLate));
+    let why = links.newcomers.why_late(seat.connection, now);
+    listener.hear(seat.connection, &Account::Ended(why));
 }
 
 /// Ends the connection of one seat, where its client took too long to log in. Whoever has a login
@@ -98,7 +103,8 @@ fn end_late<V: Vault, W: Wire, L: Listener>(
     ensures works { Giving V.holds V.is_clean V.faults office.old office.new (λ given.
         ((seconds == 0) ≡ false → HasEndedLate V.holds V.is_clean office.old office.new now seconds
         links.old.newcomers.newcomers.items links.new.newcomers.newcomers.items (seat ∷ []) given)
-        × WasTold L.heard listener.old listener.new (late_ends given)) }
+        × WasTold L.heard listener.old listener.new (late_ends now links.old.newcomers.seconds
+        links.old.newcomers.newcomers.items given)) }
 {
     if office.is_logged_in(seat.connection) {
         links.newcomers.forget(seat.connection);
@@ -110,7 +116,7 @@ fn end_late<V: Vault, W: Wire, L: Listener>(
     if !links.newcomers.is_late(seat.connection, now, seconds) {
         return;
     }
-    end_seat(office, wire, listener, seat);
+    end_seat(office, wire, listener, links, seat, now);
 }
 
 /// Ends the connection of each client that took so many seconds or more and hasn't logged in; of
@@ -131,7 +137,8 @@ pub(crate) fn end_late_ones<V: Vault, W: Wire, L: Listener>(
     ensures works { Giving V.holds V.is_clean V.faults office.old office.new (λ given. HasEndedLate
         V.holds V.is_clean office.old office.new now seconds
         links.old.newcomers.newcomers.items links.new.newcomers.newcomers.items
-        links.old.seats.items given × WasTold L.heard listener.old listener.new (late_ends given)) }
+        links.old.seats.items given × WasTold L.heard listener.old listener.new
+        (late_ends now links.old.newcomers.seconds links.old.newcomers.newcomers.items given)) }
 {
     if seconds == 0 {
         return;

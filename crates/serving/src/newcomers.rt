@@ -6,9 +6,11 @@ ghost use Rattle.serving.specs.Newcomers.{spent as spent_by, waited as waited_by
 ghost use Rattle.serving.specs.Newcomers.{settled_if, settled_in, lies_unread, waited_of};
 ghost use Rattle.serving.specs.Newcomers.{held_at as held_at_by, since_at as since_at_by};
 ghost use Rattle.serving.specs.Newcomers.{limit_by, smaller_limit as smaller_limit_of};
+ghost use Rattle.serving.specs.Hearing.{why_late};
 
 use crate::links::PLACES;
 use arrayvec::ArrayVec;
+use office::End;
 
 /// From so many taken seats on the house is full: as many connections as an office has at once.
 const FULL_HOUSE: usize = 64;
@@ -231,5 +233,19 @@ impl Newcomers {
             None => false,
             Some(newcomer) => newcomer.spent(now) >= seconds,
         }
+    }
+
+    /// Why a connection that is late at this moment is ended: its login seconds are over, or only
+    /// those of a full house.
+    pub(crate) fn why_late(&self, connection: u64, now: u64) -> End
+        ensures { result ≡ why_late now self.now.seconds self.now.newcomers.items connection }
+    {
+        if self.seconds == 0 {
+            return End::FullHouse;
+        }
+        if self.is_late(connection, now, self.seconds) {
+            return End::TooLate;
+        }
+        End::FullHouse
     }
 }

@@ -62,6 +62,8 @@ impl<W: Wire> Wire for NotedWire<W> {
 
     ghost asked = { λ noted calls. calls ≡ noted.notes.calls };
 
+    ghost address_of = { λ noted. W.address_of noted.wire };
+
     ghost tells_once = { λ noted t u a b. tells_once noted.counts noted.notes.calls t u a b };
 
     fn wait(&mut self, millis: u32)

@@ -6,7 +6,7 @@ ghost use Rattle.office.specs.Events.{Trace};
 ghost use Rattle.office.specs.Trace.{history};
 ghost use Rattle.office.specs.Sessions.{live};
 ghost use Rattle.office.specs.Logins.{login_brought as login_brought_at, refusals};
-ghost use Rattle.serving.specs.Guesses.{AreNotedSo};
+ghost use Rattle.serving.specs.Guesses.{AreNotedSo, IsOriginOf};
 ghost use Rattle.office.specs.Stands.{StandsFor};
 ghost use Rattle.serving.specs.Wires.{ToldOfPorts};
 ghost use Rattle.serving.specs.Parts.{Asking};
@@ -61,6 +61,9 @@ fn origin_at<V: Vault, W: Wire>(
     guesses: &Guesses,
 ) -> Option<u64>
     ensures fast { guesses.now.are_slow ≡ false → result ≡ None }
+    ensures whose { (T : Trace) → StandsFor V.holds office.now T
+        → IsOriginOf guesses.now.are_slow (live (history T) seat.connection)
+        (W.address_of wire.now Port.Pop seat.link) result }
 {
     if !guesses.are_slow {
         return None;
@@ -93,6 +96,9 @@ pub(crate) fn pace_at<V: Vault, W: Wire>(
     now: u64,
 ) -> Pace
     ensures fast { links.now.guesses.are_slow ≡ false → result.origin ≡ None }
+    ensures whose { (T : Trace) → StandsFor V.holds office.now T
+        → IsOriginOf links.now.guesses.are_slow (live (history T) seat.connection)
+        (W.address_of wire.now Port.Pop seat.link) result.origin }
     ensures pace { IsPaceAt links.now seat.connection now result }
     ensures lines { result.by_line ≡ true
         → reads_lines_by result.wait result.is_shut result.origin ≡ true }

@@ -7,6 +7,7 @@ ghost use Rattle.serving.specs.Settings.{settings};
 ghost use Rattle.serving.specs.HttpTurns.{AreFew};
 ghost use Rattle.serving.specs.HttpWorks.{AreShort};
 ghost use Rattle.serving.specs.Newcomers.{AllHaveSeats};
+ghost use Rattle.serving.specs.Guesses.{AllArePacing};
 ghost use Rattle.serving.specs.Running.{HasRun};
 
 use crate::links::Links;
@@ -54,6 +55,7 @@ pub fn serve_while<V: Vault, W: Wire, S: Spool, L: Listener, C: Clock>(
         links.new office.new wire.new spool.new listener.new clock.new }
     ensures few { AreFew links.old → AreFew links.new }
     ensures seated { AllHaveSeats links.old → AllHaveSeats links.new }
+    ensures pacing { AllArePacing links.old → AllArePacing links.new }
     ensures short { (T : Trace) → StandsFor V.holds office.old T → V.is_clean (vault_of office.new)
         → AreShort links.old → AreShort links.new }
     ensures settings { settings links.new ≡ settings links.old }

@@ -1,7 +1,7 @@
 //! A wire in memory: links whose octets are given, and which keep what is written on them.
 ghost use Rattle.std.specs.Prelude.{◌≡◌};
 ghost use Rattle.serving.specs.Wires.{ToldOfPorts, AreFresh};
-ghost use Rattle.serving.specs.Scripts.{TellsOf, tells_once};
+ghost use Rattle.serving.specs.Scripts.{TellsOf, tells_once, address_in};
 
 use crate::script_links::{ScriptLinks, Stop};
 use crate::wire::{Io, Link, Port, Wire};
@@ -159,6 +159,8 @@ impl Wire for ScriptWire {
         × TellsOf wire.requests.accepted.items wire.requests.strayed t.admin };
 
     ghost asked = { λ _ _. ⊥ };
+
+    ghost address_of = { λ wire. address_in wire.addresses.items };
 
     ghost tells_once = { λ wire t u a b. (
       tells_once wire.clients.accepted.items

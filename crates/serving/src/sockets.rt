@@ -1,7 +1,9 @@
 //! A wire over sockets.
 ghost use Rattle.std.specs.Prelude.{◌≡◌, ◌≤◌, ◌⊎◌, ◌++◌, ℕ, List, [], length, take, IfSome};
+ghost use Rattle.std.specs.Prelude.{find, option_copied};
 ghost use Rattle.serving.specs.Wires.{IsWithin, counted as shown_of};
 ghost use Rattle.serving.specs.Counting.{count_at, counted_with};
+ghost use Rattle.serving.specs.Places.{is_same_port, is_place_of, peer_in, address_in, HasPlace};
 
 use crate::ahead::Ahead;
 use crate::counts::Counts;
@@ -54,13 +56,13 @@ impl Door {
         self.comes && !self.is_refused
     }
 
-    /// The next link that came.
-    fn accept(&mut self) -> Option<TcpStream> {
+    /// The next link that came, and its other end.
+    fn accept(&mut self) -> Option<(TcpStream, SocketAddr)> {
         if !self.is_pressing() {
             return None;
         }
         match self.listener.accept() {
-            Ok((stream, _)) => Some(stream),
+            Ok((stream, peer)) => Some((stream, peer)),
             Err(error) => {
                 match error.kind() {
                     ErrorKind::WouldBlock => self.comes = false,
@@ -81,6 +83,8 @@ struct Place {
     number: u64,
     /// That of the link; `None` where the place is free, or its link is broken or closed.
     stream: Option<TcpStream>,
+    /// Its other end, as the system told it when the link was accepted.
+    peer: Option<SocketAddr>,
     /// What came and was looked at, but not read yet.
     ahead: Ahead,
     /// Octets may have come: the system told so, and no read has given `Later` since.
@@ -135,12 +139,40 @@ fn free_places(alloc: Global) -> io::Result<Vec<Place>> {
             port: Port::Pop,
             number: 0,
             stream: None,
+            peer: None,
             ahead: Ahead::new(alloc),
             unread: false,
             is_blocked: false,
         })?;
     }
     Ok(places)
+}
+
+/// The place of a link that is open, if it is among these.
+fn place_among(places: &[Place], port: Port, link: Link) -> Option<&Place>
+    ensures { option_copied result ≡ find (is_place_of port link) places.now }
+{
+    places.iter().find(|place| place.has(port, link))
+}
+
+/// The other end of a link that is open, if its place is among these.
+fn peer_among(places: &[Place], port: Port, link: Link) -> Option<SocketAddr>
+    ensures { result ≡ peer_in places.now port link }
+{
+    match place_among(places, port, link) {
+        None => None,
+        Some(place) => place.peer,
+    }
+}
+
+/// Whether a port is this one.
+fn is_same_port(one: Port, other: Port) -> bool
+    ensures { result ≡ is_same_port one other }
+{
+    match one {
+        Port::Pop => matches!(other, Port::Pop),
+        Port::Admin => matches!(other, Port::Admin),
+    }
 }
 
 impl SocketWire {
@@ -202,10 +234,11 @@ impl SocketWire {
         }
     }
 
-    /// Gives a stream a free place, and its port's next number; `None` where no place is free, or
-    /// the system won't watch it.
-    fn seat(&mut self, port: Port, mut stream: TcpStream) -> Option<Link>
+    /// Gives a stream a free place, which keeps its other end, and its port's next number; `None`
+    /// if no place is free, or the system won't watch it.
+    fn seat(&mut self, port: Port, mut stream: TcpStream, peer: SocketAddr) -> Option<Link>
         ensures next { IfSome result (λ link. link.number ≡ count_at port self.old.counts) }
+        ensures place { IfSome result (λ link. HasPlace self.new.places.items port link peer) }
         ensures counts { self.new.counts ≡ counted_with port result self.old.counts }
     {
         let at = self.places.iter().position(|place| place.stream.is_none())?;
@@ -226,6 +259,7 @@ impl SocketWire {
             port,
             number: link.number,
             stream: Some(stream),
+            peer: Some(peer),
             ahead: Ahead::new(self.alloc),
             unread: true,
             is_blocked: false,
@@ -233,11 +267,10 @@ impl SocketWire {
         Some(link)
     }
 
-    /// The address of a link's other end; `None` where the link is closed, or the system doesn't
-    /// tell.
+    /// The address of a link's other end, as the system told it when the link was accepted; `None`
+    /// if the link is closed.
     pub fn peer(&self, port: Port, link: Link) -> Option<SocketAddr> {
-        let place = self.places.iter().find(|place| place.has(port, link))?;
-        place.stream.as_ref()?.peer_addr().ok()
+        peer_among(self.places.as_slice(), port, link)
     }
 
     /// The place of a link that is open.
@@ -248,8 +281,13 @@ impl SocketWire {
 
 impl Place {
     /// Whether this is the place of a link that is open.
-    fn has(&self, port: Port, link: Link) -> bool {
-        self.number == link.number && self.port == port && self.stream.is_some()
+    fn has(&self, port: Port, link: Link) -> bool
+        ensures { result ≡ is_place_of port link self.now }
+    {
+        if self.number != link.number {
+            return false;
+        }
+        is_same_port(self.port, port) && self.stream.is_some()
     }
 
     /// Whether a read may give octets at once. Octets that were looked at and left unread don't
@@ -358,6 +396,8 @@ impl Wire for SocketWire {
 
     ghost asked = { λ _ _. ⊥ };
 
+    ghost address_of = { λ wire. address_in wire.places.items };
+
     ghost tells_once = { λ wire t u a b. absurd a };
 
     fn wait(&mut self, millis: u32) {
@@ -373,11 +413,11 @@ impl Wire for SocketWire {
     }
 
     fn accept(&mut self, port: Port) -> Option<Link> {
-        let stream = match port {
+        let (stream, peer) = match port {
             Port::Pop => self.door.accept()?,
             Port::Admin => self.admin_door.as_mut()?.accept()?,
         };
-        self.seat(port, stream)
+        self.seat(port, stream, peer)
     }
 
     fn look(&mut self, port: Port, link: Link, buffer: &mut [u8]) -> Io {
@@ -402,7 +442,10 @@ impl Wire for SocketWire {
     }
 
     fn address(&self, port: Port, link: Link) -> Option<IpAddr> {
-        Some(self.peer(port, link)?.ip())
+        match peer_among(self.places.as_slice(), port, link) {
+            None => None,
+            Some(peer) => Some(peer.ip()),
+        }
     }
 
     fn close(&mut self, port: Port, link: Link) {

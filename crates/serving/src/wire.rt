@@ -1,7 +1,7 @@
 //! What a server needs of its links.
 ghost use Rattle.std.specs.Prelude.{◌≡◌, List, ◌∷◌, [], ◌++◌, length};
 ghost use Rattle.serving.specs.Wires.{ToldOfPorts, at_port, counted, has_read, has_written};
-ghost use Rattle.serving.specs.Wires.{has_closed};
+ghost use Rattle.serving.specs.Wires.{has_closed, Addresses};
 ghost use Rattle.serving.specs.Calls.{Call, Waited, Accepted, Looked, Read, Wrote, Closed};
 
 use std::net::IpAddr;
@@ -39,6 +39,7 @@ pub enum Io {
 /// `tells w t`: `t` is a true record of w's traffic. The links of each port are numbered in it from
 /// 0 on, in the order in which they were accepted. `asked w calls`: `calls` is a true record of
 /// what w was asked and answered. Of a wire over sockets neither is known.
+/// `address_of w port link`: from where a link came, as far as w knows by now.
 pub trait Wire {
     ghost use Rattle.serving.specs.Wires.{IsWithin, IsAccepted, SayAlikeOfPorts};
 
@@ -47,6 +48,9 @@ pub trait Wire {
 
     /// `asked w calls`: w was asked these calls and answered them so, the newest last.
     ghost asked: { Self → List Call → Type 0 };
+
+    /// `address_of w port link`: from where a link came, as far as w knows by now.
+    ghost address_of: { Self → Addresses };
 
     /// Waits until a link may be accepted, read or written, at most so many milliseconds.
     fn wait(&mut self, millis: u32)
@@ -90,7 +94,8 @@ pub trait Wire {
             → asked self.new (a ++ Wrote port link result (counted result octets.now) ∷ []) };
 
     /// The address that a link came from; `None` where it isn't known.
-    fn address(&self, port: Port, link: Link) -> Option<IpAddr>;
+    fn address(&self, port: Port, link: Link) -> Option<IpAddr>
+        ensures { result ≡ address_of self.now port link };
 
     /// Closes a link.
     fn close(&mut self, port: Port, link: Link)

@@ -1,8 +1,8 @@
-//! Why a connection ended, as a server's listener hears it: of one that was idle, and of one that
-//! took too long to log in.
+//! Why a connection ended, as a server's listener hears it: of one that was idle, of one that took
+//! too long to log in, and of one that hadn't logged in while all places were taken.
 use crate::scenes::staged;
 use office::{Account, End};
-use serving::{Asked, Link, Listener, ScriptSpool, Stop, serve_turn};
+use serving::{Asked, Link, Listener, ScriptSpool, ScriptWire, Stop, serve_turn};
 use std::alloc::{AllocError, Global};
 use std::test::Fail;
 
@@ -24,6 +24,7 @@ fn end_word(end: End) -> &'static str {
         End::SessionEnded => "session ended",
         End::Idle => "idle",
         End::TooLate => "too late",
+        End::FullHouse => "full house",
     }
 }
 
@@ -50,29 +51,25 @@ impl Listener for Ends {
     fn asked(&mut self, _link: Link, _asked: &Asked<'_>) {}
 }
 
-/// What is heard of two silent clients, who come at moments 5 and 7, of turns at these moments,
-/// where each client has so many seconds for its login.
-fn ends_by(alloc: Global, login_seconds: u64, moments: &[u64]) -> Result<String, Fail> {
+/// What is heard of silent clients, of whom so many come before the turn at each of these moments,
+/// where each has so many seconds for its login, and so many while all places are taken.
+fn ends_by(
+    alloc: Global,
+    login_seconds: u64,
+    full_house_seconds: u64,
+    turns: &[(usize, u64)],
+) -> Result<String, Fail> {
     let mut spool = ScriptSpool::new(alloc);
     let mut stage = staged(alloc, &spool, 4096, u64::MAX, Stop::End)?;
     stage.links.set_login_seconds(login_seconds);
+    stage.links.set_full_house_seconds(full_house_seconds);
     let mut listener = Ends {
         alloc,
         text: String::new(alloc),
         is_short: false,
     };
-    for now in [5, 7] {
-        stage.wire.connect(Vec::new(alloc))?;
-        serve_turn(
-            &mut stage.links,
-            &mut stage.wire,
-            &mut stage.office,
-            &mut spool,
-            &mut listener,
-            now,
-        );
-    }
-    for now in moments {
+    for (coming, now) in turns {
+        connect_all(alloc, &mut stage.wire, *coming)?;
         serve_turn(
             &mut stage.links,
             &mut stage.wire,
@@ -88,16 +85,44 @@ fn ends_by(alloc: Global, login_seconds: u64, moments: &[u64]) -> Result<String,
     Ok(listener.text)
 }
 
+/// So many clients come, and say nothing.
+fn connect_all(alloc: Global, wire: &mut ScriptWire, count: usize) -> Result<(), Fail> {
+    for _ in 0..count {
+        wire.connect(Vec::new(alloc))?;
+    }
+    Ok(())
+}
+
 #[test]
 fn idle_ones_are_heard(rt: HostRuntime) -> Result<(), Fail> {
-    let ends = ends_by(rt.alloc(), 0, &[604, 605, 606, 607, 608])?;
+    let turns = [(1, 5), (1, 7), (0, 604), (0, 605), (0, 606), (0, 607), (0, 608)];
+    let ends = ends_by(rt.alloc(), 0, 0, &turns)?;
     assert!(rt; ends.as_str() == "1 idle, 2 idle, ", "{ends}");
     Ok(())
 }
 
 #[test]
 fn late_ones_are_heard(rt: HostRuntime) -> Result<(), Fail> {
-    let ends = ends_by(rt.alloc(), 10, &[14, 15, 16, 17, 18])?;
+    let turns = [(1, 5), (1, 7), (0, 14), (0, 15), (0, 16), (0, 17), (0, 18)];
+    let ends = ends_by(rt.alloc(), 10, 0, &turns)?;
     assert!(rt; ends.as_str() == "1 too late, 2 too late, ", "{ends}");
+    Ok(())
+}
+
+/// The first one's four seconds are over while 64 are there. Then the house isn't full any more,
+/// and the others have their ten.
+#[test]
+fn end_in_a_full_house_is_heard(rt: HostRuntime) -> Result<(), Fail> {
+    let turns = [(1, 5), (63, 8), (0, 8), (0, 9), (0, 12), (0, 17)];
+    let ends = ends_by(rt.alloc(), 10, 4, &turns)?;
+    assert!(rt; ends.as_str() == "1 full house, ", "{ends}");
+    Ok(())
+}
+
+/// As the 64th comes, the first one's ten seconds are over too.
+#[test]
+fn late_one_in_a_full_house_is_heard(rt: HostRuntime) -> Result<(), Fail> {
+    let ends = ends_by(rt.alloc(), 10, 4, &[(1, 5), (63, 15), (0, 16)])?;
+    assert!(rt; ends.as_str() == "1 too late, ", "{ends}");
     Ok(())
 }

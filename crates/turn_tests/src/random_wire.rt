@@ -1,6 +1,6 @@
 //! A wire whose reads and writes go well, wait, end or break by chance, and which looks at each
 //! beside a reckoning.
-ghost use Rattle.std.specs.Prelude.{◌≡◌, length};
+ghost use Rattle.std.specs.Prelude.{◌≡◌, length, None};
 ghost use Rattle.serving.specs.Wires.{IsWithin};
 
 use crate::chance::Chance;
@@ -145,6 +145,8 @@ impl Wire for RandomWire {
     ghost tells = { λ _ _. ⊥ };
 
     ghost asked = { λ _ _. ⊥ };
+
+    ghost address_of = { λ _ _ _. None };
 
     ghost tells_once = { λ wire t u a b. absurd a };
 

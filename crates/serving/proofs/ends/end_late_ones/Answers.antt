@@ -4,7 +4,8 @@ use Rattle.serving.specs.Late.{HasEndedLate}
 use Rattle.serving.proofs.Timely.{late_none, late_off, late_step, late_whole}
 use Rattle.serving.specs.Served.{IsServing}
 use Rattle.serving.specs.Hearing.{WasTold, late_ends}
-use Rattle.serving.proofs.Hearing.{told_none, late_told}
+use Rattle.serving.proofs.Hearing.{told_none, late_told, late_heard}
+use Rattle.serving.specs.Settings.{Settings}
 use Rattle.serving.proofs.Working.{given_none}
 use Rattle.serving.proofs.Composing.{seats_none, seats_then, ends_none, ends_then}
 use Rattle.serving.proofs.Freeing.{at_place}
@@ -49,6 +50,7 @@ loop-place-preserved g c =
     let ys = c.deref.result.now in
     let within : k.place < length seats = search rules in
     let w = x.ensures.works in
+    let same : k.links.newcomers.seconds ≡ n.seconds = ap (λ (s : Settings). s.login_seconds) k.invariant.keeps.keeps.set in
     record {
       serves = λ T beside s clean.
           (let served = x.ensures.serves seats [] (contained seats ys k.place _ c.deref.ensures.0 within) (λ j d inside. absurd (omega (arith, inside))) T beside
@@ -57,8 +59,13 @@ loop-place-preserved g c =
       keeps = seats_then c.args.links.now k.links x.new.links k.invariant.keeps x.ensures.keeps;
       ends = ends_then now c.args.seconds c.args.links.now k.links x.new.links k.invariant.ends x.ensures.ends;
       works = late_step g.V.Vault.holds g.V.Vault.is_clean g.V.Vault.faults now c.args.seconds c.args.office.now k.office x.new.office n.newcomers.items k.links.newcomers.newcomers.items x.new.links.newcomers.newcomers.items c.args.links.now.seats.items k.links.seats.items k.place no_seat
-          (λ given. WasTold Heard l k.listener (late_ends given)) (λ given. WasTold Heard k.listener x.new.listener (late_ends given)) (λ given. WasTold Heard l x.new.listener (late_ends given))
-          (ap (λ v. v.items) k.invariant.keeps.seats) within k.invariant.ends.late (λ g1 g2 a b. late_told Heard l k.listener x.new.listener g1 g2 a b) k.invariant.works
+          (λ given. WasTold Heard l k.listener (late_ends now n.seconds n.newcomers.items given))
+          (λ given. WasTold Heard k.listener x.new.listener (late_ends now k.links.newcomers.seconds k.links.newcomers.newcomers.items given))
+          (λ given. WasTold Heard l x.new.listener (late_ends now n.seconds n.newcomers.items given)) (ap (λ v. v.items) k.invariant.keeps.seats) within k.invariant.ends.late
+          (λ g1 g2 gone a b.
+          late_told Heard now n.seconds n.newcomers.items l k.listener x.new.listener g1 g2 a
+          (late_heard Heard now c.args.seconds n.seconds k.links.newcomers.seconds n.newcomers.items k.links.newcomers.newcomers.items k.invariant.ends.late same k.listener x.new.listener g2 gone b))
+          k.invariant.works
           (record {
             given = w.given;
             was_given = w.was_given;
@@ -75,5 +82,7 @@ returns-clause-works g c =
     let k = c.loop-place in
     let n = c.args.links.now.newcomers in
     let done : length k.links.seats.items ≤ k.place = search rules in
-    late_whole g.V.Vault.holds g.V.Vault.is_clean g.V.Vault.faults c.args.now c.args.seconds c.args.office.now k.office n.newcomers.items k.links.newcomers.newcomers.items c.args.links.now.seats.items k.links.seats.items k.place (λ given. WasTold g.L.Listener.heard c.args.listener.now k.listener (late_ends given))
+    late_whole g.V.Vault.holds g.V.Vault.is_clean g.V.Vault.faults c.args.now c.args.seconds c.args.office.now k.office n.newcomers.items
+    k.links.newcomers.newcomers.items c.args.links.now.seats.items k.links.seats.items k.place
+    (λ given. WasTold g.L.Listener.heard c.args.listener.now k.listener (late_ends c.args.now n.seconds n.newcomers.items given))
     (ap (λ v. v.items) k.invariant.keeps.seats) done k.invariant.works

@@ -1,4 +1,5 @@
-use Rattle.std.proofs.Common.{rules, ◌≡◌, ◌∷◌, true, false, sym, refl, subst}
+use Rattle.std.proofs.Common.{rules, ◌≡◌, ◌∷◌, ◌++◌, true, false, sym, refl, subst}
+use Rattle.office.specs.declared.account.Account.TheVariants.{Ended}
 use Rattle.office.specs.Events.{Tagged}
 use Rattle.office.specs.Events as event
 use Rattle.office.specs.Seen.{outcome_seen}
@@ -59,7 +60,9 @@ returns-clause-works g c =
               let k = gone_mark (trace_of B L) (lent_by c.args.office.now) connection (outcome_seen c.step.result) here (c.step.ensures.outcome (trace_of B L) s clean) in
               subst (λ x. is_open (trace_of B ((event.Gone connection, x) ∷ L)) connection ≡ false) (sym k.1) (gone_so B L connection k.0));
         },
-        record { is = c.hear.ensures.told },
+        record {
+          is = λ before k. subst (λ why. g.L.Listener.heard c.hear.new.self (before ++ (c.args.seat.connection, Ended why) ∷ [])) c.why_late-why.ensures (c.hear.ensures.told before k);
+        },
       );
     }
 

@@ -21,11 +21,12 @@ use Rattle.serving.proofs.Settling.{late_settled, settled_seats, comer_so, waite
 use Rattle.std.specs.List.{All}
 use Rattle.serving.proofs.Newly.{more_is}
 use Rattle.serving.specs.Works.{seat_of}
+use Rattle.serving.specs.Guesses.{ArePacing}
 use Rattle.serving.specs.Parts.{Giving}
 use Rattle.serving.specs.Late.{HasEndedLate}
 use Rattle.serving.proofs.Timely.{late_both}
 use Rattle.serving.specs.Hearing.{WasTold, WithHeard, late_ends}
-use Rattle.serving.proofs.Hearing.{told_same}
+use Rattle.serving.proofs.Hearing.{told_same, late_heard}
 use Rattle.serving.proofs.Finishing.{turn_done}
 use Rattle.serving.proofs.Bounds.{all_short}
 use Rattle.serving.proofs.turn.serve_turn.Goals as goal
@@ -113,8 +114,15 @@ returns-clause-works g c = λ T s clean.
     ∙ (ap (λ (s : Settings). limit_by (length seats2) s.login_seconds s.full_house_seconds) set)) in
     let less = late_then now most old.newcomers.newcomers.items came.newcomers.newcomers.items served.newcomers.newcomers.items (late_comers now most old.newcomers.newcomers.items came.newcomers.newcomers.items c.accept_links.ensures.comers.each)
     (late_settled now most came.newcomers.newcomers.items served.newcomers.newcomers.items settled) in
-    let late = late_both Holds IsClean g.V.Vault.faults now c.limit-seconds.result most old.newcomers.newcomers.items served.newcomers.newcomers.items ended.newcomers.newcomers.items seats2 o4 o5 (λ given. WasTold Heard l4 l5 (late_ends given)) seconds less
-    (subst (λ v. Giving Holds IsClean g.V.Vault.faults o4 o5 (λ given. HasEndedLate Holds IsClean o4 o5 now c.limit-seconds.result served.newcomers.newcomers.items ended.newcomers.newcomers.items v.items given × WasTold Heard l4 l5 (late_ends given))) c.serve_links.ensures.keeps.seats c.end_late_ones.ensures.works) in
+    let login_same : served.newcomers.seconds ≡ old.newcomers.seconds = ap (λ (s : Settings). s.login_seconds) set in
+    let late = late_both Holds IsClean g.V.Vault.faults now c.limit-seconds.result most old.newcomers.newcomers.items served.newcomers.newcomers.items ended.newcomers.newcomers.items seats2 o4 o5
+    (λ given. WasTold Heard l4 l5 (late_ends now served.newcomers.seconds served.newcomers.newcomers.items given))
+    (λ given. WasTold Heard l4 l5 (late_ends now old.newcomers.seconds old.newcomers.newcomers.items given)) seconds less
+    (λ given gone told. late_heard Heard now most old.newcomers.seconds served.newcomers.seconds old.newcomers.newcomers.items served.newcomers.newcomers.items less login_same l4 l5 given gone told)
+    (subst (λ v. Giving Holds IsClean g.V.Vault.faults o4 o5
+    (λ given. HasEndedLate Holds IsClean o4 o5 now c.limit-seconds.result served.newcomers.newcomers.items ended.newcomers.newcomers.items v.items given
+    × WasTold Heard l4 l5 (late_ends now served.newcomers.seconds served.newcomers.newcomers.items given)))
+    c.serve_links.ensures.keeps.seats c.end_late_ones.ensures.works) in
     let keeps : (n : ℕ) (x : Newcomer) → newcomer n old.newcomers.newcomers.items ≡ Some x → IsSettled now (Some x) (newcomer n served.newcomers.newcomers.items) =
     λ n x h. subst (λ m. IsSettled now m (newcomer n served.newcomers.newcomers.items)) (c.accept_links.ensures.comers.noted n x h) (settled.each n) in
     let comers = c.accept_links.ensures.comers in
@@ -163,3 +171,8 @@ returns-clause-seated g c = λ h.
     let closed = c.close_links.ensures.closes.seated (c.end_late_ones.ensures.ends.seated served) in
     subst (λ n. HaveSeats n.newcomers.items c.serve_spool.new.links.seats.items) (sym c.serve_spool.ensures.keeps.newcomers)
     (subst (λ v. HaveSeats c.close_links.new.links.newcomers.newcomers.items v.items) (sym c.serve_spool.ensures.keeps.seats) closed))
+
+pub returns-clause-pacing : goal.returns-clause-pacing
+returns-clause-pacing g c = λ h.
+    subst (λ gs. ArePacing gs.refusals.items) (sym c.serve_spool.ensures.keeps.guesses)
+    (c.close_links.ensures.closes.keeps.pacing (c.end_late_ones.ensures.keeps.keeps.pacing (c.serve_links.ensures.keeps.keeps.pacing (c.accept_links.ensures.comers.keeps.pacing h))))
