@@ -584,7 +584,7 @@ looks_undone {store = store} {old = old} {first = first} {last = last} {new = ne
     }
 
 -- the end of one that shows the rows of these contents: it was committed, or an error came
-ends_held : {S : Type 0} {store : Ghosts S} {last new : Held S} (r : Result (Unit {0}) Error)
+pub ends_held : {S : Type 0} {store : Ghosts S} {last new : Held S} (r : Result (Unit {0}) Error)
     → Ends store last new r → (base after : Contents) (rows : Rows) → HasCleanDisk (state store new)
     → Within (state store last) base rows → Keeps rows after
     → IsEnded base after (state store new) r
@@ -595,7 +595,7 @@ ends_held {store = store} {last = last} {new = new} (Err e) ends base after rows
     (ends.err last clean (goes_still (state store last) base rows w)) w
 
 -- a stop in it leaves the one or the other
-ends_leaves : {S : Type 0} {store : Ghosts S} {last new : Held S} {r : Result (Unit {0}) Error}
+pub ends_leaves : {S : Type 0} {store : Ghosts S} {last new : Held S} {r : Result (Unit {0}) Error}
     → Ends store last new r → (base after : Contents) (rows : Rows) → HasCleanDisk (state store new)
     → Within (state store last) base rows → Keeps rows after
     → Leaves (state store new) (λ left. Keeps left base ⊎ Keeps left after)

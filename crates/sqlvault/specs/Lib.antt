@@ -9,6 +9,7 @@ pub mod Stands
 pub mod Stops
 pub mod Transactions
 pub mod Refusals
+pub mod Removals
 pub mod Rules
 pub mod Opened
 pub mod Deposits

@@ -14,6 +14,7 @@ mod moves;
 mod pages;
 mod part;
 mod receipts;
+pub mod removal;
 mod refusal;
 mod rules;
 mod sound_clerks;
