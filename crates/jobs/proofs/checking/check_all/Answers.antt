@@ -102,7 +102,7 @@ returns-in-Ok-clerk_names-clause-why g c = λ one.
           let same : c.as_slice.result.now ≡ clerk_names d.clerks = c.as_slice.ensures.value ∙ sym (ap (names_or []) found.answer) in
           let known : AreKnown c.as_slice.result.now d = subst (λ (names : List (List ℕ)). AreKnown names d) (sym same) (clerks_known d.clerks) in
           refused_all (AreKnown c.as_slice.result.now d) known f0 f2 f3
-          (counts_on _ _ _ c.in-Ok.ensures.counted c.in-Ok-clerk_names.ensures.looks.counted.kept) e (w d found.held clean))
+          (counts_on _ _ _ c.in-Ok.ensures.counted c.in-Ok-clerk_names.ensures.counted.kept) e (w d found.held clean))
           told.0 told.1,
       told.2,
     )
@@ -139,6 +139,6 @@ returns-clause-why g c = λ one.
           refused_since true f0 f1 f2 c.in-Ok.ensures.counted c.in-Err-clerk_names.fault
           (look_refused true (has_grown f1 f2) (clerk_names d.clerks) c.in-Err-clerk_names.fault
           (c.in-Err-clerk_names.ensures.done d (c.in-Ok.ensures.held d h k1) clean).answer
-          (λ e. c.in-Err-clerk_names.ensures.looks.counted.cause (ap Err e)))),
+          (λ e. c.in-Err-clerk_names.ensures.counted.cause (ap Err e)))),
       c.tell_fault-in-Err-clerk_names.ensures.line,
     )
