@@ -2,7 +2,7 @@
 //!
 //! A new option of a subcommand is an argument in `command_line`, where its default stands, a field
 //! here, and a line of that struct's `read`. An option of `serve` that a server's start tells in
-//! the log is a field of the journal's `Settings` in place of one here.
+//! the log is a field of the journal's `Settings` too, and a line of `settings`.
 
 use crate::version::IS_PROVED;
 use causes::STANDARD_INPUT;
@@ -171,7 +171,16 @@ pub struct ServeOptions<'a> {
     pub turns: Option<u64>,
     /// Whether events are logged.
     pub log: bool,
-    pub settings: Settings,
+    pub message_ids: bool,
+    pub reads: bool,
+    pub removals: Removals,
+    /// In seconds, as the next three.
+    pub idle: u32,
+    pub wait: u32,
+    pub login_seconds: u32,
+    pub full_house_seconds: u32,
+    pub slow_guesses: bool,
+    pub proxy_protocol: bool,
     pub is_verbose: bool,
 }
 
@@ -187,7 +196,15 @@ impl<'a> ServeOptions<'a> {
             host: found.get_str("host")?,
             turns: found.get_one("turns"),
             log: found.get_flag("log"),
-            settings: settings_of(found)?,
+            message_ids: found.get_flag("log-message-ids"),
+            reads: found.get_flag("log-reads"),
+            removals: removals_of(found)?,
+            idle: found.get_one("idle")?,
+            wait: found.get_one("wait")?,
+            login_seconds: found.get_one("login-seconds")?,
+            full_house_seconds: found.get_one("full-house-seconds")?,
+            slow_guesses: found.get_flag("slow-guesses"),
+            proxy_protocol: found.get_flag("proxy-protocol"),
             is_verbose: found.get_flag("verbose"),
         })
     }
@@ -203,29 +220,25 @@ impl<'a> ServeOptions<'a> {
             None => Err(Fault::BadHost),
         }
     }
-}
 
-/// The administration's site, if there is one, and its name is of the form of a host's.
-fn site_of(found: &ArgMatches<'_>) -> Option<HostName> {
-    HostName::read(found.get_str("admin-site")?.as_bytes())
-}
-
-/// Whether this popbox is proved, and the options of `serve` that say how clients are served and
-/// what is logged.
-fn settings_of(found: &ArgMatches<'_>) -> Option<Settings> {
-    Some(Settings {
-        is_proved: IS_PROVED,
-        removals: removals_of(found)?,
-        idle: found.get_one("idle")?,
-        wait: found.get_one("wait")?,
-        login_seconds: found.get_one("login-seconds")?,
-        full_house_seconds: found.get_one("full-house-seconds")?,
-        slow_guesses: found.get_flag("slow-guesses"),
-        proxy_protocol: found.get_flag("proxy-protocol"),
-        message_ids: found.get_flag("log-message-ids"),
-        reads: found.get_flag("log-reads"),
-        admin_site: site_of(found),
-    })
+    /// What a start's line of the log tells: whether this popbox is proved, and the options that
+    /// say how clients are served and what is logged. Its fault is that of `site`.
+    pub fn settings(&self) -> Result<Settings, Fault> {
+        let admin_site = self.site()?;
+        Ok(Settings {
+            is_proved: IS_PROVED,
+            removals: self.removals,
+            idle: self.idle,
+            wait: self.wait,
+            login_seconds: self.login_seconds,
+            full_house_seconds: self.full_house_seconds,
+            slow_guesses: self.slow_guesses,
+            proxy_protocol: self.proxy_protocol,
+            message_ids: self.message_ids,
+            reads: self.reads,
+            admin_site,
+        })
+    }
 }
 
 /// The options of `check-policy`.

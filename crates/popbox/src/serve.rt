@@ -36,7 +36,7 @@ pub fn serve_over<V: Vault, E: Write>(
     options: &ServeOptions<'_>,
     err: &mut E,
 ) -> (Result<u8, Fault>, V) {
-    let Some(limits) = Limits::new(options.settings.idle) else {
+    let Some(limits) = Limits::new(options.idle) else {
         return (Ok(2), vault);
     };
     let Ok(path) = String::from_str(rt.alloc(), options.store) else {
@@ -47,11 +47,11 @@ pub fn serve_over<V: Vault, E: Write>(
     };
     let shared = Shared::new(rt.alloc());
     let journal = Journal::new(rt, options.log, &shared);
-    let message_ids = options.settings.message_ids;
+    let message_ids = options.message_ids;
     let mut vault = LoggedVault::new(Recent::new(rt.alloc(), vault), journal, message_ids);
     let totals = totals_of(&mut vault, &journal);
     let watch = StoreWatch::new(rt, path.as_str(), before);
-    let limits = limits.with_removals(options.settings.removals);
+    let limits = limits.with_removals(options.removals);
     match Office::open(rt.alloc(), vault, options.host, boot, limits) {
         Err((fault, vault)) => (Err(Fault::from(fault)), vault.into_vault().into_vault()),
         Ok(mut office) => {
@@ -122,6 +122,7 @@ fn serve<'a, V: Vault, E: Write>(
     writeln!(out, "pop on {}:{}", at.ip(), port).map_err(|_| Fault::CannotWrite)?;
     writeln!(out, "admin on 127.0.0.1:{admin_port}").map_err(|_| Fault::CannotWrite)?;
     let pop = SocketAddr::from((at.ip(), port));
+    let settings = options.settings()?;
     note_start(
         &journal,
         rt,
@@ -129,12 +130,12 @@ fn serve<'a, V: Vault, E: Write>(
         admin_port,
         watch.path(),
         totals,
-        &options.settings,
+        &settings,
     );
     if options.is_verbose && !journal.is_on() {
         Folder::new(rt, spool).tell_left(err);
     }
-    let served = if options.settings.proxy_protocol {
+    let served = if options.proxy_protocol {
         let wire = ProxiedWire::new(rt.alloc(), wire, rt);
         serve_turns(rt, office, wire, spool, options, journal, watch)
     } else {
@@ -221,14 +222,13 @@ fn serve_turns<'a, V: Vault, W: Wire + Peers + Drop>(
     let mut links = links;
     let mut wire = wire;
     let mut spool = spool;
-    let settings = &options.settings;
-    links.set_wait(u64::from(settings.wait));
-    links.set_login_seconds(u64::from(settings.login_seconds));
-    links.set_full_house_seconds(u64::from(settings.full_house_seconds));
-    links.set_slow_guesses(settings.slow_guesses);
+    links.set_wait(u64::from(options.wait));
+    links.set_login_seconds(u64::from(options.login_seconds));
+    links.set_full_house_seconds(u64::from(options.full_house_seconds));
+    links.set_slow_guesses(options.slow_guesses);
     links.set_site(options.site()?);
     let mut clock = ServerClock::start(rt, watch)?;
-    let journal = journal.with_reads(settings.reads);
+    let journal = journal.with_reads(options.reads);
     let mut listener = NotedListener::new(journal);
     serve_while(
         &mut links,
