@@ -52,7 +52,7 @@ def retrieved(text):
 
 
 def wait_for(is_so, said, seconds=REPLY):
-    """Waits until something is so, and fails where it isn't for so many seconds."""
+    """Waits until something is so, and fails if it isn't for so many seconds."""
     end = time.monotonic() + seconds
     while not is_so():
         if time.monotonic() > end:
@@ -269,8 +269,8 @@ def set_on(folder, seconds):
 
 
 class Cases:
-    """The cases of a tool: functions of the program and of a new folder, each of which fails by an
-    exception. What is called by `preload` needs a C compiler."""
+    """The cases of a tool: functions of the program and of a new folder, which fail by an
+    exception. What calls `preload` needs a C compiler."""
 
     def __init__(self, text):
         self.text, self.tool, self.runs = text, os.path.basename(sys.argv[0]), []
