@@ -3,7 +3,8 @@
 import os
 import subprocess
 
-from scripts import LIMIT, case, make_store, office, wants
+from clients import wants
+from scripts import LIMIT, case, make_store, office
 
 def copy_scripts(place):
     """Copies the scripts so that put-in calls the popbox-deliver beside them."""

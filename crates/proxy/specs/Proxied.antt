@@ -1,5 +1,5 @@
--- What a wire records whose clients come through a proxy: of each client's link the octets after its
--- first line.
+-- What a wire records whose clients come through a proxy: of each client's link the octets after
+-- its first line.
 use Rattle.std.specs.Prelude.{◌≡◌, ◌≤◌, ◌<◌, ◌⊎◌, ◌||◌, not, ℕ, Bool, true, false, ◌==◌, List, [], ◌∷◌, ◌++◌, Option, Some, None, IfSome, if◌then◌else◌}
 use Rattle.std.specs.declared.net.ip_addr.IpAddr.{IpAddr}
 use Rattle.std.proofs.Common.{sym, ◌∙◌, ap, subst}

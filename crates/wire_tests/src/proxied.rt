@@ -26,7 +26,7 @@ impl Clock for HandClock {
 /// A client's link in memory, from a proxy.
 type TestWire = ProxiedWire<ScriptWire, HandClock>;
 
-/// What comes on a link, what is read from it, and the address given for it: an address, `peer` for that
+/// What comes on a link, what is read from it, and what its address is: an address, `peer` for that
 /// of the wire inside, `none` if it isn't known, `broken` if the link was closed.
 static LINKS: [(&str, &str, &str); 17] = [
     (
