@@ -142,7 +142,7 @@ impl Guest {
         self.comes.rest()
     }
 
-    /// Whether all that it sent was read and acted, but for the beginning of a line, and it got all.
+    /// Whether all that it sent was read and acted, but for the start of a line, and all is sent.
     pub fn is_quiet(&self) -> bool {
         self.is_over || (self.comes.is_empty() && self.may_be_read())
     }
