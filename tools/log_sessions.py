@@ -2,7 +2,7 @@
 
 import os
 
-from logged import CLIENT, PASSWORD, POLICY, SECRET, Mail, case, compare, fill, lines_told
+from logged import CLIENT, PASSWORD, POLICY, SECRET, Mail, Server, case, compare, fill, lines_told
 from logged import log_of, serving
 
 
