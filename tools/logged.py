@@ -106,6 +106,17 @@ def log_of(folder):
         return file.read()
 
 
+def with_and_without(program, folder, option, do):
+    """What a server logs of what a function does, without an option and with it."""
+    texts = []
+    for words in (("--log",), ("--log", option)):
+        os.makedirs(place := f"{folder}/{len(words)}")
+        with serving(program, place, words) as server:
+            do(server)
+        texts.append(log_of(place))
+    return texts
+
+
 class PipeEnd:
     """The end of a pipe, as a server's log."""
 
