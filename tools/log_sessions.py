@@ -1,5 +1,7 @@
 """The cases of tools/check-log of sessions: what each removed, was denied and fetched."""
 
+import os
+
 from logged import CLIENT, PASSWORD, POLICY, SECRET, Mail, Server, case, compare, fill, lines_told
 from logged import log_of, serving, with_and_without
 
