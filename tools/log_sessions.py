@@ -2,8 +2,8 @@
 
 import os
 
-from logged import CLIENT, PASSWORD, POLICY, SECRET, Mail, case, compare, fill, lines_told
-from logged import log_of, serving
+from logged import CLIENT, PASSWORD, POLICY, SECRET, Mail, Server, case, compare, fill, lines_told
+from logged import log_of, serving, with_and_without
 
 
 @case
@@ -98,22 +98,23 @@ def denials_beyond_64(program, folder):
     return compare(lines_told(text, "denied", "quit"), [*64 * [denied], quits])
 
 
+def read_some(server):
+    fill(server, "orders.note.n-1.eml", "orders.payment.p-1.eml")
+    ann = Mail(server)
+    ann.say("USER ann/orders", f"PASS {PASSWORD}", "RETR 2", "TOP 1 0", "DELE 1")
+    ann.say("RETR 1", "RETR 3", "RSET", "RETR 1", "RETR 2", "QUIT")
+    server.wait_told("event=quit ")
+
+
 @case
 def reads(program, folder):
     """With --log-reads each RETR that begins to send a message has a line; without it none has."""
     differs = []
-    for words in (("--log",), ("--log", "--log-reads")):
-        os.makedirs(place := f"{folder}/{len(words)}")
-        with serving(program, place, words) as server:
-            fill(server, "orders.note.n-1.eml", "orders.payment.p-1.eml")
-            ann = Mail(server)
-            ann.say("USER ann/orders", f"PASS {PASSWORD}", "RETR 2", "TOP 1 0", "DELE 1")
-            ann.say("RETR 1", "RETR 3", "RSET", "RETR 1", "RETR 2", "QUIT")
-            server.wait_told("event=quit ")
-        text = log_of(place)
+    texts = with_and_without(program, folder, "--log-reads", read_some)
+    for has_lines, text in zip((False, True), texts):
         anns = f"connection=1 {CLIENT} clerk=ann maildrop=orders"
         line = f"event=retr {anns} uid={{}}\\.1 octets=10"
-        wanted = [line.format(it) for it in ("payment", "note", "payment") if len(words) == 2]
+        wanted = [line.format(it) for it in ("payment", "note", "payment") if has_lines]
         quits = f'event=quit {anns} marked=0 answer="bye" dele=1 rset=1'
         wanted.append(f"{quits} retr=3/30 top=1/10 denied=0")
         differs += compare(lines_told(text, "retr", "denied", "quit"), wanted)

@@ -106,6 +106,17 @@ def log_of(folder):
         return file.read()
 
 
+def with_and_without(program, folder, option, do):
+    """What a server logs of what a function does, without an option and with it."""
+    texts = []
+    for words in (("--log",), ("--log", option)):
+        os.makedirs(place := f"{folder}/{len(words)}")
+        with serving(program, place, words) as server:
+            do(server)
+        texts.append(log_of(place))
+    return texts
+
+
 class PipeEnd:
     """The end of a pipe, as a server's log."""
 
@@ -148,7 +159,7 @@ class Mail(clients.Client):
 
 
 def compare(text, wanted):
-    """What differs between a log and the lines that are wanted, each after a moment."""
+    """What differs between a log and the lines that are wanted, each behind a moment."""
     lines = text.splitlines()
     differs = [
         f"line {number} is {line!r}, where {it!r} is wanted"

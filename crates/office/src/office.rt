@@ -81,7 +81,7 @@ fn outcome_of(line_outcome: LineOutcome) -> Outcome
     }
 }
 
-/// What the outcome of a command says: that it ended a session, if it did.
+/// What the outcome of a command tells: that it ended a session, if it did.
 fn ended_by(outcome: &Outcome) -> Account
     ensures { result ≡ outcome_told (outcome_seen outcome.now) }
 {
