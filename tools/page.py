@@ -221,7 +221,7 @@ def site(program, folder, policy=OFFICE, clerks=""):
 
 
 class Browser:
-    """Chromium without a screen, with the page loaded, and the password told to it once."""
+    """Chromium without a screen, with the page loaded, and the password given to it once."""
 
     def __init__(self, site, *words, width=1400, height=900, is_phone=False, is_dark=False):
         self.site = site

@@ -522,7 +522,7 @@ def the_servers_list_of_clerks_is_taken(program, folder):
         want += ["dan, no such clerk", "old, password"]
         wants((page.js(rows), page.text("c-of").strip()), (want, "4 clerks."))
         wants("/api/clerks/" in place.read("access.log"), False)
-        # Whom no rule names is found with those of whom no rule speaks.
+        # Whom no rule names is found with those that no rule is about.
         show(page, clerks="old")
         wants({clerk for clerk, _ in drawn(page)}, {"(others)"})
         show(page, clerks="")

@@ -43,7 +43,7 @@ by_get_line : (p q r : Bool) (t : Target) (x c : AdminCommand) (s : NoCommand) �
 by_get_line true q r t x c s e h = is_it c x (by Get t) h e
 by_get_line false q r t x c s e h = absurd (cc h)
 
--- GET and PUT and DELETE, where PUT may be refused
+-- GET and PUT and DELETE, if PUT may be refused
 by_three : (p q r : Bool) (t : Target) (x z c : AdminCommand) (put : Asked) (s : NoCommand) → line_of x ≡ by Get t → (Ok c ≡ put → line_of c ≡ by Put t) → line_of z ≡ by Delete t
     → Ok c ≡ cond p (Ok x) (cond q put (cond r (Ok z) (Err s))) → Some (line_of c) ≡ line_by p q r t
 by_three true q r t x z c put s e f g h = is_it c x (by Get t) h e

@@ -1,4 +1,4 @@
--- The line of a request, as far as a log may tell it: its method, and what its target names. A
+-- The line of a request, as far as a log may show it: its method, and what its target names. A
 -- body isn't part of it, and so no password or secret.
 use Rattle.std.specs.Prelude.{◌≡◌, ◌⊎◌, ℕ, List, ◌++◌, codes, Option, Some, None, option_map}
 use Rattle.std.specs.Prelude.{option_and_then, if◌then◌else◌}

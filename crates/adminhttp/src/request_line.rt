@@ -1,4 +1,4 @@
-//! The line of a request, as far as a log may tell it: its method, and what its target names.
+//! The line of a request, as far as a log may show it: its method, and what its target names.
 
 ghost use Rattle.std.specs.Prelude.{◌≡◌, IfOk, string_bytes};
 ghost use Rattle.office.specs.Seen.{command_seen};

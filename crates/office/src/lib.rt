@@ -2,7 +2,7 @@
 //!
 //! An [`Office`] is given events, and answers each. What it sends each connection is exactly what
 //! the history of acts says (`specs/`). It owns no socket and no clock: its caller gives it the
-//! octets that came, tells it how many were taken, and what time it is.
+//! octets that came, says how many were taken, and what time it is.
 #![tactic(auto)]
 
 mod account;

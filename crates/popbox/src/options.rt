@@ -80,7 +80,7 @@ impl<'a> Subcommand<'a> {
         }
     }
 
-    /// Whether faults are told with what they are about.
+    /// Whether faults are printed with what they are about.
     pub fn is_verbose(&self) -> bool {
         match self {
             Subcommand::Replay(options) => options.is_verbose,
@@ -137,7 +137,7 @@ impl<'a> ReplayOptions<'a> {
 pub struct TalkOptions<'a> {
     pub store: &'a str,
     pub host: &'a str,
-    /// Without one the clock tells it.
+    /// Without one the clock gives it.
     pub boot: Option<u64>,
     pub removals: Removals,
     pub is_verbose: bool,
@@ -224,7 +224,7 @@ impl<'a> ServeOptions<'a> {
         }
     }
 
-    /// What a start's line of the log tells: whether this popbox is proved, and the options that
+    /// What a start's line of the log says: whether this popbox is proved, and the options that
     /// say how clients are served and what is logged. Its fault is that of `site`.
     pub fn settings(&self) -> Result<Settings, Fault> {
         let admin_site = self.site()?;
@@ -271,7 +271,7 @@ pub struct ReviewPolicyOptions<'a> {
     pub against: Option<&'a str>,
     /// The store's file.
     pub store: Option<&'a str>,
-    /// The clerk and the maildrop that it tells of alone, as they were written.
+    /// The clerk and the maildrop that it is about alone, as they were written.
     pub clerk: Option<&'a str>,
     pub maildrop: Option<&'a str>,
     /// Whether it leaves out who may do what.

@@ -96,7 +96,7 @@ fn listen(
     Ok((NotedWire::new(wire), port, admin_port))
 }
 
-/// Tells that the system refused to listen at an address. Gives the exit status.
+/// Prints that the system refused to listen at an address. Gives the exit status.
 fn tell_refused<E: Write>(err: &mut E, is_verbose: bool, at: SocketAddr, error: &io::Error) -> u8 {
     let _ = writeln!(err, "popbox: cannot listen");
     if is_verbose {

@@ -1,4 +1,4 @@
--- Two contents that the same rows describe say the same: rows tell all but the order of the clerks.
+-- Two contents that the same rows describe say the same: rows fix all but the order of the clerks.
 use Rattle.std.proofs.Common.{◌≡◌, inl, inr, ℕ, zero, suc, ◌+◌, ◌*◌, ◌<◌, ◌≤◌, ◌^◌, ℤ, pos, negsuc, Bool, true, false, cond, List, [], ◌∷◌, ◌++◌, length, take, drop, map, Option}
 use Rattle.std.proofs.Common.{Some, None, refl, sym, ap, ◌∙◌, arith, true≢false, w64, length-drop}
 use Rattle.std.specs.Prelude.{nat_lt, codes, find, bytes_eq}

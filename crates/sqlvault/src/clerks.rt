@@ -31,7 +31,7 @@ use std::alloc::Global;
 use vault::{ClerkKind, VaultFault, clerk_kinds, in_order};
 
 /// The greatest number of clerks.
-pub(crate) const MAX_CLERKS: u64 = 1000;
+pub(crate) const MAX_CLERKS: u64 = vault::MAX_CLERKS as u64;
 
 /// The kind of a credential, as a row has it.
 fn kind_of(credential: &Credential) -> i64
@@ -160,7 +160,7 @@ pub(crate) fn clerk_names<S: Alter>(
     }
 }
 
-/// The clerk of a row; `None` where the row is no clerk's.
+/// The clerk of a row; `None` if the row is no clerk's.
 fn read_clerk(row: &Clerk) -> Option<vault::Clerk>
     ensures { (c : vault.Clerk) → row.now ≡ clerk_row c → is_sound_clerk c ≡ true
         → result ≡ Some c }

@@ -178,7 +178,7 @@ impl<D: Disk + Drop> SqlVault<FileStore<D>> {
             → IsCopied self.conn files) }
     {
         let conn = self.conn;
-        // It tells the proof that a database that is open lists its tables.
+        // It shows the proof that a database that is open lists its tables.
         let _schema = conn.schema();
         match conn.close_files() {
             Ok(files) => Ok(files),

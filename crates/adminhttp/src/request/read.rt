@@ -29,7 +29,7 @@ impl Request {
     /// `localhost`, `[::1]` or an address of 127.0.0.0/8, with a port or without, or an Origin that
     /// isn't of that Host, or a Sec-Fetch-Site but `same-origin` and `none`; a target of no route
     /// (`/clerks` is of one only if `access` has it), or with a part of another form; a method that
-    /// the route has not; for PUT on a clerk and on the policy a length that isn't told, that isn't
+    /// the route has not; for PUT on a clerk and on the policy a length that isn't given, that isn't
     /// one number, or that is over 1,048,576 octets, and then the body's own. What follows the body
     /// is ignored.
     pub fn read(
@@ -67,7 +67,7 @@ fn ask(
     ask_of_site(alloc, site, access, &head, &headers[..head.headers])
 }
 
-/// The command that a head and what is behind it ask of a site.
+/// The command that a head and what is after it ask of a site.
 #[tactic(auto, unfolding(crate::specs::Request::asked_of_site))]
 fn ask_of_site(
     alloc: Global,
