@@ -105,22 +105,6 @@ fn cut_off(
     release(locks, held);
 }
 
-/// Ends a connection for want of memory, as `account` then says.
-fn cut_off_without_memory(
-    connections: &mut BTreeMap<u64, Connection>,
-    locks: &mut Locks,
-    c: u64,
-    held: Option<Name>,
-    account: &mut Account,
-)
-    ensures connections { Updates nat_cmp connections.old connections.new c None }
-    ensures locks { Released held locks.old locks.new }
-    ensures account { account.new ≡ Account.Ended End.NoMemory }
-{
-    *account = Account::Ended(End::NoMemory);
-    cut_off(connections, locks, c, held);
-}
-
 impl<V: Vault> Office<V> {
     /// Opens an office over a vault, under a host's name and the number of this start. No
     /// connection is open. It reads the store's policy.
@@ -248,7 +232,8 @@ impl<V: Vault> Office<V> {
         ) {
             Ok(line_outcome) => outcome_of(line_outcome),
             Err(_) => {
-                cut_off_without_memory(&mut self.connections, &mut self.locks, c, held, account);
+                cut_off(&mut self.connections, &mut self.locks, c, held);
+                *account = Account::Ended(End::NoMemoryForLine);
                 Outcome::NoMemory
             }
         }
@@ -274,7 +259,8 @@ impl<V: Vault> Office<V> {
         let taken = match connection.take(self.alloc, &mut self.vault, octets, self.moment) {
             Ok(taken) => taken,
             Err(_) => {
-                cut_off_without_memory(&mut self.connections, &mut self.locks, c, held, account);
+                cut_off(&mut self.connections, &mut self.locks, c, held);
+                *account = Account::Ended(End::NoMemory);
                 return Outcome::NoMemory;
             }
         };
@@ -288,6 +274,7 @@ impl<V: Vault> Office<V> {
         }
         if connection.is_closing() {
             let _ = self.connections.remove(&c);
+            *account = Account::Taken;
             return Outcome::Done;
         }
         match connection.resume(
@@ -298,9 +285,13 @@ impl<V: Vault> Office<V> {
             c,
             account,
         ) {
-            Ok(line_outcome) => outcome_of(line_outcome),
+            Ok(line_outcome) => {
+                account.add_taking();
+                outcome_of(line_outcome)
+            }
             Err(_) => {
-                cut_off_without_memory(&mut self.connections, &mut self.locks, c, held, account);
+                cut_off(&mut self.connections, &mut self.locks, c, held);
+                *account = Account::Ended(End::NoMemoryForLine);
                 Outcome::NoMemory
             }
         }
@@ -408,8 +399,8 @@ impl<V: Vault> Office<V> {
     /// Does one event, as [`Office::step`] does, and tells what it judged: `account` becomes the
     /// account of this event, whatever it told before. It is that of the line that acted, also
     /// if the store failed; or why the connection ended, if it is gone, memory was wanting, a
-    /// page was refused or a command ended its session. Other events have none, nor has one that is
-    /// ignored.
+    /// page was refused or a command ended its session; or that all that was owed is taken, if the
+    /// line that acts then tells nothing. Other events have none, nor has one that is ignored.
     pub fn step_with_account(&mut self, event: Event<'_>, account: &mut Account) -> Outcome
         ensures stands { OfEachTrace V.Vault self.old self.new (λ T.
             StandsFor V.holds self.new (followed_by T (event_seen event.entry) result)) }
