@@ -367,7 +367,7 @@ returns-in-Err-clause-account g c fresh T st clean =
     let n = c.args.octets in
     let at = taking g (goal.at.returns-in-Err-clause-account g c).After-take T st in
     let left : is_left T.log (history T) c.args.c n ≡ true =
-        left_over s n (took_more st.keeps.contents s c.in-Some.connection.now n c.args.self.now.moment at.matches at.fits c.in-Err.ensures.err) in
+    left_over s n (took_more st.keeps.contents s c.in-Some.connection.now n c.args.self.now.moment at.matches at.fits c.in-Err.ensures.err) in
     rw left refl
 
 pub returns-then-not-taken-clause-account : goal.returns-then-not-taken-clause-account
@@ -413,6 +413,6 @@ returns-then-is_closing-clause-account g c fresh T st clean =
     let at = taking g (goal.at.returns-then-is_closing-clause-account g c).After-take T st in
     let none : k1.output ≡ nothing_owed = c.owes_nothing.ensures.nothing c.if-not-owes_nothing.false in
     let over : is_left T.log (history T) x n ≡ false = all_over s n (took_all ct s k n o.moment at.matches at.fits k1.output
-        (c.in-Ok.ensures.owes c.if-not-taken.false ct (untaken_of s) st.keeps.held clean at.matches.owed) none) in
+    (c.in-Ok.ensures.owes c.if-not-taken.false ct (untaken_of s) st.keeps.held clean at.matches.owed) none) in
     let closed : closing (history T) x ≡ true = sym at.matches.closing ∙ (sym (ap (λ (k : Kept). k.state.closing) c.take.ensures.kept) ∙ (sym c.is_closing.ensures ∙ c.if-is_closing.true)) in
     rw (over, closed) refl
