@@ -1,6 +1,6 @@
 -- What the log keeps of the connections' sessions, by the accounts that it heard, and what its
 -- lines tell of them.
-use Rattle.std.specs.Prelude.{ℕ, zero, suc, Bool, true, false, ◌&&◌, ◌==◌, ◌+◌, ◌-◌, ◌^◌, min}
+use Rattle.std.specs.Prelude.{ℕ, zero, suc, Bool, true, false, ◌&&◌, ◌==◌}
 use Rattle.std.specs.Prelude.{List, [], ◌∷◌, ◌++◌, map, position, Option, Some, None, codes}
 use Rattle.std.specs.Prelude.{if◌then◌else◌, string_bytes}
 use Rattle.std.specs.Fmt.{decimal}
@@ -13,7 +13,6 @@ use Rattle.office.specs.declared.account.Account.TheVariants as account
 use Rattle.office.specs.declared.account.End.TheVariants as end
 use Rattle.office.specs.declared.account.Verdict.{Verdict}
 use Rattle.office.specs.declared.account.Verdict.TheVariants as judged
-use Rattle.office.specs.declared.account.MessageCommand.{MessageCommand}
 use Rattle.journal.specs.Lines.{account_text, is_told, name_text}
 use Rattle.journal.specs.Counts.{no_counts, with_dele, with_reset, with_retr, with_top, with_denial}
 use Rattle.journal.specs.Counts.{counts_text, more, gets_a_line}

@@ -133,7 +133,8 @@ bob_gives octets = connect 1 ++ says 1 as_bob ++ Give (Bytes 1 octets) ∷ []
 abbrev took_all : Trace → Tag → Account
 took_all T t = account_of T (Took 1 (length (rest T 1))) (Tagged t)
 
-takings_of_a_session : shows (run (bob_gives (codes "RETR 1" ++ line_end ++ codes "TOP 2 0" ++ line_end))) (λ T. account_of T (Took 1 1) (Tagged Done) ∷ took_all T Done ∷ took_all T Failed ∷ took_all T NoMemory ∷ [])
+takings_of_a_session : shows (run (bob_gives (codes "RETR 1" ++ line_end ++ codes "TOP 2 0" ++ line_end)))
+    (λ T. account_of T (Took 1 1) (Tagged Done) ∷ took_all T Done ∷ took_all T Failed ∷ took_all T NoMemory ∷ [])
     ≡ Nothing ∷ Topped (row (codes "note") 2 15) ∷ Taken ∷ Ended end.NoMemoryForLine ∷ []
 unfolding digits login_name decode_pairs md5 M.digest_bytes M.hash_after M.compress M.rounds M.block_words
 takings_of_a_session = refl

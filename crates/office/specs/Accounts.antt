@@ -16,7 +16,6 @@ use Rattle.popline.specs.Replies.{Marked, Okay, NoSuchMessage, AlreadyMarked, By
 use Rattle.popline.specs.Replies.{RemovalFailed, StoreFailed}
 use Rattle.policy.specs.Policy.{Policy}
 use Rattle.popline.specs.Cutting.{Cut}
-use Rattle.creds.specs.declared.uid.Uid.{Uid}
 use Rattle.vault.specs.Records.{Records, class_of, uid_of, octets_of}
 use Rattle.vault.specs.declared.answer.Head.{Head}
 use Rattle.vault.specs.declared.record.Message as store

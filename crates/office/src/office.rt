@@ -21,7 +21,7 @@ ghost use Rattle.std.specs.Ordering.{nat_cmp};
 ghost use Rattle.std.specs.BTreeMap.{Updates};
 ghost use Rattle.office.specs.Locks.{Released};
 ghost use Rattle.office.specs.Answered.{shown_of};
-ghost use Rattle.office.specs.Accounts.{IsAccount, outcome_told};
+ghost use Rattle.office.specs.Accounts.{IsAccount, outcome_told, taken_told};
 ghost use Rattle.office.specs.Runs.{Step as Shown, followed, Follows, Enters, Ran};
 ghost use Rattle.office.specs.Runs.{HaveCauses, HaveMemory, AreAnswered, StopLeavesRun};
 ghost use Rattle.office.specs.Runs.{done_before};
@@ -81,6 +81,16 @@ fn outcome_of(line_outcome: LineOutcome) -> Outcome
     }
 }
 
+/// The outcome of a taking of all that was owed, after which a line was answered so, or none was.
+/// `account` is that line's, and becomes the taking's.
+fn after_all(line_outcome: LineOutcome, account: &mut Account) -> Outcome
+    ensures outcome { outcome_seen result ≡ shown_of line_outcome }
+    ensures account { account.new ≡ taken_told account.old }
+{
+    account.add_taking();
+    outcome_of(line_outcome)
+}
+
 /// What the outcome of a command tells: that it ended a session, if it did.
 fn ended_by(outcome: &Outcome) -> Account
     ensures { result ≡ outcome_told (outcome_seen outcome.now) }
@@ -103,6 +113,24 @@ fn cut_off(
 {
     let _ = connections.remove(&c);
     release(locks, held);
+}
+
+/// Ends a connection that lacked memory for a line, as `account` then says.
+fn lack_memory(
+    connections: &mut BTreeMap<u64, Connection>,
+    locks: &mut Locks,
+    c: u64,
+    held: Option<Name>,
+    account: &mut Account,
+) -> Outcome
+    ensures connections { Updates nat_cmp connections.old connections.new c None }
+    ensures locks { Released held locks.old locks.new }
+    ensures account { account.new ≡ Account.Ended End.NoMemoryForLine }
+    ensures outcome { result ≡ Outcome.NoMemory }
+{
+    cut_off(connections, locks, c, held);
+    *account = Account::Ended(End::NoMemoryForLine);
+    Outcome::NoMemory
 }
 
 impl<V: Vault> Office<V> {
@@ -231,11 +259,7 @@ impl<V: Vault> Office<V> {
             account,
         ) {
             Ok(line_outcome) => outcome_of(line_outcome),
-            Err(_) => {
-                cut_off(&mut self.connections, &mut self.locks, c, held);
-                *account = Account::Ended(End::NoMemoryForLine);
-                Outcome::NoMemory
-            }
+            Err(_) => lack_memory(&mut self.connections, &mut self.locks, c, held, account),
         }
     }
 
@@ -285,15 +309,8 @@ impl<V: Vault> Office<V> {
             c,
             account,
         ) {
-            Ok(line_outcome) => {
-                account.add_taking();
-                outcome_of(line_outcome)
-            }
-            Err(_) => {
-                cut_off(&mut self.connections, &mut self.locks, c, held);
-                *account = Account::Ended(End::NoMemoryForLine);
-                Outcome::NoMemory
-            }
+            Ok(line_outcome) => after_all(line_outcome, account),
+            Err(_) => lack_memory(&mut self.connections, &mut self.locks, c, held, account),
         }
     }
 
