@@ -615,6 +615,7 @@ function unselect() {
 
 /** The clerks of the same row, whose rules may be others. */
 function sameAs(c, maildrop) {
+  if (shown.force.clerks[c] === OTHERS) return [h('p', { class: 'banner' }, unnamed())];
   const group = shown.groups.find((it) => it.includes(c)) ?? [];
   const links = group.filter((it) => it !== c).map((it) => {
     const name = shown.force.clerks[it];
@@ -622,6 +623,13 @@ function sameAs(c, maildrop) {
   });
   if (links.length === 0) return [];
   return [h('p', { class: 'banner' }, 'The same: ', links.flatMap((link) => [link, ' ']))];
+}
+
+/** Who is meant by (others). */
+function unnamed() {
+  const some = shown.others.slice(0, 50), rest = shown.others.length - some.length;
+  const names = [...some, ...(rest ? [`${rest} more`] : [])].join(', ');
+  return `All whom no rule names${names && `; on the server: ${names}`}.`;
 }
 
 /** A decision with its rule, and below it the draft's, if that is another. */
@@ -975,8 +983,8 @@ function drawMessages(text) {
 // ---- Clerks
 
 const KINDS = { pass: 'password', apop: 'APOP', '?': 'not known' };
-const NO_LIST = 'The server does not list its clerks: these are the names in the policy and in '
-  + 'sessions. A clerk whom neither names is missing.';
+const NO_LIST = 'The server does not list its clerks (serve --list-clerks): these are the names in '
+  + 'the policy and in sessions. A clerk whom neither names is missing.';
 
 function drawClerks() {
   $('c-of').textContent = `${counted(existing().length, 'clerk')}. ${state.hasList ? '' : NO_LIST}`;
@@ -1158,6 +1166,8 @@ function listenToTable() {
     if (target.matches('td[data-c]')) nameCell(target);
   });
   $('filters').addEventListener('input', filter);
+  // Some programs that choose for a person tell the page of nothing else.
+  for (const id of ['f-kind', 'f-which']) $(id).addEventListener('change', filter);
   $('filters').addEventListener('submit', (event) => event.preventDefault());
 }
 
