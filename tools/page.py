@@ -45,9 +45,9 @@ def free_port():
 class Site:
     """A popbox with the example's office, its page, and a folder with all that they write."""
 
-    def __init__(self, program, folder, has_list):
+    def __init__(self, program, folder, has_list, reviews):
         os.chmod(folder, 0o711)
-        self.program, self.folder, self.port = program, folder, free_port()
+        self.reviews, self.folder, self.port = reviews or program, folder, free_port()
         self.url = f"https://localhost:{self.port}"
         self.runs, self.keep = {}, f"{folder}/policies"
         os.mkdir(self.keep)
@@ -140,7 +140,7 @@ class Site:
         with contextlib.suppress(FileNotFoundError):
             os.remove(path)
         settings = {
-            "POPBOX_PROGRAM": self.program,
+            "POPBOX_PROGRAM": self.reviews,
             "POPBOX_ADMIN_PORT": str(self.admin),
             "POPBOX_SET_POLICY": f"{TOP}/packaging/popbox-set-policy",
             "POPBOX_KEEP": self.keep,
@@ -209,8 +209,9 @@ class Site:
 
 
 @contextlib.contextmanager
-def site(program, folder, policy=OFFICE, has_list=True):
-    it = Site(program, folder, has_list)
+def site(program, folder, policy=OFFICE, has_list=True, reviews=None):
+    """A popbox with its page; `reviews` is a program in the place of popbox that reviews."""
+    it = Site(program, folder, has_list, reviews)
     try:
         it.begin(policy)
         yield it

@@ -75,6 +75,7 @@ COMMANDS = {
     "getElementTagName": "GetElementTagName",
     "getElementAriaLabel": "GetComputedLabel",
     "sendKeysToElement": "ElementSendKeys",
+    "clickElement": "ElementClick",
     "actions": "PerformActions",
     "newWindow": "NewWindow",
     "switchToWindow": "SwitchToWindow",
@@ -83,10 +84,12 @@ COMMANDS = {
     "screenshot": "TakeScreenshot",
     "printPage": "Print",
 }
-# No question before the password, and no request to its makers.
+# No question before the password, nor for that of another site's frame or script, which is asked of
+# a person; and no request to its makers.
 SETTINGS = {
     "marionette.port": 0,
     "network.auth.confirmAuth.enabled": False,
+    "network.auth.subresource-http-auth-allow": 1,
     "network.dns.localDomains": FOREIGN,
     "browser.shell.checkDefaultBrowser": False,
     "browser.safebrowsing.update.enabled": False,
@@ -193,7 +196,7 @@ class Firefox(webdriver.Remote):
     """Firefox with a page of this size."""
 
     needs = ["firefox-esr"]
-    refusal = "SSL_ERROR_UNRECOGNIZED_NAME_ALERT"
+    refusal = "about:neterror?e=nssFailure2"
 
     def __init__(self, width, height, is_phone, is_dark):
         # 0 is dark, 1 is light.

@@ -3,6 +3,7 @@
 import base64
 import csv
 import io
+import json
 import os
 import poplib
 import random
@@ -218,6 +219,122 @@ def a_large_table_is_that_of_csv(program, folder):
         some = random.Random(1939).sample(sorted(old), 20)
         for clerk, maildrop in some:
             opened(page, clerk, maildrop, old[clerk, maildrop], new[clerk, maildrop])
+
+
+# Stands for popbox as it reviews: a policy is written as it is, and has one of two tables.
+STAND_IN = """#!/bin/bash
+case "$*" in
+*--write*) cat draft ;;
+*--only*) echo "clerk-000 drop-000 open: deny by rule a -> allow by rule b" ;;
+*) grep -q other draft && cat FOLDER/1.json || cat FOLDER/0.json ;;
+esac
+"""
+ONE = "".join(
+    f"{it}\n"
+    for it in (
+        "[[rule]]", 'name = "one"', 'effect = "allow"', 'clerk = "ann"', 'maildrop = "orders"',
+        'class = "*"', 'actions = ["open"]',
+    )
+)
+
+
+def chances(folder):
+    """A program that gives such reviews, of decisions by chance over 200 clerks, 100 maildrops and
+    20 classes, and those of its two tables as `decisions` has them."""
+    clerks = [*(f"clerk-{n:03}" for n in range(200)), "(others)"]
+    maildrops = [*(f"drop-{n:03}" for n in range(100)), "(others)"]
+    classes = [*(f"kind-{n:02}" for n in range(20)), "(others)"]
+    told = {"classes": classes, "rules": [f"rule-{n + 1}" for n in range(1000)]}
+    chance, tables = random.Random(1939), []
+    by = [(clerk, maildrop) for clerk in clerks for maildrop in maildrops]
+    for number in range(2):
+        cells = {} if number == 0 else dict(tables[0])
+        for names in by if number == 0 else chance.sample(by, 500):
+            lowest = chance.choice((-1000, -200, 1))
+            numbers = [chance.randint(lowest, 1000) for _ in range(41 + 2)]
+            cells[names] = [numbers[0], numbers[1:22], numbers[22:43]]
+        tables.append(cells)
+        keys = ("clerk", "maildrop", "open", "read", "remove")
+        rows = [dict(zip(keys, (*names, *cells[names]))) for names in by]
+        with open(f"{folder}/{number}.json", "w", encoding="ascii") as file:
+            json.dump({**told, "cells": rows}, file, separators=(",", ":"))
+        os.chmod(file.name, 0o644)
+    with open(f"{folder}/stands", "w", encoding="ascii") as file:
+        file.write(STAND_IN.replace("FOLDER", folder))
+    os.chmod(file.name, 0o755)
+    return file.name, [{it: as_csv(told, cells[it]) for it in by} for cells in tables]
+
+
+def as_csv(told, cell):
+    """A cell of JSON as `decisions` has it."""
+    opens, reads, removes = cell
+
+    def one(number):
+        name = told["rules"][abs(number) - 1] if number else "default"
+        return number > 0, name
+
+    found = {("", "open"): one(opens)}
+    for kind, read, remove in zip(told["classes"], reads, removes):
+        found |= {(kind, "read"): one(read), (kind, "remove"): one(remove)}
+    return found
+
+
+def first_rows(page):
+    """After how many seconds a load shows the first rows of the table."""
+    page.driver.get("about:blank")
+    page.driver.get(f"{page.site.url}/")
+    asked = "return document.querySelector('#grid tbody td') && performance.now() / 1000"
+    page.wait(lambda: page.js(asked), "there are no rows")
+    return page.js(asked)
+
+
+WAITS = """
+window.waits = [];
+document.addEventListener('keydown', (it) => waits.push(performance.now() - it.timeStamp), true);
+"""
+
+
+def longest_wait(page, field, keys):
+    """How many seconds a key waits, of some that are pressed in a field, at most."""
+    page.js("waits.length = 0")
+    page.find(field).click()
+    for key in keys:
+        page.keys(key)
+        time.sleep(0.1)
+    page.wait(lambda: page.js("return waits.length") >= len(keys), "keys are lost")
+    return page.js("return Math.max(...waits)") / 1000
+
+
+@case
+def a_table_of_20_301_cells_is_drawn_soon(program, folder):
+    os.chmod(folder, 0o711)
+    os.mkdir(f"{folder}/site")
+    reviews, (old, new) = chances(folder)
+    with site(program, f"{folder}/site", policy=ONE, reviews=reviews) as place:
+        with browser(place) as page:
+            page.loaded()
+            soonest = min(first_rows(page) for _ in range(3))
+            page.loaded()
+            show(page, equal=False)
+            page.wait(lambda: len(page.js(DRAWN)) == len(old), "the table isn't whole")
+            same(drawn(page), {names: mark_of(cell) for names, cell in old.items()})
+            page.js(WAITS)
+            filtering = longest_wait(page, "f-clerks", "clerk-19")
+            page.wait(lambda: len(page.js(DRAWN)) == 10 * 101, "the rows aren't ten")
+            show(page, clerks="")
+            page.view("policy")
+            writing = longest_wait(page, "draft", "# other, as it is written")
+            page.reviewed()
+            page.view("table")
+            show(page, which="draft", equal=False)
+            page.wait(lambda: len(page.js(DRAWN)) == len(new), "the table isn't whole")
+            want = {
+                names: f"{mark_of(cell)} {change_of(old[names], cell)}".strip()
+                for names, cell in new.items()
+            }
+            same(drawn(page), want)
+            print(f"first rows after {soonest:.1f} s; a key waits {filtering:.2f} s, {writing:.2f} s")
+            wants((soonest < 2, filtering < 0.2, writing < 0.2), (True, True, True))
 
 
 @case
