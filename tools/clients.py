@@ -37,7 +37,7 @@ class Wrong(Exception):
 
 
 # What a case can fail by.
-FAULTS = (Wrong, OSError, subprocess.SubprocessError, http.client.HTTPException)
+FAULTS = (Wrong, OSError, ValueError, subprocess.SubprocessError, http.client.HTTPException)
 
 
 def wants(found, wanted):
@@ -52,7 +52,7 @@ def retrieved(text):
 
 
 def wait_for(is_so, said, seconds=REPLY):
-    """Waits until something is so, and fails where it isn't for so many seconds."""
+    """Waits until something is so, and fails if it isn't for so many seconds."""
     end = time.monotonic() + seconds
     while not is_so():
         if time.monotonic() > end:
@@ -284,14 +284,22 @@ class Cases:
         self.runs.append((run.__name__.replace("_", " "), run))
         return run
 
+    def play(self, run, program, folder):
+        run(program, folder)
+
     def outcome(self, run, program):
         """What differs in a case: nothing if all is as it must be."""
         with tempfile.TemporaryDirectory() as folder:
             try:
-                run(program, folder)
+                self.play(run, program, folder)
             except FAULTS as error:
                 return str(error) or type(error).__name__
         return ""
+
+    def lacks(self, run):
+        """What a case needs that isn't there."""
+        is_lacking = "preload" in run.__code__.co_names and not shutil.which("cc")
+        return "no C compiler" if is_lacking else ""
 
     def run(self, program, words):
         """Runs the cases whose names have one of the words, or all; gives how many differ."""
@@ -299,8 +307,8 @@ class Cases:
         for name, run in self.runs:
             if words and not any(word in name for word in words):
                 continue
-            if "preload" in run.__code__.co_names and not shutil.which("cc"):
-                print(f"{self.tool}: no C compiler: {name} isn't run", flush=True)
+            if lacks := self.lacks(run):
+                print(f"{self.tool}: {lacks}: {name} isn't run", flush=True)
                 continue
             found = self.outcome(run, program)
             ran, differs = ran + 1, differs + (found != "")

@@ -2,36 +2,32 @@
 
 import os
 
-from logged import CLIENT, PASSWORD, POLICY, SECRET, Mail, Server, case, compare, fill, lines_told
+from logged import CLIENT, PASSWORD, POLICY, SECRET, Mail, case, compare, fill, lines_told
+from logged import log_of, serving
 
 
 @case
 def two_sessions(program, folder):
-    """With two sessions open each removal is told with the clerk whose it is, in whichever order
+    """With two sessions open each removal is logged with its clerk, in whichever order
     they quit; and a session that is lost with the messages that it had marked."""
     mail = [f"{maildrop}.note.n-{n}.eml" for maildrop in ("orders", "sales") for n in range(1, 6)]
-    with open(f"{folder}/log", "w+b") as log:
-        server = Server(program, folder, log)
-        try:
-            fill(server, *mail)
-            ann, bob = Mail(server), Mail(server)
-            ann.say("USER ann/orders", f"PASS {PASSWORD}", "DELE 1", "DELE 2")
-            bob.apop("bob/sales", SECRET)
-            bob.say("DELE 1", "QUIT")
-            bob = Mail(server)
-            bob.apop("bob/sales", SECRET)
-            ann.say("QUIT")
-            ann = Mail(server)
-            ann.say("USER ann/orders", f"PASS {PASSWORD}", "DELE 1", "RSET", "DELE 2", "DELE 3")
-            bob.say("DELE 1", "DELE 2", "DELE 3")
-            ann.close()
-            server.wait_told("event=closed connection=4")
-            bob.close()
-            server.wait_told("event=closed connection=3")
-        finally:
-            server.end()
-        log.seek(0)
-        text = log.read().decode()
+    with serving(program, folder) as server:
+        fill(server, *mail)
+        ann, bob = Mail(server), Mail(server)
+        ann.say("USER ann/orders", f"PASS {PASSWORD}", "DELE 1", "DELE 2")
+        bob.apop("bob/sales", SECRET)
+        bob.say("DELE 1", "QUIT")
+        bob = Mail(server)
+        bob.apop("bob/sales", SECRET)
+        ann.say("QUIT")
+        ann = Mail(server)
+        ann.say("USER ann/orders", f"PASS {PASSWORD}", "DELE 1", "RSET", "DELE 2", "DELE 3")
+        bob.say("DELE 1", "DELE 2", "DELE 3")
+        ann.close()
+        server.wait_told("event=closed connection=4")
+        bob.close()
+        server.wait_told("event=closed connection=3")
+    text = log_of(folder)
     removed = "event=remove connection={} clerk={} maildrop={} messages={} answer=done"
     lost = "event=closed connection={} " + CLIENT + " clerk={} maildrop={} marked={}"
     lost += " dele={} rset={} retr=0/0 top=0/0 denied=0 cause=gone"
@@ -48,29 +44,24 @@ def two_sessions(program, folder):
 
 @case
 def denials_of_two_sessions(program, folder):
-    """A denied DELE, RETR or TOP is told once of each command, message and rule, with the clerk and
-    maildrop of its own session; and the end of a session tells how often it was denied, and what
-    was read."""
+    """A denied DELE, RETR or TOP is logged once of each command, message and rule, with the clerk
+    and maildrop of its own session; and the end of a session says how often it was denied, and
+    what was read."""
     names = ("payment.p-1", "note.n-1")
     mail = [f"{maildrop}.{name}.eml" for maildrop in ("orders", "sales") for name in names]
-    with open(f"{folder}/log", "w+b") as log:
-        server = Server(program, folder, log)
-        try:
-            fill(server, *mail)
-            ann, bob = Mail(server), Mail(server)
-            ann.say("USER ann/orders", f"PASS {PASSWORD}", "DELE 1", "RETR 1", "DELE 1", "DELE 9")
-            bob.apop("bob/sales", SECRET)
-            bob.say("DELE 1", "RETR 2", "TOP 1 0", "RETR 2", "DELE 2", "DELE 2", "RETR 2")
-            server.ask("PUT", "/policy", POLICY.replace('["remove"]', '["read", "remove"]'))
-            ann.say("RETR 1", "TOP 1 0", "TOP 1 0", "DELE 1")
-            server.ask("PUT", "/policy", POLICY.replace("keep-payments", "keep-all"))
-            ann.say("DELE 1", "QUIT")
-            bob.close()
-            server.wait_told("event=closed connection=2")
-        finally:
-            server.end()
-        log.seek(0)
-        text = log.read().decode()
+    with serving(program, folder) as server:
+        fill(server, *mail)
+        ann, bob = Mail(server), Mail(server)
+        ann.say("USER ann/orders", f"PASS {PASSWORD}", "DELE 1", "RETR 1", "DELE 1", "DELE 9")
+        bob.apop("bob/sales", SECRET)
+        bob.say("DELE 1", "RETR 2", "TOP 1 0", "RETR 2", "DELE 2", "DELE 2", "RETR 2")
+        server.ask("PUT", "/policy", POLICY.replace('["remove"]', '["read", "remove"]'))
+        ann.say("RETR 1", "TOP 1 0", "TOP 1 0", "DELE 1")
+        server.ask("PUT", "/policy", POLICY.replace("keep-payments", "keep-all"))
+        ann.say("DELE 1", "QUIT")
+        bob.close()
+        server.wait_told("event=closed connection=2")
+    text = log_of(folder)
     anns = f"connection=1 {CLIENT} clerk=ann maildrop=orders"
     bobs = f"connection=2 {CLIENT} clerk=bob maildrop=sales"
     denied = "event=denied {} command={} uid=payment\\.1 rule={}"
@@ -89,23 +80,18 @@ def denials_of_two_sessions(program, folder):
 @case
 def denials_beyond_64(program, folder):
     """A connection's denials have 64 lines at most; the end of its session counts them all."""
-    with open(f"{folder}/log", "w+b") as log:
-        server = Server(program, folder, log)
-        try:
-            fill(server)
-            for number in range(1, 67):
-                server.leave(f"orders.payment.p-{number}.eml", "A chair.\n")
-            for number in range(1, 67):
-                server.wait_gone(f"orders.payment.p-{number}.eml")
-            ann = Mail(server)
-            deles = [f"DELE {number}" for number in range(1, 67)]
-            ann.say("USER ann/orders", f"PASS {PASSWORD}", *deles, "QUIT")
-            ann.close()
-            server.wait_told("event=quit ")
-        finally:
-            server.end()
-        log.seek(0)
-        text = log.read().decode()
+    with serving(program, folder) as server:
+        fill(server)
+        for number in range(1, 67):
+            server.leave(f"orders.payment.p-{number}.eml", "A chair.\n")
+        for number in range(1, 67):
+            server.wait_gone(f"orders.payment.p-{number}.eml")
+        ann = Mail(server)
+        deles = [f"DELE {number}" for number in range(1, 67)]
+        ann.say("USER ann/orders", f"PASS {PASSWORD}", *deles, "QUIT")
+        ann.close()
+        server.wait_told("event=quit ")
+    text = log_of(folder)
     anns = f"connection=1 {CLIENT} clerk=ann maildrop=orders"
     denied = f"event=denied {anns} command=dele uid=payment\\.\\d+ rule=keep-payments"
     quits = f'event=quit {anns} marked=0 answer="bye" dele=0 rset=0 retr=0/0 top=0/0 denied=66'
@@ -118,18 +104,13 @@ def reads(program, folder):
     differs = []
     for words in (("--log",), ("--log", "--log-reads")):
         os.makedirs(place := f"{folder}/{len(words)}")
-        with open(f"{place}/log", "w+b") as log:
-            server = Server(program, place, log, words)
-            try:
-                fill(server, "orders.note.n-1.eml", "orders.payment.p-1.eml")
-                ann = Mail(server)
-                ann.say("USER ann/orders", f"PASS {PASSWORD}", "RETR 2", "TOP 1 0", "DELE 1")
-                ann.say("RETR 1", "RETR 3", "RSET", "RETR 1", "RETR 2", "QUIT")
-                server.wait_told("event=quit ")
-            finally:
-                server.end()
-            log.seek(0)
-            text = log.read().decode()
+        with serving(program, place, words) as server:
+            fill(server, "orders.note.n-1.eml", "orders.payment.p-1.eml")
+            ann = Mail(server)
+            ann.say("USER ann/orders", f"PASS {PASSWORD}", "RETR 2", "TOP 1 0", "DELE 1")
+            ann.say("RETR 1", "RETR 3", "RSET", "RETR 1", "RETR 2", "QUIT")
+            server.wait_told("event=quit ")
+        text = log_of(place)
         anns = f"connection=1 {CLIENT} clerk=ann maildrop=orders"
         line = f"event=retr {anns} uid={{}}\\.1 octets=10"
         wanted = [line.format(it) for it in ("payment", "note", "payment") if len(words) == 2]

@@ -1,7 +1,8 @@
-"""What the cases of tools/check-log share: a server that logs, its mail programs, and what a log has
-to tell."""
+"""What the cases of tools/check-log share: a server that logs, its mail programs, and what a log
+must say."""
 
 import calendar
+import contextlib
 import hashlib
 import os
 import re
@@ -34,7 +35,7 @@ POLICY = "".join(
 )
 
 
-# The options in force that a start's line tells, without one and with each.
+# The options in force that a start's line names, without one and with each.
 IN_FORCE = (
     " removals=dele idle=600 wait=0 login-seconds=0 full-house-seconds=0"
     " slow-guesses=no proxy-protocol=no log-message-ids=no log-reads=no admin-site=no"
@@ -57,7 +58,7 @@ def case(check):
 
 
 def proved_of(program):
-    """Whether a program is proved, as its server's start tells it."""
+    """Whether a program is proved, as its server's start logs it."""
     ran = subprocess.run([program, "--version"], capture_output=True, text=True, check=True)
     return " proved=yes" if "(proved)" in ran.stdout else " proved=no"
 
@@ -86,6 +87,23 @@ class Server(clients.Server):
                 return text in file.read()
 
         wait_for(is_told, f"the log lacks {text!r}", SPOOL)
+
+
+@contextlib.contextmanager
+def serving(program, folder, words=("--log",)):
+    """A server that logs to the file `log` of a folder, and is ended afterwards."""
+    with open(f"{folder}/log", "wb") as log:
+        server = Server(program, folder, log, words)
+        try:
+            yield server
+        finally:
+            server.end()
+
+
+def log_of(folder):
+    """What such a server has logged."""
+    with open(f"{folder}/log", encoding="utf-8") as file:
+        return file.read()
 
 
 class PipeEnd:
@@ -130,7 +148,7 @@ class Mail(clients.Client):
 
 
 def compare(text, wanted):
-    """What differs between a log and the lines that are wanted, each behind a moment."""
+    """What differs between a log and the lines that are wanted, each after a moment."""
     lines = text.splitlines()
     differs = [
         f"line {number} is {line!r}, where {it!r} is wanted"

@@ -220,7 +220,7 @@ def site(program, folder, policy=OFFICE, has_list=True, reviews=None):
 
 
 class Browser:
-    """A browser with the page loaded, and the password told to it once."""
+    """A browser with the page loaded, and the password given to it once."""
 
     def __init__(self, site, width=1400, height=900, is_phone=False, is_dark=False):
         self.site = site

@@ -4,8 +4,8 @@ import concurrent.futures
 import os
 import re
 
-from clients import POLICY
-from scripts import TIME, case, fits, office, wants
+from clients import POLICY, wants
+from scripts import TIME, case, fits, office
 
 # By this nobody may remove; its front is a comment.
 READ_ONLY = "# Nobody may remove.\n" + POLICY.replace(', "remove"', "")

@@ -1,4 +1,4 @@
--- Worked rows of accounts: which lines are told as logins, and how they were judged; which lines mark, and what a QUIT removed.
+-- Worked rows of accounts: which lines are accounted as logins, and how they were judged; which lines mark, and what a QUIT removed.
 use Rattle.std.specs.Prelude.{◌≡◌, ℕ, true, List, [], ◌∷◌, ◌++◌, Some, refl, codes}
 use Rattle.std.specs.Fmt.{digits}
 use Rattle.creds.specs.LoginName.{login_name}

@@ -44,7 +44,7 @@ abbrev is_pass : Result Command LineFault → Bool
 is_pass (Ok (Pass password)) = true
 is_pass _ = false
 
--- only a PASS is told under the name in force
+-- only a PASS depends on the name in force
 nobody_named : (r : Result Command LineFault) (said : Said) (u : Option LoginName) (m : Option MessageRow) → is_pass r ≡ false → line_account r said None m ≡ line_account r said u m
 nobody_named (Ok (Pass password)) said u m e = absurd (true≢false e)
 nobody_named _ said u m e = refl
@@ -58,7 +58,7 @@ module _ (p : Policy) (v : Transaction) (u : Option LoginName) where
   asks_no_pass (Ok (Pass password)) e = cc
   asks_no_pass _ e = refl
 
-  -- a line of a session is told the same under every name
+  -- a line of a session has the same account under every name
   pub transaction_told : (w : LineOutcome) (x : Cut) (m : Option MessageRow) → (w ≡ outcome.Failed → transaction_asks p v (reading x) ≡ true)
       → line_account (reading x) (Says (transaction_reply w p v x)) None m ≡ line_account (reading x) (Says (transaction_reply w p v x)) u m
   transaction_told outcome.Done TooLong m may = refl
@@ -101,7 +101,7 @@ removal_alike c p s kept lies w =
     let marks = marks_counted c p s kept lies in
     rw (removed, denied, marks) refl
 
--- a line before a login is told by its reply
+-- a line before a login has its account by its reply
 pub authorization_told : (w : LineOutcome) (p : Policy) (r : Result Command LineFault) (said : Said) (u : Option LoginName) → line_account r said u None ≡ state_account w p None r said u
 authorization_told w p r said u = at (is_quit r) refl
   where
@@ -109,7 +109,7 @@ authorization_told w p r said u = at (is_quit r) refl
     at true e = quits_told r said u e
     at false e = refl
 
--- a line of a session is told by its reply, unless it quits
+-- a line of a session has its account by its reply, unless it quits
 pub state_told : (c : Contents) (p : Policy) (s : Session) (v : Transaction) (w : LineOutcome) (u : Option LoginName) (x : Cut) (told : Account) → HasTransaction c (Some s) (Some v)
     → (w ≡ outcome.Failed → transaction_asks p v (reading x) ≡ true) → told ≡ transaction_account w p s (reading x) (Says (transaction_reply w p v x)) (named_in v (reading x))
     → told ≡ state_account w p (Some v) (reading x) (Says (transaction_reply w p v x)) u
@@ -178,7 +178,7 @@ module _ (T : Trace) where
   opening_told (Tagged Failed) = refl
   opening_told (Tagged NoMemory) = refl
 
-  -- a line that acted is what is told
+  -- a line that acted is what the account says
   pub piece_account : (c : ℕ) (p : List ℕ) (w : LineOutcome) → account_of T (event.Bytes c p) (Tagged (tag_of w))
       ≡ acts_account T.base (history T) (acts_of_piece (has_newline p) c (tag_of w) (next_line T.log (history T) c p))
   piece_account c p outcome.Done = refl

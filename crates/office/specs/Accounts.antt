@@ -230,7 +230,7 @@ abbrev pub answer_told : Answer → Account
 answer_told answer.Ended = account.Ended end.SessionEnded
 answer_told _ = account.Nothing
 
--- what the outcome of a command tells
+-- what the outcome of a command says
 abbrev pub outcome_told : Outcome → Account
 outcome_told (Answered answer) = answer_told answer
 outcome_told _ = account.Nothing
@@ -310,7 +310,7 @@ sending_told command (Err (pick.Denied rule)) message = denial_told command mess
 sending_told command (Err pick.NoSuch) message = account.Nothing
 sending_told command (Err pick.Deleted) message = account.Nothing
 
--- if the store fails at a command, nothing is told of it
+-- if the store fails at a command, nothing is said of it
 abbrev pub told_if_done : LineOutcome → Account → Account
 told_if_done outcome.Done told = told
 told_if_done outcome.Failed told = account.Nothing

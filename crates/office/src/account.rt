@@ -70,7 +70,7 @@ pub enum End {
     /// An administrator ended the session.
     SessionEnded,
     /// Nothing came for so long that a tick ended it. A tick may end many connections, so the
-    /// office's own account of it tells none: who gave it tells each.
+    /// office's own account of it names none: who gave it says each.
     Idle,
     /// It took too long to log in, by the seconds of who serves it; to the office it is gone.
     TooLate,
@@ -275,7 +275,7 @@ impl Account {
         }
     }
 
-    /// Becomes the account of a command that was answered so. If the store failed, nothing is told;
+    /// Becomes the account of a command that was answered so. If the store failed, nothing is said;
     /// at want of memory the account stays.
     pub(crate) fn settle(&mut self, told: Account, answered: &Result<LineOutcome, AllocError>)
         ensures ok { IfOk answered.now (λ outcome. self.new ≡ told_if_done outcome told) }

@@ -48,7 +48,7 @@ const MOST_IN_A_PIECE: usize = 4096;
 pub enum OpenFault {
     /// The host's name isn't one.
     BadHost,
-    /// The store refused to tell its policy.
+    /// The store refused to give its policy.
     Store,
     NoMemory,
 }
@@ -81,7 +81,7 @@ fn outcome_of(line_outcome: LineOutcome) -> Outcome
     }
 }
 
-/// What the outcome of a command tells: that it ended a session, if it did.
+/// What the outcome of a command says: that it ended a session, if it did.
 fn ended_by(outcome: &Outcome) -> Account
     ensures { result ≡ outcome_told (outcome_seen outcome.now) }
 {
@@ -405,8 +405,8 @@ impl<V: Vault> Office<V> {
         self.step_with_account(event, &mut account)
     }
 
-    /// Does one event, as [`Office::step`] does, and tells what it judged: `account` becomes the
-    /// account of this event, whatever it told before. It is that of the line that acted, also
+    /// Does one event, as [`Office::step`] does, and says what it judged: `account` becomes the
+    /// account of this event, whatever it was before. It is that of the line that acted, also
     /// if the store failed; or why the connection ended, if it is gone, memory was wanting, a
     /// page was refused or a command ended its session. Other events have none, nor has one that is
     /// ignored.

@@ -300,7 +300,7 @@ fn export_over<A: Alter, E: Write>(
     Ok(status)
 }
 
-/// Tells which file of a folder was there already, or what else the system answered.
+/// Prints which file of a folder was there already, or what else the system answered.
 fn tell_folder<E: Write>(err: &mut E, folder: &NamedFolder<'_>) {
     let path = folder.path;
     if let Some(error) = &folder.refusal {

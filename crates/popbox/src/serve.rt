@@ -5,7 +5,7 @@ use journal::{
     FileId, Folder, Guarded, Journal, LoggedSpool, LoggedVault, LoggedWire, Loss, Peers, Shared,
     StoreWatch, note_end, note_loss, note_opening, note_start,
 };
-use office::{Limits, Office};
+use office::{AdminAccess, Limits, Office};
 use proxy::ProxiedWire;
 use recent::Recent;
 use serving::{
@@ -52,6 +52,9 @@ pub fn serve_over<V: Vault, E: Write>(
     let totals = totals_of(&mut vault, &journal);
     let watch = StoreWatch::new(rt, path.as_str(), before);
     let limits = limits.with_removals(options.removals);
+    let limits = limits.with_access(AdminAccess {
+        lists_clerks: options.list_clerks,
+    });
     match Office::open(rt.alloc(), vault, options.host, boot, limits) {
         Err((fault, vault)) => (Err(Fault::from(fault)), vault.into_vault().into_vault()),
         Ok(mut office) => {
@@ -93,7 +96,7 @@ fn listen(
     Ok((NotedWire::new(wire), port, admin_port))
 }
 
-/// Tells that the system refused to listen at an address. Gives the exit status.
+/// Prints that the system refused to listen at an address. Gives the exit status.
 fn tell_refused<E: Write>(err: &mut E, is_verbose: bool, at: SocketAddr, error: &io::Error) -> u8 {
     let _ = writeln!(err, "popbox: cannot listen");
     if is_verbose {

@@ -4,7 +4,7 @@
 /// sources say so; tools/run-unproved, which keeps another, builds from a copy that says otherwise.
 pub const VERSION: &str = "0.1.0 (proved)";
 
-/// Whether it is proved, as the log of a server tells it.
+/// Whether it is proved, as the log of a server says it.
 pub const IS_PROVED: bool = true;
 
 /// The end of `--help`, which says the same.

@@ -136,7 +136,7 @@ pub fn lines_of(alloc: Global, transcript: &str) -> Result<Vec<Line>, Fail> {
     Ok(read_script(alloc, script.as_bytes())?)
 }
 
-/// The event of a line; `None` where the line isn't an event.
+/// The event of a line; `None` if the line isn't an event.
 pub fn event_of(line: &Line) -> Option<Event<'_>> {
     match line {
         Line::Connect => Some(Event::Connect),
@@ -166,7 +166,7 @@ fn opened<V: Vault + Drop>(alloc: Global, vault: V, setting: Setting) -> Result<
     }
 }
 
-/// Does an event before a row. Where it is refused memory, the test fails with `OutOfMemory`.
+/// Does an event before a row. If it is refused memory, the test fails with `OutOfMemory`.
 fn begin<V: Vault>(office: &mut Office<V>, event: Event<'_>) -> Result<(), Fail> {
     match office.step(event) {
         Outcome::NoMemory => Err(Fail::new("error: OutOfMemory")),

@@ -1,5 +1,5 @@
 //! What was judged, line by line: as a server's listener heard it, and as the office that reckons
-//! told it.
+//! gave it.
 use creds::{LoginName, Name, Uid};
 use office::{Account, MessageCommand, MessageRow, Removal, Verdict, Way};
 use serving::{Asked, Link, Listener};
