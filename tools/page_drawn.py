@@ -325,6 +325,7 @@ def a_table_of_20_301_cells_is_drawn_soon(program, folder):
             page.view("policy")
             writing = longest_wait(page, "draft", "# other, as it is written")
             page.reviewed()
+            wants(page.text("draft-of"), "popbox has reviewed it.")
             page.view("table")
             show(page, which="draft", equal=False)
             page.wait(lambda: len(page.js(DRAWN)) == len(new), "the table isn't whole")

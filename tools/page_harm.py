@@ -148,6 +148,26 @@ def a_name_bound_anew_gets_no_page(program, folder):
 
 
 @case
+def a_name_bound_to_popbox_itself_is_refused(program, folder):
+    with site(program, folder) as place, browser(place) as page:
+        before, maildrops = place.get("/policy"), place.get("/maildrops")
+        # What a page of that name at this port may do: its requests are of its own site.
+        page.driver.get(f"http://{FOREIGN}:{place.admin}/policy")
+        wants("another site's request" in page.js("return document.body.innerText"), True)
+        page.js(
+            "window.out = []; (async () => { for (const [method, path, body] of ["
+            "['GET', '/policy'], ['GET', '/clerks'], ['PUT', '/maildrops/evil'],"
+            "['PUT', '/clerks/old', 'pass x'], ['PUT', '/policy', '# x'], ['DELETE', '/clerks/old']])"
+            " { const it = await fetch(path, { method, body });"
+            " window.out.push(it.status + ' ' + await it.text()); } })()"
+        )
+        wait_for(lambda: len(page.js("return window.out")) == 6, "it isn't done", 60)
+        wants(page.js("return window.out"), ["403 another site's request\n"] * 6)
+        wants((place.get("/policy"), place.get("/maildrops")), (before, maildrops))
+        wants(place.get("/clerks/old"), "pass\n")
+
+
+@case
 def nobody_else_is_asked(program, folder):
     with site(program, folder) as place, browser(place) as page:
         page.draft(DRAFT)
