@@ -276,6 +276,10 @@ def set_on(folder, seconds):
     wait_for(lambda: has_text(f"{folder}/seen", str(seconds)), "the clock isn't seen")
 
 
+# What a tool looks at itself.
+FLAGS = ("--short", "--firefox")
+
+
 class Cases:
     """The cases of a tool: functions of the program and of a new folder, each of which fails by an
     exception. What is called by `preload` needs a C compiler."""
@@ -326,7 +330,7 @@ class Cases:
         if "--help" in sys.argv[1:]:
             print(self.text.strip())
             sys.exit()
-        program, *words = [it for it in sys.argv[1:] if it != "--short"] or [PROGRAM]
+        program, *words = [it for it in sys.argv[1:] if it not in FLAGS] or [PROGRAM]
         program = os.path.abspath(program)
         if not os.access(program, os.X_OK):
             sys.exit(f"{program} isn't there: tools/build builds it")
