@@ -1,7 +1,5 @@
 """The cases of tools/check-log of sessions: what each removed, was denied and fetched."""
 
-import os
-
 from clients import REPLY, Wrong, is_silent
 from logged import CLIENT, PASSWORD, POLICY, SECRET, Mail, case, compare, fill, lines_told
 from logged import log_of, serving, with_and_without
