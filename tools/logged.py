@@ -103,7 +103,7 @@ def serving(program, folder, words=("--log",)):
 def log_of(folder):
     """What such a server has logged."""
     with open(f"{folder}/log", encoding="utf-8") as file:
-        return file.read()
+        return without_slow(file.read())
 
 
 def with_and_without(program, folder, option, do):
