@@ -49,6 +49,7 @@ impl Links {
         ensures settings { settings result ≡ none_set }
         ensures seats { result.clients.seats.items ≡ [] }
         ensures newcomers { result.clients.newcomers.newcomers.items ≡ [] }
+        ensures refusals { result.clients.guesses.refusals.items ≡ [] }
         ensures requests { result.requests.exchanges.items ≡ [] }
         ensures site { result.site ≡ None }
     {
@@ -206,6 +207,7 @@ impl Clients {
         ensures settings { settings_of result ≡ none_set }
         ensures seats { result.seats.items ≡ [] }
         ensures newcomers { result.newcomers.newcomers.items ≡ [] }
+        ensures refusals { result.guesses.refusals.items ≡ [] }
     {
         Clients {
             seats: ArrayVec::new(),
