@@ -13,6 +13,7 @@ pub mod Origins
 pub mod Places
 pub mod Pacing
 pub mod Working
+pub mod Offering
 pub mod Turns
 pub mod Arriving
 pub mod Hearing
