@@ -36,7 +36,7 @@ fn office_with_a_long_message(alloc: Global, lines: u32) -> Result<Office<PlainV
 /// What ann sends.
 const ANN: &[u8] = b"USER ann/orders\r\nPASS s3 cret\r\nRETR 1\r\n";
 
-/// How many octets ann was told after each of three turns, by a link that takes so many at once, of
+/// How many octets ann got after each of three turns, by a link that takes so many at once, of
 /// so many lines, with so many silent links beside hers.
 fn told_by(alloc: Global, most: usize, lines: u32, silent: u32) -> Result<[usize; 3], Fail> {
     let mut office = office_with_a_long_message(alloc, lines)?;
