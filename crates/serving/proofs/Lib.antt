@@ -11,6 +11,7 @@ pub mod Parts
 pub mod Looking
 pub mod Origins
 pub mod Places
+pub mod Waiting
 pub mod Working
 pub mod Turns
 pub mod Arriving
