@@ -1,10 +1,10 @@
 -- Links that wait for a turn at reading: how many had theirs before.
-use Rattle.std.proofs.Common.{◌≡◌, ℕ, zero, suc, ◌+◌, ◌<◌, ◌≤◌, ◌^◌, min, nat_lt, nat_le, Bool, true, false, not, ◌&&◌, ◌||◌, ◌⊎◌, cond, List, [], ◌∷◌, map, refl, sym, ◌∙◌, ap, arith, inl, inr, subst, lt-ltb, le-ltb, if◌then◌else◌}
+use Rattle.std.proofs.Common.{◌≡◌, ℕ, zero, suc, ◌+◌, ◌*◌, ◌<◌, ◌≤◌, ◌^◌, length, min, nat_lt, nat_le, Bool, true, false, ◌&&◌, ◌||◌, ◌⊎◌, cond, List, [], ◌∷◌, map, refl, sym, ◌∙◌, ap, arith, inl, inr, subst, lt-ltb, le-ltb, if◌then◌else◌}
 use Rattle.std.specs.List.{filter, count_by}
 use Rattle.std.proofs.lemmas.Bool.{false≢true, ltb-true, ltb-false, and_parts, and_from, or_parts}
 use Rattle.std.proofs.lemmas.List.Recursion.{is_sum_by}
 use Rattle.serving.specs.declared.sockets.Place.{Place}
-use Rattle.serving.specs.Due.{presses, most_due, waiting_turns, before, is_due, turn_behind, chosen, chosen_of, ahead_of, NobodyIsPassedOver}
+use Rattle.serving.specs.Due.{presses, most_due, waiting_turns, before, is_due, turn_behind, chosen, chosen_of, ahead_of, NobodyIsPassedOver, Wait, PassesOver, NoMoreThanAFourth}
 
 -- ---- counts
 
@@ -179,3 +179,18 @@ nobody turns places p fits early pressing passed =
     let all : waiting ≡ map (λ (q : Place). q.turn) (filter presses places) =
     none_waits (nat_le pressing_now 40) most p.turn (map (λ (q : Place). q.turn) (filter presses places)) some rank in
     falls turns most p.turn waiting places fits early some (due_before most p.turn places waiting all rank)
+
+-- ---- many waits
+
+fewer_ahead : (turn : ℕ) (wait : Wait) → PassesOver turn wait → ahead_of turn (chosen_of wait.turns wait.places) + 4 ≤ ahead_of turn wait.places
+fewer_ahead turn wait h =
+    subst (λ t. ahead_of t (chosen_of wait.turns wait.places) + 4 ≤ ahead_of t wait.places) h.last
+    (nobody wait.turns wait.places h.place h.fits (subst (λ t. t < wait.turns) (sym h.last) h.early) h.pressing h.passed)
+
+pub a_fourth : NoMoreThanAFourth
+a_fourth turn wait [] h = (let k = fewer_ahead turn wait h in omega (arith, k))
+a_fourth turn wait (next ∷ waits) h =
+    let k = fewer_ahead turn wait h.0 in
+    let l = h.1 in
+    let rest = a_fourth turn next waits h.2 in
+    omega (arith, k, l, rest)

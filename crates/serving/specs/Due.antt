@@ -1,6 +1,6 @@
 -- Which links are read between two waits: those that wait longest for it.
-use Rattle.std.specs.Prelude.{◌≡◌, ◌≤◌, ◌<◌, ℕ, Bool, true, false, not, ◌&&◌, ◌||◌, ◌+◌, ◌==◌, ◌^◌, min}
-use Rattle.std.specs.Prelude.{nat_lt, nat_le, List, [], filter, map, length, count_by, if◌then◌else◌}
+use Rattle.std.specs.Prelude.{◌≡◌, ◌≤◌, ◌<◌, ℕ, Bool, true, false, not, ◌&&◌, ◌||◌, ◌+◌, ◌*◌, ◌==◌, ◌^◌, min}
+use Rattle.std.specs.Prelude.{nat_lt, nat_le, List, [], ◌∷◌, filter, map, length, count_by, if◌then◌else◌}
 use Rattle.serving.specs.declared.sockets.Place.{Place}
 
 -- a read of its socket may give octets at once
@@ -60,3 +60,32 @@ abbrev pub NobodyIsPassedOver : Type 0
 NobodyIsPassedOver = (turns : ℕ) (places : List Place) (p : Place) → turns < 2 ^ 64 → p.turn < turns
     → presses p ≡ true → is_due (most_due (count_by presses places)) (waiting_turns places) p ≡ false
     → ahead_of p.turn (chosen_of turns places) + 4 ≤ ahead_of p.turn places
+
+-- ---- many waits
+
+-- a wait: where it numbers its turns from, and the places as it begins
+pub record Wait : Type 0 where
+  pub turns : ℕ
+  pub places : List Place
+
+-- at this wait a link presses whose last turn was this one, and isn't due
+pub record PassesOver (turn : ℕ) (wait : Wait) : Type 0 where
+  pub place : Place
+  pub last : place.turn ≡ turn
+  pub early : turn < wait.turns
+  pub fits : wait.turns < 2 ^ 64
+  pub pressing : presses place ≡ true
+  pub passed : is_due (most_due (count_by presses wait.places)) (waiting_turns wait.places) place ≡ false
+
+-- Waits one after another pass it over. Between two of them links come and go, and none gets a turn
+-- before this one.
+abbrev pub PassOver : (turn : ℕ) → Wait → List Wait → Type 0
+PassOver turn wait [] = PassesOver turn wait
+PassOver turn wait (next ∷ waits) = PassesOver turn wait
+    × (ahead_of turn next.places ≤ ahead_of turn (chosen_of wait.turns wait.places))
+    × PassOver turn next waits
+
+-- If n links had their turns before it, no more than n / 4 waits do.
+abbrev pub NoMoreThanAFourth : Type 0
+NoMoreThanAFourth = (turn : ℕ) (wait : Wait) (waits : List Wait) → PassOver turn wait waits
+    → 4 * length (wait ∷ waits) ≤ ahead_of turn wait.places

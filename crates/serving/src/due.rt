@@ -2,6 +2,7 @@
 ghost use Rattle.std.specs.Prelude.{◌≡◌, ◌≤◌, count_by, map, filter};
 ghost use Rattle.serving.specs.Due.{presses, most_due as most_due_of, before, waiting_turns};
 ghost use Rattle.serving.specs.Due.{chosen, chosen_of, NobodyIsPassedOver};
+ghost use Rattle.serving.specs.Due.{NoMoreThanAFourth};
 
 use crate::sockets::Place;
 use arrayvec::ArrayVec;
@@ -83,7 +84,9 @@ pub(crate) fn choose(places: &mut [Place], turns: u64)
     choose_all(places, turns, most, waiting.as_slice());
 }
 
-/// A law: no link is passed over for ever.
+/// A law: a wait that passes a link over puts at least four others behind it, so that no link is
+/// passed over for ever.
 pub fn nobody_is_passed_over()
-    ensures { NobodyIsPassedOver }
+    ensures each { NobodyIsPassedOver }
+    ensures waits { NoMoreThanAFourth }
 {}

@@ -244,9 +244,8 @@ impl SocketWire {
                     door.comes = true;
                 }
             } else if let Some(place) = self.places.get_mut(token.0) {
-                let is_ending = event.is_read_closed() || event.is_error();
-                place.is_ending |= is_ending;
-                place.unread |= is_ending || event.is_readable();
+                place.unread = true;
+                place.is_ending |= event.is_read_closed() || event.is_error();
                 if event.is_writable() {
                     place.is_blocked = false;
                 }
@@ -281,9 +280,10 @@ impl SocketWire {
             stream: Some(stream),
             peer: Some(peer),
             ahead: Ahead::new(self.alloc),
-            unread: false,
+            // It is read in the turn that accepts it: it may have ended already.
+            unread: true,
             is_ending: false,
-            is_due: false,
+            is_due: true,
             turn: self.turns.saturating_add(place.at),
             at: place.at,
             is_blocked: false,
