@@ -1,18 +1,21 @@
 //! Who is read first over sockets.
 use serving::{Io, Link, Port, SocketWire, Wire};
+use std::io;
 use std::io::Write;
 use std::net::{Ipv4Addr, SocketAddr, TcpStream};
 use std::test::Fail;
 
-/// Waits, and tells which of five links give octets.
-fn reads(wire: &mut SocketWire) -> [bool; 5] {
+/// Waits, and tells of five links by a `1` which give octets.
+fn reads(wire: &mut SocketWire) -> [u8; 5] {
     let mut buffer = [0; 8];
-    let mut came = [false; 5];
+    let mut came = [b'0'; 5];
     wire.wait(0);
     let mut number = 0u64;
     for it in came.iter_mut() {
-        let link = Link { number };
-        *it = matches!(wire.read(Port::Pop, link, &mut buffer), Io::Count(_));
+        let read = wire.read(Port::Pop, Link { number }, &mut buffer);
+        if matches!(read, Io::Count(_)) {
+            *it = b'1';
+        }
         number = number.saturating_add(1);
     }
     came
@@ -30,6 +33,14 @@ fn accepted(wire: &mut SocketWire) -> u64 {
     count
 }
 
+/// Sends octets on each link.
+fn send(clients: &mut [TcpStream], octets: &[u8]) -> io::Result<()> {
+    for client in clients.iter_mut() {
+        client.write_all(octets)?;
+    }
+    Ok(())
+}
+
 #[test]
 fn longest_waiting_link_is_read_in_the_next_turn(rt: HostRuntime) -> Result<(), Fail> {
     let alloc = rt.alloc();
@@ -40,17 +51,10 @@ fn longest_waiting_link_is_read_in_the_next_turn(rt: HostRuntime) -> Result<(), 
     for _ in 0..5u32 {
         clients.push(TcpStream::connect(&rt, at)?)?;
     }
-    let count = accepted(&mut wire);
-    for client in clients.iter_mut() {
-        client.write_all(b"a")?;
-    }
-    let first = reads(&mut wire);
-    for client in clients.iter_mut() {
-        client.write_all(b"b")?;
-    }
-    let second = reads(&mut wire);
-    assert_eq!(rt; count, 5);
-    assert!(rt; first == [true, true, true, true, false]);
-    assert!(rt; second == [true, true, true, false, true]);
+    assert_eq!(rt; accepted(&mut wire), 5);
+    send(clients.as_mut_slice(), b"a")?;
+    assert!(rt; reads(&mut wire).as_slice() == b"11110".as_slice());
+    send(clients.as_mut_slice(), b"b")?;
+    assert!(rt; reads(&mut wire).as_slice() == b"11101".as_slice());
     Ok(())
 }
