@@ -31,18 +31,26 @@ actions = ["open", "read", "remove"]
 # A silent client is ended after 600, so a reply that comes then isn't waited for.
 START, REPLY, SPOOL = 600, 300, 600
 
+# What an unproved server says of itself on standard error as it starts begins so.
+SLOW = "note: this popbox isn't proved, and is slow: "
+
 
 class Wrong(Exception):
     """What came is another thing than what must come."""
 
 
 # What a case can fail by.
-FAULTS = (Wrong, OSError, subprocess.SubprocessError, http.client.HTTPException)
+FAULTS = (Wrong, OSError, ValueError, subprocess.SubprocessError, http.client.HTTPException)
 
 
 def wants(found, wanted):
     if found != wanted:
         raise Wrong(f"{found!r}, where {wanted!r} is wanted")
+
+
+def without_slow(text):
+    """A text without the line that an unproved server says of itself."""
+    return "".join(line for line in text.splitlines(True) if not line.startswith(SLOW))
 
 
 def retrieved(text):
@@ -52,7 +60,7 @@ def retrieved(text):
 
 
 def wait_for(is_so, said, seconds=REPLY):
-    """Waits until something is so, and fails where it isn't for so many seconds."""
+    """Waits until something is so, and fails if it isn't for so many seconds."""
     end = time.monotonic() + seconds
     while not is_so():
         if time.monotonic() > end:
@@ -268,6 +276,10 @@ def set_on(folder, seconds):
     wait_for(lambda: has_text(f"{folder}/seen", str(seconds)), "the clock isn't seen")
 
 
+# What a tool looks at itself.
+FLAGS = ("--short", "--firefox")
+
+
 class Cases:
     """The cases of a tool: functions of the program and of a new folder, each of which fails by an
     exception. What is called by `preload` needs a C compiler."""
@@ -280,14 +292,22 @@ class Cases:
         self.runs.append((run.__name__.replace("_", " "), run))
         return run
 
+    def play(self, run, program, folder):
+        run(program, folder)
+
     def outcome(self, run, program):
         """What differs in a case: nothing if all is as it must be."""
         with tempfile.TemporaryDirectory() as folder:
             try:
-                run(program, folder)
+                self.play(run, program, folder)
             except FAULTS as error:
                 return str(error) or type(error).__name__
         return ""
+
+    def lacks(self, run):
+        """What a case needs that isn't there."""
+        is_lacking = "preload" in run.__code__.co_names and not shutil.which("cc")
+        return "no C compiler" if is_lacking else ""
 
     def run(self, program, words):
         """Runs the cases whose names have one of the words, or all; gives how many differ."""
@@ -295,8 +315,8 @@ class Cases:
         for name, run in self.runs:
             if words and not any(word in name for word in words):
                 continue
-            if "preload" in run.__code__.co_names and not shutil.which("cc"):
-                print(f"{self.tool}: no C compiler: {name} isn't run", flush=True)
+            if lacks := self.lacks(run):
+                print(f"{self.tool}: {lacks}: {name} isn't run", flush=True)
                 continue
             found = self.outcome(run, program)
             ran, differs = ran + 1, differs + (found != "")
@@ -310,7 +330,7 @@ class Cases:
         if "--help" in sys.argv[1:]:
             print(self.text.strip())
             sys.exit()
-        program, *words = [it for it in sys.argv[1:] if it != "--short"] or [PROGRAM]
+        program, *words = [it for it in sys.argv[1:] if it not in FLAGS] or [PROGRAM]
         program = os.path.abspath(program)
         if not os.access(program, os.X_OK):
             sys.exit(f"{program} isn't there: tools/build builds it")

@@ -2,7 +2,7 @@
 
 A program gets its account by files before its start, checks for mail as it starts, and is ended
 once its session is over. A relay before the server keeps what was said; the titles of its windows
-tell what it showed, and its files what it stored.
+show what it says, and its files what it stored.
 """
 
 import base64
@@ -21,7 +21,7 @@ import threading
 import time
 
 # How many seconds a program's session may take from its start, and its end; and how long a program
-# is looked at behind its session: what it shows and writes then. How many a program that is left
+# is looked at after its session: what it shows and writes then. How many a program that is left
 # open may take to its next session, which it begins after a minute.
 SESSION, END, AFTER, NEXT = 60, 15, 4, 150
 # How many octets the relay reads at once, at most.
@@ -269,7 +269,7 @@ class Program:
         self.titles = set()
 
     def watch(self, is_over, limit=SESSION):
-        """Notes the windows' titles until it is over. Tells whether it was in time."""
+        """Notes the windows' titles until it is over. Says whether it was in time."""
         until = time.monotonic() + limit
         while not is_over():
             if time.monotonic() > until:
@@ -298,7 +298,7 @@ class Program:
             self.run = None
 
     def leave(self):
-        """Asks the program to end, where a signal isn't the way."""
+        """Asks the program to end, if a signal isn't the way."""
 
     def boxes(self):
         """The titles that were shown but those of its ordinary windows."""
@@ -316,7 +316,7 @@ class Program:
         self.screen.do("key", "Return")
 
     def begin(self, relay):
-        """Starts the program, which checks for mail. Gives what tells its session, once it has
+        """Starts the program, which checks for mail. Gives what identifies its session, once it has
         tried a login."""
         before = len(relay.tried())
         self.start()

@@ -1,5 +1,5 @@
 """`rt try` runs a check beside each build, for a hint about names alone, which takes the processor as
-long as the build itself. Whoever builds many at once ends it: `rt check` tells of such names too."""
+long as the build itself. Whoever builds many at once ends it: `rt check` names such names too."""
 
 import contextlib
 import os
@@ -26,7 +26,7 @@ def is_hint(process):
 
 
 def end_now(rt):
-    """Ends the check that this run of rt began, if it has, and tells whether it had."""
+    """Ends the check that this run of rt began, if it has, and says whether it had."""
     # A process that ended meanwhile has no such file any more.
     with contextlib.suppress(OSError):
         for child in filter(is_hint, children_of(rt.pid)):

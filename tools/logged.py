@@ -1,7 +1,8 @@
-"""What the cases of tools/check-log share: a server that logs, its mail programs, and what a log has
-to tell."""
+"""What the cases of tools/check-log share: a server that logs, its mail programs, and what a log
+must say."""
 
 import calendar
+import contextlib
 import hashlib
 import os
 import re
@@ -9,7 +10,7 @@ import subprocess
 import time
 
 import clients
-from clients import SPOOL, Cases, Wrong, wait_for
+from clients import SPOOL, Cases, Wrong, wait_for, without_slow
 
 MOMENT = r"\d\d\d\d-\d\d-\d\dT\d\d:\d\d:\d\dZ"
 CLIENT = r"client=127\.0\.0\.1:\d+"
@@ -34,7 +35,7 @@ POLICY = "".join(
 )
 
 
-# The options in force that a start's line tells, without one and with each.
+# The options in force that a start's line names, without one and with each.
 IN_FORCE = (
     " removals=dele idle=600 wait=0 login-seconds=0 full-house-seconds=0"
     " slow-guesses=no proxy-protocol=no log-message-ids=no log-reads=no admin-site=no"
@@ -57,7 +58,7 @@ def case(check):
 
 
 def proved_of(program):
-    """Whether a program is proved, as its server's start tells it."""
+    """Whether a program is proved, as its server's start logs it."""
     ran = subprocess.run([program, "--version"], capture_output=True, text=True, check=True)
     return " proved=yes" if "(proved)" in ran.stdout else " proved=no"
 
@@ -86,6 +87,34 @@ class Server(clients.Server):
                 return text in file.read()
 
         wait_for(is_told, f"the log lacks {text!r}", SPOOL)
+
+
+@contextlib.contextmanager
+def serving(program, folder, words=("--log",)):
+    """A server that logs to the file `log` of a folder, and is ended afterwards."""
+    with open(f"{folder}/log", "wb") as log:
+        server = Server(program, folder, log, words)
+        try:
+            yield server
+        finally:
+            server.end()
+
+
+def log_of(folder):
+    """What such a server has logged."""
+    with open(f"{folder}/log", encoding="utf-8") as file:
+        return file.read()
+
+
+def with_and_without(program, folder, option, do):
+    """What a server logs of what a function does, without an option and with it."""
+    texts = []
+    for words in (("--log",), ("--log", option)):
+        os.makedirs(place := f"{folder}/{len(words)}")
+        with serving(program, place, words) as server:
+            do(server)
+        texts.append(log_of(place))
+    return texts
 
 
 class PipeEnd:
@@ -131,7 +160,7 @@ class Mail(clients.Client):
 
 def compare(text, wanted):
     """What differs between a log and the lines that are wanted, each behind a moment."""
-    lines = text.splitlines()
+    lines = without_slow(text).splitlines()
     differs = [
         f"line {number} is {line!r}, where {it!r} is wanted"
         for number, (line, it) in enumerate(zip(lines, wanted), 1)

@@ -3,7 +3,8 @@
 import os
 import subprocess
 
-from scripts import LIMIT, case, make_store, office, wants
+from clients import wants
+from scripts import LIMIT, case, make_store, office
 
 def copy_scripts(place):
     """Copies the scripts so that put-in calls the popbox-deliver beside them."""
@@ -69,7 +70,7 @@ def a_maildir_comes_in_by_age(place):
     with office(place) as server:
         words = ["from-maildir", box, "orders"]
         wants(put(place, server, *words), ((0, "", ""), BY_AGE, []))
-        # A message keeps its id where its flags change.
+        # A message keeps its id if its flags change.
         os.rename(f"{box}/new/{AT}.M9P7.h", f"{box}/cur/{AT}.M9P7.h:2,S")
         wants(put(place, server, *words), ((0, "", ""), BY_AGE, []))
         write_message(f"{box}/new/{AT + 3}.M1P7.h", "note", 67)
@@ -132,7 +133,7 @@ def maildirs_come_in_at_once(place):
         os.makedirs(f"{other}/{folder}")
     write_message(f"{other}/cur/{AT}.M9P7.h:2,S", "note", 70)
     words = ["orders", box, "sales", other]
-    # Without --add nothing is put in where one maildrop isn't there.
+    # Without --add nothing is put in if one maildrop doesn't exist.
     status, said, why = take_in(place, *words)
     wants((status, why.startswith("import-maildir: the store has no maildrop sales")), (1, True))
     wants(listed(place, "orders"), [])

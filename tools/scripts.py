@@ -8,27 +8,13 @@ import shutil
 import signal
 import subprocess
 
-from clients import POLICY, Server, Wrong, wait_for
+from clients import POLICY, TOP, Cases, Server, Wrong, wait_for, wants
 
-TOP = os.path.dirname(os.path.dirname(os.path.realpath(__file__)))
 # After how many seconds a script that hangs is ended.
 LIMIT = 300
 # The form of a moment in a file's name.
 TIME = r"\d{4}-\d\d-\d\dT\d\d-\d\d-\d\dZ"
 TEXTS = [b"Subject: a chair\r\n\r\nA chair.\r\n", b"Subject: a desk\r\n\r\nA desk.\r\n"]
-# Each case with its name.
-CASES = []
-
-
-def case(run):
-    """Adds a function to the cases, by its name."""
-    CASES.append((run.__name__.replace("_", " "), run))
-    return run
-
-
-def wants(found, wanted):
-    if found != wanted:
-        raise Wrong(f"{found!r}, where {wanted!r} is wanted")
 
 
 def fits(found, form):
@@ -92,6 +78,26 @@ class Place:
         """The calls that were noted."""
         with open(f"{self.folder}/calls", encoding="utf-8") as file:
             return file.read().splitlines()
+
+
+class ScriptCases(Cases):
+    """Cases that are functions of a place."""
+
+    packaging = f"{TOP}/packaging"
+
+    def play(self, run, program, folder):
+        run(Place(program, self.packaging, os.path.realpath(folder)))
+
+    def lacks(self, run):
+        names = {*run.__code__.co_names}
+        if {"note_calls", "make_deb"} & names and not shutil.which("cc"):
+            return "no C compiler"
+        if "make_deb" in names and not shutil.which("dpkg-shlibdeps"):
+            return "no dpkg-dev"
+        return "not root" if {"chown", "run_read_only"} & names and os.geteuid() else ""
+
+
+case = ScriptCases("")
 
 
 def make_store(place, texts):

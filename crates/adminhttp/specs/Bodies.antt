@@ -49,7 +49,7 @@ or_fault (Err fault) = Err (BadPolicy fault)
 unfoldable pub policy_of : List ℕ → Result Policy NoCommand
 policy_of body = if is_utf8 body then or_fault (rules_of body) else Err (BadPolicy NotToml)
 
--- the stop for a policy's fault; want of memory is told as that
+-- the stop for a policy's fault; want of memory is named as that
 abbrev pub no_command_of : PolicyFault → NoCommand
 no_command_of NoMemory = stop.NoMemory
 no_command_of fault = BadPolicy fault

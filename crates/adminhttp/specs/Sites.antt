@@ -27,7 +27,7 @@ is_colon b = b == 58
 abbrev pub is_alike : (one other : List ℕ) → Bool
 is_alike one other = bytes_eq (map to_ascii_lowercase one) (map to_ascii_lowercase other)
 
--- what may stand behind a host: nothing, or `:` and a port
+-- what may stand after a host: nothing, or `:` and a port
 abbrev pub is_port : List ℕ → Bool
 is_port [] = true
 is_port (b ∷ digits) = is_colon b && list_all is_ascii_digit digits
@@ -74,7 +74,7 @@ is_own_origin host value =
 abbrev pub is_own_fetch : (value : List ℕ) → Bool
 is_own_fetch value = bytes_eq value (codes "same-origin") || bytes_eq value (codes "none")
 
--- a header that tells of another origin
+-- a header that names another origin
 abbrev pub tells_another : (host : List ℕ) → Header → Bool
 tells_another host header =
     (is_named (codes "origin") header && not (is_own_origin host header.1))

@@ -37,7 +37,7 @@ fn front_of(octets: &[u8]) -> &[u8]
     &octets[..MAX_HEAD]
 }
 
-/// Where the head begins in these octets, and how many it has. `None` where it doesn't end in them.
+/// Where the head begins in these octets, and how many it has. `None` if it doesn't end in them.
 fn locate(front: &[u8]) -> Option<(usize, usize)>
     ensures value { result ≡ head_from (empty_lines front.now) front.now }
     ensures within { IfSome result (λ place. place.0 + place.1 ≤ length front.now) }

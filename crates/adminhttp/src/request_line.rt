@@ -1,4 +1,4 @@
-//! The line of a request, as far as a log may tell it: its method, and what its target names.
+//! The line of a request, as far as a log may show it: its method, and what its target names.
 
 ghost use Rattle.std.specs.Prelude.{◌≡◌, IfOk, string_bytes};
 ghost use Rattle.office.specs.Seen.{command_seen};
@@ -73,6 +73,7 @@ impl RequestLine {
             AdminCommand::ShowMaildrop(maildrop) => get(Target::Maildrop(*maildrop)),
             AdminCommand::AddMaildrop(maildrop) => put(Target::Maildrop(*maildrop)),
             AdminCommand::DropMaildrop(maildrop) => delete(Target::Maildrop(*maildrop)),
+            AdminCommand::ListClerks => get(Target::Clerks),
             AdminCommand::ShowClerk(clerk) => get(Target::Clerk(*clerk)),
             AdminCommand::PutClerk(clerk, _) => put(Target::Clerk(*clerk)),
             AdminCommand::DropClerk(clerk) => delete(Target::Clerk(*clerk)),
@@ -122,6 +123,7 @@ impl RequestLine {
         match &self.target {
             Target::Maildrops => String::from_str(alloc, "/maildrops"),
             Target::Maildrop(maildrop) => maildrop_path(alloc, *maildrop),
+            Target::Clerks => String::from_str(alloc, "/clerks"),
             Target::Clerk(clerk) => clerk_path(alloc, *clerk),
             Target::Policy => String::from_str(alloc, "/policy"),
             Target::Groups => String::from_str(alloc, "/groups"),

@@ -20,7 +20,7 @@ fn is_alike(one: &[u8], other: &[u8]) -> bool
     one.eq_ignore_ascii_case(other)
 }
 
-/// Whether this may stand behind a host: nothing, or a port.
+/// Whether this may stand after a host: nothing, or a port.
 fn is_port(text: &[u8]) -> bool
     ensures { result ≡ is_port text.now }
 {
@@ -122,14 +122,14 @@ fn is_own_origin(host: &[u8], value: &[u8]) -> bool
     is_origin(b"http://", host, value) || is_origin(b"https://", host, value)
 }
 
-/// Whether a value of Sec-Fetch-Site tells of the same origin, or that no page sent the request.
+/// Whether a value of Sec-Fetch-Site names the same origin, or that no page sent the request.
 fn is_own_fetch(value: &[u8]) -> bool
     ensures { result ≡ is_own_fetch value.now }
 {
     value == b"same-origin".as_slice() || value == b"none".as_slice()
 }
 
-/// Whether a header tells of another origin than this Host's.
+/// Whether a header names another origin than this Host's.
 fn tells_another(host: &[u8], text: &[u8], header: &HeaderSpan) -> bool
     requires { IsHeaderWithin (length text.now) header.now }
     ensures { result ≡ tells_another host.now (header_bytes text.now header.now) }

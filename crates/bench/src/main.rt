@@ -8,7 +8,7 @@
 //! - `sheets OCTETS [FILE]`: the tables of a store in memory, or in a file that isn't there yet.
 //!   `sample 0 FILE` writes a small store.
 //! - `removal MESSAGES [STORE]`, `logins MESSAGES [STORE]`: sessions in an office. `grouped
-//!   MESSAGES [STORE]`: logins where 999 rules about groups stand before ann's. STORE is `plain`
+//!   MESSAGES [STORE]`: logins with 999 rules about groups before ann's. STORE is `plain`
 //!   (vectors in memory, the default), `tables` (in memory too) or `file PATH` (not there yet).
 //! - `opening MESSAGES file PATH`: fills a new file, and opens it again. `floor 0 file PATH` opens
 //!   one by the toolchain's SQLite alone: the least that an opening takes.

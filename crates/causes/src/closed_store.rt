@@ -57,7 +57,7 @@ fn tell_unopened<E: Write>(err: &mut E, path: &str, error: OpenError) -> io::Res
     }
 }
 
-/// Tells how large a store is that there was no memory to open. Its opening takes as much memory as
+/// Prints how large a store is that memory was wanting to open. Its opening takes as much memory as
 /// its largest table, which is less than both files have.
 fn tell_size<E: Write>(rt: &HostRuntime, err: &mut E, path: &str) -> io::Result<()> {
     let log = format!(in rt.alloc(); "{path}-wal")?;
@@ -77,7 +77,7 @@ fn octets_of(rt: &HostRuntime, path: &str) -> u64 {
     }
 }
 
-/// Tells why the store at a path, which can be opened, was refused with a fault.
+/// Prints why the store at a path, which can be opened, was refused with a fault.
 pub fn tell_tables<S: Alter, E: Write>(
     alloc: Global,
     err: &mut E,

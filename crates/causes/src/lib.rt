@@ -50,7 +50,7 @@ pub fn tell_host<E: Write>(err: &mut E, host: &str) {
     }
 }
 
-/// Tells a fault of a command that ran under a host's name, and under `--verbose` what it is about.
+/// Prints a fault of a command that ran under a host's name, and with `--verbose` what it is about.
 /// Gives the exit status.
 pub fn tell_stop<E: Write>(err: &mut E, is_verbose: bool, host: &str, fault: Fault) -> u8
     ensures { result ≡ 1 }

@@ -1,4 +1,4 @@
--- What an accepted deposit tells of its front.
+-- What an accepted deposit says of its front.
 use Rattle.std.specs.Prelude.{◌≡◌, ℕ, ◌+◌, ◌≤◌, ◌<◌, Bool, true, false, ◌&&◌, nat_le, nat_lt, List, length, Option, Some, None, if◌then◌else◌}
 use Rattle.std.proofs.Common.{refl, sym, ap}
 use Rattle.std.proofs.lemmas.Bool.{or_parts, ltb-false, leb-false}

@@ -27,7 +27,7 @@ use Rattle.office.specs.Kept.{LineContext, asks}
 use Rattle.office.specs.Transaction.{Transaction, LiesIn, transaction_of, transaction_said, transaction_answered, transaction_asks, transaction_reply}
 use Rattle.office.specs.Answered.{reply_of, tag_of, HasTransaction}
 use Rattle.office.specs.Accounts.{command_account, fault_told, line_account, transaction_account, quit_or, quit_account, removal_by, line_told, acts_account, acts_told}
-use Rattle.office.specs.Accounts.{failed_told, account_of, outcome_told, removal_told, removal_seen, state_account, named_in, named_seen, named_at}
+use Rattle.office.specs.Accounts.{failed_told, taken_told, part_or_all_told, account_of, outcome_told, removal_told, removal_seen, state_account, named_in, named_seen, named_at}
 use Rattle.office.specs.declared.answer.MessageRow.{MessageRow}
 use Rattle.office.specs.declared.account.Account.{Account}
 use Rattle.office.specs.declared.account.Account.TheVariants as account
@@ -44,7 +44,7 @@ abbrev is_pass : Result Command LineFault → Bool
 is_pass (Ok (Pass password)) = true
 is_pass _ = false
 
--- only a PASS is told under the name in force
+-- only a PASS depends on the name in force
 nobody_named : (r : Result Command LineFault) (said : Said) (u : Option LoginName) (m : Option MessageRow) → is_pass r ≡ false → line_account r said None m ≡ line_account r said u m
 nobody_named (Ok (Pass password)) said u m e = absurd (true≢false e)
 nobody_named _ said u m e = refl
@@ -58,7 +58,7 @@ module _ (p : Policy) (v : Transaction) (u : Option LoginName) where
   asks_no_pass (Ok (Pass password)) e = cc
   asks_no_pass _ e = refl
 
-  -- a line of a session is told the same under every name
+  -- a line of a session has the same account under every name
   pub transaction_told : (w : LineOutcome) (x : Cut) (m : Option MessageRow) → (w ≡ outcome.Failed → transaction_asks p v (reading x) ≡ true)
       → line_account (reading x) (Says (transaction_reply w p v x)) None m ≡ line_account (reading x) (Says (transaction_reply w p v x)) u m
   transaction_told outcome.Done TooLong m may = refl
@@ -101,7 +101,7 @@ removal_alike c p s kept lies w =
     let marks = marks_counted c p s kept lies in
     rw (removed, denied, marks) refl
 
--- a line before a login is told by its reply
+-- a line before a login has its account by its reply
 pub authorization_told : (w : LineOutcome) (p : Policy) (r : Result Command LineFault) (said : Said) (u : Option LoginName) → line_account r said u None ≡ state_account w p None r said u
 authorization_told w p r said u = at (is_quit r) refl
   where
@@ -109,7 +109,7 @@ authorization_told w p r said u = at (is_quit r) refl
     at true e = quits_told r said u e
     at false e = refl
 
--- a line of a session is told by its reply, unless it quits
+-- a line of a session has its account by its reply, unless it quits
 pub state_told : (c : Contents) (p : Policy) (s : Session) (v : Transaction) (w : LineOutcome) (u : Option LoginName) (x : Cut) (told : Account) → HasTransaction c (Some s) (Some v)
     → (w ≡ outcome.Failed → transaction_asks p v (reading x) ≡ true) → told ≡ transaction_account w p s (reading x) (Says (transaction_reply w p v x)) (named_in v (reading x))
     → told ≡ state_account w p (Some v) (reading x) (Says (transaction_reply w p v x)) u
@@ -157,10 +157,6 @@ module _ (B : Records) (G : List Entry) where
   pub part_taken : (serving closing : Bool) (c : ℕ) (next : Option Cut) → acts_account B G (acts_of_took true serving closing c Done next) ≡ account.Nothing
   part_taken serving closing c next = refl
 
-  pub closed_taken : (left serving : Bool) (c : ℕ) (next : Option Cut) → acts_account B G (acts_of_took left serving true c Done next) ≡ account.Nothing
-  closed_taken true serving c next = refl
-  closed_taken false serving c next = refl
-
   behind_idle : (H : List (Act × Tag)) (c : ℕ) → acts_account B G (H ++ (Idle c, Done) ∷ []) ≡ account.Nothing
   behind_idle [] c = refl
   behind_idle ((Line n x, t) ∷ []) c = refl
@@ -178,15 +174,16 @@ module _ (T : Trace) where
   opening_told (Tagged Failed) = refl
   opening_told (Tagged NoMemory) = refl
 
-  -- a line that acted is what is told
+  -- a line that acted is what the account says
   pub piece_account : (c : ℕ) (p : List ℕ) (w : LineOutcome) → account_of T (event.Bytes c p) (Tagged (tag_of w))
       ≡ acts_account T.base (history T) (acts_of_piece (has_newline p) c (tag_of w) (next_line T.log (history T) c p))
   piece_account c p outcome.Done = refl
   piece_account c p outcome.Failed = refl
 
   pub taking_account : (c n : ℕ) (w : LineOutcome) → is_left T.log (history T) c n ≡ false → account_of T (event.Took c n) (Tagged (tag_of w))
-      ≡ acts_account T.base (history T) (acts_of_took (is_left T.log (history T) c n) (serving (history T) c) (closing (history T) c) c (tag_of w) (next_line T.log (history T) c []))
-  taking_account c n outcome.Done all = refl
+      ≡ taken_told (acts_account T.base (history T)
+      (acts_of_took (is_left T.log (history T) c n) (serving (history T) c) (closing (history T) c) c (tag_of w) (next_line T.log (history T) c [])))
+  taking_account c n outcome.Done all = ap (λ (left : Bool). part_or_all_told left (acts_told T (event.Took c n) Done)) all
   taking_account c n outcome.Failed all = ap (λ (left : Bool). failed_told left (acts_told T (event.Took c n) Failed)) all
 
   pub tick_told : (now : ℕ) (m : EventTag) → account_of T (event.Tick now) m ≡ account.Nothing

@@ -26,7 +26,7 @@ use Rattle.office.proofs.Coming.{nothing_stands, ignored_event}
 use Rattle.office.proofs.Quiet.{IsQuiet, IsStill, Became, became-ruled, became-outcome, became-cause, still_rules, still_quiet}
 use Rattle.office.proofs.Stopping.{stop_leaves, settled_leaves, either_left, before_left, became_left, own}
 
--- ---- what is kept of a connection tells whether it is open
+-- ---- what is kept of a connection says whether it is open
 
 module _ {V : Type 0} {Holds : V → Contents → Type 0} {o : Office V} (T : Trace) (c : ℕ) (st : StandsFor Holds o T) where
   pub kept_at : (k : Kept) → get nat_cmp o.connections c ≡ Some k → Matches st.keeps.contents (seen T c) k

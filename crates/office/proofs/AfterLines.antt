@@ -57,7 +57,7 @@ err_or_not (Err e) it = it
 
 -- ---- the account before a line
 
--- a line that tells anew, whatever the account told before
+-- a line that makes a new account, whatever it was before
 pub told_anew : (After : Contents → Type 0) (grown : Bool) (c : Contents) (d : LineContext) (x : Cut) (w : LineOutcome) (v : Option Transaction)
     (old new : Option Session) (before now : LoginState) (output : Output)
     (was told : Account) → AfterLine After grown c d x w v old new before now output account.Nothing told → AfterLine After grown c d x w v old new before now output was told

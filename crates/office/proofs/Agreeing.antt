@@ -87,7 +87,7 @@ module _ (B : Records) (G : List Entry) (c : ℕ) (p : Policy) (v : Transaction)
       let q = sym a.policy in
       rw (n, w, q) (to_remove_alike v.marks (marks G c) a.marks class_of p v.name v.view)
 
-  -- what a QUIT's account tells
+  -- what a QUIT's account says
   pub transaction_removal : (w : LineOutcome) → quit_account (in_session G c) (removal_by B G c (tag_of w)) ≡ account.Quit (removal_seen w p v)
   transaction_removal w =
       let l = a.live in

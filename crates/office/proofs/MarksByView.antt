@@ -1,4 +1,4 @@
--- The marks that the replies tell are those that the view and the policy give.
+-- The marks that the replies show are those that the view and the policy give.
 use Rattle.std.specs.Prelude.{◌≡◌, ℕ, Bool, true, false, not, ◌&&◌, ◌==◌, List, [], ◌∷◌, ◌++◌, Option, Some, None, Result, Ok, Err, if◌then◌else◌, cond}
 use Rattle.std.proofs.Common.{refl, sym, ◌∙◌, ap, eqb-true, subst, true≢false}
 use Rattle.creds.specs.declared.login_name.LoginName.{LoginName}

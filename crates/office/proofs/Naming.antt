@@ -38,7 +38,7 @@ named_alike f g same (Ok (Retr n)) = same n
 named_alike f g same (Ok (Top n k)) = same n
 named_alike f g same _ = refl
 
--- the message of a number, where its mark is known another way
+-- the message of a number, if its mark is known another way
 pub marked_row : (view : List Stored) (n : ℕ) (a b : Bool) → a ≡ b
     → referred {B = Option MessageRow} (at_number view n) a None None (λ m. Some (row_of m)) ≡ referred (at_number view n) b None None (λ m. Some (row_of m))
 marked_row view n a b e = ap (λ (b : Bool). referred {B = Option MessageRow} (at_number view n) b None None (λ m. Some (row_of m))) e
@@ -101,7 +101,7 @@ module _ (p : Policy) (name : LoginName) (n : ℕ) (command : MessageCommand) (r
   sent_at (Some x) false = judged (retrieval p name x.message.class) x
 
 module _ (c : Contents) (p : Policy) (s : Session) (kept : List Keyed) (lies : LiesIn c s kept) (n : ℕ) where
-  -- what is said of the message of the number, where it may be read
+  -- what is said of the message of the number, if it may be read
   abbrev reply_to_number : (Stored → Reply) → Reply
   reply_to_number reply = refer s.marks (map message_of kept) n NoSuchMessage (AlreadyMarked n) (λ (m : Stored). served_if (retrieval p s.name m.class) (reply m))
 
@@ -110,7 +110,7 @@ module _ (c : Contents) (p : Policy) (s : Session) (kept : List Keyed) (lies : L
       let view : at_number s.view n ≡ option_map head_of (at_number kept n) = ap (λ (view : List Head). at_number view n) lies.heads ∙ at_number-map head_of kept n in
       ap (λ (o : Option Head). referred {B = Result Head Pick} o (is_marked s.marks n) (Err NoSuch) (Err Deleted) (λ (h : Head). read_answer (retrieval p s.name h.class) h)) view
 
-  -- what is kept of a session tells of a message's sending what the reply does
+  -- what is kept of a session says of a message's sending what the reply does
   sending_so : (command : MessageCommand) (reply : Stored → Reply)
       → ((m : Stored) → message_told command (Says (reply m)) (Some (row_of m)) ≡ done_told command (Some (row_of m)))
       → sending_told command (picked_for p s n) (row_at s.marks (map message_of kept) n)

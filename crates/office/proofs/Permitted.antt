@@ -1,4 +1,4 @@
--- What follows where a line spells a command that may be given, and where it is refused.
+-- What follows if a line spells a command that may be given, and if it is refused.
 use Rattle.std.proofs.Common.{◌≡◌, ◌∙◌, Bool, true, false, List, ℕ, Option, None, Result, Ok, Err, refl, sym, ap, subst, true≢false, is_some}
 use Rattle.popline.specs.Cutting.{Cut, TooLong}
 use Rattle.popline.specs.Cutting as cutting

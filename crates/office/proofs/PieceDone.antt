@@ -80,7 +80,7 @@ module _ {Before : Contents → Type 0} (T : Trace) (n : ℕ) (p : List ℕ) (ke
             let fails = judged.fails (line_after k p) there.1 in
             record { tag = Failed; may = rw (h, next, fails) refl; is = e ∙ rw goes refl }
 
-    -- what a piece's line was told to have been judged is what the history says
+    -- what a piece's line is said to have been judged is what the history says
     pub piece_told : account_if (has_newline p) (state_account w policy judged.transaction (reading (line_after k p)) (Says (replied w)) k.state.user)
         ≡ acts_account T.base (history T) (acts_of_piece (has_newline p) n (tag_of w) (next_line T.log (history T) n p))
     piece_told = at (has_newline p) refl

@@ -91,7 +91,7 @@ module _ (c : Contents) (p : Policy) (s : Session) (kept : List Keyed) (lies : L
       ap (λ (view : List Head). length (marked s.marks view)) lies.heads
       ∙ (length_marked-map head_of s.marks kept ∙ sym (length_marked-map message_of s.marks kept))
 
-  -- what it tells as removed
+  -- what it names as removed
   pub removed_alike : map head.uid_of (to_remove head.class_of p s.name s.marks s.view) ≡ map records.uid_of (to_remove records.class_of p s.name s.marks (map message_of kept))
   removed_alike =
       ap (λ (view : List Head). map head.uid_of (to_remove head.class_of p s.name s.marks view)) lies.heads

@@ -79,7 +79,7 @@ found_first k v es = rw (at_itself k) refl
 found_behind : {X : Type 0} (c k : ℕ) (v : X) (es : List (ℕ × X)) → k < c → found c ((k, v) ∷ es) ≡ found c es
 found_behind c k v es h = rw (not_below c k h) refl
 
--- entries that ascend are told by what is found in them
+-- entries that ascend are fixed by what is found in them
 same_entries : {X : Type 0} (a : ℕ) (es fs : List (ℕ × X)) → Ascends a (keys_of es) → Ascends a (keys_of fs) → ((c : ℕ) → found c es ≡ found c fs) → es ≡ fs
 same_entries a [] [] up to same = refl
 same_entries a [] ((q, w) ∷ fs) up to same = absurd (no_some w (same q ∙ found_first q w fs))

@@ -33,7 +33,7 @@ use Rattle.office.specs.Accounts.{account_if, state_account, acts_account}
 use Rattle.office.proofs.Accounts.{line_so, all_taken}
 use Rattle.office.proofs.LineDone.{judges, line_moves}
 
--- what is known where a connection is lent at least what was taken of it
+-- what is known if a connection is lent at least what was taken of it
 pub record IsTaking {V : Type 0} (o : Office V) (T : Trace) (c : Contents) (x n : ℕ) (k : Kept) : Type 0 where
   pub matches : Matches c (seen T x) k
   pub fits : n ≤ length k.output.ready
@@ -99,7 +99,7 @@ module _ {Before : Contents → Type 0} (T : Trace) (n octets : ℕ) (keeps : Ke
             let fails = judged.fails (line_after k p) there.1 in
             record { tag = Failed; may = rw (all, open_yet, next, fails) refl; is = e ∙ rw goes refl }
 
-    -- the line after a taking was told to have judged what the history says
+    -- the line after a taking is said to have judged what the history says
     pub taking_told : k.state.user ≡ user (history T) n → account_if (has_newline p) (state_account w policy judged.transaction (reading (line_after k p)) (Says (replied w)) k.state.user)
         ≡ acts_account T.base (history T) (acts_of_took (is_left T.log (history T) n octets) (serving (history T) n) (closing (history T) n) n (tag_of w) (next_line T.log (history T) n []))
     taking_told named = at (has_newline p) refl

@@ -1,4 +1,4 @@
--- A command that is told a reply at once leaves the store as it is.
+-- A command that is answered at once leaves the store as it is.
 use Rattle.std.proofs.Common.{◌≡◌, true, Ok, refl}
 use Rattle.popline.specs.Commands.{Command, Quit}
 use Rattle.policy.specs.Policy.{Policy}

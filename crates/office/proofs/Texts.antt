@@ -82,7 +82,7 @@ among c p s kept lies n =
 pub found : (c : Contents) (p : Policy) (s : Session) (kept : List Keyed) → LiesIn c s kept → (n : ℕ) (head : Head) → ◌≡◌ {A = Result Head Pick} (Ok head) (picked_for p s n) → Found p s kept n head
 found c p s kept lies n head e = found_at p s kept n head (at_number kept n) refl (is_marked s.marks n) refl (e ∙ among c p s kept lies n)
 
--- what is refused is told: there is no such message, it is marked, or its reading is denied
+-- what is refused is named: there is no such message, it is marked, or its reading is denied
 refused_read : (d : Decision) (n : ℕ) (why : Pick) (h : Head) (reply : Reply) → ◌≡◌ {A = Result Head Pick} (Err why) (read_answer d h) → refused_pick n why ≡ served_if d reply
 refused_read d n why h reply e = at d.allowed e
   where

@@ -11,7 +11,7 @@ use Rattle.office.specs.declared.office.Office.{Office}
 -- An office that stood for a trace stands for the trace with this event. The outcome is one that
 -- the event may have there. It is Failed only if the store's count of faults grew. A device that
 -- was up is up still, unless the outcome is Failed or NoMemory. A stop leaves what the trace says,
--- or what it says with the event, as the outcome tells.
+-- or what it says with the event, as the outcome says.
 pub record StandsAfter {V : Type 0} (vault : Ghosts V) (old new : Office V) (e : Event)
     (o : Outcome) (T : Trace) : Type 0 where
   pub stands : StandsFor vault.holds new (given T e (event_tag_of o))

@@ -25,8 +25,8 @@ use Rattle.office.specs.declared.login_state.LineOutcome.TheVariants as outcome
 
 -- A line was answered, in a session with these messages or before one. Its reply is owed; it is
 -- remembered; the session is the one after it; the store holds what the line leaves. If the
--- store failed, the line is one that asks it, and the fault was counted. An account that told
--- nothing tells what was judged.
+-- store failed, the line is one that asks it, and the fault was counted. An account that was empty
+-- says what was judged.
 pub record AfterLine (After : Contents → Type 0) (grown : Bool) (c : Contents) (d : LineContext)
     (x : Cut) (w : LineOutcome) (v : Option Transaction) (old new : Option Session)
     (before now : LoginState) (output : Output) (was told : Account) : Type 0 where
@@ -40,7 +40,7 @@ pub record AfterLine (After : Contents → Type 0) (grown : Bool) (c : Contents)
       (Says (reply_of w d before v x)) before.user
 
 -- Memory was wanting for a line: the store holds what it held, each maildrop is locked as it was,
--- and the account tells what it told.
+-- and the account is what it was.
 pub record NothingDone {V : Type 0} (vault : Ghosts V) (old new : V)
     (before now : BTreeMap (List ℕ) ℕ) (was told : Account) : Type 0 where
   pub held : (c : Contents) → vault.holds old c → vault.is_clean new → vault.holds new c

@@ -18,7 +18,7 @@ entered c p locks name =
     else if is_locked_by locks name.maildrop then InUse
     else maildrop_has (visible class_of p name (in_maildrop name.maildrop (records_of c).messages))
 
--- a session begins if the reply tells what the maildrop has
+-- a session begins if the reply says what the maildrop has
 abbrev pub began : Reply → Session → Option Session
 began (MaildropHas n m) s = Some s
 began _ s = None

@@ -1,4 +1,4 @@
--- Logging in, as a trace tells it: how often a connection was refused, and whom a piece of its
+-- Logging in, as a trace has it: how often a connection was refused, and whom a piece of its
 -- octets would log in.
 use Rattle.std.specs.Prelude.{ℕ, Bool, List, min, Option, None, is_some, if◌then◌else◌}
 use Rattle.creds.specs.declared.login_name.LoginName.{LoginName}
@@ -12,7 +12,7 @@ use Rattle.office.specs.Waiting.{next_login}
 abbrev pub refusals : Trace → ℕ → ℕ
 refusals T c = if is_open T c then min (failures (history T) c) most_failures else 0
 
--- whom a connection's next line would log in, with this piece; nobody where no octets may come
+-- whom a connection's next line would log in, with this piece; nobody if no octets may come
 abbrev pub login_brought : Trace → ℕ → (piece : List ℕ) → Option LoginName
 login_brought T c piece = if is_ready T c then next_login T c piece else None
 

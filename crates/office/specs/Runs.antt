@@ -25,7 +25,7 @@ pub record Step : Type 0 where
   pub outcome : Outcome
   pub octets : List ℕ
 
--- a step is an event's outcome, with the octets taken; how many octets are lent is told by an
+-- a step is an event's outcome, with the octets taken; how many octets are lent is said by an
 -- office that stands for the trace
 pub record IsStep {V : Type 0} (Holds : V → Contents
     → Type 0) (T : Trace) (e : Event) (s : Step) : Type 0 where

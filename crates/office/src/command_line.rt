@@ -70,7 +70,7 @@ impl<'a> CommandLine<'a> {
         matches!(self.cut, Cut::TooLong)
     }
 
-    /// The command, or why the line is none.
+    /// The command, or why the line isn't one.
     pub fn reading(&self) -> &Result<Command<'a>, LineFault>
         ensures { reading_seen result.now ≡ reading self.now }
     {

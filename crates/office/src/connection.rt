@@ -274,7 +274,7 @@ impl Connection {
     }
 
     /// Takes the next piece at this moment, and answers the first line that is now whole; the lines
-    /// after it wait for [`Connection::resume`]. `account`, which tells nothing yet, becomes what
+    /// after it wait for [`Connection::resume`]. `account`, which is empty, becomes what
     /// was judged.
     pub fn hear<V: Vault>(
         &mut self,

@@ -51,8 +51,8 @@ fn link_waits(
 }
 
 impl<V: Vault> Office<V> {
-    /// Whether a piece that isn't given yet may wait, because a login in it would be told that the
-    /// maildrop is in use: octets may come on the connection, its last line or taking was less than
+    /// Whether a piece that isn't given yet may wait, because a login in it would find the maildrop
+    /// in use: octets may come on the connection, its last line or taking was less than
     /// so many seconds ago, and the next line, with this piece after what came before, is a PASS
     /// or an APOP (RFC 1939, section 7) for a maildrop that another session holds.
     ///

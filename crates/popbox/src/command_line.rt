@@ -79,7 +79,7 @@ fn replay<'a>(alloc: Global) -> Result<Command<'a>, AllocError> {
 /// `talk --store PATH [--host NAME] [--boot N] [--removals WHEN] [--verbose]`.
 fn talk<'a>(alloc: Global) -> Result<Command<'a>, AllocError> {
     let arguments = vec![in alloc;
-        store(alloc, "The store's file, which is made where there is none").required(true),
+        store(alloc, "The store's file, which is made if it doesn't exist").required(true),
         host(alloc),
         boot(alloc),
         removals(alloc),
@@ -108,10 +108,10 @@ fn review_policy<'a>(alloc: Global) -> Result<Command<'a>, AllocError> {
     );
     let store = store(
         alloc,
-        "The store's file, which no server has open: its names, and its policy where no OLD is",
+        "The store's file, which no server has open: its names, and its policy if there is no OLD",
     );
-    let clerk = option(alloc, "clerk", "NAME", "Tells of this clerk alone");
-    let maildrop = option(alloc, "maildrop", "NAME", "Tells of this maildrop alone");
+    let clerk = option(alloc, "clerk", "NAME", "Prints this clerk alone");
+    let maildrop = option(alloc, "maildrop", "NAME", "Prints this maildrop alone");
     let only = option(alloc, "only", "PART", "Leaves out who may do what");
     let format = option(alloc, "format", "FORMAT", "How it is written");
     let file = Arg::new(alloc, "NEW").help("The policy's file; - is standard input");
@@ -147,7 +147,7 @@ fn patience<'a>(alloc: Global) -> Result<Vec<Arg<'a>>, AllocError> {
     let login = "After so many seconds a client that hasn't logged in is ended; 0: it isn't";
     let full = "The same while 64 clients are connected; 0: as ever";
     let slow = "After a refused login the next one under its name from its address waits";
-    let proxied = "The first line of each client's link is a proxy's, which tells its address";
+    let proxied = "The first line of each client's link is a proxy's, which says its address";
     let arguments = vec![in alloc;
         option(alloc, "idle", "N", idle)
             .default_value("600")
@@ -182,8 +182,8 @@ fn logging<'a>(alloc: Global) -> Result<Vec<Arg<'a>>, AllocError> {
 
 /// `serve --store PATH --spool DIR [--listen IPV4] [--pop-port N] [--admin-port N]
 /// [--admin-site NAME] [--host NAME] [--idle N] [--wait N] [--login-seconds N]
-/// [--full-house-seconds N] [--slow-guesses] [--proxy-protocol] [--removals WHEN] [--turns N]
-/// [--log] [--log-message-ids] [--log-reads] [--verbose]`.
+/// [--full-house-seconds N] [--slow-guesses] [--proxy-protocol] [--removals WHEN] [--list-clerks]
+/// [--turns N] [--log] [--log-message-ids] [--log-reads] [--verbose]`.
 fn serve<'a>(alloc: Global) -> Result<Command<'a>, AllocError> {
     let listen = option(
         alloc,
@@ -206,7 +206,7 @@ fn serve<'a>(alloc: Global) -> Result<Command<'a>, AllocError> {
         "The folder into which messages are put",
     );
     let arguments = vec![in alloc;
-        store(alloc, "The store's file, which is made where there is none").required(true),
+        store(alloc, "The store's file, which is made if it doesn't exist").required(true),
         spool.required(true),
         listen.default_value("127.0.0.1"),
         port.default_value("1110").value_parser(value_parser!(u16)),
@@ -214,6 +214,7 @@ fn serve<'a>(alloc: Global) -> Result<Command<'a>, AllocError> {
         admin_site(alloc),
         host(alloc),
         removals(alloc),
+        flag(alloc, "list-clerks", "The administration lists the clerks at /clerks"),
         turns.value_parser(value_parser!(u64)),
     ]?;
     let about = "Serves clients over the network, and takes messages from a folder";

@@ -312,7 +312,7 @@ fn run_serve<E: Write>(
     }
 }
 
-/// Tells that the name of the administration's site hasn't the form of a host's. Gives the exit
+/// Prints that the name of the administration's site hasn't the form of a host's. Gives the exit
 /// status.
 fn tell_bad_site<E: Write>(err: &mut E, options: &ServeOptions<'_>) -> u8 {
     let name = options.admin_site.unwrap_or("");
@@ -334,8 +334,8 @@ fn milliseconds(clock: &impl Clock) -> Result<u64, Fault> {
     u64::try_from(now.as_millis()).map_err(|_| Fault::NoClock)
 }
 
-/// Makes the file of the store at a path where there is none, and no log of another. If there is
-/// such a log, that is told, and an `Err` is the exit status.
+/// Makes the file of the store at a path if there is none, and no log of another. If there is
+/// such a log, that is reported, and an `Err` is the exit status.
 fn prepare<E: Write>(
     rt: &HostRuntime,
     path: &str,
@@ -357,7 +357,7 @@ fn prepare<E: Write>(
 }
 
 /// Does a job over the store at a path, or over an empty one in memory. If the store can't be
-/// opened or is refused, that is told, and an `Err` is the exit status.
+/// opened or is refused, that is reported, and an `Err` is the exit status.
 fn do_job<J: Job + Drop, E: Write>(
     rt: &HostRuntime,
     job: J,

@@ -1,8 +1,8 @@
 //! What the command line asks for: the subcommand and its options, each read once.
 //!
 //! A new option of a subcommand is an argument in `command_line`, where its default stands, a field
-//! here, and a line of that struct's `read`. An option of `serve` that a server's start tells in
-//! the log is a field of the journal's `Settings` too, and a line of `settings`.
+//! here, and a line of that struct's `read`. An option of `serve` that a server's start logs is a
+//! field of the journal's `Settings` too, and a line of `settings`.
 
 use crate::version::IS_PROVED;
 use causes::STANDARD_INPUT;
@@ -80,7 +80,7 @@ impl<'a> Subcommand<'a> {
         }
     }
 
-    /// Whether faults are told with what they are about.
+    /// Whether faults are printed with what they are about.
     pub fn is_verbose(&self) -> bool {
         match self {
             Subcommand::Replay(options) => options.is_verbose,
@@ -137,7 +137,7 @@ impl<'a> ReplayOptions<'a> {
 pub struct TalkOptions<'a> {
     pub store: &'a str,
     pub host: &'a str,
-    /// Without one the clock tells it.
+    /// Without one the clock gives it.
     pub boot: Option<u64>,
     pub removals: Removals,
     pub is_verbose: bool,
@@ -166,6 +166,8 @@ pub struct ServeOptions<'a> {
     pub admin_port: u16,
     /// The host's name of the administration's site, as it was written.
     pub admin_site: Option<&'a str>,
+    /// Whether the administration lists the clerks.
+    pub list_clerks: bool,
     pub host: &'a str,
     /// After how many turns it ends; without them it goes on.
     pub turns: Option<u64>,
@@ -193,6 +195,7 @@ impl<'a> ServeOptions<'a> {
             pop_port: found.get_one("pop-port")?,
             admin_port: found.get_one("admin-port")?,
             admin_site: found.get_str("admin-site"),
+            list_clerks: found.get_flag("list-clerks"),
             host: found.get_str("host")?,
             turns: found.get_one("turns"),
             log: found.get_flag("log"),
@@ -221,7 +224,7 @@ impl<'a> ServeOptions<'a> {
         }
     }
 
-    /// What a start's line of the log tells: whether this popbox is proved, and the options that
+    /// What a start's line of the log says: whether this popbox is proved, and the options that
     /// say how clients are served and what is logged. Its fault is that of `site`.
     pub fn settings(&self) -> Result<Settings, Fault> {
         let admin_site = self.site()?;
@@ -268,7 +271,7 @@ pub struct ReviewPolicyOptions<'a> {
     pub against: Option<&'a str>,
     /// The store's file.
     pub store: Option<&'a str>,
-    /// The clerk and the maildrop that it tells of alone, as they were written.
+    /// The clerk and the maildrop that it is about alone, as they were written.
     pub clerk: Option<&'a str>,
     pub maildrop: Option<&'a str>,
     /// Whether it leaves out who may do what.

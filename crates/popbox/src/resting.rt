@@ -133,7 +133,7 @@ pub fn run_export<E: Write>(
     )
 }
 
-/// Opens the store at a path, and does an errand over it. A store that is refused is told as
+/// Opens the store at a path, and does an errand over it. A store that is refused is reported as
 /// `popbox replay` tells it. If it lies where nothing can be written, or has no log beside it, it
 /// is read into memory, so that no file is changed or created.
 fn run_errand<E: Write>(
@@ -300,7 +300,7 @@ fn export_over<A: Alter, E: Write>(
     Ok(status)
 }
 
-/// Tells which file of a folder was there already, or what else the system answered.
+/// Prints which file of a folder was there already, or what else the system answered.
 fn tell_folder<E: Write>(err: &mut E, folder: &NamedFolder<'_>) {
     let path = folder.path;
     if let Some(error) = &folder.refusal {

@@ -185,7 +185,7 @@ one_more (Closed port of) e = refl
 pressed_on : (inside : List Call) (call : Call) → is_wait call ≡ false → ends_line false inside ≡ true → ends_line false (inside ++ call ∷ []) ≡ true
 pressed_on inside call w e = ends_append false inside (call ∷ []) ∙ (ap (λ b. ends_line b (call ∷ [])) e ∙ one_more call w)
 
--- a source that is known was told by a whole line
+-- a source that is known was named by a whole line
 pub known_whole : (o : Option (Option IpAddr)) (k : ℕ) (inside : List Call) → is_some o ≡ true → IsSo o k inside → IsLineWhole k inside
 known_whole (Some source) k inside e so = so
 known_whole None k inside e so = absurd (true≢false (sym e))
@@ -383,7 +383,7 @@ module _ {W : Type 0} (Asked : W → List Call → Type 0) where
         pressed = λ e. pressed_still link least a.inside t.taken t.are.own (a.pressed e);
       }
 
-  -- one that is, and tells a source
+  -- one that is, and names a source
   pub line_whole : (w : W) (known known' : ℕ → Option (Option IpAddr)) (hurries : Bool) (link : Link) (source : Option IpAddr) (room : ℕ) (calls : List Call) → IsPut known link.number (Some source) known'
       → AskedAmid Asked w known hurries link 1 Whole calls → AskedBehind Asked w known' true (calls ++ Read Pop link room Later [] ∷ [])
   line_whole w known known' hurries link source room calls put a =

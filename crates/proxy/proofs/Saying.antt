@@ -1,4 +1,4 @@
--- What a line doesn't tell.
+-- What a line doesn't say.
 use Rattle.std.proofs.Common.{◌≡◌, ℕ, List, codes, get_or, ap, arith, sym, ◌∙◌, Option, Some, None}
 use Rattle.std.specs.Net.Grammar.{IsIpv4Text, IsIpv6Text}
 use Rattle.std.specs.declared.net.ip_addr.IpAddr.{IpAddr}

@@ -1,4 +1,4 @@
--- What is told outside follows what is told inside.
+-- What is recorded outside follows what is recorded inside.
 use Rattle.std.proofs.Common.{◌≡◌, ℕ, ◌+◌, ◌<◌, ◌≤◌, ◌⊎◌, inl, inr, ⊎_elim, Bool, true, false, true≢false, not, ◌&&◌, ◌||◌, ◌==◌, nat_lt, List, [], ◌∷◌, ◌++◌, length, take, get_or, append-nil, zero, suc, refl, sym, ◌∙◌, ap, subst, arith, eqb, eq-eqb, ne_eqb, nat_cmp, Option, Some, None, IfSome, is_some}
 use Rattle.std.specs.Bool.{if◌then◌else◌}
 use Rattle.std.proofs.lemmas.Bool.{cases_eq}
@@ -297,7 +297,7 @@ known_read b known t u k io octets source a so =
     below : (n k : ℕ) → k < n → n ≤ k → ⊥
     below n k lt le = omega arith
 
--- a link that nothing came from is closed, and told to be broken
+-- a link that nothing came from is closed, and said to be broken
 pub breaks : (b : ℕ → Option Begun) (known : ℕ → Option (Option IpAddr)) (t u : ToldOfPorts) (k : ℕ) → TellsProxied b known t (at_port Pop (λ of. has_read of k Later []) u)
     → TellsProxied b known (at_port Pop (λ of. has_closed of k) t) (at_port Pop (λ of. has_read of k Broken []) u)
 breaks b known t u k a = record {

@@ -25,7 +25,7 @@ abbrev pub read_on : ℕ → List Call → List ℕ
 read_on k [] = []
 read_on k (call ∷ calls) = octets_on k call ++ read_on k calls
 
--- a call told its end, or that it is broken, or closed it
+-- a call gave its end, or that it is broken, or closed it
 abbrev pub ends_on : ℕ → Call → Bool
 ends_on k (Read Pop link room io octets) = is_fault io && link.number == k
 ends_on k (Wrote Pop link io octets) = is_fault io && link.number == k
@@ -59,8 +59,8 @@ is_read (Read port link room io octets) = true
 is_read _ = false
 
 -- A read that gave no octet outside has read on the link's first line: at least once, each time an
--- octet but where the link is over, and nothing behind that line. It told that the link ended or is
--- broken just where one of these calls did, or closed it.
+-- octet but if the link is over, and nothing after that line. It gave that the link ended or is
+-- broken exactly if one of these calls did, or closed it.
 pub record ReadsLine (link : Link) (io : Io) (before taken : List Call) : Type 0 where
   pub awaited : IsLineAwaited link.number before
   pub own : AreOnLine link (if is_fault io then 0 else 1) taken
@@ -134,7 +134,7 @@ pub record TakesLine {W : Type 0} (Asked : W → List Call → Type 0) (wire : W
   pub asked : Asked wire (before ++ taken)
   pub are : AreOfLine link least progress taken
 
--- so it is within a read of which nothing is told yet
+-- so it is within a read of which nothing is recorded yet
 pub record AskedAmid {W : Type 0} (Asked : W → List Call → Type 0) (wire : W)
     (known : ℕ → Option (Option IpAddr)) (hurries : Bool) (link : Link) (least : ℕ)
     (progress : Progress) (calls : List Call) : Type 0 where

@@ -50,7 +50,7 @@ Tells text (Some (V6 a)) = (word text ≡ codes "TCP6") × AreEnds IsIpv6Text (r
 abbrev pub text_of : List ℕ → List ℕ
 text_of line = take (length line - 2) line
 
--- the line, with its CRLF, tells this source; `None` if the proxy doesn't know it
+-- the line, with its CRLF, names this source; `None` if the proxy doesn't know it
 pub record IsProxyLine (line : List ℕ) (source : Option IpAddr) : Type 0 where
   pub short : length line ≤ 107
   pub ended : drop (length line - 2) line ≡ 13 ∷ 10 ∷ []

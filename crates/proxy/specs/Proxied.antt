@@ -1,5 +1,5 @@
--- What a wire tells whose clients come through a proxy: of each client's link the octets after its
--- first line.
+-- What a wire records whose clients come through a proxy: of each client's link the octets after
+-- its first line.
 use Rattle.std.specs.Prelude.{◌≡◌, ◌≤◌, ◌<◌, ◌⊎◌, ◌||◌, not, ℕ, Bool, true, false, ◌==◌, List, [], ◌∷◌, ◌++◌, Option, Some, None, IfSome, if◌then◌else◌}
 use Rattle.std.specs.declared.net.ip_addr.IpAddr.{IpAddr}
 use Rattle.std.proofs.Common.{sym, ◌∙◌, ap, subst}
@@ -29,7 +29,7 @@ abbrev pub has_line : List ℕ → Bool
 has_line [] = false
 has_line (x ∷ xs) = if x == 10 then true else has_line xs
 
--- ---- what is told
+-- ---- what is recorded
 
 -- inside t is told, and u outside: u's octets stand after a first line, and that is a PROXY line
 pub record TellsBehind (t u : Told) : Type 0 where
@@ -47,7 +47,7 @@ pub record IsBegun (t : Told) (k : ℕ) (line : List ℕ) : Type 0 where
   pub is : t.read k ≡ line
   pub open_yet : has_line line ≡ false
 
--- the first line of an accepted link tells this source
+-- the first line of an accepted link names this source
 pub record IsKnown (t : Told) (k : ℕ) (source : Option IpAddr) : Type 0 where
   pub came : k < t.accepted
   pub whole : has_line (t.read k) ≡ true
@@ -59,18 +59,18 @@ IsSaid t k address =
     IsProxyLine (first_line (t.read k)) (Some address)
     ⊎ IsProxyLine (first_line (t.read k)) None
 
--- so it is of a client's link, by what a wire tells
+-- so it is of a client's link, by what a wire records
 abbrev pub IsAddressOf : {W : Type 0} → (W → ToldOfPorts → Type 0) → W → ℕ → IpAddr → Type 0
 IsAddressOf Tells wire k address = (t : ToldOfPorts) × Tells wire t × IsSaid t.pop k address
 
--- inside t is told, and u outside, if these lines are begun and these sources known
+-- inside t is recorded, and u outside, if these lines are begun and these sources known
 pub record TellsProxied (begun : ℕ → Option Begun) (known : ℕ → Option (Option IpAddr)) (t u : ToldOfPorts) : Type 0 where
   pub pop : TellsBehind t.pop u.pop
   pub admin : u.admin ≡ t.admin
   pub begun_so : (k : ℕ) → IfSome (begun k) (λ b. IsBegun t.pop k b.line.items)
   pub known_so : (k : ℕ) → IfSome (known k) (λ source. IsKnown t.pop k source)
 
--- u is told outside
+-- u is recorded outside
 abbrev pub TellsProxy : {W : Type 0} → (W → ToldOfPorts → Type 0) → W → (ℕ → Option Begun) → (ℕ → Option (Option IpAddr)) → ToldOfPorts → Type 0
 TellsProxy Tells wire begun known u = (t : ToldOfPorts) × Tells wire t × TellsProxied begun known t u
 
@@ -86,7 +86,7 @@ alike t t' u u' s a b = record {
 alike_too : (a b c d : Told) → c ≡ a → d ≡ b → SayAlike a b → SayAlike c d
 alike_too a b c d e f s = subst (λ x. SayAlike x d) (sym e) (subst (λ x. SayAlike a x) (sym f) s)
 
--- one thing is told outside, if one is inside
+-- one thing is recorded outside, if one is inside
 pub proxy_once : {W : Type 0} (Tells : W → ToldOfPorts → Type 0) → ((w : W) (t u : ToldOfPorts) → Tells w t → Tells w u → SayAlikeOfPorts t u) → (wire : W) (begun : ℕ → Option Begun) (known : ℕ → Option (Option IpAddr)) (u v : ToldOfPorts)
     → TellsProxy Tells wire begun known u → TellsProxy Tells wire begun known v → SayAlikeOfPorts u v
 proxy_once {W} Tells once wire begun known u v (t, h, a) (t', h', b) =
@@ -122,7 +122,7 @@ abbrev pub IsAsFarAs : Progress → List ℕ → Type 0
 IsAsFarAs Whole line = (front : List ℕ) × (line ≡ front ++ 10 ∷ []) × (has_line front ≡ false)
 IsAsFarAs (Open _) line = has_line line ≡ false
 
--- a link has so much of its line, which is kept nowhere yet; u is told once nothing was read
+-- a link has so much of its line, which is kept nowhere yet; u is recorded once nothing was read
 abbrev pub IsAmid : {W : Type 0} → (W → ToldOfPorts → Type 0) → W → (ℕ → Option Begun) → (ℕ → Option (Option IpAddr)) → ℕ → List ℕ → ToldOfPorts → Type 0
 IsAmid Tells wire begun known k line u =
     (t : ToldOfPorts) × Tells wire t × TellsProxied begun known t (at_port Pop (λ of. has_read of k Later []) u) × (k < t.pop.accepted) × (t.pop.read k ≡ line)

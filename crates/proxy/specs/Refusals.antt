@@ -1,4 +1,4 @@
--- Why a link was refused, and from where one came, by what is kept of it.
+-- Why a link was refused, and the address that one came from, by what is kept of it.
 use Rattle.std.specs.Prelude.{ℕ, ◌==◌, Option, Some, None, if◌then◌else◌}
 use Rattle.std.specs.declared.net.ip_addr.IpAddr.{IpAddr}
 use Rattle.serving.specs.Wires.{Addresses}
@@ -6,12 +6,12 @@ use Rattle.serving.specs.declared.wire.Port.TheVariants.{Pop, Admin}
 use Rattle.proxy.specs.declared.wire.Refusal.{Refusal}
 use Rattle.proxy.specs.declared.wire.Refused.{Refused}
 
--- why a link was refused, where it is the one that was refused last
+-- why a link was refused, if it is the one that was refused last
 abbrev pub refusal_of : ℕ → (last : Option Refused) → Option Refusal
 refusal_of k None = None
 refusal_of k (Some refused) = if refused.link == k then Some refused.why else None
 
--- from where a link came whose line told this, or isn't whole: `inside` where it told no source
+-- the address of a link whose line named this, or isn't whole: `inside` if it named no source
 abbrev pub address_by : (known : Option (Option IpAddr)) → (inside : Option IpAddr) → Option IpAddr
 address_by None inside = None
 address_by (Some None) inside = inside

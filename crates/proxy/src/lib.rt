@@ -1,8 +1,8 @@
-//! The first line of a link behind a proxy: PROXY protocol, version 1, as HAProxy, nginx and
+//! The first line of a link from a proxy: PROXY protocol, version 1, as HAProxy, nginx and
 //! stunnel write it.
 //!
 //! A [`ProxyLine`] is what such a line says. A [`ProxiedWire`] stands around a wire whose clients
-//! come through a proxy: it reads that line, and hands on what comes behind it. A [`Refusal`] is
+//! come through a proxy: it reads that line, and hands on what comes after it. A [`Refusal`] is
 //! why it closed a link for its first line.
 #![tactic(auto)]
 

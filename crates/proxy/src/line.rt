@@ -14,7 +14,7 @@ use std::net::{IpAddr, Ipv4Addr, Ipv6Addr};
 /// How many octets a line has at most, its CRLF among them.
 pub const MOST_OCTETS: usize = 107;
 
-/// The first line of a link behind a proxy.
+/// The first line of a link from a proxy.
 #[derive(Clone, Copy, PartialEq, Eq)]
 pub struct ProxyLine {
     /// The address that the client came from; `None` if the proxy doesn't know it.

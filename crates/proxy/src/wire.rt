@@ -58,7 +58,7 @@ pub enum Refusal {
     NoLine,
     /// Its first line wasn't whole at a read ten seconds or more after its acceptance.
     TooLate,
-    /// Memory for its first line, or for what that tells, was wanting.
+    /// Memory for its first line, or for what that says, was wanting.
     NoMemory,
 }
 
@@ -73,12 +73,12 @@ pub(crate) struct Refused {
 /// is a proxy's.
 ///
 /// That line is read here, and never handed on: a read gives `Later` until it was read whole, and a
-/// look gives `Later` too. A link is closed, and its read gives `Broken`, where the first line is
-/// no PROXY line, is longer than 107 octets, isn't whole at a read ten seconds or more behind the
-/// acceptance, or where memory for it is wanting; `refusal` tells which of these it was. Links of
+/// look gives `Later` too. A link is closed, and its read gives `Broken`, if the first line is
+/// no PROXY line, is longer than 107 octets, isn't whole at a read ten seconds or more after the
+/// acceptance, or if memory for it is wanting; `refusal` tells which of these it was. Links of
 /// the administration have no such line.
 ///
-/// Contracts see what the wire inside tells, but of what was read from a client's link only the
+/// Contracts see what the wire inside records, but of what was read from a client's link only the
 /// octets after its first line; and that these are after a PROXY line. They see too what it was
 /// asked, and that the wire inside was asked the same, but for what reads on first lines.
 #[derive(Drop)]
@@ -87,7 +87,7 @@ pub struct ProxiedWire<W: Wire, C: Clock> {
     pub clock: C,
     /// The lines that aren't whole, by the numbers of their links.
     begun: BTreeMap<u64, Begun>,
-    /// The sources that lines told, by the numbers of their links.
+    /// The sources that lines named, by the numbers of their links.
     known: BTreeMap<u64, Option<IpAddr>>,
     /// A line was read whole since the last wait, and more may lie after it.
     hurries: bool,
@@ -102,7 +102,7 @@ fn wait_of(hurries: bool, millis: u32) -> u32
     if hurries { 0 } else { millis }
 }
 
-/// The address of a link: the source that its line told, if it told one; else that of the wire
+/// The address of a link: the source that its line named, if it named one; else that of the wire
 /// inside. `None` while no line is known.
 fn address_by(known: Option<Option<IpAddr>>, inside: Option<IpAddr>) -> Option<IpAddr>
     ensures { result ≡ address_by known inside }
@@ -166,7 +166,7 @@ fn read_octets<W: Wire>(wire: &mut W, link: Link, line: &mut Line, left: usize) 
 }
 
 impl<W: Wire, C: Clock> ProxiedWire<W, C> {
-    /// A wire around this one, from which nothing was accepted yet. The clock tells how long a
+    /// A wire around this one, from which nothing was accepted yet. The clock measures how long a
     /// link's first line takes.
     pub fn new(alloc: Global, wire: W, clock: C) -> ProxiedWire<W, C>
         ensures wire { result.wire ≡ wire }
@@ -205,7 +205,7 @@ impl<W: Wire, C: Clock> ProxiedWire<W, C> {
         None
     }
 
-    /// Closes a client's link that was read from in vain, and tells that it is broken.
+    /// Closes a client's link that was read from in vain, and says that it is broken.
     fn break_off(&mut self, link: Link, why: Refusal) -> Io
         ensures told { (u : ToldOfPorts) → TellsProxy W.tells self.old.wire
             (get nat_cmp self.old.begun) (get nat_cmp self.old.known)
@@ -285,7 +285,7 @@ impl<W: Wire, C: Clock> ProxiedWire<W, C> {
         }
     }
 
-    /// Learns the source that a whole line tells; or closes the link, if it is no PROXY line.
+    /// Learns the source that a whole line names; or closes the link, if it is no PROXY line.
     fn learn(&mut self, link: Link, line: &[u8]) -> Io
         ensures told { (u : ToldOfPorts) → IsAmid W.tells self.old.wire (get nat_cmp self.old.begun)
             (get nat_cmp self.old.known) link.number line.now u → IsAsFarAs Progress.Whole line.now
@@ -440,10 +440,10 @@ impl<W: Wire, C: Clock> Wire for ProxiedWire<W, C> {
         self.wire.write(port, link, octets)
     }
 
-    /// The address that the link's first line told; that of the wire inside if the proxy doesn't
+    /// The address that the link's first line named; that of the wire inside if the proxy doesn't
     /// know it; `None` while the line isn't whole.
     ///
-    /// What it tells of a client's link is what that line says, or that line says no address.
+    /// What it gives of a client's link is what that line says, or that line says no address.
     fn address(&self, port: Port, link: Link) -> Option<IpAddr>
         ensures is { result ≡ address_behind (get nat_cmp self.now.known)
             (W.address_of self.now.wire) port link }

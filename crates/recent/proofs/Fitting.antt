@@ -89,7 +89,7 @@ heads_if is_there hs = if is_there then Ok hs else Err fault.NoMaildrop
 same_beside : (d : List ℕ) (c : Contents) → SameBut d c (with_maildrops (without_maildrop d c.maildrops) c)
 same_beside d c n apart = ap (λ (b : Bool). heads_if b (heads n c)) (still_there n d c.maildrops apart)
 
--- heads that the vault inside told, as they are lent
+-- heads that the vault inside gave, as they are lent
 pub told_so : (d : List ℕ) (c : Contents) (hs lent : List Head) → heads_result d c ≡ Ok hs → lent ≡ hs → heads_result d c ≡ Ok lent
 told_so d c hs lent e l = e ∙ ap (λ (xs : List Head). heads_told xs) (sym l)
 
@@ -166,7 +166,7 @@ abbrev totals_or_none : Result (List Total) VaultFault → List Total
 totals_or_none (Ok ts) = ts
 totals_or_none (Err e) = []
 
--- the totals are told from the rows
+-- the totals are made from the rows
 pub told_rows : (Holds : Contents → Type 0) (kept : List KeptHeads) (rows : Option (List KeptTotal)) (c : Contents) (ts : List Total)
     → Holds c → Fits kept c → TotalsFit rows c → AreSound c → rows ≡ Some (map fresh ts) → AreTotals (HoldsFitting Holds kept rows) c (Ok ts)
 told_rows Holds kept rows c ts h f fit s e = record {
@@ -178,7 +178,7 @@ sums_kept : (rows : Option (List KeptTotal)) (c : Contents) (ts : List Total) �
 sums_kept None c ts s e i = tt
 sums_kept (Some k) c ts s e i = subst (λ (xs : List KeptTotal). RowsFit xs c) (sym i) (answered_fit c ts s e)
 
--- the totals were told by the vault inside, and are kept
+-- the totals were given by the vault inside, and are kept
 pub kept_rows : (Holds : Contents → Type 0) (kept : List KeptHeads) (rows : Option (List KeptTotal)) (c : Contents) (ts lent : List Total)
     → AreTotals Holds c (Ok ts) → Fits kept c → AreSound c → lent ≡ ts → IfSome rows (λ k. k ≡ map fresh lent) → AreTotals (HoldsFitting Holds kept rows) c (Ok ts)
 kept_rows Holds kept rows c ts lent a f s l i = record {

@@ -1,7 +1,7 @@
 -- Rows with marks against a view and the numbers that are marked.
-use Rattle.std.specs.Prelude.{◌≡◌, ℕ, zero, suc, ◌+◌, ◌<◌, ◌≤◌, ◌==◌, ◌-◌, ◌^◌, min, ◌||◌, ◌&&◌, Bool, true, false, not, List, [], ◌∷◌, ◌++◌, length, filter, map, cond, sum_by, count_by, Option, Some, None, Result, Ok, Err, slice_get}
+use Rattle.std.specs.Prelude.{◌≡◌, ℕ, zero, suc, ◌+◌, ◌<◌, ◌≤◌, ◌==◌, ◌-◌, ◌^◌, min, ◌||◌, ◌&&◌, Bool, true, false, not, List, [], ◌∷◌, ◌++◌, length, filter, map, cond, sum_by}
+use Rattle.std.specs.Prelude.{count_by, Option, Some, None, Result, Ok, Err, slice_get}
 use Rattle.std.proofs.Common.{refl, sym, ap, ◌∙◌, arith, set, get_or, take, drop, zero-add, true≢false}
-use Rattle.std.proofs.lemmas.List.{drop_more, drop_all}
 use Rattle.std.specs.List.{find}
 use Rattle.std.specs.Option.{option_map}
 use Rattle.std.proofs.lemmas.Bool.{or_from, ne_eqb, eq-eqb}
@@ -12,7 +12,8 @@ use Rattle.vault.specs.declared.answer.Head.{Head}
 use Rattle.session.specs.declared.row.Row.{Row}
 use Rattle.session.specs.Session.{Session, class_of, octets_of, key_of, picked, picked_for, read_answer, mark_answer, marking}
 use Rattle.session.specs.View.{numbered_from, at_number, is_marked, unmarked, marked, to_remove, denying, retrieval, removal, may_remove, total_of, refer, referred}
-use Rattle.session.specs.Rows.{heads_of, marked_from, marks_of, session_of, unmarked_from, unmarked_row, octets_unless_marked, row_referred, row_picked, is_removable, is_denied, removable_keys, denying_rule}
+use Rattle.session.specs.Rows.{heads_of, marked_from, marks_of, session_of, unmarked_from, unmarked_row, octets_unless_marked, row_referred, row_picked, is_removable, is_denied}
+use Rattle.session.specs.Rows.{removable_keys, denying_rule}
 use Rattle.session.specs.declared.removals.Removals.{Removals}
 use Rattle.session.specs.declared.pick.Pick.{Pick}
 use Rattle.session.specs.declared.pick.Pick.TheVariants.{NoSuch, Deleted}
@@ -289,22 +290,8 @@ unmarks_more rows now i d lt e =
 
 -- ---- what is left of the unmarked rows
 
-unmarked_step : (row : Row) (n : ℕ) (rest : List (ℕ × Row)) (b : Bool) →
-    map head_with (cond (not b) ((n, row) ∷ rest) rest) ≡ cond b (map head_with rest) ((n, row.head) ∷ map head_with rest)
-unmarked_step row n rest true = refl
-unmarked_step row n rest false = refl
-
 abbrev pub left_from : List Row → ℕ → List (ℕ × Head)
 left_from rows i = unmarked_from (i + 1) (drop i rows)
-
-pub left_more : (rows : List Row) (i : ℕ) (row : Row) → i < length rows → row ≡ get_or rows i row →
-    left_from rows i ≡ cond row.is_marked (left_from rows (i + 1)) ((i + 1, row.head) ∷ left_from rows (i + 1))
-left_more rows i row lt e =
-    ap (unmarked_from (i + 1)) (drop_more rows i row lt ∙ ap (λ (r : Row). r ∷ drop (i + 1) rows) (sym e))
-    ∙ unmarked_step row (i + 1) (filter (λ (r : ℕ × Row). not r.1.is_marked) (numbered_from (i + 1 + 1) (drop (i + 1) rows))) row.is_marked
-
-pub left_end : (rows : List Row) (i : ℕ) → length rows ≤ i → left_from rows i ≡ []
-left_end rows i le = ap (unmarked_from (i + 1)) (drop_all i rows le)
 
 -- ---- counts
 

@@ -1,9 +1,9 @@
 //! A session and its calls.
-ghost use Rattle.std.specs.Prelude.{◌≡◌, ℕ, ◌+◌, ◌-◌, ◌^◌, ◌<◌, ◌≤◌, ◌||◌, ◌==◌, [], length, map};
+ghost use Rattle.std.specs.Prelude.{◌≡◌, ℕ, ◌-◌, ◌^◌, ◌<◌, ◌≤◌, ◌||◌, ◌==◌, [], length, map};
 ghost use Rattle.std.specs.Prelude.{min, sum_by, IfOk, OnOk, OnErr};
 ghost use Rattle.session.specs.Session.{class_of, octets_of, uid_of, key_of, started, picked};
 ghost use Rattle.session.specs.Session.{picked_for, marking};
-ghost use Rattle.session.specs.View.{is_marked, numbered, marked, unmarked, sizes_of, uids_of};
+ghost use Rattle.session.specs.View.{is_marked, marked, unmarked, sizes_of, uids_of};
 ghost use Rattle.session.specs.View.{total_of, to_remove, denying};
 
 use crate::listing::{Sizes, Uids};
@@ -200,7 +200,7 @@ impl Session {
         denying_rule(&lane, &self.rows)
     }
 
-    /// Ends the session, and tells what its QUIT removes under this policy, by unique-ids in order.
+    /// Ends the session, and gives what its QUIT removes under this policy, by unique-ids in order.
     /// It allocates nothing.
     pub fn into_removed(self, policy: &Policy) -> Removed
         ensures { result ≡ map uid_of (to_remove class_of policy.now self.name self.marks

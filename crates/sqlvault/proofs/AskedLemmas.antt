@@ -1,4 +1,4 @@
--- The rows of deposits and of counts tell of sound deposits exactly if the numbers of the deposits are those that the counts ask for.
+-- The rows of deposits and of counts are sound deposits exactly if the numbers of the deposits are those that the counts ask for.
 use Rattle.std.proofs.Common.{◌≡◌, inl, inr, ℕ, zero, suc, ℤ, pos, negsuc, ◌+◌, ◌<◌, ◌≤◌, Bool, true, false, not, cond, ◌&&◌, ◌||◌, ◌⊎◌, List, [], ◌∷◌, ◌++◌, length, map, Option}
 use Rattle.std.proofs.Common.{Some, None, refl, sym, ap, subst, ◌∙◌, arith, ⊎_elim, true≢false}
 use Rattle.std.specs.Prelude.{◌==◌, nat_le, nat_lt, filter, flat_map, find, sum_by}
@@ -197,7 +197,7 @@ natural_is : (k : ℤ) → is_within k ≡ true → k ≡ pos (natural k)
 natural_is (pos n) h = refl
 natural_is (negsuc n) h = absurd (true≢false (sym h))
 
--- as many as the count tells
+-- as many as the count says
 many_asked : (d class : Name) (cs : List Count) → are_apart same_count cs ≡ true → list_all (λ (c : Count). is_within c.k) cs ≡ true
     → count_in d class cs ≡ pos (length (filter (is_of d class) (all_asked cs)))
 many_asked d class [] apart within = refl

@@ -38,7 +38,7 @@ found_behind {store = store} {old = old} Are b is test a clean tables apart foun
     subst (Finds (Are (rows_in (state store old).now.trees))) test
     (said_behind (λ rows. Finds (Are rows) b) a clean tables apart found)
 
--- what is told of rows and their deposits after parts that changed nothing is so of the rows before
+-- what is said of rows and their deposits after parts that changed nothing is so of the rows before
 -- them; `x` was answered, and tested to be `y`
 pub told_behind : {A : Type 0} (P : Rows → A → Type 0) (old new : State) (deposits : List Receipt)
     {x y : A} → x ≡ y → Stays old new → HasTables old

@@ -1,4 +1,4 @@
--- What each statement leaves of the clerks, and what the rows tell of them.
+-- What each statement leaves of the clerks, and what the rows say of them.
 use Rattle.std.proofs.Common.{◌≡◌, ℕ, ℤ, ◌<◌, ◌≤◌, Bool, true, false, List, [], ◌∷◌, ◌++◌, length, Result, Ok, Err, refl, sym, ◌∙◌, ap, subst, cond, true≢false, ⊎_elim}
 use Rattle.std.specs.Prelude.{map, filter, min, not, bytes_eq, find, Option, Some, None, is_some, is_ok}
 use Rattle.std.specs.Option.{option_map}
@@ -24,7 +24,7 @@ use Rattle.sqlvault.specs.Keeps.{Keeps, kind_of, secret_of, clerk_row}
 use Rattle.sqlvault.proofs.PermutationLemmas.{find_apart, find-map, filter_permuted}
 use Rattle.sqlvault.proofs.SmallLemmas.{lt-nat_le, le-nat_le}
 
--- ---- what the rows tell
+-- ---- what the rows say
 
 abbrev has_that_name : List ℕ → vault.Clerk → Bool
 has_that_name name x = bytes_eq x.name name

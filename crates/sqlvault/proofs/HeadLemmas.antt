@@ -1,4 +1,4 @@
--- Heads as the rows tell them.
+-- Heads as the rows have them.
 use Rattle.std.proofs.Common.{◌≡◌, inl, refl, ℕ, ◌+◌, ◌<◌, ◌^◌, true, false, List, [], ◌∷◌, ◌++◌, length, map, take, Some, Result, Ok, Err, sym, ap, subst, ◌∙◌, arith, get_or}
 use Rattle.std.specs.Prelude.{◌&&◌, ◌==◌, nat_lt, nat_le, filter, unwrap_or}
 use Rattle.std.specs.List.{list_all, list_any}
@@ -62,7 +62,7 @@ pub next_head : (ms : List Keyed) (i : ℕ) (row : Message) (x : Keyed) (heads :
     → heads ≡ map head_of (take i ms) → Some head ≡ Some (head_of x) → heads ++ head ∷ [] ≡ map head_of (take (i + 1) ms)
 next_head ms i row x heads head r before is = rw (r.place, before, ap (λ o. unwrap_or o head) is) (sym (map-append head_of (take i ms) (x ∷ [])))
 
--- ---- what the rows of a store tell
+-- ---- what the rows of a store say
 
 -- a message of a sound store lies in a maildrop, and a deposit brought it
 sound_parts : (c : Contents) → AreSound c → (m : vault.Message) → In m (records_of c).messages → (is_one_of m.maildrop c.maildrops ≡ true) × (list_any (is_receipt_for m) c.deposits ≡ true)

@@ -1,4 +1,4 @@
--- What each statement leaves of the maildrops, and what the rows tell of them.
+-- What each statement leaves of the maildrops, and what the rows say of them.
 use Rattle.std.proofs.Common.{◌≡◌, ℕ, ◌<◌, ◌≤◌, true, false, List, [], ◌∷◌, ◌++◌, length, Ok, Err, refl, sym, ◌∙◌, ap, subst, arith}
 use Rattle.std.specs.Prelude.{filter, min, ◌==◌}
 use Rattle.std.proofs.lemmas.Bool.Decides.{nat_tests}
@@ -52,7 +52,7 @@ keeps_dropped c name empty from to change k =
     subst (λ (r : Rows). Keeps r (with_maildrops (without_maildrop name c.maildrops) c)) (sym (change ∙ ap (λ (ns : List (List ℕ)). with_names (without_maildrop name ns) from) k.maildrops))
     (keeps_names from c (without_maildrop name c.maildrops) k (sound_without_maildrop c name k.sound empty))
 
--- ---- what the rows tell
+-- ---- what the rows say
 
 pub there_is : (rows : Rows) (c : Contents) (name : List ℕ) → Keeps rows c → has_name name rows.maildrops ≡ is_one_of name c.maildrops
 there_is rows c name k = ap (λ (ns : List (List ℕ)). is_one_of name ns) k.maildrops

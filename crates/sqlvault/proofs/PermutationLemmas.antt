@@ -50,7 +50,7 @@ none_pass p q (x ∷ xs) same h =
     left x xs true h not_so = absurd (not_so refl)
     left x xs false h not_so = h
 
--- `same` tells that two elements have one key, and `p` that an element has the given one
+-- `same` says that two elements have one key, and `p` that an element has the given one
 pub one_passes : {X : Type 0} (same : X → X → Bool) (p : X → Bool) (xs : List X) → ((x y : X) → p x ≡ true → p y ≡ true → same x y ≡ true)
     → are_distinct same xs ≡ true → length (filter p xs) ≤ 1
 one_passes same p [] key h = omega arith

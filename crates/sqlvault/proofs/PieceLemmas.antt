@@ -1,4 +1,4 @@
--- The sheets of a text, one after the other, as the rows tell them.
+-- The sheets of a text, one after the other, as the rows have them.
 use Rattle.std.proofs.Common.{◌≡◌, ℕ, ◌+◌, ◌*◌, ◌-◌, ◌<◌, ◌≤◌, min, ℤ, pos, Bool, true, false, List, [], ◌∷◌, ◌++◌, length, take, drop, Option, Some, None, sym, ap, subst, ◌∙◌}
 use Rattle.std.proofs.Common.{arith, ⊎_elim, length-append}
 use Rattle.std.specs.Prelude.{unwrap_or}

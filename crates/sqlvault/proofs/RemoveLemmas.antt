@@ -36,7 +36,7 @@ num_same m n h = grind (arith, nat_tests)
 pub num_itself : (n : ℕ) → (n == n) ≡ true
 num_itself n = grind (arith, nat_tests)
 
--- the rows tell keys apart
+-- the rows have different keys
 pub key_told : (a b : ℕ) → a < 2 ^ 64 → b < 2 ^ 64 → same_int (row_key a) (row_key b) ≡ (b == a)
 key_told a b p q = bool_same (same_int (row_key a) (row_key b)) (b == a)
     (λ h. let e : a ≡ b = to_z_inj {w = w64} (record { fits = p }) (record { fits = q }) (int_same (row_key a) (row_key b) h) in subst (λ n. (n == a) ≡ true) e (num_itself a))

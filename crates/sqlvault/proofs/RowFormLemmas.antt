@@ -152,7 +152,7 @@ items_more rs items grown i r s lt is read grows held =
 abbrev pub IsPolicyOf : List Group → List Rule → Policy → Type 0
 IsPolicyOf groups rows p = (groups ≡ p.groups) × (map (at_place (pos 0)) rows ≡ map (rule_row (pos 0)) p.rules) × (is_sound_policy p ≡ true)
 
--- if the rows have been read, the groups and the rules tell
+-- if the rows have been read, the groups and the rules are known
 pub read_judged : (groups : List Group) (rows : List Rule) (items : List rule.Rule) (b : Bool) → map (at_place (pos 0)) rows ≡ map (rule_row (pos 0)) items
     → ((rs : List rule.Rule) → list_all is_sound_rule rs ≡ true → map (at_place (pos 0)) rows ≡ map (rule_row (pos 0)) rs → items ≡ rs)
     → b ≡ is_some (policy_with groups items) → Finds (IsPolicyOf groups rows) b

@@ -77,7 +77,7 @@ filter_twice p q (x ∷ xs) = go (p x) (filter_twice p q xs)
     go true e = ap (λ l. cond (q x) (x ∷ l) l) e
     go false e = e
 
--- what the keys tell apart is distinct
+-- what has different keys is distinct
 pub apart_distinct : {X : Type 0} (same : X → X → Bool) (xs : List X) → are_apart same xs ≡ are_distinct same xs
 apart_distinct same [] = refl
 apart_distinct same (x ∷ xs) = ap (λ b. not (list_any (same x) xs) && b) (apart_distinct same xs)

@@ -1,4 +1,4 @@
--- A message as its row, its number and its text tell it.
+-- A message as its row, its number and its text give it.
 use Rattle.std.proofs.Common.{◌≡◌, ℕ, zero, suc, ◌+◌, ◌<◌, ◌≤◌, ℤ, pos, SFits, w64, of_z, to_z-of_z, Bool, true, List, [], ◌∷◌, length, map, Option, Some, None, nat_abs, refl, sym}
 use Rattle.std.proofs.Common.{ap, subst, ◌∙◌, arith, negsuc, ◌<ℤ◌, ◌≤ℤ◌, false, Result, Ok, Err, true≢false}
 use Rattle.std.specs.Prelude.{◌&&◌, ◌==◌, ◌≢◌, ◌↔◌, nat_lt, nat_le, unwrap_or, IfOk}
@@ -92,7 +92,7 @@ octets_stored rows deposits row x s = ap (λ (y : Message). y.octets) s.is
 pub few_octets : (text : List ℕ) → is_kept_text text ≡ true → length text ≤ 26214400
 few_octets text h = nat_le-true (length text) most_octets (and_parts (bytes_eq (kept_form text) text && nat_lt 0 (length text)) (nat_le (length text) most_octets) h).1
 
--- ---- the rows tell one text alone
+-- ---- the rows have one text alone
 
 mapped_same : {X : Type 0} (f g : ℕ → X) (a n : ℕ) → ((k : ℕ) → k < a + n → f k ≡ g k) → map f (range_with_len a n) ≡ map g (range_with_len a n)
 mapped_same f g a zero h = refl
@@ -125,7 +125,7 @@ text_refused rows deposits row octets text x oct h not_kept s =
     let e = text_unique rows row.key octets x.message.text text (subst (λ n. HasText rows row.key n x.message.text) (sym same) (text_stored rows deposits row x s)) h in
     not_kept (subst (λ t. is_kept_text t ≡ true) e s.text)
 
--- ---- what the count of a class tells
+-- ---- what the count of a class says
 
 pub count_told : (rows : Rows) (deposits : List Receipt) (row : Message) (asked named : List ℕ) (count : Count) (o : Option Count)
     → DepositsAre rows deposits → asked ≡ row.maildrop → named ≡ row.class
@@ -153,7 +153,7 @@ not_numbered deposits row k none n = clash (class_count row.class (receipts_of r
     clash : (n k : ℕ) → pos 0 ≡ pos n → nat_lt 0 k ≡ true → k ≤ n → ⊥
     clash n k a b c = let zero : 0 ≡ n = cc in grind (arith, nat_tests, zero, b, c)
 
--- ---- what the test of the text tells
+-- ---- what the test of the text says
 
 kept_is : (text : List ℕ) → is_kept_text text ≡ true → IsMailText text
 kept_is text h =

@@ -1,4 +1,4 @@
--- Totals as the rows tell them.
+-- Totals as the rows give them.
 use Rattle.std.proofs.Common.{◌≡◌, ℕ, ◌+◌, ◌-◌, ◌<◌, ◌≤◌, ◌^◌, min, List, [], ◌∷◌, ◌++◌, length, take, take_all, get_or, true, sym, ap, subst, ◌∙◌, arith}
 use Rattle.std.specs.Prelude.{map, sum_by}
 use Rattle.std.proofs.lemmas.List.{take_more, get_or-map}

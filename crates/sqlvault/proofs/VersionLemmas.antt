@@ -75,14 +75,14 @@ not_both value (inl is) none = none.0 true is
 not_both value (inr (inl is)) none = none.0 false is
 not_both value (inr (inr is)) none = none.1 is
 
--- what is told of a store of no version that is known here
+-- what is said of a store of no version that is known here
 pub no_version : (rows : Rows) (value : ℤ) → HasVersion rows value → IsVersion value
     → IsOfNoVersion rows → ⊥
 no_version rows value has known none = not_both value known
     (subst IsNoVersion (same_version rows none.0.value value (none.0, none.1, refl) has)
     (none.2, none.3))
 
--- ---- what that tells
+-- ---- what that says
 
 -- it has another version than ours
 pub another_alone : (rows : Rows) (value : ℤ) → Tells rows (Alone value) → value ≢ version

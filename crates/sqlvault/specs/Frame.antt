@@ -1,5 +1,5 @@
 -- What a part of a call does to the connection, whatever it answers, in one word: it only looks
--- (`Looks`, and `Learns` with what it tells), it changes records once, as a whole call (`Acts`) or
+-- (`Looks`, and `Learns` with what it says), it changes records once, as a whole call (`Acts`) or
 -- as a part of one (`Turns`), or it is a part of a transaction (`Writes`). Two parts compose:
 -- `looks_then`, `learns_then`, `rests_turns` and `writes_then` of proofs/FrameLemmas. Of rows that
 -- may be no contents there are `Asks` and `Reads`.
@@ -51,7 +51,7 @@ module _ {S : Type 0} (store : Ghosts S) (old new : Held S) where
     pub rests : HasCleanDisk (state store new) → (c : Contents) → Holds (state store old) c
         → Rests Own c
 
-  -- A part only looks, and tells this of what was held; the connection is then open.
+  -- A part only looks, and says this of what was held; the connection is then open.
   pub record Learns (Own : Type 0) (Told : Contents → Type 0) : Type 0 where
     pub looks : Looks Own
     pub told : HasCleanDisk (state store new) → (c : Contents) → Holds (state store old) c → Own

@@ -1,4 +1,4 @@
--- What the rows of `meta` tell of a store's version.
+-- What the rows of `meta` say of a store's version.
 use Rattle.std.specs.Prelude.{◌≡◌, ◌≢◌, ◌⊎◌, Bool, ℤ, pos, Result, Ok, Err, Some, None, [], ◌∷◌, length, codes}
 use Rattle.std.specs.List.{find}
 use Rattle.sqlite.specs.declared.error.Error.{Error}
@@ -38,7 +38,7 @@ Tells rows (Beside value) =
     HasVersion rows value × (length rows.meta_rows ≢ 1) × IsVersion value
 Tells rows (Alone value) = (rows.meta_rows ≡ version_row value ∷ []) × IsVersion value
 
--- it is told that the version is unknown, or a statement met an error; the store stays as it was
+-- the version is called unknown, or a statement met an error; the store stays as it was
 abbrev pub TellsUnknown : State → State → Result StoreVersion Error → Type 0
 TellsUnknown old new (Ok told) =
     ((value : ℤ) × (told ≡ Unknown value)) × (StaysAs old new × LeavesNoMore old new)

@@ -43,7 +43,7 @@ impl OlderVersion {
     }
 }
 
-/// What a store's table `meta` tells of its version.
+/// What a store's table `meta` says of its version.
 #[derive(Clone, Copy, Debug, PartialEq, Eq)]
 pub enum StoreVersion {
     /// It has no version row.
@@ -64,7 +64,7 @@ fn is_version(value: i64) -> bool
     matches!(value, OLDEST | SECOND | NEWEST)
 }
 
-/// What a store that has our table `meta` tells of its version. Nothing is changed. The error is a
+/// What a store that has our table `meta` says of its version. Nothing is changed. The error is a
 /// statement's, or want of memory.
 pub fn find_version<S: Alter>(
     alloc: Global,

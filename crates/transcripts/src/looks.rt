@@ -1,4 +1,4 @@
-//! What the administration tells of all that an office keeps, as one text.
+//! What the administration shows of all that an office keeps, as one text.
 use converse::replay::tell;
 use converse::script::{Line, read_script};
 use office::{Event, Office};
@@ -11,7 +11,7 @@ use vault::Vault;
 pub static LOOK: &str = "maildrops\nlist orders\nlist sales\nclerk show ann\nclerk show bob\n\
     clerk show cat\nclerk show dan\nclerk show eve\nclerk show mrose\npolicy\nsessions\n";
 
-/// What an office answers to `LOOK`, as one text. Fails where memory for the text is refused.
+/// What an office answers to `LOOK`, as one text. Fails if memory for the text is refused.
 pub fn look<V: Vault>(alloc: Global, office: &mut Office<V>) -> Result<Vec<u8>, Fail> {
     let mut told = Vec::new(alloc);
     let lines = read_script(alloc, LOOK.as_bytes())?;

@@ -10,7 +10,7 @@ use vault::Vault;
 static POLICY: &str =
     "[[rule]]\nname = \"ann-all\"\neffect = \"allow\"\nclerk = \"ann\"\nmaildrop = \"*\"\nclass = \"*\"\nactions = [\"open\", \"read\", \"remove\"]\n";
 
-/// Reads a name. Fails where the text hasn't the form of one.
+/// Reads a name. Fails if the text hasn't the form of one.
 pub fn name(text: &str) -> Result<Name, Fail> {
     Ok(Name::read(text.as_bytes()).ok_or("name")?)
 }

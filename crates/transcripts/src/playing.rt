@@ -9,7 +9,7 @@ use std::test::Fail;
 use std::{io, str};
 use vault::{PlainVault, Vault};
 
-/// What a run printed, as one text: standard output and, where there was a fault, the exit status
+/// What a run printed, as one text: standard output and, if there was a fault, the exit status
 /// in brackets and standard error.
 pub fn run_text(alloc: Global, status: u8, out: &[u8], err: &[u8]) -> Result<String, Fail> {
     let mut text = String::from_str(alloc, str::from_utf8(out)?)?;

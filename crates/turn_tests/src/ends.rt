@@ -19,7 +19,7 @@ struct Ends {
 fn end_word(end: End) -> &'static str {
     match end {
         End::Gone => "gone",
-        End::NoMemory => "no memory",
+        End::NoMemory | End::NoMemoryForLine => "no memory",
         End::StoreFailed => "store failed",
         End::SessionEnded => "session ended",
         End::Idle => "idle",
@@ -52,7 +52,7 @@ impl Listener for Ends {
 }
 
 /// What is heard of silent clients, of whom so many come before the turn at each of these moments,
-/// where each has so many seconds for its login, and so many while all places are taken.
+/// if each has so many seconds for its login, and so many while all places are taken.
 fn ends_by(
     alloc: Global,
     login_seconds: u64,

@@ -1,4 +1,4 @@
-//! What one link must be told, reckoned by an office that is given each line, and each request,
+//! What one link must get, reckoned by an office that is given each line, and each request,
 //! whole and only when it may act, and of which all is taken at once.
 use crate::heard::Heard;
 use crate::stream::{Stream, front, line_len};
@@ -19,11 +19,11 @@ pub struct Guest {
     comes: Stream,
     /// What was read and has not acted.
     heard: Stream,
-    /// What it must be told and was not.
+    /// What it must get and hasn't got.
     wanted: Stream,
     /// Since when it has done nothing, in seconds; of the administration, when it came.
     since: u64,
-    /// Its last line, or its request, has acted: it is over once all is told.
+    /// Its last line, or its request, has acted: it is over once all is sent.
     is_closing: bool,
     is_over: bool,
     /// It neither sends nor takes.
@@ -72,7 +72,7 @@ fn answer(
     request: &[u8],
     told: &mut Stream,
 ) -> Result<(), AllocError> {
-    match Request::read(alloc, &None, request) {
+    match Request::read(alloc, &None, office.admin_access(), request) {
         Got::Command(command) => match office.step(Event::Admin(&command)) {
             Outcome::Answered(answer) => told.add(response(alloc, &answer)?.as_slice()),
             _ => Ok(()),
@@ -142,7 +142,7 @@ impl Guest {
         self.comes.rest()
     }
 
-    /// Whether all that it sent was read and acted, but for the begin of a line, and all is told.
+    /// Whether all that it sent was read and acted, but for the start of a line, and all is sent.
     pub fn is_quiet(&self) -> bool {
         self.is_over || (self.comes.is_empty() && self.may_be_read())
     }
@@ -155,7 +155,7 @@ impl Guest {
         }
     }
 
-    /// Whether it may be read: nothing is to be told, and no line or request is whole.
+    /// Whether it may be read: nothing is to be sent, and no line or request is whole.
     pub fn may_be_read(&self) -> bool {
         !self.is_over && self.wanted.is_empty() && !self.is_whole()
     }
@@ -238,7 +238,7 @@ impl Guest {
         Ok(true)
     }
 
-    /// The next line, or the request, acts, if it is whole and all is told before it. Whether
+    /// The next line, or the request, acts, if it is whole and all is sent before it. Whether
     /// one did.
     pub fn act(
         &mut self,

@@ -1,5 +1,5 @@
 //! What was judged, line by line: as a server's listener heard it, and as the office that reckons
-//! told it.
+//! gave it.
 use creds::{LoginName, Name, Uid};
 use office::{Account, MessageCommand, MessageRow, Removal, Verdict, Way};
 use serving::{Asked, Link, Listener};
@@ -105,7 +105,7 @@ fn account_text(alloc: Global, account: &Account) -> Result<String, AllocError> 
         Account::Retrieved(message) => sent_text(alloc, "retrieved", message),
         Account::Topped(message) => sent_text(alloc, "topped", message),
         Account::Denied(command, uid, rule) => denied_text(alloc, *command, *uid, *rule),
-        Account::Ended(_) | Account::Nothing => Ok(String::new(alloc)),
+        Account::Ended(_) | Account::Nothing | Account::Taken => Ok(String::new(alloc)),
     }
 }
 

@@ -15,7 +15,7 @@ const FAILED: &str = "-ERR login failed\r\n";
 
 const LET_IN: &str = "+OK maildrop has 1 messages (21 octets)\r\n";
 
-/// What the second to come is told before his PASS, and the sixth.
+/// What the second to come gets before his PASS, and the sixth.
 const SECOND_TOLD: &str = "+OK POP3 server ready <2.7@h.test>\r\n+OK send PASS\r\n";
 
 const SIXTH_TOLD: &str = "+OK POP3 server ready <6.7@h.test>\r\n+OK send PASS\r\n";
@@ -34,7 +34,7 @@ static WAITS_BY_ITSELF: [Act; 9] = [
     Act::Told(5, LET_IN, 1),
 ];
 
-/// With ten seconds for a login ann, who came at moment 5, sends hers at moment 14, behind two
+/// With ten seconds for a login ann, who came at moment 5, sends hers at moment 14, after two
 /// guesses: it is judged at moment 16.
 static HERS_IS_RIGHT: [Act; 13] = [
     Act::Comes(0),
@@ -142,7 +142,7 @@ static AN_OCTET_A_PACKET: [Act; 5] = [
     Act::Told(1, LET_IN, 1),
 ];
 
-/// Plays acts of clients from one address; with slow guesses where there is no wait.
+/// Plays acts of clients from one address; with slow guesses if the wait is 0.
 fn plays(alloc: Global, acts: &[Act], wait: u64, login_seconds: u64) -> Result<(), Fail> {
     let from = [IpAddr::V4(Ipv4Addr::new(192, 0, 2, 1)); 6];
     let settings = Settings {
@@ -162,7 +162,7 @@ fn comes(acts: &mut Vec<Act>, place: usize, text: &'static str) -> Result<(), Al
     Ok(())
 }
 
-/// A stranger has guessed once; four more guess, and ann comes behind them.
+/// A stranger has guessed once; four more guess, and ann comes after them.
 fn strangers(alloc: Global) -> Result<Vec<Act>, AllocError> {
     let mut acts = Vec::new(alloc);
     comes(&mut acts, 0, GUESS)?;

@@ -30,7 +30,7 @@ struct Game {
     links: Links,
     wire: RandomWire,
     spool: ScriptSpool,
-    /// What the server judged in a turn, as it was told.
+    /// What the server judged in a turn, as it heard it.
     heard: Heard,
     /// How many files were put.
     files: u64,

@@ -15,7 +15,7 @@ pub struct Counts {
     pub lines: u64,
     /// Requests that acted.
     pub requests: u64,
-    /// Octets that were told.
+    /// Octets that were sent.
     pub told: u64,
     /// Links that were broken, or at their end.
     pub lost: u64,
@@ -157,7 +157,7 @@ impl Reckoning {
         Ok(link)
     }
 
-    /// The moment is told.
+    /// The moment is given.
     pub fn tick(&mut self) {
         let ended = end_late(&mut self.guests, &mut self.office, self.now);
         self.counts.late = self.counts.late.saturating_add(ended);
@@ -172,7 +172,7 @@ impl Reckoning {
         Some(place)
     }
 
-    /// Where a link is that is about to be told octets.
+    /// Where a link is that is about to get octets.
     pub fn tells(&mut self, port: Port, link: u64, octets: &[u8]) -> Option<usize> {
         let place = place_of(self.guests.as_slice(), port, link)?;
         if !self.guests.get(place)?.may_be_told(octets) {

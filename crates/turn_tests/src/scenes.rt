@@ -1,4 +1,4 @@
-//! Scenes over a wire in memory: who comes, what is sent and what each must be told; played as they
+//! Scenes over a wire in memory: who comes, what is sent and what each must get; played as they
 //! stand, and with a fault in place of each read and write in turn.
 
 use crate::two_clerks::{name, office_of_two};
@@ -23,7 +23,7 @@ pub enum Act {
     Stalls(usize),
     /// So many turns, at a moment.
     Turns(u64, u64),
-    /// A guest was told a text, so many times over, after what it was told before, and nothing
+    /// A guest got a text, so many times over, after what it got before, and nothing
     /// else.
     Told(usize, &'static str, u64),
     /// A guest's link is open.
@@ -46,9 +46,9 @@ struct Guest {
     port: Port,
     /// Its place among those of its port.
     place: usize,
-    /// What it must be told by now.
+    /// What it must have got by now.
     wanted: Vec<u8>,
-    /// It was told less, or its link was closed too early.
+    /// It got less, or its link was closed too early.
     is_lost: bool,
 }
 
@@ -138,7 +138,7 @@ fn is_closed(wire: &ScriptWire, guest: &Guest) -> bool {
     }
 }
 
-/// What a guest was told.
+/// What a guest got.
 fn told_to<'a>(wire: &'a ScriptWire, guest: &Guest) -> &'a [u8] {
     match guest.port {
         Port::Pop => wire.written(guest.place),
@@ -146,7 +146,7 @@ fn told_to<'a>(wire: &'a ScriptWire, guest: &Guest) -> &'a [u8] {
     }
 }
 
-/// Whether a guest was told what it must be, or is lost: it was told a beginning of it, and its
+/// Whether a guest got what it must, or is lost: it got a beginning of it, and its
 /// link was closed.
 fn is_told(wire: &ScriptWire, guest: &mut Guest) -> bool {
     let told = told_to(wire, guest);
@@ -166,7 +166,7 @@ fn sends(wire: &mut ScriptWire, guest: &Guest, text: &str, times: u64) -> Result
     Ok(())
 }
 
-/// A guest must be told a text, so many times over, after what it was told before.
+/// A guest must get a text, so many times over, after what it got before.
 fn wants(guest: &mut Guest, text: &str, times: u64) -> Result<(), AllocError> {
     for _ in 0..times {
         guest.wanted.extend_from_slice(text.as_bytes())?;
@@ -269,7 +269,7 @@ fn play<S: Spool>(
     play_on(&mut stage, spool, scene)
 }
 
-/// What the links are set to, and from where the clients come, in the order in which they do.
+/// What the links are set to, and the clients' addresses, in the order in which they come.
 #[derive(Clone, Copy)]
 pub struct Settings<'a> {
     pub wait: u64,

@@ -1,4 +1,4 @@
-//! Guesses that wait: a login is kept back behind one of the same address and name that was
+//! Guesses that wait: a login is kept back after one of the same address and name that was
 //! refused.
 
 use crate::scenes::{Act, Settings, play_set};
@@ -17,7 +17,7 @@ const SEND_PASS: &str = "+OK send PASS\r\n";
 
 const FAILED: &str = "-ERR login failed\r\n";
 
-/// What a guess is told, and one after which a second one waits.
+/// What a guess is answered, and one after which a second one waits.
 const GUESS_FAILED: &str = "+OK send PASS\r\n-ERR login failed\r\n";
 
 const ONE_FAILED: &str = "+OK send PASS\r\n-ERR login failed\r\n+OK send PASS\r\n";

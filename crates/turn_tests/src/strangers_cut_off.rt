@@ -1,5 +1,5 @@
 //! Strangers, each also with its link at its end or broken in place of each read and write: that
-//! link alone is closed, its maildrop is free, and all others are told what they are told without
+//! link alone is closed, its maildrop is free, and all others get what they get without
 //! that fault. How many calls a scene has is reckoned by the rules of a turn: a link whose
 //! connection is ready is read once, and what is owed before and after that is written as long as
 //! it is taken.
@@ -13,12 +13,12 @@ use std::test::Fail;
 /// The first client's greeting.
 const GREETING: &str = "+OK POP3 server ready <1.7@h.test>\r\n";
 
-/// How ann logs in, and what she is told.
+/// How ann logs in, and what she gets.
 const ANN: &str = "USER ann/orders\r\nPASS s3 cret\r\n";
 
 const ANN_TOLD: &str = "+OK send PASS\r\n+OK maildrop has 1 messages (21 octets)\r\n";
 
-/// A session of bob, and what he is told.
+/// A session of bob, and what he gets.
 const BOB: &str = "USER bob/orders\r\nPASS hunter\r\nSTAT\r\nQUIT\r\n";
 
 const BOB_TOLD: &str =
@@ -405,8 +405,8 @@ fn folder_in_the_spool(rt: HostRuntime) -> Result<(), Fail> {
     Ok(())
 }
 
-/// Whether a client's link was closed, and it was told this or a beginning of it. Fails if its
-/// link is open, and it was told anything else.
+/// Whether a client's link was closed, and it got this or a beginning of it. Fails if its
+/// link is open, and it got anything else.
 fn is_lost(stage: &Stage, place: usize, greeting: &[u8]) -> Result<bool, Fail> {
     let told = stage.wire.written(place);
     let is_closed = stage.wire.is_closed(place);
@@ -417,7 +417,7 @@ fn is_lost(stage: &Stage, place: usize, greeting: &[u8]) -> Result<bool, Fail> {
     }
 }
 
-/// How many of the first 64 clients are lost: each other one was told its greeting, and is open.
+/// How many of the first 64 clients are lost: each other one got its greeting, and is open.
 fn lost_of_first(stage: &Stage) -> Result<u64, Fail> {
     let mut lost = 0u64;
     for place in 0..64usize {

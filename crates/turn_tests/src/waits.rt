@@ -5,16 +5,16 @@ use serving::ScriptSpool;
 use std::alloc::Global;
 use std::test::Fail;
 
-/// How ann logs in, and what she is told.
+/// How ann logs in, and what she gets.
 const ANN: &str = "USER ann/orders\r\nPASS s3 cret\r\n";
 
 const ANN_TOLD: &str = "+OK POP3 server ready <1.7@h.test>\r\n+OK send PASS\r\n\
     +OK maildrop has 1 messages (21 octets)\r\n";
 
-/// What bob is told before his PASS.
+/// What bob gets before his PASS.
 const BOB_TOLD: &str = "+OK POP3 server ready <2.7@h.test>\r\n+OK send PASS\r\n";
 
-/// What the first and the third to come are told before their PASS.
+/// What the first and the third to come get before their PASS.
 const FIRST_TOLD: &str = "+OK POP3 server ready <1.7@h.test>\r\n+OK send PASS\r\n";
 
 const THIRD_TOLD: &str = "+OK POP3 server ready <3.7@h.test>\r\n+OK send PASS\r\n";
@@ -24,7 +24,7 @@ const LET_IN: &str = "+OK maildrop has 1 messages (21 octets)\r\n";
 
 const IN_USE: &str = "-ERR [IN-USE] maildrop is in use\r\n";
 
-/// Ann logs in at moment 0; bob is told to send his password at moment 3, and sends it, in two
+/// Ann logs in at moment 0; bob is asked to send his password at moment 3, and sends it, in two
 /// pieces.
 static BOTH: [Act; 13] = [
     Act::Comes(0),
@@ -52,7 +52,7 @@ static ENDS_IN_TIME: [Act; 6] = [
     Act::Open(1),
 ];
 
-/// She doesn't: ten seconds after what he took last bob is told so.
+/// She doesn't: ten seconds after what he took last bob hears so.
 static ENDS_TOO_LATE: [Act; 5] = [
     Act::Turns(2, 12),
     Act::Told(1, "", 0),
@@ -61,7 +61,7 @@ static ENDS_TOO_LATE: [Act; 5] = [
     Act::Open(1),
 ];
 
-/// Bob is told so at once.
+/// Bob hears so at once.
 static AT_ONCE: [Act; 3] = [Act::Turns(2, 3), Act::Told(1, IN_USE, 1), Act::Open(1)];
 
 /// Ann comes between two who wait for her maildrop: the second one's password comes first.
@@ -97,7 +97,7 @@ static BY_NUMBER: [Act; 9] = [
     Act::Open(2),
 ];
 
-/// What ann is told as the twenty-first client.
+/// What ann gets as the twenty-first client.
 const LATE_TOLD: &str = "+OK POP3 server ready <21.7@h.test>\r\n+OK send PASS\r\n\
     +OK maildrop has 1 messages (21 octets)\r\n";
 
@@ -108,7 +108,7 @@ static BEHIND_MANY: [Act; 3] = [
     Act::Told(20, LATE_TOLD, 1),
 ];
 
-/// What bob is told until he is in a maildrop without messages.
+/// What bob gets until he is in a maildrop without messages.
 const BOB_IN: &str = "+OK POP3 server ready <2.7@h.test>\r\n+OK send PASS\r\n\
     +OK maildrop has 0 messages (0 octets)\r\n";
 
@@ -137,7 +137,7 @@ static GOES_ON: [Act; 5] = [
 ];
 
 /// Bob sends three lines in one piece while ann is in her maildrop: the second waits, and those
-/// behind it with it.
+/// after it with it.
 static ONE_PIECE: [Act; 16] = [
     Act::Comes(0),
     Act::Turns(1, 0),

@@ -1,4 +1,4 @@
-//! Lines of proxies, and links behind them.
+//! Lines of proxies, and the links that they begin.
 use proxy::{ProxiedWire, ProxyLine, Refusal};
 use serving::{Io, Link, Port, ScriptWire, Wire};
 use std::alloc::{AllocError, Global};
@@ -23,10 +23,10 @@ impl Clock for HandClock {
     }
 }
 
-/// A client's link in memory, behind a proxy.
+/// A client's link in memory, from a proxy.
 type TestWire = ProxiedWire<ScriptWire, HandClock>;
 
-/// What comes on a link, what is read from it, and from where it came: an address, `peer` for that
+/// What comes on a link, what is read from it, and what its address is: an address, `peer` for that
 /// of the wire inside, `none` if it isn't known, `broken` if the link was closed.
 static LINKS: [(&str, &str, &str); 17] = [
     (
@@ -122,7 +122,7 @@ fn read_on(wire: &mut TestWire, link: Link, heard: &mut Vec<u8>) -> Result<bool,
     Ok(true)
 }
 
-/// From where a link came, as the table says it.
+/// The address of a link, as the table says it.
 fn source_text(alloc: Global, wire: &TestWire, link: Link) -> Result<String, AllocError> {
     if wire.wire.is_closed(0) {
         return String::from_str(alloc, "broken");

@@ -1,6 +1,7 @@
 //! Requests to an administration that has a site: which are its own, and which are refused.
 
 use crate::benches::{bench_over, request, turns};
+use crate::requests::CLOSED;
 use adminhttp::{Got, Refusal, Request};
 use creds::HostName;
 use std::alloc::Global;
@@ -67,7 +68,7 @@ fn ask(alloc: Global, site: &Option<HostName>, line: &str, headers: &str) -> Got
     let Ok(request) = format!(in alloc; "{line} HTTP/1.1\r\n{headers}\r\n") else {
         return Got::NoMemory;
     };
-    Request::read(alloc, site, request.as_bytes())
+    Request::read(alloc, site, CLOSED, request.as_bytes())
 }
 
 /// Whether such a request adds a maildrop.
@@ -125,7 +126,7 @@ fn requests_of_other_pages(rt: HostRuntime) -> Result<(), Fail> {
     Ok(())
 }
 
-/// Request lines with a fault of their own, which is told to the site's own requests alone.
+/// Request lines with a fault of their own, which is answered to the site's own requests alone.
 static FAULTS: [(&str, Refusal); 3] = [
     ("GET /nothing", Refusal::NotFound),
     ("GET http://localhost/maildrops", Refusal::NotFound),
@@ -151,7 +152,7 @@ fn faults_behind_the_site(rt: HostRuntime) -> Result<(), Fail> {
     Ok(())
 }
 
-/// What serving answers to a request of another site, and to one of its own that looks behind it.
+/// What serving answers to a request of another site, and to one of its own that looks like it.
 #[test]
 fn a_request_of_another_site_does_nothing(rt: HostRuntime) -> Result<(), Fail> {
     let alloc = rt.alloc();

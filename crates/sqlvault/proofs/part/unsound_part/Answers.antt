@@ -13,7 +13,7 @@ use Rattle.sqlvault.proofs.part.unsound_part.Given.{Over}
 use Rattle.sqlvault.proofs.part.unsound_part.Goals.{In-Ok-true, In-Ok-true-are_maildrops_sound, In-Ok-None, In-Ok-true-are_deposits_sound}
 use Rattle.sqlvault.proofs.part.unsound_part.Goals as goal
 
--- ---- what a part tells that is sound
+-- ---- what a part says that is sound
 
 clerks : (g : Over) (c : In-Ok-true g) → Tests g.S.Store c.args.conn.now c.are_clerks_sound.new.conn (λ r. Finds (ClerksAre r) true)
 clerks g c = tests (λ r b. Finds (ClerksAre r) b) c.in-Ok-true.field-0 true c.in-Ok-true.field-0-test c.in-Ok-true.ensures.asks c.in-Ok-true.ensures.judged

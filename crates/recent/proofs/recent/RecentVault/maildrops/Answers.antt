@@ -1,4 +1,4 @@
--- The totals are told from the rows, or by the vault inside, which was only looked at.
+-- The totals are made from the rows, or given by the vault inside, which was only looked at.
 use Rattle.std.proofs.Common.{rules, sym, subst}
 use Rattle.vault.proofs.CallLemmas.{looks_ok, looks_once, looks_err, looks_last}
 use Rattle.recent.specs.Recalling.{Recalling, HoldsFitting}

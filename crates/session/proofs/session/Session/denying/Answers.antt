@@ -10,5 +10,6 @@ pub returns : goal.returns
 returns c =
     let s = c.self.inside in
     let policy = c.args.policy.now in
-    c.denying_rule.ensures ∙ ap (λ (l : Lane). denying_rule l.policy (login_of l) c.deref.result.now) c.lane-lane.ensures ∙ ap (denying_rule policy s.name) c.deref.ensures.value ∙ sym (denying-rows policy s.name s.rows.items)
+    c.denying_rule.ensures ∙ ap (λ (l : Lane). denying_rule l.policy (login_of l) c.deref.result.now) c.lane-lane.ensures
+    ∙ ap (denying_rule policy s.name) c.deref.ensures.value ∙ sym (denying-rows policy s.name s.rows.items)
     ∙ ap (λ (session : Session). denying class_of policy session.name session.marks session.view) c.self.view_is

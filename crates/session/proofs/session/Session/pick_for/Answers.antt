@@ -40,7 +40,9 @@ returns-then-not-decision c =
     let s = c.self.inside in
     let policy = c.args.policy.now in
     let found : row_picked s.rows.items c.args.n ≡ Ok c.in_ok-head.head = ap (λ (rows : List Row). row_picked rows c.args.n) (sym c.deref.ensures.value) ∙ sym c.in_ok-head.ensures.answer in
-    sym (denied c.retrieval-decision.result c.in_ok-head.head c.if-not-decision.true) ∙ ap (λ (d : Decision). read_answer d c.in_ok-head.head) (c.retrieval-decision.ensures ∙ of_lane c.lane-lane.result c.args.policy.now c.self.inside.name c.in_ok-head.head.class c.lane-lane.ensures)
+    sym (denied c.retrieval-decision.result c.in_ok-head.head c.if-not-decision.true)
+    ∙ ap (λ (d : Decision). read_answer d c.in_ok-head.head)
+    (c.retrieval-decision.ensures ∙ of_lane c.lane-lane.result c.args.policy.now c.self.inside.name c.in_ok-head.head.class c.lane-lane.ensures)
     ∙ sym (reading-found policy s.name s.removals s.rows.items c.args.n c.in_ok-head.head found) ∙ ap (λ (session : Session). picked_for policy session c.args.n) c.self.view_is
 
 pub returns : goal.returns
@@ -48,5 +50,7 @@ returns c =
     let s = c.self.inside in
     let policy = c.args.policy.now in
     let found : row_picked s.rows.items c.args.n ≡ Ok c.in_ok-head.head = ap (λ (rows : List Row). row_picked rows c.args.n) (sym c.deref.ensures.value) ∙ sym c.in_ok-head.ensures.answer in
-    sym (granted c.retrieval-decision.result c.in_ok-head.head c.if-not-decision.false) ∙ ap (λ (d : Decision). read_answer d c.in_ok-head.head) (c.retrieval-decision.ensures ∙ of_lane c.lane-lane.result c.args.policy.now c.self.inside.name c.in_ok-head.head.class c.lane-lane.ensures)
+    sym (granted c.retrieval-decision.result c.in_ok-head.head c.if-not-decision.false)
+    ∙ ap (λ (d : Decision). read_answer d c.in_ok-head.head)
+    (c.retrieval-decision.ensures ∙ of_lane c.lane-lane.result c.args.policy.now c.self.inside.name c.in_ok-head.head.class c.lane-lane.ensures)
     ∙ sym (reading-found policy s.name s.removals s.rows.items c.args.n c.in_ok-head.head found) ∙ ap (λ (session : Session). picked_for policy session c.args.n) c.self.view_is

@@ -19,5 +19,6 @@ pub returns-clause-rule : goal.returns-clause-rule
 returns-clause-rule c =
     let s = c.self.inside in
     let policy = c.args.policy.now in
-    c.denying_rule-rule.ensures ∙ ap (λ (l : Lane). denying_rule l.policy (login_of l) c.deref-2.result.now) c.lane-lane.ensures ∙ ap (denying_rule policy s.name) c.deref-2.ensures.value ∙ sym (denying-rows policy s.name s.rows.items)
+    c.denying_rule-rule.ensures ∙ ap (λ (l : Lane). denying_rule l.policy (login_of l) c.deref-2.result.now) c.lane-lane.ensures
+    ∙ ap (denying_rule policy s.name) c.deref-2.ensures.value ∙ sym (denying-rows policy s.name s.rows.items)
     ∙ ap (λ (session : Session). denying class_of policy session.name session.marks session.view) c.self.view_is
