@@ -31,6 +31,9 @@ actions = ["open", "read", "remove"]
 # A silent client is ended after 600, so a reply that comes then isn't waited for.
 START, REPLY, SPOOL = 600, 300, 600
 
+# What an unproved server says of itself on standard error as it starts begins so.
+SLOW = "note: this popbox isn't proved, and is slow: "
+
 
 class Wrong(Exception):
     """What came is another thing than what must come."""
@@ -43,6 +46,11 @@ FAULTS = (Wrong, OSError, ValueError, subprocess.SubprocessError, http.client.HT
 def wants(found, wanted):
     if found != wanted:
         raise Wrong(f"{found!r}, where {wanted!r} is wanted")
+
+
+def without_slow(text):
+    """A text without the line that an unproved server says of itself."""
+    return "".join(line for line in text.splitlines(True) if not line.startswith(SLOW))
 
 
 def retrieved(text):

@@ -10,7 +10,7 @@ import subprocess
 import time
 
 import clients
-from clients import SPOOL, Cases, Wrong, wait_for
+from clients import SPOOL, Cases, Wrong, wait_for, without_slow
 
 MOMENT = r"\d\d\d\d-\d\d-\d\dT\d\d:\d\d:\d\dZ"
 CLIENT = r"client=127\.0\.0\.1:\d+"
@@ -106,6 +106,17 @@ def log_of(folder):
         return file.read()
 
 
+def with_and_without(program, folder, option, do):
+    """What a server logs of what a function does, without an option and with it."""
+    texts = []
+    for words in (("--log",), ("--log", option)):
+        os.makedirs(place := f"{folder}/{len(words)}")
+        with serving(program, place, words) as server:
+            do(server)
+        texts.append(log_of(place))
+    return texts
+
+
 class PipeEnd:
     """The end of a pipe, as a server's log."""
 
@@ -148,8 +159,8 @@ class Mail(clients.Client):
 
 
 def compare(text, wanted):
-    """What differs between a log and the lines that are wanted, each after a moment."""
-    lines = text.splitlines()
+    """What differs between a log and the lines that are wanted, each behind a moment."""
+    lines = without_slow(text).splitlines()
     differs = [
         f"line {number} is {line!r}, where {it!r} is wanted"
         for number, (line, it) in enumerate(zip(lines, wanted), 1)

@@ -117,8 +117,8 @@ fn first_words(line: &[u8]) -> &[u8] {
     &line[..count.min(line.len())]
 }
 
-/// Tells the word of this place, counted from 0, by the field of the form that it is. Of a form that
-/// has a TEXT no word is printed: if a field is left out, it is one of that text.
+/// Prints the word of this place, counted from 0, by the field of the form that it is. If the form
+/// has a TEXT, no word is printed: if a field is left out, it is one of that text.
 fn tell_word<E: Write>(err: &mut E, row: Row, line: &[u8], place: usize) -> io::Result<()> {
     tell_form(err, row)?;
     let words = count_of(row.words);
@@ -200,7 +200,7 @@ fn tell_untold<E: Write>(err: &mut E, field: &str, kind: Kind) -> io::Result<()>
     }
 }
 
-/// Tells the first word of what stands at a field's place, and what is wrong with it: the form that
+/// Prints the first word of what stands at a field's place, and what is wrong with it: the form that
 /// it must have, or that more stands after the last field.
 fn tell_field<E: Write>(
     err: &mut E,

@@ -13,7 +13,7 @@ pub record Limits : Type 0 where
   pub removals : Removals
   pub access : AdminAccess
 
--- no request that an administration doesn't answer by itself
+-- none of the requests that an administration answers only if it is opened so
 abbrev pub no_access : AdminAccess
 no_access = record { lists_clerks = false }
 

@@ -25,7 +25,7 @@ opened ((e, m) ∷ T) = opened_after e m (opened T)
 abbrev pub next_number : Log → ℕ
 next_number T = opened T + 1
 
--- the least idle seconds, and what each office does unless it is told otherwise
+-- the settings before any opening: the least idle seconds, and all else as it is by default
 abbrev pub least_limits : Limits
 least_limits = record { idle = 600; removals = JudgedAtDele; access = no_access }
 

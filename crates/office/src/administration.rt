@@ -167,8 +167,8 @@ fn clerk_dropped(answered: Result<(), VaultFault>) -> Outcome
 }
 
 impl<V: Vault> Office<V> {
-    /// Which requests of its administration it was opened to answer. It is for the reader of the
-    /// requests: [`Office::step`] answers each command.
+    /// Which requests of its administration it was opened to answer. The reader of the requests
+    /// asks for it: [`Office::step`] answers each command.
     pub fn admin_access(&self) -> AdminAccess
         ensures { (T : Trace) → StandsFor V.holds self.now T → result ≡ access_in T.log }
     {

@@ -7,7 +7,7 @@ ghost use Rattle.office.specs.Events.{no_access};
 use session::Removals;
 use std::marker::Model;
 
-/// Which requests the administration answers that it doesn't answer by itself.
+/// Which requests the administration answers only if it is opened so.
 #[derive(Clone, Copy, PartialEq, Eq)]
 pub struct AdminAccess {
     /// GET on `/clerks` lists the clerks. Otherwise there is no such route.

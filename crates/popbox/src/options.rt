@@ -1,8 +1,8 @@
 //! What the command line asks for: the subcommand and its options, each read once.
 //!
 //! A new option of a subcommand is an argument in `command_line`, where its default stands, a field
-//! here, and a line of that struct's `read`. An option of `serve` that a server's start tells in
-//! the log is a field of the journal's `Settings` too, and a line of `settings`.
+//! here, and a line of that struct's `read`. An option of `serve` that a server's start logs is a
+//! field of the journal's `Settings` too, and a line of `settings`.
 
 use crate::version::IS_PROVED;
 use causes::STANDARD_INPUT;

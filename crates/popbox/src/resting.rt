@@ -133,7 +133,7 @@ pub fn run_export<E: Write>(
     )
 }
 
-/// Opens the store at a path, and does an errand over it. A store that is refused is told as
+/// Opens the store at a path, and does an errand over it. A store that is refused is reported as
 /// `popbox replay` tells it. If it lies where nothing can be written, or has no log beside it, it
 /// is read into memory, so that no file is changed or created.
 fn run_errand<E: Write>(

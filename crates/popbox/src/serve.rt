@@ -1,5 +1,6 @@
 //! `popbox serve`: clients over the network.
 use crate::options::ServeOptions;
+use crate::version::{IS_PROVED, SLOW};
 use converse::{Fault, tell_fault};
 use journal::{
     FileId, Folder, Guarded, Journal, LoggedSpool, LoggedVault, LoggedWire, Loss, Peers, Shared,
@@ -105,6 +106,13 @@ fn tell_refused<E: Write>(err: &mut E, is_verbose: bool, at: SocketAddr, error: 
     1
 }
 
+/// Tells that the program isn't proved, and how slow it is then.
+fn tell_slow<E: Write>(err: &mut E) {
+    if !IS_PROVED {
+        let _ = writeln!(err, "{SLOW}");
+    }
+}
+
 /// Listens, says so, and serves the clients and administrators that come.
 fn serve<'a, V: Vault, E: Write>(
     rt: &'a HostRuntime,
@@ -124,6 +132,7 @@ fn serve<'a, V: Vault, E: Write>(
     let mut out = io::writer(rt);
     writeln!(out, "pop on {}:{}", at.ip(), port).map_err(|_| Fault::CannotWrite)?;
     writeln!(out, "admin on 127.0.0.1:{admin_port}").map_err(|_| Fault::CannotWrite)?;
+    tell_slow(err);
     let pop = SocketAddr::from((at.ip(), port));
     let settings = options.settings()?;
     note_start(

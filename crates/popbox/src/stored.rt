@@ -22,7 +22,7 @@ pub struct Stored {
 }
 
 /// Reads the store in the file at a path, which no server has open, and which stays as it is. If
-/// it can't be opened or read, that is told as `check` tells it, and an `Err` is the exit status.
+/// it can't be opened or read, that is reported as by `check`, and an `Err` is the exit status.
 pub fn read_store<E: Write>(
     rt: &HostRuntime,
     path: &str,

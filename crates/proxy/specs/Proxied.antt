@@ -63,7 +63,7 @@ IsSaid t k address =
 abbrev pub IsAddressOf : {W : Type 0} → (W → ToldOfPorts → Type 0) → W → ℕ → IpAddr → Type 0
 IsAddressOf Tells wire k address = (t : ToldOfPorts) × Tells wire t × IsSaid t.pop k address
 
--- inside t is told, and u outside, if these lines are begun and these sources known
+-- inside t is recorded, and u outside, if these lines are begun and these sources known
 pub record TellsProxied (begun : ℕ → Option Begun) (known : ℕ → Option (Option IpAddr)) (t u : ToldOfPorts) : Type 0 where
   pub pop : TellsBehind t.pop u.pop
   pub admin : u.admin ≡ t.admin

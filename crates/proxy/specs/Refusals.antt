@@ -11,7 +11,7 @@ abbrev pub refusal_of : ℕ → (last : Option Refused) → Option Refusal
 refusal_of k None = None
 refusal_of k (Some refused) = if refused.link == k then Some refused.why else None
 
--- from where a link came whose line told this, or isn't whole: `inside` if it named no source
+-- the address of a link whose line named this, or isn't whole: `inside` if it named no source
 abbrev pub address_by : (known : Option (Option IpAddr)) → (inside : Option IpAddr) → Option IpAddr
 address_by None inside = None
 address_by (Some None) inside = inside

@@ -73,9 +73,9 @@ pub(crate) struct Refused {
 /// is a proxy's.
 ///
 /// That line is read here, and never handed on: a read gives `Later` until it was read whole, and a
-/// look gives `Later` too. A link is closed, and its read gives `Broken`, where the first line is
-/// no PROXY line, is longer than 107 octets, isn't whole at a read ten seconds or more behind the
-/// acceptance, or where memory for it is wanting; `refusal` tells which of these it was. Links of
+/// look gives `Later` too. A link is closed, and its read gives `Broken`, if the first line is
+/// no PROXY line, is longer than 107 octets, isn't whole at a read ten seconds or more after the
+/// acceptance, or if memory for it is wanting; `refusal` tells which of these it was. Links of
 /// the administration have no such line.
 ///
 /// Contracts see what the wire inside records, but of what was read from a client's link only the

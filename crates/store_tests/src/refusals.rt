@@ -52,7 +52,7 @@ fn is_broken_off<W: Write>(alloc: Global, writer: &mut W, err: &mut Vec<u8>) -> 
     status == 1
 }
 
-/// Whether the fault of a reader that refuses is told, and that of a writer that refuses too, which
+/// Whether the fault of a reader that refuses comes, and also that of a writer that refuses, which
 /// is asked before the reader.
 fn are_broken_off(alloc: Global) -> bool {
     let mut out = Vec::new(alloc);

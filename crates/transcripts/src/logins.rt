@@ -38,7 +38,7 @@ S: -ERR login failed, closing
 ended 1
 ";
 
-/// Lines before a login. The PASS behind each shows whether the name of the last USER is still in
+/// Lines before a login. The PASS after each shows whether the name of the last USER is still in
 /// force.
 pub const NAMES_IN_FORCE: &str = r"> connect
 opened 1

@@ -63,7 +63,7 @@ C: TOP 3 0
 S: +OK top follows\r\nno header end\r\n.
 ";
 
-/// TOP sends the header, the empty line and some of the lines behind it.
+/// TOP sends the header, the empty line and some of the lines after it.
 pub const TOP_LINES: &str = r"> connect
 opened 1
 > drain 1

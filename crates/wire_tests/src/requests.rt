@@ -8,7 +8,7 @@ use std::alloc::Global;
 use std::test::Fail;
 use vault::PlainVault;
 
-/// An administration without a list of the clerks.
+/// An administration that lists no clerks.
 pub(crate) const CLOSED: AdminAccess = AdminAccess {
     lists_clerks: false,
 };
@@ -312,7 +312,8 @@ fn requests_to_an_office(rt: HostRuntime) -> Result<(), Fail> {
     Ok(())
 }
 
-/// Requests for the clerks' list that are refused where there is none, and where there is one.
+/// Requests for the list of the clerks, each with its refusal by an administration that lists none,
+/// and by one that lists them.
 static OF_THE_LIST: [(&str, Refusal, Option<Refusal>); 4] = [
     ("GET /clerks HTTP/1.1\r\n\r\n", Refusal::NotFound, None),
     (
@@ -332,7 +333,7 @@ static OF_THE_LIST: [(&str, Refusal, Option<Refusal>); 4] = [
     ),
 ];
 
-/// The refusal of a request to an administration that was opened so, if it is refused.
+/// The refusal of a request to an administration with this access, if it is refused.
 fn refusal_of(alloc: Global, access: AdminAccess, octets: &[u8]) -> Option<Refusal> {
     match Request::read(alloc, &None, access, octets) {
         Got::Bad(told) => Some(told),

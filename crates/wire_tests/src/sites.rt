@@ -126,7 +126,7 @@ fn requests_of_other_pages(rt: HostRuntime) -> Result<(), Fail> {
     Ok(())
 }
 
-/// Request lines with a fault of their own, which is told to the site's own requests alone.
+/// Request lines with a fault of their own, which is answered to the site's own requests alone.
 static FAULTS: [(&str, Refusal); 3] = [
     ("GET /nothing", Refusal::NotFound),
     ("GET http://localhost/maildrops", Refusal::NotFound),
@@ -152,7 +152,7 @@ fn faults_behind_the_site(rt: HostRuntime) -> Result<(), Fail> {
     Ok(())
 }
 
-/// What serving answers to a request of another site, and to one of its own that looks behind it.
+/// What serving answers to a request of another site, and to one of its own that looks like it.
 #[test]
 fn a_request_of_another_site_does_nothing(rt: HostRuntime) -> Result<(), Fail> {
     let alloc = rt.alloc();

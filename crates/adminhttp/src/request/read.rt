@@ -32,12 +32,7 @@ impl Request {
     /// the route has not; for PUT on a clerk and on the policy a length that isn't given, that isn't
     /// one number, or that is over 1,048,576 octets, and then the body's own. What follows the body
     /// is ignored.
-    pub fn read(
-        alloc: Global,
-        site: &Option<HostName>,
-        access: AdminAccess,
-        octets: &[u8],
-    ) -> Got
+    pub fn read(alloc: Global, site: &Option<HostName>, access: AdminAccess, octets: &[u8]) -> Got
         ensures { IfSome (asked_in result) (IsRequest site.now access octets.now) }
     {
         match ask(alloc, site, access, octets) {
