@@ -334,8 +334,11 @@ def a_table_of_20_301_cells_is_drawn_soon(program, folder):
                 for names, cell in new.items()
             }
             same(drawn(page), want)
+            # A machine with more to do than it has processors has longer.
+            slower = max(1, os.getloadavg()[0] / os.cpu_count())
             found = f"rows after {soonest:.1f} s, keys after {filtering:.2f} s and {writing:.2f} s"
-            wants((found, soonest < 2, max(filtering, writing) < 0.2), (found, True, True))
+            is_soon = soonest < 2 * slower, max(filtering, writing) < 0.1 * slower
+            wants((found, is_soon), (found, (True, True)))
 
 
 @case
