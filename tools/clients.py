@@ -88,7 +88,7 @@ class Client:
         while not got.endswith(b"\n"):
             octet = self.socket.recv(1)
             if not octet:
-                raise Wrong(f"an end behind {got!r}")
+                raise Wrong(f"an end after {got!r}")
             got += octet
         return got
 
