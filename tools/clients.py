@@ -31,6 +31,9 @@ actions = ["open", "read", "remove"]
 # A silent client is ended after 600, so a reply that comes then isn't waited for.
 START, REPLY, SPOOL = 600, 300, 600
 
+# What an unproved server says of itself on standard error as it starts begins so.
+SLOW = "note: this popbox isn't proved, and is slow: "
+
 
 class Wrong(Exception):
     """What came is another thing than what must come."""
@@ -43,6 +46,11 @@ FAULTS = (Wrong, OSError, ValueError, subprocess.SubprocessError, http.client.HT
 def wants(found, wanted):
     if found != wanted:
         raise Wrong(f"{found!r}, where {wanted!r} is wanted")
+
+
+def without_slow(text):
+    """A text without the line that an unproved server says of itself."""
+    return "".join(line for line in text.splitlines(True) if not line.startswith(SLOW))
 
 
 def retrieved(text):
@@ -268,6 +276,10 @@ def set_on(folder, seconds):
     wait_for(lambda: has_text(f"{folder}/seen", str(seconds)), "the clock isn't seen")
 
 
+# What a tool looks at itself.
+FLAGS = ("--short", "--firefox")
+
+
 class Cases:
     """The cases of a tool: functions of the program and of a new folder, each of which fails by an
     exception. What is called by `preload` needs a C compiler."""
@@ -318,7 +330,7 @@ class Cases:
         if "--help" in sys.argv[1:]:
             print(self.text.strip())
             sys.exit()
-        program, *words = [it for it in sys.argv[1:] if it != "--short"] or [PROGRAM]
+        program, *words = [it for it in sys.argv[1:] if it not in FLAGS] or [PROGRAM]
         program = os.path.abspath(program)
         if not os.access(program, os.X_OK):
             sys.exit(f"{program} isn't there: tools/build builds it")

@@ -10,7 +10,7 @@ import subprocess
 import time
 
 import clients
-from clients import SPOOL, Cases, Wrong, wait_for
+from clients import SPOOL, Cases, Wrong, wait_for, without_slow
 
 MOMENT = r"\d\d\d\d-\d\d-\d\dT\d\d:\d\d:\d\dZ"
 CLIENT = r"client=127\.0\.0\.1:\d+"
@@ -160,7 +160,7 @@ class Mail(clients.Client):
 
 def compare(text, wanted):
     """What differs between a log and the lines that are wanted, each behind a moment."""
-    lines = text.splitlines()
+    lines = without_slow(text).splitlines()
     differs = [
         f"line {number} is {line!r}, where {it!r} is wanted"
         for number, (line, it) in enumerate(zip(lines, wanted), 1)

@@ -1,10 +1,13 @@
 """The cases of tools/check-page in a browser: what the page draws, and what it changes."""
 
+import base64
 import csv
 import io
+import json
 import os
 import poplib
 import random
+import re
 import subprocess
 import sys
 import time
@@ -63,6 +66,7 @@ const heads = [...document.querySelectorAll('#grid thead th')].map((it) => it.te
 return [...document.querySelectorAll('#grid tbody tr')].flatMap((row) => [...row.cells].slice(1)
   .map((td, n) => [row.cells[0].textContent, heads[n + 1], td.firstChild.textContent]));
 """
+HEADS = "return [...document.querySelectorAll('#grid tbody th')].map((it) => it.innerText)"
 
 
 def same(found, want):
@@ -166,9 +170,8 @@ def the_drafts_table_is_that_of_csv(program, folder):
         new = decisions(program, folder, DRAFT, OFFICE)
         page.view("table")
         # A mark for whom the server doesn't have.
-        heads = "return [...document.querySelectorAll('#grid tbody th')].map((it) => it.innerText)"
         names = ["ann", "bob", "cat", "dan", "eve *", "(others)"]
-        page.wait(lambda: page.js(heads) == names, f"the rows aren't {names}")
+        page.wait(lambda: page.js(HEADS) == names, f"the rows aren't {names}")
         for which, table in (("force", old), ("draft", new)):
             show(page, which=which)
             want = {
@@ -216,6 +219,123 @@ def a_large_table_is_that_of_csv(program, folder):
         some = random.Random(1939).sample(sorted(old), 20)
         for clerk, maildrop in some:
             opened(page, clerk, maildrop, old[clerk, maildrop], new[clerk, maildrop])
+
+
+# Stands for popbox as it reviews: a policy is written as it is, and has one of two tables.
+STAND_IN = """#!/bin/bash
+case "$*" in
+*--write*) cat draft ;;
+*--only*) echo "clerk-000 drop-000 open: deny by rule a -> allow by rule b" ;;
+*) grep -q other draft && cat FOLDER/1.json || cat FOLDER/0.json ;;
+esac
+"""
+ONE = "".join(
+    f"{it}\n"
+    for it in (
+        "[[rule]]", 'name = "one"', 'effect = "allow"', 'clerk = "ann"', 'maildrop = "orders"',
+        'class = "*"', 'actions = ["open"]',
+    )
+)
+
+
+def chances(folder):
+    """A program that gives such reviews, of decisions by chance over 200 clerks, 100 maildrops and
+    20 classes, and those of its two tables as `decisions` has them."""
+    clerks = [*(f"clerk-{n:03}" for n in range(200)), "(others)"]
+    maildrops = [*(f"drop-{n:03}" for n in range(100)), "(others)"]
+    classes = [*(f"kind-{n:02}" for n in range(20)), "(others)"]
+    told = {"classes": classes, "rules": [f"rule-{n + 1}" for n in range(1000)]}
+    chance, tables = random.Random(1939), []
+    by = [(clerk, maildrop) for clerk in clerks for maildrop in maildrops]
+    for number in range(2):
+        cells = {} if number == 0 else dict(tables[0])
+        for names in by if number == 0 else chance.sample(by, 500):
+            lowest = chance.choice((-1000, -200, 1))
+            numbers = [chance.randint(lowest, 1000) for _ in range(41 + 2)]
+            cells[names] = [numbers[0], numbers[1:22], numbers[22:43]]
+        tables.append(cells)
+        keys = ("clerk", "maildrop", "open", "read", "remove")
+        rows = [dict(zip(keys, (*names, *cells[names]))) for names in by]
+        with open(f"{folder}/{number}.json", "w", encoding="ascii") as file:
+            json.dump({**told, "cells": rows}, file, separators=(",", ":"))
+        os.chmod(file.name, 0o644)
+    with open(f"{folder}/stands", "w", encoding="ascii") as file:
+        file.write(STAND_IN.replace("FOLDER", folder))
+    os.chmod(file.name, 0o755)
+    return file.name, [{it: as_csv(told, cells[it]) for it in by} for cells in tables]
+
+
+def as_csv(told, cell):
+    """A cell of JSON as `decisions` has it."""
+    opens, reads, removes = cell
+
+    def one(number):
+        name = told["rules"][abs(number) - 1] if number else "default"
+        return number > 0, name
+
+    found = {("", "open"): one(opens)}
+    for kind, read, remove in zip(told["classes"], reads, removes):
+        found |= {(kind, "read"): one(read), (kind, "remove"): one(remove)}
+    return found
+
+
+def first_rows(page):
+    """After how many seconds a load shows the first rows of the table."""
+    page.driver.get("about:blank")
+    page.driver.get(f"{page.site.url}/")
+    asked = "return document.querySelector('#grid tbody td') && performance.now() / 1000"
+    page.wait(lambda: page.js(asked), "there are no rows")
+    return page.js(asked)
+
+
+WAITS = """
+window.waits = [];
+document.addEventListener('keydown', (it) => waits.push(performance.now() - it.timeStamp), true);
+"""
+
+
+def longest_wait(page, field, keys):
+    """How many seconds a key waits, of some that are pressed in a field, at most."""
+    page.js("waits.length = 0")
+    page.find(field).click()
+    for key in keys:
+        page.keys(key)
+        time.sleep(0.1)
+    page.wait(lambda: page.js("return waits.length") >= len(keys), "keys are lost")
+    return page.js("return Math.max(...waits)") / 1000
+
+
+@case
+def a_table_of_20_301_cells_is_drawn_soon(program, folder):
+    os.chmod(folder, 0o711)
+    os.mkdir(f"{folder}/site")
+    reviews, (old, new) = chances(folder)
+    with site(program, f"{folder}/site", policy=ONE, reviews=reviews) as place:
+        with browser(place) as page:
+            page.loaded()
+            soonest = min(first_rows(page) for _ in range(3))
+            page.loaded()
+            show(page, equal=False)
+            page.wait(lambda: len(page.js(DRAWN)) == len(old), "the table isn't whole")
+            same(drawn(page), {names: mark_of(cell) for names, cell in old.items()})
+            page.js(WAITS)
+            filtering = longest_wait(page, "f-clerks", "clerk-19")
+            page.wait(lambda: len(page.js(DRAWN)) == 10 * 101, "the rows aren't ten")
+            show(page, clerks="")
+            page.view("policy")
+            writing = longest_wait(page, "draft", "# other, as it is written")
+            page.reviewed()
+            wants(page.text("draft-of"), "popbox has reviewed it.")
+            page.view("table")
+            show(page, which="draft", equal=False)
+            page.wait(lambda: len(page.js(DRAWN)) == len(new), "the table isn't whole")
+            want = {
+                names: f"{mark_of(cell)} {change_of(old[names], cell)}".strip()
+                for names, cell in new.items()
+            }
+            same(drawn(page), want)
+            print(f"first rows after {soonest:.1f} s; a key waits {filtering:.2f} s, {writing:.2f} s")
+            wants((soonest < 2, filtering < 0.2, writing < 0.2), (True, True, True))
 
 
 @case
@@ -288,27 +408,15 @@ return [...document.querySelectorAll('body *')].filter((it) => it.offsetParent &
   return [it.tagName + '.' + it.className + ' ' + it.textContent.slice(0, 20),
     (Math.max(a, b) + .05) / (Math.min(a, b) + .05)]; }).filter(([, ratio]) => ratio < 4.5);
 """
-NAMED = ("button", "link", "textbox", "searchbox", "combobox", "checkbox", "grid", "table")
-
-
-def nameless(page):
-    """The roles of what a screen reader has no name for."""
-    nodes = page.driver.execute_cdp_cmd("Accessibility.getFullAXTree", {})["nodes"]
-    return [
-        node["role"]["value"]
-        for node in nodes
-        if not node.get("ignored") and node["role"]["value"] in NAMED and not node["name"]["value"]
-    ]
 
 
 def looks_well(program, folder, **how):
     with site(program, folder) as place, browser(place, **how) as page:
-        page.driver.execute_cdp_cmd("Accessibility.enable", {})
         page.draft(DRAFT)
         for view in ("table/bob/orders", "policy", "maildrops/orders", "clerks", "sessions"):
             page.view(view)
             wants((view, page.js(CONTRAST)), (view, []))
-            wants((view, [it for it in nameless(page) if it != "table"]), (view, []))
+            wants((view, page.driver.nameless()), (view, []))
             wide = "return document.documentElement.scrollWidth - innerWidth"
             wants((view, page.js(wide) <= 1), (view, True))
 
@@ -326,6 +434,34 @@ def it_is_read_in_the_dark(program, folder):
 @case
 def it_is_read_on_a_phone(program, folder):
     looks_well(program, folder, is_phone=True, width=390, height=844)
+
+
+def printed(page):
+    """The text of the page as it is printed."""
+    words = ["pdftotext", "-layout", "-", "-"]
+    pages = base64.b64decode(page.driver.print_page())
+    return subprocess.run(words, input=pages, capture_output=True, check=True).stdout.decode()
+
+
+@case
+def it_is_printed_whole(program, folder):
+    clerks = [f"clerk-{n}" for n in range(100, 180)]
+    rules = [
+        f'[[rule]]\nname = "of-{it}"\neffect = "allow"\nclerk = "{it}"\nmaildrop = "orders"\n'
+        'class = "*"\nactions = ["open", "read"]\n'
+        for it in clerks
+    ]
+    with site(program, folder, policy="\n".join(rules)) as place, browser(place) as page:
+        show(page, equal=False)
+        page.view("table/clerk-179/orders")
+        text = printed(page)
+        wants(re.findall(r"^ *(clerk-\d+) \* +R", text, re.MULTILINE), clerks)
+        wants("yes, of-clerk-179" in text, True)
+        wants([it for it in ("Reload", "Sessions", "part of a name", "Close") if it in text], [])
+        page.draft("\n".join(rules[1:]))
+        text = printed(page)
+        names = re.findall(r'^ *\d+ +name = "of-(.*)"$', text, re.MULTILINE)
+        wants((names, "Become denied: 2" in text, "Put in" in text), (clerks, True, False))
 
 
 # ---- a draft
@@ -504,30 +640,54 @@ def clerks_are_added_replaced_and_removed(program, folder):
         wants(len(page.value("c-secret")), 20)
         wants(removed(page, "Remove clerk gil", "c-told"), "gil: dropped")
         wants(place.get("/clerks/gil"), "no such clerk\n")
-        # A list, if the server has one; else the page says that there is none.
-        has_list = place.get("/clerks").startswith("ann pass\n")
-        found = "old" in page.text("c-list"), "does not list" in page.text("c-of")
-        wants(found, (has_list, not has_list))
+
+
+CLERKS = """
+return [...document.querySelectorAll('#c-list tbody tr')]
+  .map((it) => it.cells[0].textContent + ', ' + it.cells[1].textContent);
+"""
 
 
 @case
-def the_servers_list_of_clerks_is_taken(program, folder):
-    clerks = "ann pass\nbob apop\ncat pass\nold pass\n"
-    with site(program, folder, clerks=clerks) as place, browser(place) as page:
-        rows = (
-            "return [...document.querySelectorAll('#c-list tbody tr')]"
-            ".map((it) => it.cells[0].textContent + ', ' + it.cells[1].textContent)"
-        )
-        want = ["ann, password", "bob, APOP", "cat, password"]
-        want += ["dan, no such clerk", "old, password"]
-        wants((page.js(rows), page.text("c-of").strip()), (want, "4 clerks."))
-        wants("/api/clerks/" in place.read("access.log"), False)
-        # Whom no rule names is found with those that no rule is about.
-        show(page, clerks="old")
-        wants({clerk for clerk, _ in drawn(page)}, {"(others)"})
-        show(page, clerks="")
-        heads = "return [...document.querySelectorAll('#grid tbody th')].map((it) => it.innerText)"
-        wants(page.js(heads), ["ann", "bob", "cat", "dan *", "(others)"])
+def a_clerk_whom_no_rule_names_is_shown(program, folder):
+    with site(program, folder) as place:
+        place.server.administer("DELETE", "/clerks/dan")
+        with browser(place) as page:
+            want = ["ann, password", "bob, APOP", "cat, password"]
+            want += ["dan, no such clerk", "old, password"]
+            wants((page.js(CLERKS), page.text("c-of").strip()), (want, "4 clerks."))
+            # The list is asked for, and nobody by name.
+            asked = place.read("access.log")
+            found = asked.count("GET /api/clerks 200"), "/api/clerks/" in asked
+            wants(found, (1, False))
+            # In the table that clerk is found with those of whom no rule speaks.
+            wants(page.js(HEADS), ["ann", "bob", "cat", "dan *", "(others)"])
+            show(page, clerks="old")
+            wants({clerk for clerk, _ in drawn(page)}, {"(others)"})
+            page.view("table/old/orders")
+            told = "All whom no rule names; on the server: old."
+            page.wait(lambda: told in page.text("cell"), "(others) aren't said")
+            form(page, "clerks", c_name="old", c_kind="apop", c_secret="another")
+            wants(sent(page, "clerks", "c-told", agree=True), "old: replaced")
+            wants(("old, APOP" in page.js(CLERKS), place.get("/clerks/old")), (True, "apop\n"))
+            wants(removed(page, "Remove clerk old", "c-told"), "old: dropped")
+            page.loaded()
+            wants((page.js(CLERKS), page.text("c-of").strip()), (want[:-1], "3 clerks."))
+            wants(place.get("/clerks/old"), "no such clerk\n")
+
+
+@case
+def without_a_list_the_policys_clerks_are_shown(program, folder):
+    with site(program, folder, has_list=False) as place, browser(place) as page:
+        want = ["ann, password", "bob, APOP", "cat, password", "dan, password"]
+        said = "The server does not list its clerks (serve --list-clerks)"
+        wants((page.js(CLERKS), said in page.text("c-of")), (want, True))
+        # Who was added from here stays; whom another administrator added isn't known.
+        form(page, "clerks", c_name="gil", c_kind="pass", c_secret="x")
+        wants(sent(page, "clerks", "c-told"), "gil: added")
+        place.put("/clerks/hal", "pass x")
+        page.reload()
+        wants(page.js(CLERKS), [*want, "gil, password"])
 
 
 @case

@@ -14,6 +14,7 @@ from selenium.common.exceptions import WebDriverException
 
 from clients import wait_for, wants
 from page import OFFICE, TOP, browser, case, site
+from page_browsers import FOREIGN
 from page_drawn import DRAFT, may_be_put
 
 HTML = "<img src=x onerror=alert(1)><script>alert(2)</script>"
@@ -37,12 +38,12 @@ def html_in_a_policy_is_text(program, folder):
             page.reload()
         count = "return document.querySelectorAll('img, main script, [onerror]').length"
         wants((page.js(count), page.js("return window.hit")), (0, 0))
+        # The browser itself makes no HTML of a text.
         try:
-            page.js("document.body.innerHTML = '<b>x</b>'")
-            said = "set"
+            page.js("document.querySelector('h1').innerHTML = '<b>x</b>'")
         except WebDriverException as error:
-            said = str(error)
-        wants("TrustedHTML" in said, True)
+            wants("Trusted" in str(error) or "Sink type" in str(error), True)
+        wants(page.js("return document.querySelector('h1').innerHTML"), "popbox")
 
 
 EVIL = """<!doctype html><title>evil</title><body><script>
@@ -136,14 +137,34 @@ def other_sites_read_and_change_nothing(program, folder):
 
 @case
 def a_name_bound_anew_gets_no_page(program, folder):
-    with site(program, folder) as place:
-        with browser(place, "--host-resolver-rules=MAP evil.test 127.0.0.1") as page:
-            try:
-                page.driver.get(f"https://evil.test:{place.port}/")
-                said = page.driver.title
-            except WebDriverException as error:
-                said = str(error)
-            wants("ERR_SSL_UNRECOGNIZED_NAME_ALERT" in said, True)
+    with site(program, folder) as place, browser(place) as page:
+        refusal = page.driver.refusal
+        try:
+            page.driver.get(f"https://{FOREIGN}:{place.port}/")
+            said = page.driver.title
+        except WebDriverException as error:
+            said = f"{error} {page.js('return document.body.innerText')}"
+        wants((refusal, refusal in said), (refusal, True))
+
+
+@case
+def a_name_bound_to_popbox_itself_is_refused(program, folder):
+    with site(program, folder) as place, browser(place) as page:
+        before, maildrops = place.get("/policy"), place.get("/maildrops")
+        # What a page of that name at this port may do: its requests are of its own site.
+        page.driver.get(f"http://{FOREIGN}:{place.admin}/policy")
+        wants("another site's request" in page.js("return document.body.innerText"), True)
+        page.js(
+            "window.out = []; (async () => { for (const [method, path, body] of ["
+            "['GET', '/policy'], ['GET', '/clerks'], ['PUT', '/maildrops/evil'],"
+            "['PUT', '/clerks/old', 'pass x'], ['PUT', '/policy', '# x'], ['DELETE', '/clerks/old']])"
+            " { const it = await fetch(path, { method, body });"
+            " window.out.push(it.status + ' ' + await it.text()); } })()"
+        )
+        wait_for(lambda: len(page.js("return window.out")) == 6, "it isn't done", 60)
+        wants(page.js("return window.out"), ["403 another site's request\n"] * 6)
+        wants((place.get("/policy"), place.get("/maildrops")), (before, maildrops))
+        wants(place.get("/clerks/old"), "pass\n")
 
 
 @case
@@ -153,7 +174,7 @@ def nobody_else_is_asked(program, folder):
         for view in ("table/bob/orders", "maildrops/orders", "clerks", "sessions"):
             page.view(view)
         page.reload()
-        asked = page.urls()
+        asked = page.driver.urls()
         own = [it for it in asked if it.split("@")[-1].startswith(place.url.split("//")[1])]
         own += [it for it in asked if it.startswith((place.url, "data:", "about:", "chrome:"))]
         wants([it for it in asked if it not in own], [])

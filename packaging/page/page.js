@@ -182,9 +182,10 @@ function load() {
 
 async function loadNow() {
   say('asking …');
-  const paths = ['/api/maildrops', '/api/sessions', '/api/policy', '/api/clerks', '/policies'];
-  const answers = await Promise.all(paths.map((path) => ask('GET', path)));
-  const [maildrops, sessions, policy, clerks, policies] = answers;
+  const paths = ['/api/policy', '/api/maildrops', '/api/sessions', '/api/clerks', '/policies'];
+  const asked = paths.map((path) => ask('GET', path));
+  const table = tableOnce(await asked[0]); // what takes longest begins first
+  const [policy, maildrops, sessions, clerks, policies] = await Promise.all(asked);
   const refused = [maildrops, sessions, policy].find((answer) => answer.status !== 200);
   if (refused) {
     say(refused.told, true);
@@ -198,7 +199,7 @@ async function loadNow() {
     drawForce();
     reviewLater();
   }
-  state.alone = await tableOf('', state.force);
+  state.alone = await table;
   if (clerks.status !== 200) drawTable(); // to ask for each clerk takes a while
   await loadClerks(clerks);
   drawAll();
@@ -249,11 +250,10 @@ const OTHERS = '(others)';
 /** Who may do what by a policy, as `review-policy --format json` has it. A decision is a number: N
  *  above 0 if rule N allows, below 0 if rule -N denies, 0 if no rule matches. */
 class Table {
-  constructor({ classes, rules, cells }) {
-    Object.assign(this, { classes, rules, cells });
+  constructor({ classes, rules, cells }, marks) {
+    Object.assign(this, { classes, rules, cells, marks });
     this.clerks = [...new Set(cells.map((cell) => cell.clerk))];
     this.maildrops = [...new Set(cells.map((cell) => cell.maildrop))];
-    this.marks = cells.map(marksOf);
   }
 
   cell(clerk, maildrop) {
@@ -263,7 +263,8 @@ class Table {
   /** The table of one class alone. */
   about(kind) {
     const only = (cell) => ({ ...cell, read: [cell.read[kind]], remove: [cell.remove[kind]] });
-    return new Table({ ...this, classes: [this.classes[kind]], cells: this.cells.map(only) });
+    const cells = this.cells.map(only);
+    return new Table({ ...this, classes: [this.classes[kind]], cells }, cells.map(marksOf));
   }
 
   /** The same text for clerks who may do the same in each maildrop. */
@@ -277,11 +278,30 @@ class Table {
   }
 }
 
-/** The table of a policy, with the names of an old one too; null if it can't be had. */
-async function tableOf(old, policy) {
-  const answer = await review('table', old, policy);
+/** The table of the policy in force; null if it can't be had. */
+async function tableOnce(policy) {
+  if (policy.status !== 200) return null;
+  const answer = await review('table', '', policy.text);
   state.noTable = answer.status === 200 ? '' : answer.told;
-  return answer.status === 200 ? new Table(JSON.parse(answer.text)) : null;
+  return answer.status === 200 ? tableFrom(answer.text) : null;
+}
+
+/** A table of its JSON. A key that is pressed meanwhile is answered. */
+async function tableFrom(text) {
+  const told = JSON.parse(text), marks = [];
+  await slowly(told.cells, (cell) => marks.push(marksOf(cell)));
+  return new Table(told, marks);
+}
+
+/** Does something with each of many, and lets the browser answer in between. */
+async function slowly(all, run, isDone = () => false) {
+  for (let n = 0, began = performance.now(); n < all.length && !isDone(); n++) {
+    run(all[n], n);
+    if (performance.now() - began > 12) {
+      await pause(0);
+      began = performance.now();
+    }
+  }
 }
 
 const allows = (decision) => decision > 0;
@@ -422,20 +442,19 @@ async function drawTable() {
   }
   const focused = focusedNames();
   shown = chosen();
-  const { columns, groups, table } = shown, body = h('tbody');
+  const { columns, groups, table } = shown, body = h('tbody', { role: 'rowgroup' });
   shown.others = unnamedOf(existing(), table.clerks);
   shown.isRoomy = columns.length <= 6 && groups.length <= 40 && table.classes.length <= 8;
   $('grid').classList.toggle('many', columns.length > 8);
-  $('grid').style.width = columns.length > 8 ? `${12 + 3 * columns.length}em` : '';
+  $('grid').style.setProperty('--columns', columns.length);
   $('grid').classList.toggle('roomy', shown.isRoomy);
   $('grid').replaceChildren(drawColumns(), body);
   $('table-of').textContent = toldOfTable();
   drawFilters();
-  for (let n = 0; n < groups.length && mine === drawing; n += 20) {
-    body.append(...groups.slice(n, n + 20).map(drawRow));
+  await slowly(groups, (group, n) => {
+    body.append(drawRow(group));
     if (n === 0) makeReachable(body.querySelector('td'));
-    await pause(0);
-  }
+  }, () => mine !== drawing);
   if (mine !== drawing) return;
   openCellOfHash(false);
   if (focused) focusCell(...focused);
@@ -492,11 +511,12 @@ function label(name, has, others) {
 
 function drawColumns() {
   const all = shown.force.maildrops, has = existingMaildrops();
+  const head = (text, title) => h('th', { scope: 'col', role: 'columnheader', title }, text);
   const heads = shown.columns.map((m) => {
-    const [text, title] = label(all[m], has.includes(all[m]), unnamedOf(has, all));
-    return h('th', { scope: 'col', title }, text);
+    return head(...label(all[m], has.includes(all[m]), unnamedOf(has, all)));
   });
-  return h('thead', null, h('tr', null, h('th', { scope: 'col' }, 'clerk'), heads));
+  const row = h('tr', { role: 'row' }, head('clerk'), heads);
+  return h('thead', { role: 'rowgroup' }, row);
 }
 
 function drawRow(group) {
@@ -506,8 +526,8 @@ function drawRow(group) {
   const names = labels.map(([text]) => text).join(', ');
   const few = `${labels[0][0]}, ${labels[1]?.[0]} and ${group.length - 2} more`;
   const title = group.length > 1 ? names : labels[0][1];
-  const head = h('th', { scope: 'row', title }, group.length > 3 ? few : names);
-  return h('tr', null, head, shown.columns.map((m) => drawCell(group[0], m)));
+  const head = h('th', { scope: 'row', role: 'rowheader', title }, group.length > 3 ? few : names);
+  return h('tr', { role: 'row' }, head, shown.columns.map((m) => drawCell(group[0], m)));
 }
 
 function drawCell(c, m) {
@@ -520,6 +540,7 @@ function drawCell(c, m) {
   const signs = (change.gives ? '▲' : '') + (change.takes ? '▼' : '');
   td.textContent = signs ? `${mark} ${signs}` : mark;
   if (shown.isRoomy) td.append(h('small', null, words(cell, shown.table.classes)));
+  td.role = 'gridcell';
   td.tabIndex = -1;
   td.dataset.c = c;
   td.dataset.m = m;
@@ -615,6 +636,7 @@ function unselect() {
 
 /** The clerks of the same row, whose rules may be others. */
 function sameAs(c, maildrop) {
+  if (shown.force.clerks[c] === OTHERS) return [h('p', { class: 'banner' }, unnamed())];
   const group = shown.groups.find((it) => it.includes(c)) ?? [];
   const links = group.filter((it) => it !== c).map((it) => {
     const name = shown.force.clerks[it];
@@ -622,6 +644,13 @@ function sameAs(c, maildrop) {
   });
   if (links.length === 0) return [];
   return [h('p', { class: 'banner' }, 'The same: ', links.flatMap((link) => [link, ' ']))];
+}
+
+/** Who is meant by (others). */
+function unnamed() {
+  const some = shown.others.slice(0, 50), rest = shown.others.length - some.length;
+  const names = [...some, ...(rest ? [`${rest} more`] : [])].join(', ');
+  return `All whom no rule names${names && `; on the server: ${names}`}.`;
 }
 
 /** A decision with its rule, and below it the draft's, if that is another. */
@@ -820,7 +849,9 @@ async function reviewNow(draft, force, signal) {
     return;
   }
   const [, changes, before, after] = answers.map((answer) => answer.text);
-  state.beside = besideOf(new Table(JSON.parse(before)), new Table(JSON.parse(after)));
+  const beside = besideOf(await tableFrom(before), await tableFrom(after));
+  if (signal.aborted) return;
+  state.beside = beside;
   state.review = { draft, force, written: written.text, ...sorted(changes) };
   drawReview();
   await addClerks(state.beside.force.clerks);
@@ -975,8 +1006,8 @@ function drawMessages(text) {
 // ---- Clerks
 
 const KINDS = { pass: 'password', apop: 'APOP', '?': 'not known' };
-const NO_LIST = 'The server does not list its clerks: these are the names in the policy and in '
-  + 'sessions. A clerk whom neither names is missing.';
+const NO_LIST = 'The server does not list its clerks (serve --list-clerks): these are the names in '
+  + 'the policy and in sessions. A clerk whom neither names is missing.';
 
 function drawClerks() {
   $('c-of').textContent = `${counted(existing().length, 'clerk')}. ${state.hasList ? '' : NO_LIST}`;
@@ -1158,6 +1189,8 @@ function listenToTable() {
     if (target.matches('td[data-c]')) nameCell(target);
   });
   $('filters').addEventListener('input', filter);
+  // Some programs that choose for a person tell the page of nothing else.
+  for (const id of ['f-kind', 'f-which']) $(id).addEventListener('change', filter);
   $('filters').addEventListener('submit', (event) => event.preventDefault());
 }
 

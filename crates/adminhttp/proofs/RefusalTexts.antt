@@ -2,7 +2,7 @@
 use Rattle.std.proofs.Common.{◌≡◌, codes, refl}
 use Rattle.std.specs.Fmt.{digits}
 use Rattle.adminhttp.specs.Responses.{refusal_response, response_text}
-use Rattle.adminhttp.specs.declared.route.Route.TheVariants.{Maildrops, Maildrop, Clerk, Policy, Groups, Sessions, Session, Explain}
+use Rattle.adminhttp.specs.declared.route.Route.TheVariants.{Maildrops, Maildrop, Clerks, Clerk, Policy, Groups, Sessions, Session, Explain}
 use Rattle.adminhttp.specs.declared.refusal.Refusal.TheVariants.{BadRequest, ForeignSite, NotFound, NotAllowed, LengthRequired, TooLarge, StoreFailed, OutOfMemory}
 
 pub bad_request : refusal_response BadRequest ≡ codes "HTTP/1.1 400 Bad Request\r\nContent-Type: text/plain\r\nContent-Length: 12\r\nConnection: close\r\n\r\nbad request\n"
@@ -40,6 +40,11 @@ not_allowed_maildrops = refl
 pub not_allowed_maildrop : refusal_response (NotAllowed Maildrop) ≡ codes "HTTP/1.1 405 Method Not Allowed\r\nContent-Type: text/plain\r\nAllow: GET, PUT, DELETE\r\nContent-Length: 19\r\nConnection: close\r\n\r\nmethod not allowed\n"
 unfolding digits refusal_response response_text
 not_allowed_maildrop = refl
+
+pub not_allowed_clerks : refusal_response (NotAllowed Clerks)
+    ≡ codes "HTTP/1.1 405 Method Not Allowed\r\nContent-Type: text/plain\r\nAllow: GET\r\nContent-Length: 19\r\nConnection: close\r\n\r\nmethod not allowed\n"
+unfolding digits refusal_response response_text
+not_allowed_clerks = refl
 
 pub not_allowed_clerk : refusal_response (NotAllowed Clerk) ≡ codes "HTTP/1.1 405 Method Not Allowed\r\nContent-Type: text/plain\r\nAllow: GET, PUT, DELETE\r\nContent-Length: 19\r\nConnection: close\r\n\r\nmethod not allowed\n"
 unfolding digits refusal_response response_text

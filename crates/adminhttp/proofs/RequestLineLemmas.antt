@@ -8,13 +8,15 @@ use Rattle.policy.specs.Policy.{Policy}
 use Rattle.creds.specs.declared.credential.Credential.{Credential}
 use Rattle.office.specs.Answers as office
 use Rattle.office.specs.Answers.{AdminCommand}
+use Rattle.office.specs.declared.limits.AdminAccess.{AdminAccess}
 use Rattle.adminhttp.specs.Lines.{head_at}
 use Rattle.adminhttp.specs.Head.{head_text, behind_head}
 use Rattle.adminhttp.specs.Fields.{Header}
 use Rattle.adminhttp.specs.Bodies.{body_of, without_line_end, credential_of, policy_of}
 use Rattle.adminhttp.specs.Steps.{◌>>=◌, value_or}
 use Rattle.adminhttp.specs.Targets.{target_of}
-use Rattle.adminhttp.specs.Request.{Asked, asked_by, asked_of_site, asked_of, clerk_put, policy_put, maildrop_asked, clerk_asked, policy_asked, session_asked, ComesTo, HeadComesTo}
+use Rattle.adminhttp.specs.Request.{Asked, asked_by, asked_of_site, asked_of, clerk_put, policy_put, maildrop_asked, clerks_asked, clerk_asked, policy_asked}
+use Rattle.adminhttp.specs.Request.{session_asked, ComesTo, HeadComesTo}
 use Rattle.adminhttp.specs.RequestLines.{by, line_of, method_of, line_in, IsLineAt}
 use Rattle.adminhttp.specs.Laws.{CommandHasItsLine}
 use Rattle.adminhttp.specs.declared.no_command.NoCommand.{NoCommand}
@@ -91,47 +93,55 @@ session_line m t x c s true e g h =
     is_it c x (by Delete t) h g ∙ ap (λ text. option_map (λ asked. by asked t) (method_of text)) (sym is)
 session_line m t x c s false e g h = absurd (cc h)
 
+clerks_line : (listed : Bool) (m : List ℕ) (c : AdminCommand) (s : NoCommand) → Ok c ≡ cond listed (cond (bytes_eq m (codes "GET")) (Ok office.ListClerks) (Err s)) (Err (Bad NotFound))
+    → Some (line_of c) ≡ option_map (λ asked. by asked target.Clerks) (method_of m)
+clerks_line true m c s h = by_get_line _ (bytes_eq m (codes "PUT")) (bytes_eq m (codes "DELETE")) target.Clerks office.ListClerks c s refl h
+clerks_line false m c s h = absurd (cc h)
+
 -- what is asked of a target has its line
-line_on : (found : Target) (m : List ℕ) (headers : List Header) (behind : List ℕ) (c : AdminCommand) → Ok c ≡ asked_of found m headers behind
+line_on : (access : AdminAccess) (found : Target) (m : List ℕ) (headers : List Header) (behind : List ℕ) (c : AdminCommand) → Ok c ≡ asked_of access found m headers behind
     → Some (line_of c) ≡ option_map (λ asked. by asked found) (method_of m)
-unfolding maildrop_asked clerk_asked policy_asked session_asked
-line_on target.Maildrops m headers behind c h = by_get_line _ (bytes_eq m (codes "PUT")) (bytes_eq m (codes "DELETE")) target.Maildrops office.ListMaildrops c _ refl h
-line_on (target.Maildrop d) m headers behind c h =
+unfolding maildrop_asked clerks_asked clerk_asked policy_asked session_asked
+line_on access target.Maildrops m headers behind c h = by_get_line _ (bytes_eq m (codes "PUT")) (bytes_eq m (codes "DELETE")) target.Maildrops office.ListMaildrops c _ refl h
+line_on access (target.Maildrop d) m headers behind c h =
     by_three _ _ _ (target.Maildrop d) (office.ShowMaildrop d) (office.DropMaildrop d) c (Ok (office.AddMaildrop d)) _ refl (put_of c (office.AddMaildrop d) (by Put (target.Maildrop d)) refl) refl h
-line_on (target.Clerk clerk) m headers behind c h =
+line_on access target.Clerks m headers behind c h = clerks_line access.lists_clerks m c _ h
+line_on access (target.Clerk clerk) m headers behind c h =
     by_three _ _ _ (target.Clerk clerk) (office.ShowClerk clerk) (office.DropClerk clerk) c (clerk_put clerk headers behind) _ refl (put_clerk clerk headers behind c) refl h
-line_on target.Policy m headers behind c h = by_two _ _ (bytes_eq m (codes "DELETE")) target.Policy office.ShowPolicy c (policy_put headers behind) _ refl (put_policy headers behind c) h
-line_on target.Groups m headers behind c h = by_get_line _ (bytes_eq m (codes "PUT")) (bytes_eq m (codes "DELETE")) target.Groups office.ListGroups c _ refl h
-line_on target.Sessions m headers behind c h = by_get_line _ (bytes_eq m (codes "PUT")) (bytes_eq m (codes "DELETE")) target.Sessions office.ListSessions c _ refl h
-line_on (target.Session n) m headers behind c h = session_line m (target.Session n) (office.EndSession n) c _ (bytes_eq m (codes "DELETE")) refl refl h
-line_on (target.Explain clerk d class action) m headers behind c h =
+line_on access target.Policy m headers behind c h = by_two _ _ (bytes_eq m (codes "DELETE")) target.Policy office.ShowPolicy c (policy_put headers behind) _ refl (put_policy headers behind c) h
+line_on access target.Groups m headers behind c h = by_get_line _ (bytes_eq m (codes "PUT")) (bytes_eq m (codes "DELETE")) target.Groups office.ListGroups c _ refl h
+line_on access target.Sessions m headers behind c h = by_get_line _ (bytes_eq m (codes "PUT")) (bytes_eq m (codes "DELETE")) target.Sessions office.ListSessions c _ refl h
+line_on access (target.Session n) m headers behind c h = session_line m (target.Session n) (office.EndSession n) c _ (bytes_eq m (codes "DELETE")) refl refl h
+line_on access (target.Explain clerk d class action) m headers behind c h =
     by_get_line _ (bytes_eq m (codes "PUT")) (bytes_eq m (codes "DELETE")) (target.Explain clerk d class action) (office.Explain clerk d class action) c _ refl h
 
-line_by_target : (o : Option Target) (m : List ℕ) (headers : List Header) (behind : List ℕ) (c : AdminCommand) → Ok c ≡ (value_or o NotFound >>= λ found. asked_of found m headers behind)
+line_by_target : (access : AdminAccess) (o : Option Target) (m : List ℕ) (headers : List Header) (behind : List ℕ) (c : AdminCommand)
+    → Ok c ≡ (value_or o NotFound >>= λ found. asked_of access found m headers behind)
     → Some (line_of c) ≡ option_and_then (λ named. option_map (λ asked. by asked named) (method_of m)) o
-line_by_target (Some found) m headers behind c h = line_on found m headers behind c h
-line_by_target None m headers behind c h = absurd (cc h)
+line_by_target access (Some found) m headers behind c h = line_on access found m headers behind c h
+line_by_target access None m headers behind c h = absurd (cc h)
 
-line_asked : (m t : List ℕ) (headers : List Header) (behind : List ℕ) (c : AdminCommand) → Ok c ≡ asked_by m t headers behind → Some (line_of c) ≡ line_in m t
+line_asked : (access : AdminAccess) (m t : List ℕ) (headers : List Header) (behind : List ℕ) (c : AdminCommand)
+    → Ok c ≡ asked_by access m t headers behind → Some (line_of c) ≡ line_in m t
 unfolding asked_by
-line_asked m t headers behind c h = line_by_target (target_of t) m headers behind c h
+line_asked access m t headers behind c h = line_by_target access (target_of t) m headers behind c h
 
-line_served : (own : Bool) (m t : List ℕ) (headers : List Header) (behind : List ℕ) (c : AdminCommand) → Ok c ≡ cond own (asked_by m t headers behind) (Err (Bad ForeignSite))
+line_served : (access : AdminAccess) (own : Bool) (m t : List ℕ) (headers : List Header) (behind : List ℕ) (c : AdminCommand) → Ok c ≡ cond own (asked_by access m t headers behind) (Err (Bad ForeignSite))
     → Some (line_of c) ≡ line_in m t
-line_served true m t headers behind c h = line_asked m t headers behind c h
-line_served false m t headers behind c h = absurd (cc h)
+line_served access true m t headers behind c h = line_asked access m t headers behind c h
+line_served access false m t headers behind c h = absurd (cc h)
 
-line_of_site : (site : Site) (m t : List ℕ) (headers : List Header) (behind : List ℕ) (c : AdminCommand) → Ok c ≡ asked_of_site site m t headers behind → Some (line_of c) ≡ line_in m t
+line_of_site : (site : Site) (access : AdminAccess) (m t : List ℕ) (headers : List Header) (behind : List ℕ) (c : AdminCommand) → Ok c ≡ asked_of_site site access m t headers behind → Some (line_of c) ≡ line_in m t
 unfolding asked_of_site
-line_of_site site m t headers behind c h = line_served (is_own site headers) m t headers behind c h
+line_of_site site access m t headers behind c h = line_served access (is_own site headers) m t headers behind c h
 
-at_head : (site : Site) (text behind : List ℕ) (c : AdminCommand) (place : ℕ × ℕ) (b : List ℕ) → HeadComesTo site (head_text b place) behind (Ok c) → IsLineAt b (Some place) (Some (line_of c))
-at_head site text behind c place b (inl x) = inl (x.0, x.1, line_of_site site x.0.method x.0.target (map name_and_value x.0.fields) behind c x.2)
-at_head site text behind c place b (inr x) = absurd (cc x.1)
+at_head : (site : Site) (access : AdminAccess) (text behind : List ℕ) (c : AdminCommand) (place : ℕ × ℕ) (b : List ℕ) → HeadComesTo site access (head_text b place) behind (Ok c) → IsLineAt b (Some place) (Some (line_of c))
+at_head site access text behind c place b (inl x) = inl (x.0, x.1, line_of_site site access x.0.method x.0.target (map name_and_value x.0.fields) behind c x.2)
+at_head site access text behind c place b (inr x) = absurd (cc x.1)
 
-at_place : (site : Site) (b : List ℕ) (place : Option (ℕ × ℕ)) (c : AdminCommand) → ComesTo site b place (Ok c) → IsLineAt b place (Some (line_of c))
-at_place site b None c h = absurd (cc h)
-at_place site b (Some place) c h = at_head site b (behind_head b place) c place b h
+at_place : (site : Site) (access : AdminAccess) (b : List ℕ) (place : Option (ℕ × ℕ)) (c : AdminCommand) → ComesTo site access b place (Ok c) → IsLineAt b place (Some (line_of c))
+at_place site access b None c h = absurd (cc h)
+at_place site access b (Some place) c h = at_head site access b (behind_head b place) c place b h
 
 pub command_has_its_line : CommandHasItsLine
-command_has_its_line site b command h = at_place site b (head_at b) command h
+command_has_its_line site access b command h = at_place site access b (head_at b) command h

@@ -12,7 +12,8 @@ use Rattle.creds.specs.declared.credential.Credential.TheVariants.{Apop}
 use Rattle.policy.specs.declared.rule.Action.TheVariants as to
 use Rattle.httparse.proofs.OnLiterals.{httparse_on_literals}
 use Rattle.httparse.specs.Grammar.{RequestHead, IsRequestHead, IsField, crlf, is_token_byte, is_uri_byte}
-use Rattle.office.specs.Answers.{ListMaildrops, ShowMaildrop, DropMaildrop, PutClerk, EndSession, Explain}
+use Rattle.office.specs.Events.{no_access}
+use Rattle.office.specs.Answers.{ListMaildrops, ListClerks, ShowMaildrop, DropMaildrop, PutClerk, EndSession, Explain}
 use Rattle.adminhttp.specs.declared.route.Route.TheVariants as route
 use Rattle.adminhttp.specs.declared.refusal.Refusal.TheVariants.{BadRequest, NotFound, NotAllowed, LengthRequired, TooLarge}
 use Rattle.adminhttp.specs.declared.no_command.NoCommand.TheVariants.{More, Bad}
@@ -20,7 +21,8 @@ use Rattle.adminhttp.specs.Lines.{empty_lines, through_empty_line, head_at}
 use Rattle.adminhttp.specs.Targets.{target_of}
 use Rattle.adminhttp.specs.Fields.{Header, body_length}
 use Rattle.adminhttp.specs.Bodies.{body_of, without_line_end, credential_of}
-use Rattle.adminhttp.specs.Request.{Asked, IsRequest, asked_by, asked_of_site, clerk_put, policy_put, maildrop_asked, clerk_asked, policy_asked, session_asked}
+use Rattle.adminhttp.specs.Request.{Asked, IsRequest, asked_by, asked_of_site, clerk_put, policy_put, maildrop_asked, clerks_asked, clerk_asked, policy_asked}
+use Rattle.adminhttp.specs.Request.{session_asked}
 
 -- ---- heads
 
@@ -40,7 +42,7 @@ returns_before_an_end : head_at (codes "a\r\r\n\r\r\n\n") ≡ Some (0, 8)
 unfolding empty_lines through_empty_line
 returns_before_an_end = refl
 
-more_to_come : IsRequest None (codes "bad\r\n") (Err More)
+more_to_come : IsRequest None no_access (codes "bad\r\n") (Err More)
 unfolding empty_lines through_empty_line
 more_to_come = refl
 
@@ -51,11 +53,23 @@ length_is value = (codes "Content-Length", value)
 
 -- what a method asks of a target, with these headers and octets after the head
 abbrev asks : (method target : List ℕ) → List Header → List ℕ → Asked
-asks method target headers behind = asked_by method target headers behind
+asks method target headers behind = asked_by no_access method target headers behind
 
 explain : asks (codes "GET") (codes "/explain/bob/orders/pay/read") [] [] ≡ Ok (Explain (codes "bob") (codes "orders") (codes "pay") to.Read)
 unfolding asked_by target_of
 explain = refl
+
+no_list_of_clerks : asks (codes "GET") (codes "/clerks") [] [] ≡ Err (Bad NotFound)
+unfolding asked_by target_of clerks_asked
+no_list_of_clerks = refl
+
+list_of_clerks : asked_by (record { lists_clerks = true }) (codes "GET") (codes "/clerks") [] [] ≡ Ok ListClerks
+unfolding asked_by target_of clerks_asked
+list_of_clerks = refl
+
+put_on_the_list : asked_by (record { lists_clerks = true }) (codes "PUT") (codes "/clerks") [] [] ≡ Err (Bad (NotAllowed route.Clerks))
+unfolding asked_by target_of clerks_asked
+put_on_the_list = refl
 
 no_action : asks (codes "GET") (codes "/explain/bob/orders/pay/write") [] [] ≡ Err (Bad NotFound)
 unfolding asked_by target_of
@@ -141,6 +155,6 @@ is_head = record {
   fields = All-nil IsField;
 }
 
-maildrops : IsRequest None (codes "\r\nGET /maildrops HTTP/1.1\r\n\r\nwhatever") (Ok ListMaildrops)
+maildrops : IsRequest None no_access (codes "\r\nGET /maildrops HTTP/1.1\r\n\r\nwhatever") (Ok ListMaildrops)
 unfolding empty_lines through_empty_line httparse_on_literals asked_of_site asked_by target_of
 maildrops = inl (head, ((is_head, refl), lit≤ tt), refl)

@@ -20,7 +20,7 @@ use Rattle.matchit.proofs.OnLiterals.{matchit_on_literals}
 use Rattle.adminhttp.specs.declared.route.Route.{Route}
 use Rattle.adminhttp.specs.declared.route.Route.TheVariants as route
 use Rattle.adminhttp.specs.declared.target.Target.{Target}
-use Rattle.adminhttp.specs.declared.target.Target.TheVariants.{Maildrops, Maildrop, Clerk, Policy, Groups, Sessions, Session, Explain}
+use Rattle.adminhttp.specs.declared.target.Target.TheVariants.{Maildrops, Maildrop, Clerks, Clerk, Policy, Groups, Sessions, Session, Explain}
 use Rattle.adminhttp.specs.Rows.{route_rows, value_of}
 use Rattle.office.specs.Numbers.{is_number, number_of}
 use Rattle.adminhttp.specs.Targets.{◌>>=◌, is_slash, first_part, behind, alone, explained, target_on, found_on, first_of, target_among, routes, target_of}
@@ -161,6 +161,10 @@ on_maildrops : found_by (codes "/maildrops") ≡ Some route.Maildrops
 unfolding matchit_on_literals
 on_maildrops = refl
 
+on_clerks : found_by (codes "/clerks") ≡ Some route.Clerks
+unfolding matchit_on_literals
+on_clerks = refl
+
 on_policy : found_by (codes "/policy") ≡ Some route.Policy
 unfolding matchit_on_literals
 on_policy = refl
@@ -205,6 +209,7 @@ route_found route.Maildrops path found h = ap found_by (alone_is path (codes "/m
 route_found route.Maildrop path found h =
     begun (codes "/maildrops/") path (λ part. option_map Maildrop (name_of part)) found route.Maildrop
     (λ rest is. let name = map_is Maildrop (name_of rest) found is in on_maildrop rest (name_is rest name.0 name.1)) h
+route_found route.Clerks path found h = ap found_by (alone_is path (codes "/clerks") Clerks found h) ∙ on_clerks
 route_found route.Clerk path found h =
     begun (codes "/clerks/") path (λ part. option_map Clerk (name_of part)) found route.Clerk
     (λ rest is. let name = map_is Clerk (name_of rest) found is in on_clerk rest (name_is rest name.0 name.1)) h
@@ -250,15 +255,17 @@ none_on r path h =
     let six = neither _ _ five.1 in
     let seven = neither _ _ six.1 in
     let eight = neither _ _ seven.1 in
+    let nine = neither _ _ eight.1 in
     elim r as (λ r. target_on r path ≡ None) [
       | route.Maildrops ↦ one.0
       | route.Maildrop ↦ two.0
-      | route.Clerk ↦ three.0
-      | route.Policy ↦ four.0
-      | route.Groups ↦ five.0
-      | route.Sessions ↦ six.0
-      | route.Session ↦ seven.0
-      | route.Explain ↦ eight.0
+      | route.Clerks ↦ three.0
+      | route.Clerk ↦ four.0
+      | route.Policy ↦ five.0
+      | route.Groups ↦ six.0
+      | route.Sessions ↦ seven.0
+      | route.Session ↦ eight.0
+      | route.Explain ↦ nine.0
     ]
 
 found_none : (o : Option Route) (path : List ℕ) → target_among routes path ≡ None → found_on o path ≡ None

@@ -27,6 +27,7 @@ status_code response = take 3 (drop 9 response)
 abbrev pub is_listing : Answer → Bool
 is_listing (answer.Maildrops rows) = true
 is_listing (answer.Messages rows) = true
+is_listing (answer.Clerks rows) = true
 is_listing (answer.PolicyIs policy) = true
 is_listing (answer.GroupsOf policy) = true
 is_listing (answer.Sessions rows) = true

@@ -4,8 +4,9 @@ use Rattle.std.specs.Prelude.{◌≡◌, ◌⊎◌, ℕ, nat_le, List, codes, le
 use Rattle.std.specs.Str.{bytes_eq}
 use Rattle.httparse.specs.Grammar.{RequestHead}
 use Rattle.httparse.specs.Spans.{name_and_value}
-use Rattle.office.specs.Answers.{AdminCommand, ListMaildrops, ShowMaildrop, AddMaildrop, DropMaildrop, ShowClerk, PutClerk, DropClerk, ShowPolicy, SetPolicy, ListGroups, ListSessions, EndSession, Explain}
+use Rattle.office.specs.Answers.{AdminCommand, ListMaildrops, ShowMaildrop, AddMaildrop, DropMaildrop, ListClerks, ShowClerk, PutClerk, DropClerk, ShowPolicy, SetPolicy, ListGroups, ListSessions, EndSession, Explain}
 use Rattle.office.specs.Seen.{command_seen}
+use Rattle.office.specs.declared.limits.AdminAccess.{AdminAccess}
 use Rattle.adminhttp.specs.Lines.{head_at, most_in_head}
 use Rattle.adminhttp.specs.Head.{IsHead, IsNoHead, head_text, behind_head}
 use Rattle.adminhttp.specs.Targets.{target_of}
@@ -54,6 +55,11 @@ maildrop_asked maildrop method =
     else if bytes_eq method (codes "DELETE") then Ok (DropMaildrop maildrop)
     else Err (Bad (NotAllowed route.Maildrop))
 
+-- the list of the clerks, which there is only if the administration lists them
+unfoldable pub clerks_asked : AdminAccess → (method : List ℕ) → Asked
+clerks_asked access method =
+    if access.lists_clerks then by_get route.Clerks method ListClerks else Err (Bad NotFound)
+
 -- a clerk
 unfoldable pub clerk_asked : (clerk method : List ℕ) → List Header → (behind : List ℕ) → Asked
 clerk_asked clerk method headers behind =
@@ -76,28 +82,31 @@ session_asked number method =
 
 -- what a method gives on a target: a refusal if the route doesn't have it, then the body's
 -- faults
-abbrev pub asked_of : Target → (method : List ℕ) → List Header → (behind : List ℕ) → Asked
-asked_of target.Maildrops method headers behind = by_get route.Maildrops method ListMaildrops
-asked_of (target.Maildrop maildrop) method headers behind = maildrop_asked maildrop method
-asked_of (target.Clerk clerk) method headers behind = clerk_asked clerk method headers behind
-asked_of target.Policy method headers behind = policy_asked method headers behind
-asked_of target.Groups method headers behind = by_get route.Groups method ListGroups
-asked_of target.Sessions method headers behind = by_get route.Sessions method ListSessions
-asked_of (target.Session number) method headers behind = session_asked number method
-asked_of (target.Explain clerk maildrop class action) method headers behind =
+abbrev pub asked_of : AdminAccess → Target → (method : List ℕ) → List Header → (behind : List ℕ)
+    → Asked
+asked_of access target.Maildrops method headers behind = by_get route.Maildrops method ListMaildrops
+asked_of access (target.Maildrop maildrop) method headers behind = maildrop_asked maildrop method
+asked_of access target.Clerks method headers behind = clerks_asked access method
+asked_of access (target.Clerk clerk) method headers behind = clerk_asked clerk method headers behind
+asked_of access target.Policy method headers behind = policy_asked method headers behind
+asked_of access target.Groups method headers behind = by_get route.Groups method ListGroups
+asked_of access target.Sessions method headers behind = by_get route.Sessions method ListSessions
+asked_of access (target.Session number) method headers behind = session_asked number method
+asked_of access (target.Explain clerk maildrop class action) method headers behind =
     by_get route.Explain method (Explain clerk maildrop class action)
 
 -- what a head and the octets after it give
-unfoldable pub asked_by : (method target : List ℕ) → List Header → (behind : List ℕ) → Asked
-asked_by method target headers behind = do
+unfoldable pub asked_by : AdminAccess → (method target : List ℕ) → List Header → (behind : List ℕ)
+    → Asked
+asked_by access method target headers behind = do
   found ← value_or (target_of target) NotFound
-  asked_of found method headers behind
+  asked_of access found method headers behind
 
 -- the same, if the request is the site's own
-unfoldable pub asked_of_site : (site : Site) → (method target : List ℕ) → List Header
-    → (behind : List ℕ) → Asked
-asked_of_site site method target headers behind =
-    if is_own site headers then asked_by method target headers behind
+unfoldable pub asked_of_site : (site : Site) → AdminAccess → (method target : List ℕ)
+    → List Header → (behind : List ℕ) → Asked
+asked_of_site site access method target headers behind =
+    if is_own site headers then asked_by access method target headers behind
     else Err (Bad ForeignSite)
 
 -- a head that hasn't ended: more may come, up to 8,192 octets
@@ -105,22 +114,22 @@ abbrev pub unended : List ℕ → NoCommand
 unended b = if nat_le (length b) most_in_head then More else Bad BadRequest
 
 -- the text of a head and the octets after it give this
-abbrev pub HeadComesTo : (site : Site) → (text behind : List ℕ) → Asked → Type 0
-HeadComesTo site text behind asked =
+abbrev pub HeadComesTo : (site : Site) → AdminAccess → (text behind : List ℕ) → Asked → Type 0
+HeadComesTo site access text behind asked =
     ((h : RequestHead) × IsHead text h
-    × (asked ≡ asked_of_site site h.method h.target (map name_and_value h.fields) behind))
+    × (asked ≡ asked_of_site site access h.method h.target (map name_and_value h.fields) behind))
     ⊎ (IsNoHead text × (asked ≡ Err (Bad BadRequest)))
 
 -- octets give this; `place` is their head's, if it has ended
-abbrev pub ComesTo : (site : Site) → List ℕ → (place : Option (ℕ × ℕ)) → Asked → Type 0
-ComesTo site b None asked = asked ≡ Err (unended b)
-ComesTo site b (Some place) asked =
-    HeadComesTo site (head_text b place) (behind_head b place) asked
+abbrev pub ComesTo : (site : Site) → AdminAccess → List ℕ → (place : Option (ℕ × ℕ)) → Asked → Type 0
+ComesTo site access b None asked = asked ≡ Err (unended b)
+ComesTo site access b (Some place) asked =
+    HeadComesTo site access (head_text b place) (behind_head b place) asked
 
--- The octets of a request give this. If the administration has a site, a request that isn't its own
--- is refused, whatever it asks.
-abbrev pub IsRequest : (site : Site) → List ℕ → Asked → Type 0
-IsRequest site b asked = ComesTo site b (head_at b) asked
+-- The octets of a request give this to an administration with this access. If it has a site, a
+-- request that isn't its own is refused, whatever it asks.
+abbrev pub IsRequest : (site : Site) → AdminAccess → List ℕ → Asked → Type 0
+IsRequest site access b asked = ComesTo site access b (head_at b) asked
 
 -- what the code returns as a request's meaning; None at want of memory
 abbrev pub asked_in : Got → Option Asked

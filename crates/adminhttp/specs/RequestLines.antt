@@ -13,8 +13,8 @@ use Rattle.adminhttp.specs.Lines.{head_at}
 use Rattle.adminhttp.specs.Head.{IsHead, IsNoHead, head_text}
 use Rattle.adminhttp.specs.Targets.{target_of}
 use Rattle.adminhttp.specs.declared.target.Target.{Target}
-use Rattle.adminhttp.specs.declared.target.Target.TheVariants.{Maildrops, Maildrop, Clerk, Policy}
-use Rattle.adminhttp.specs.declared.target.Target.TheVariants.{Groups, Sessions, Session, Explain}
+use Rattle.adminhttp.specs.declared.target.Target.TheVariants.{Maildrops, Maildrop, Clerks, Clerk}
+use Rattle.adminhttp.specs.declared.target.Target.TheVariants.{Policy, Groups, Sessions, Session, Explain}
 use Rattle.adminhttp.specs.declared.request_line.Method.{Method}
 use Rattle.adminhttp.specs.declared.request_line.Method.TheVariants.{Get, Put, Delete}
 use Rattle.adminhttp.specs.declared.request_line.RequestLine.{RequestLine}
@@ -37,6 +37,7 @@ action_text Remove = codes "remove"
 abbrev pub path_of : Target → List ℕ
 path_of Maildrops = codes "/maildrops"
 path_of (Maildrop maildrop) = codes "/maildrops/" ++ maildrop
+path_of Clerks = codes "/clerks"
 path_of (Clerk clerk) = codes "/clerks/" ++ clerk
 path_of Policy = codes "/policy"
 path_of Groups = codes "/groups"
@@ -58,6 +59,7 @@ line_of office.ListMaildrops = by Get Maildrops
 line_of (office.ShowMaildrop maildrop) = by Get (Maildrop maildrop)
 line_of (office.AddMaildrop maildrop) = by Put (Maildrop maildrop)
 line_of (office.DropMaildrop maildrop) = by Delete (Maildrop maildrop)
+line_of office.ListClerks = by Get Clerks
 line_of (office.ShowClerk clerk) = by Get (Clerk clerk)
 line_of (office.PutClerk clerk credential) = by Put (Clerk clerk)
 line_of (office.DropClerk clerk) = by Delete (Clerk clerk)

@@ -6,7 +6,7 @@ use Rattle.policy.specs.declared.fault.PolicyFault.{PolicyFault}
 use Rattle.office.specs.Answers as answer
 use Rattle.office.specs.Answers.{Answer, body_line, body_of}
 use Rattle.adminhttp.specs.declared.route.Route.{Route}
-use Rattle.adminhttp.specs.declared.route.Route.TheVariants.{Maildrops, Maildrop, Clerk, Policy, Groups, Sessions, Session, Explain}
+use Rattle.adminhttp.specs.declared.route.Route.TheVariants.{Maildrops, Maildrop, Clerks, Clerk, Policy, Groups, Sessions, Session, Explain}
 use Rattle.adminhttp.specs.declared.refusal.Refusal.{Refusal}
 use Rattle.adminhttp.specs.declared.refusal.Refusal.TheVariants.{BadRequest, ForeignSite, NotFound, NotAllowed, LengthRequired, TooLarge, StoreFailed, OutOfMemory}
 
@@ -39,6 +39,7 @@ status_of answer.WasThere = codes "200 OK"
 status_of answer.Dropped = codes "200 OK"
 status_of answer.MaildropInUse = codes "409 Conflict"
 status_of answer.NotEmpty = codes "409 Conflict"
+status_of (answer.Clerks rows) = codes "200 OK"
 status_of answer.ByApopSecret = codes "200 OK"
 status_of answer.ByPassword = codes "200 OK"
 status_of answer.NoSuchClerk = codes "404 Not Found"
@@ -65,6 +66,7 @@ fault_response fault = response_text (codes "400 Bad Request") [] (body_line (fa
 abbrev pub methods_of : Route → List ℕ
 methods_of Maildrops = codes "GET"
 methods_of Maildrop = codes "GET, PUT, DELETE"
+methods_of Clerks = codes "GET"
 methods_of Clerk = codes "GET, PUT, DELETE"
 methods_of Policy = codes "GET, PUT"
 methods_of Groups = codes "GET"

@@ -5,13 +5,14 @@ use Rattle.matchit.specs.Order.{placed}
 use Rattle.matchit.specs.Route.{Scan, parse_route}
 use Rattle.matchit.specs.Router.{RouteOf, route_from}
 use Rattle.adminhttp.specs.declared.route.Route.{Route}
-use Rattle.adminhttp.specs.declared.route.Route.TheVariants.{Maildrops, Maildrop, Clerk, Policy, Groups, Sessions, Session, Explain}
+use Rattle.adminhttp.specs.declared.route.Route.TheVariants.{Maildrops, Maildrop, Clerks, Clerk, Policy, Groups, Sessions, Session, Explain}
 
 -- the routes with the text of each, in the order of the table
 abbrev pub table : List (List ℕ × Route)
 table =
     (codes "/maildrops", Maildrops)
     ∷ (codes "/maildrops/{m}", Maildrop)
+    ∷ (codes "/clerks", Clerks)
     ∷ (codes "/clerks/{c}", Clerk)
     ∷ (codes "/policy", Policy)
     ∷ (codes "/groups", Groups)

@@ -8,7 +8,7 @@ use Rattle.policy.specs.PolicyText.{action_of}
 use Rattle.adminhttp.specs.declared.route.Route.{Route}
 use Rattle.adminhttp.specs.declared.route.Route.TheVariants as route
 use Rattle.adminhttp.specs.declared.target.Target.{Target}
-use Rattle.adminhttp.specs.declared.target.Target.TheVariants.{Maildrops, Maildrop, Clerk, Policy, Groups, Sessions, Session, Explain}
+use Rattle.adminhttp.specs.declared.target.Target.TheVariants.{Maildrops, Maildrop, Clerks, Clerk, Policy, Groups, Sessions, Session, Explain}
 
 -- `?` on an `Option`
 infixl 10 ◌>>=◌
@@ -48,6 +48,7 @@ explained text = do
 abbrev pub target_on : Route → List ℕ → Option Target
 target_on route.Maildrops path = alone (codes "/maildrops") Maildrops path
 target_on route.Maildrop path = behind (codes "/maildrops/") path >>= λ part. option_map Maildrop (name_of part)
+target_on route.Clerks path = alone (codes "/clerks") Clerks path
 target_on route.Clerk path = behind (codes "/clerks/") path >>= λ part. option_map Clerk (name_of part)
 target_on route.Policy path = alone (codes "/policy") Policy path
 target_on route.Groups path = alone (codes "/groups") Groups path
@@ -72,7 +73,9 @@ target_among (r ∷ more) path = first_of (target_on r path) (target_among more 
 
 -- the routes
 abbrev pub routes : List Route
-routes = route.Maildrops ∷ route.Maildrop ∷ route.Clerk ∷ route.Policy ∷ route.Groups ∷ route.Sessions ∷ route.Session ∷ route.Explain ∷ []
+routes =
+    route.Maildrops ∷ route.Maildrop ∷ route.Clerks ∷ route.Clerk ∷ route.Policy ∷ route.Groups
+    ∷ route.Sessions ∷ route.Session ∷ route.Explain ∷ []
 
 -- what a path names; None if it is of no route, or one of its parts hasn't its form
 unfoldable pub target_of : List ℕ → Option Target

@@ -4,8 +4,8 @@ ghost use Rattle.std.specs.Prelude.{◌≡◌, ◌≢◌, IfOk, IfErr, Ok, Err};
 ghost use Rattle.office.specs.Seen.{command_seen};
 ghost use Rattle.adminhttp.specs.Head.{headers_of, LieIn};
 ghost use Rattle.adminhttp.specs.Steps.{map_ok};
-ghost use Rattle.adminhttp.specs.Request.{asked_of, by_get, clerk_asked, clerk_put, maildrop_asked};
-ghost use Rattle.adminhttp.specs.Request.{policy_asked, policy_put, session_asked};
+ghost use Rattle.adminhttp.specs.Request.{asked_of, by_get, clerks_asked, clerk_asked, clerk_put};
+ghost use Rattle.adminhttp.specs.Request.{maildrop_asked, policy_asked, policy_put, session_asked};
 
 use crate::body::{read_body, read_credential, read_policy, without_line_end};
 use crate::head::Head;
@@ -15,29 +15,32 @@ use crate::route::Route;
 use crate::target::Target;
 use creds::Name;
 use httparse::spans::HeaderSpan;
-use office::AdminCommand;
+use office::{AdminAccess, AdminCommand};
 use std::alloc::Global;
 
 /// The command that a request gives, by its target, its method and its body.
 ///
+/// [`Refusal::NotFound`] for the list of the clerks, unless `access` has it;
 /// [`Refusal::NotAllowed`] for a method that the route doesn't have; else, for PUT on a clerk or
 /// the policy, what is wrong with the body.
 pub fn read_command(
     alloc: Global,
+    access: AdminAccess,
     target: &Target,
     head: &Head<'_>,
     headers: &[HeaderSpan],
 ) -> Result<AdminCommand, NoCommand>
     requires { LieIn head.now headers.now }
-    ensures ok { IfOk result (λ command. asked_of target.now head.now.method.now
+    ensures ok { IfOk result (λ command. asked_of access target.now head.now.method.now
         (headers_of head.now headers.now) head.now.behind.now ≡ Ok (command_seen command)) }
     ensures fault { IfErr result (λ stop. stop ≢ NoCommand.NoMemory
-        → asked_of target.now head.now.method.now (headers_of head.now headers.now)
+        → asked_of access target.now head.now.method.now (headers_of head.now headers.now)
         head.now.behind.now ≡ Err stop) }
 {
     match target {
         Target::Maildrops => by_get(Route::Maildrops, head.method, AdminCommand::ListMaildrops),
         Target::Maildrop(maildrop) => maildrop_command(maildrop, head.method),
+        Target::Clerks => clerks_command(access, head.method),
         Target::Clerk(clerk) => clerk_command(clerk, head, headers),
         Target::Policy => policy_command(alloc, head, headers),
         Target::Groups => by_get(Route::Groups, head.method, AdminCommand::ListGroups),
@@ -84,6 +87,18 @@ fn maildrop_command(maildrop: &Name, method: &[u8]) -> Result<AdminCommand, NoCo
         Ok(AdminCommand::DropMaildrop(*maildrop))
     } else {
         Err(NoCommand::Bad(Refusal::NotAllowed(Route::Maildrop)))
+    }
+}
+
+/// The command that a method gives on the list of the clerks.
+#[tactic(auto, unfolding(crate::specs::Request::clerks_asked))]
+fn clerks_command(access: AdminAccess, method: &[u8]) -> Result<AdminCommand, NoCommand>
+    ensures { map_ok command_seen result ≡ clerks_asked access method.now }
+{
+    if access.lists_clerks {
+        by_get(Route::Clerks, method, AdminCommand::ListClerks)
+    } else {
+        Err(NoCommand::Bad(Refusal::NotFound))
     }
 }
 

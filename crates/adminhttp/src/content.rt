@@ -65,6 +65,7 @@ fn code_of_answer(answer: &Answer) -> &'static str
         | Answer::Messages(_)
         | Answer::WasThere
         | Answer::Dropped
+        | Answer::Clerks(_)
         | Answer::ByApopSecret
         | Answer::ByPassword
         | Answer::Replaced
@@ -105,6 +106,7 @@ fn answer_line(alloc: Global, answer: &Answer) -> Result<Option<String>, AllocEr
     match answer {
         Answer::Maildrops(_)
         | Answer::Messages(_)
+        | Answer::Clerks(_)
         | Answer::PolicyIs(_)
         | Answer::GroupsOf(_)
         | Answer::Sessions(_) => Ok(None),

@@ -73,6 +73,7 @@ impl RequestLine {
             AdminCommand::ShowMaildrop(maildrop) => get(Target::Maildrop(*maildrop)),
             AdminCommand::AddMaildrop(maildrop) => put(Target::Maildrop(*maildrop)),
             AdminCommand::DropMaildrop(maildrop) => delete(Target::Maildrop(*maildrop)),
+            AdminCommand::ListClerks => get(Target::Clerks),
             AdminCommand::ShowClerk(clerk) => get(Target::Clerk(*clerk)),
             AdminCommand::PutClerk(clerk, _) => put(Target::Clerk(*clerk)),
             AdminCommand::DropClerk(clerk) => delete(Target::Clerk(*clerk)),
@@ -122,6 +123,7 @@ impl RequestLine {
         match &self.target {
             Target::Maildrops => String::from_str(alloc, "/maildrops"),
             Target::Maildrop(maildrop) => maildrop_path(alloc, *maildrop),
+            Target::Clerks => String::from_str(alloc, "/clerks"),
             Target::Clerk(clerk) => clerk_path(alloc, *clerk),
             Target::Policy => String::from_str(alloc, "/policy"),
             Target::Groups => String::from_str(alloc, "/groups"),

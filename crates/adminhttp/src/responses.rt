@@ -67,6 +67,7 @@ fn status_of(answer: &Answer) -> &'static str
         | Answer::Messages(_)
         | Answer::WasThere
         | Answer::Dropped
+        | Answer::Clerks(_)
         | Answer::ByApopSecret
         | Answer::ByPassword
         | Answer::Replaced

@@ -7,6 +7,8 @@ pub enum Route {
     Maildrops,
     /// `/maildrops/{m}`, by GET, PUT and DELETE.
     Maildrop,
+    /// `/clerks`, by GET, if the administration was opened to answer it.
+    Clerks,
     /// `/clerks/{c}`, by GET, PUT and DELETE.
     Clerk,
     /// `/policy`, by GET and PUT.

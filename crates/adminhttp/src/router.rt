@@ -15,6 +15,7 @@ fn make_router(alloc: Global) -> Result<Router<Route>, InsertError>
     let mut router = Router::new(alloc);
     router.insert("/maildrops", Route::Maildrops)?;
     router.insert("/maildrops/{m}", Route::Maildrop)?;
+    router.insert("/clerks", Route::Clerks)?;
     router.insert("/clerks/{c}", Route::Clerk)?;
     router.insert("/policy", Route::Policy)?;
     router.insert("/groups", Route::Groups)?;

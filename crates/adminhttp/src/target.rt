@@ -10,6 +10,8 @@ pub enum Target {
     Maildrops,
     /// A maildrop.
     Maildrop(Name),
+    /// The clerks.
+    Clerks,
     /// A clerk.
     Clerk(Name),
     /// The policy.

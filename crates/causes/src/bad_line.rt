@@ -58,6 +58,7 @@ fn row_of(form: Form) -> Row {
         Form::MaildropAdd => with_fields("maildrop add", &[NAME]),
         Form::MaildropDrop => with_fields("maildrop drop", &[NAME]),
         Form::Maildrops => with_fields("maildrops", &[]),
+        Form::Clerks => with_fields("clerks", &[]),
         Form::ListMaildrop => with_fields("list", &[NAME]),
         Form::ClerkApop => with_fields("clerk apop", &[NAME, SECRET]),
         Form::ClerkPass => with_fields("clerk pass", &[NAME, SECRET]),

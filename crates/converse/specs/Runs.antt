@@ -2,7 +2,7 @@
 use Rattle.std.specs.Prelude.{◌≡◌, ◌<◌, ℕ, Bool, true, List, [], ◌⊎◌, Err}
 use Rattle.vault.specs.Changes.{Contents}
 use Rattle.session.specs.declared.removals.Removals.{Removals}
-use Rattle.office.specs.Events.{Trace, Log, Tagged, given}
+use Rattle.office.specs.Events.{Trace, Log, Tagged, no_access, given}
 use Rattle.office.specs.Events as event
 use Rattle.office.specs.History.{Done}
 use Rattle.office.specs.Log.{next_number}
@@ -23,7 +23,7 @@ idle_seconds = 600
 
 -- a trace with an office's opening, which says when removals are judged
 abbrev pub opened_on : Trace → (host : List ℕ) (boot : ℕ) (removals : Removals) → Trace
-opened_on T host boot removals = given T (event.Start host boot (record { idle = idle_seconds; removals = removals })) (Tagged Done)
+opened_on T host boot removals = given T (event.Start host boot (record { idle = idle_seconds; removals = removals; access = no_access })) (Tagged Done)
 
 -- A conversation came out well over an office that stood for T: L is the log of a trace that goes on
 -- from T by it alone. All was heard and answered, or a later part of a message couldn't be read,

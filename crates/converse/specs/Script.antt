@@ -9,7 +9,7 @@ use Rattle.policy.specs.Policy.{Policy}
 use Rattle.policy.specs.PolicyText.{action_of, rules_of}
 use Rattle.policy.specs.declared.fault.PolicyFault.{PolicyFault}
 use Rattle.policy.specs.declared.fault.PolicyFault.TheVariants.{NotToml}
-use Rattle.office.specs.Answers.{AdminCommand, ListMaildrops, ShowMaildrop, AddMaildrop, DropMaildrop, ShowClerk, PutClerk, DropClerk, ShowPolicy, SetPolicy, ListGroups, ListSessions, EndSession, Explain}
+use Rattle.office.specs.Answers.{AdminCommand, ListMaildrops, ShowMaildrop, AddMaildrop, DropMaildrop, ListClerks, ShowClerk, PutClerk, DropClerk, ShowPolicy, SetPolicy, ListGroups, ListSessions, EndSession, Explain}
 use Rattle.office.specs.Events.{Event, Connect, Bytes, Took, Gone, Tick, Deposit, Admin, Restart}
 use Rattle.office.specs.Numbers.{number_of}
 use Rattle.office.specs.Seen.{command_seen}
@@ -73,6 +73,7 @@ abbrev pub word_line : List ℕ → Option ScriptLine
 word_line keyword =
     if bytes_eq keyword (codes "connect") then Some (Does Connect)
     else if bytes_eq keyword (codes "maildrops") then Some (Does (Admin ListMaildrops))
+    else if bytes_eq keyword (codes "clerks") then Some (Does (Admin ListClerks))
     else if bytes_eq keyword (codes "policy") then Some (Does (Admin ShowPolicy))
     else if bytes_eq keyword (codes "groups") then Some (Does (Admin ListGroups))
     else if bytes_eq keyword (codes "sessions") then Some (Does (Admin ListSessions))

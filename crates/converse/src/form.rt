@@ -23,6 +23,7 @@ pub enum Form {
     MaildropDrop,
     Maildrops,
     ListMaildrop,
+    Clerks,
     ClerkApop,
     ClerkPass,
     ClerkDrop,
@@ -78,6 +79,8 @@ fn word_form(keyword: &[u8]) -> Option<Form>
         Some(Form::Connect)
     } else if keyword == b"maildrops".as_slice() {
         Some(Form::Maildrops)
+    } else if keyword == b"clerks".as_slice() {
+        Some(Form::Clerks)
     } else if keyword == b"policy".as_slice() {
         Some(Form::Policy)
     } else if keyword == b"groups".as_slice() {

@@ -178,6 +178,8 @@ fn read_word(keyword: &[u8]) -> Result<Line, usize>
         Ok(Line::Connect)
     } else if keyword == b"maildrops".as_slice() {
         Ok(Line::Admin(AdminCommand::ListMaildrops))
+    } else if keyword == b"clerks".as_slice() {
+        Ok(Line::Admin(AdminCommand::ListClerks))
     } else if keyword == b"policy".as_slice() {
         Ok(Line::Admin(AdminCommand::ShowPolicy))
     } else if keyword == b"groups".as_slice() {

@@ -91,6 +91,7 @@ account_text who (account.Denied command uid rule) = denied_text who command uid
 account_text who account.Nothing = []
 account_text who account.Marked = []
 account_text who account.Unmarked = []
+account_text who account.Taken = []
 account_text who (account.Topped message) = []
 account_text who (account.Ended cause) = []
 
@@ -105,6 +106,7 @@ is_told reads (account.Retrieved message) = reads
 is_told reads account.Nothing = false
 is_told reads account.Marked = false
 is_told reads account.Unmarked = false
+is_told reads account.Taken = false
 is_told reads (account.Topped message) = false
 is_told reads (account.Ended cause) = false
 
@@ -112,6 +114,7 @@ is_told reads (account.Ended cause) = false
 abbrev pub cause_text : Account → List ℕ
 cause_text (account.Ended end.Gone) = codes " cause=gone"
 cause_text (account.Ended end.NoMemory) = codes " cause=\"out of memory\""
+cause_text (account.Ended end.NoMemoryForLine) = codes " cause=\"out of memory\""
 cause_text (account.Ended end.StoreFailed) = codes " cause=\"store failed\""
 cause_text (account.Ended end.SessionEnded) = codes " cause=\"session ended\""
 cause_text (account.Ended end.Idle) = codes " cause=idle"
@@ -135,6 +138,7 @@ cause_text account.QuitBeforeLogin = []
 cause_text account.Nothing = []
 cause_text account.Marked = []
 cause_text account.Unmarked = []
+cause_text account.Taken = []
 
 -- why a link was refused for its first line
 abbrev pub refusal_text : Refusal → List ℕ

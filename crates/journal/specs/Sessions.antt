@@ -1,16 +1,18 @@
 -- What the log keeps of the connections' sessions, by the accounts that it heard, and what its
 -- lines tell of them.
-use Rattle.std.specs.Prelude.{ℕ, zero, suc, Bool, true, false, ◌&&◌, ◌==◌, ◌+◌, ◌-◌, ◌^◌, min}
+use Rattle.std.specs.Prelude.{ℕ, zero, suc, Bool, true, false, ◌&&◌, ◌==◌}
 use Rattle.std.specs.Prelude.{List, [], ◌∷◌, ◌++◌, map, position, Option, Some, None, codes}
 use Rattle.std.specs.Prelude.{if◌then◌else◌, string_bytes}
 use Rattle.std.specs.Fmt.{decimal}
 use Rattle.std.specs.Str.{bytes_eq}
+use Rattle.creds.specs.Uid.{uid_text}
+use Rattle.creds.specs.declared.uid.Uid.{Uid}
 use Rattle.creds.specs.declared.login_name.LoginName.{LoginName}
 use Rattle.office.specs.declared.account.Account.{Account}
 use Rattle.office.specs.declared.account.Account.TheVariants as account
+use Rattle.office.specs.declared.account.End.TheVariants as end
 use Rattle.office.specs.declared.account.Verdict.{Verdict}
 use Rattle.office.specs.declared.account.Verdict.TheVariants as judged
-use Rattle.office.specs.declared.account.MessageCommand.{MessageCommand}
 use Rattle.journal.specs.Lines.{account_text, is_told, name_text}
 use Rattle.journal.specs.Counts.{no_counts, with_dele, with_reset, with_retr, with_top, with_denial}
 use Rattle.journal.specs.Counts.{counts_text, more, gets_a_line}
@@ -30,6 +32,7 @@ judged_so name judged.Accepted heard =
       marked = 0;
       counts = no_counts;
       has_quit = heard.has_quit;
+      sending = heard.sending;
     }
 judged_so name judged.WrongCredential heard = heard
 judged_so name judged.ThirdWrongCredential heard = heard
@@ -51,22 +54,45 @@ without_marks heard = record heard { marked = 0; counts = with_reset heard.count
 abbrev pub has_quit : Heard → Heard
 has_quit heard = record heard { is_in = false; has_quit = true }
 
+-- what is kept of a connection's session and commands after an account of it
+abbrev pub counted_after : Account → Heard → Heard
+counted_after (account.Login name by verdict) heard = judged_so name verdict heard
+counted_after account.Marked heard = with_mark heard
+counted_after account.Unmarked heard = without_marks heard
+counted_after (account.Quit removal) heard = has_quit heard
+counted_after account.QuitBeforeLogin heard = has_quit heard
+counted_after (account.Retrieved message) heard =
+    record heard { counts = with_retr message.octets heard.counts }
+counted_after (account.Topped message) heard =
+    record heard { counts = with_top message.octets heard.counts }
+counted_after (account.Denied command uid rule) heard =
+    record heard { counts = with_denial heard.counts }
+counted_after account.NoName heard = heard
+counted_after account.Nothing heard = heard
+counted_after account.Taken heard = heard
+counted_after (account.Ended cause) heard = heard
+
+-- The message that is being sent after an account: one that a RETR or TOP began to send, until all
+-- is taken. A line acts, or lacks memory, only once all is taken; another end takes nothing.
+abbrev pub sending_after : Account → (sending : Option Uid) → Option Uid
+sending_after (account.Retrieved message) sending = Some message.uid
+sending_after (account.Topped message) sending = Some message.uid
+sending_after account.Nothing sending = sending
+sending_after (account.Ended end.NoMemoryForLine) sending = None
+sending_after (account.Ended cause) sending = sending
+sending_after account.Taken sending = None
+sending_after (account.Login name by verdict) sending = None
+sending_after account.NoName sending = None
+sending_after account.Marked sending = None
+sending_after account.Unmarked sending = None
+sending_after (account.Denied command uid rule) sending = None
+sending_after (account.Quit removal) sending = None
+sending_after account.QuitBeforeLogin sending = None
+
 -- what is kept of a connection after an account of it
 abbrev pub heard_after : Account → Heard → Heard
-heard_after (account.Login name by verdict) heard = judged_so name verdict heard
-heard_after account.Marked heard = with_mark heard
-heard_after account.Unmarked heard = without_marks heard
-heard_after (account.Quit removal) heard = has_quit heard
-heard_after account.QuitBeforeLogin heard = has_quit heard
-heard_after (account.Retrieved message) heard =
-    record heard { counts = with_retr message.octets heard.counts }
-heard_after (account.Topped message) heard =
-    record heard { counts = with_top message.octets heard.counts }
-heard_after (account.Denied command uid rule) heard =
-    record heard { counts = with_denial heard.counts }
-heard_after account.NoName heard = heard
-heard_after account.Nothing heard = heard
-heard_after (account.Ended cause) heard = heard
+heard_after account heard =
+    record (counted_after account heard) { sending = sending_after account heard.sending }
 
 -- ---- who is where
 
@@ -109,6 +135,7 @@ left_by account.NoName clients = clients
 left_by (account.Retrieved message) clients = clients
 left_by (account.Topped message) clients = clients
 left_by (account.Denied command uid rule) clients = clients
+left_by account.Taken clients = clients
 left_by account.Marked clients = clients
 left_by account.Unmarked clients = clients
 left_by (account.Quit removal) clients = clients
@@ -162,9 +189,14 @@ session_text (Some name) marked counts =
     codes " clerk=" ++ name.clerk ++ codes " maildrop=" ++ name.maildrop
     ++ codes " marked=" ++ decimal marked ++ counts_text counts
 
+-- the message of which not all was taken, if there is one
+abbrev pub cut_text : (sending : Option Uid) → List ℕ
+cut_text None = []
+cut_text (Some uid) = codes " cut=" ++ uid_text uid
+
 -- the line of a connection that ended without a QUIT
-abbrev pub loss_text : (who session cause : List ℕ) → List ℕ
-loss_text who session cause = codes "event=closed " ++ (who ++ (session ++ cause))
+abbrev pub loss_text : (who session cut cause : List ℕ) → List ℕ
+loss_text who session cut cause = codes "event=closed " ++ (who ++ (session ++ (cut ++ cause)))
 
 -- the values of a line that tells of a session
 abbrev pub held_text : (connection : ℕ) → LoginName → List ℕ
@@ -188,7 +220,7 @@ abbrev pub loss_of : Client → List ℕ
 loss_of client =
     loss_text (who_of client)
     (session_text client.heard.name client.heard.marked client.heard.counts)
-    (string_bytes client.cause)
+    (cut_text client.heard.sending) (string_bytes client.cause)
 
 -- for how many seconds a login waited, where it was one or more
 abbrev pub waited_text : (seconds : ℕ) → List ℕ
@@ -208,6 +240,7 @@ behind_account account.Marked client = []
 behind_account account.Unmarked client = []
 behind_account account.QuitBeforeLogin client = []
 behind_account account.Nothing client = []
+behind_account account.Taken client = []
 behind_account (account.Ended cause) client = []
 
 -- a client's connection and address, its clerk and its maildrop
@@ -226,6 +259,7 @@ who_in account.Marked client = who_of client
 who_in account.Unmarked client = who_of client
 who_in account.QuitBeforeLogin client = who_of client
 who_in account.Nothing client = who_of client
+who_in account.Taken client = who_of client
 who_in (account.Ended cause) client = who_of client
 
 -- the line of an account, or of a loss, of the client that was found
@@ -247,6 +281,7 @@ is_new account.Marked told = true
 is_new account.Unmarked told = true
 is_new account.QuitBeforeLogin told = true
 is_new account.Nothing told = true
+is_new account.Taken told = true
 is_new (account.Ended cause) told = true
 
 -- an account gets a line if it may have one, and a denial if it is new

@@ -178,7 +178,7 @@ pub fn has_line(account: &Account, reads: bool) -> bool
         Account::Quit(_) | Account::QuitBeforeLogin => true,
         Account::Retrieved(_) => reads,
         Account::Nothing | Account::Marked | Account::Unmarked | Account::Ended(_) => false,
-        Account::Topped(_) => false,
+        Account::Topped(_) | Account::Taken => false,
     }
 }
 
@@ -197,7 +197,7 @@ pub fn line_of(alloc: Global, who: &str, account: &Account) -> Result<String, Al
         Account::Nothing | Account::Marked | Account::Unmarked | Account::Ended(_) => {
             Ok(String::new(alloc))
         }
-        Account::Topped(_) => Ok(String::new(alloc)),
+        Account::Topped(_) | Account::Taken => Ok(String::new(alloc)),
     }
 }
 
@@ -209,6 +209,7 @@ pub fn cause_text(account: &Account) -> &'static str
     match account {
         Account::Ended(End::Gone) => " cause=gone",
         Account::Ended(End::NoMemory) => " cause=\"out of memory\"",
+        Account::Ended(End::NoMemoryForLine) => " cause=\"out of memory\"",
         Account::Ended(End::StoreFailed) => " cause=\"store failed\"",
         Account::Ended(End::SessionEnded) => " cause=\"session ended\"",
         Account::Ended(End::Idle) => " cause=idle",
@@ -219,7 +220,7 @@ pub fn cause_text(account: &Account) -> &'static str
         Account::Login(_, _, Verdict::Denied(_) | Verdict::NoSuchMaildrop) => "",
         Account::Login(_, _, Verdict::InUse | Verdict::StoreFailed) => "",
         Account::NoName | Account::Quit(_) | Account::QuitBeforeLogin => "",
-        Account::Nothing | Account::Marked | Account::Unmarked => "",
+        Account::Nothing | Account::Marked | Account::Unmarked | Account::Taken => "",
         Account::Retrieved(_) | Account::Topped(_) | Account::Denied(_, _, _) => "",
     }
 }

@@ -88,10 +88,17 @@ fn waited_text(alloc: Global, seconds: u64) -> Result<String, AllocError>
 }
 
 /// The line of a connection that ended without a QUIT.
-fn loss_text(alloc: Global, who: &str, session: &str, cause: &str) -> Result<String, AllocError>
-    ensures { IfOk result (λ text. string_bytes text ≡ loss_text who.now session.now cause.now) }
+fn loss_text(
+    alloc: Global,
+    who: &str,
+    session: &str,
+    cut: &str,
+    cause: &str,
+) -> Result<String, AllocError>
+    ensures { IfOk result (λ text. string_bytes text ≡ loss_text who.now session.now cut.now
+        cause.now) }
 {
-    let text = format!(in alloc; "event=closed {who}{session}{cause}")?;
+    let text = format!(in alloc; "event=closed {who}{session}{cut}{cause}")?;
     Ok(text)
 }
 
@@ -122,6 +129,7 @@ impl Client {
             Account::Login(_, _, _) | Account::NoName | Account::QuitBeforeLogin => self.who(alloc),
             Account::Quit(_) | Account::Topped(_) | Account::Marked => self.who(alloc),
             Account::Unmarked | Account::Nothing | Account::Ended(_) => self.who(alloc),
+            Account::Taken => self.who(alloc),
         }
     }
 
@@ -168,7 +176,14 @@ impl Client {
     {
         let who = self.who(alloc)?;
         let session = self.heard.session_text(alloc)?;
-        loss_text(alloc, who.as_str(), session.as_str(), self.cause.as_str())
+        let cut = self.heard.cut_text(alloc)?;
+        loss_text(
+            alloc,
+            who.as_str(),
+            session.as_str(),
+            cut.as_str(),
+            self.cause.as_str(),
+        )
     }
 
     /// The values of a line about its session.
@@ -201,7 +216,7 @@ impl Client {
             Account::Login(_, _, _) | Account::NoName | Account::QuitBeforeLogin => Ok(true),
             Account::Quit(_) | Account::Retrieved(_) | Account::Topped(_) => Ok(true),
             Account::Marked | Account::Unmarked | Account::Nothing => Ok(true),
-            Account::Ended(_) => Ok(true),
+            Account::Taken | Account::Ended(_) => Ok(true),
         }
     }
 
@@ -261,7 +276,7 @@ impl Client {
             Account::Quit(_) => self.heard.counts_text(alloc),
             Account::NoName | Account::Marked | Account::Unmarked => Ok(String::new(alloc)),
             Account::Retrieved(_) | Account::Topped(_) => Ok(String::new(alloc)),
-            Account::Denied(_, _, _) => Ok(String::new(alloc)),
+            Account::Denied(_, _, _) | Account::Taken => Ok(String::new(alloc)),
             Account::QuitBeforeLogin | Account::Nothing | Account::Ended(_) => {
                 Ok(String::new(alloc))
             }

@@ -1,13 +1,14 @@
 //! What the log heard of a connection's session.
 ghost use Rattle.std.specs.Prelude.{◌≡◌, Some, IfOk, string_bytes};
 ghost use Rattle.journal.specs.Sessions.{heard_after, judged_so, left, is_in, session_text};
-ghost use Rattle.journal.specs.Sessions.{behind_name};
+ghost use Rattle.journal.specs.Sessions.{behind_name, counted_after, cut_text};
+ghost use Rattle.journal.specs.Sessions.{sending_after as still_sent};
 ghost use Rattle.journal.specs.Counts.{counts_text};
 
 use super::account_text::name_text;
 use super::counts::Counts;
-use creds::{LoginName, Name};
-use office::{Account, Verdict};
+use creds::{LoginName, Name, Uid};
+use office::{Account, End, Verdict};
 use std::alloc::{AllocError, Global};
 
 /// What was heard of a connection: who logged in on it, and what became of that session.
@@ -23,6 +24,23 @@ pub(crate) struct Heard {
     pub counts: Counts,
     /// Whether a QUIT was judged.
     pub has_quit: bool,
+    /// The message of which a RETR or TOP began to send, if not all of that reply was taken.
+    pub sending: Option<Uid>,
+}
+
+/// The message that is being sent after an account, if that was so of `sending` before it.
+fn sending_after(account: &Account, sending: Option<Uid>) -> Option<Uid>
+    ensures { result ≡ still_sent account.now sending }
+{
+    match account {
+        Account::Retrieved(message) => Some(message.uid),
+        Account::Topped(message) => Some(message.uid),
+        Account::Ended(End::NoMemoryForLine) => None,
+        Account::Nothing | Account::Ended(_) => sending,
+        Account::Taken | Account::Login(_, _, _) | Account::NoName => None,
+        Account::Marked | Account::Unmarked | Account::Denied(_, _, _) => None,
+        Account::Quit(_) | Account::QuitBeforeLogin => None,
+    }
 }
 
 impl Heard {
@@ -34,12 +52,21 @@ impl Heard {
             marked: 0,
             counts: Counts::none(),
             has_quit: false,
+            sending: None,
         }
     }
 
     /// Keeps what an account says of the session.
     pub fn take(&mut self, account: &Account)
         ensures { self.new ≡ heard_after account.now self.old }
+    {
+        self.count(account);
+        self.sending = sending_after(account, self.sending);
+    }
+
+    /// Keeps what an account says of the session's login, marks, commands and end.
+    fn count(&mut self, account: &Account)
+        ensures { self.new ≡ counted_after account.now self.old }
     {
         match account {
             Account::Login(name, _, verdict) => self.judge(*name, *verdict),
@@ -58,7 +85,7 @@ impl Heard {
                 self.is_in = false;
                 self.has_quit = true;
             }
-            Account::NoName | Account::Nothing | Account::Ended(_) => {}
+            Account::NoName | Account::Nothing | Account::Taken | Account::Ended(_) => {}
         }
     }
 
@@ -121,12 +148,31 @@ impl Heard {
         }
     }
 
+    /// The message of which not all was taken, as a value of a line; empty if there is none. Its
+    /// error is want of memory.
+    pub fn cut_text(&self, alloc: Global) -> Result<String, AllocError>
+        ensures { IfOk result (λ text. string_bytes text ≡ cut_text self.now.sending) }
+    {
+        match self.sending {
+            Some(uid) => sent_text(alloc, uid),
+            None => Ok(String::new(alloc)),
+        }
+    }
+
     /// What the session's commands did, as values of a line.
     pub fn counts_text(&self, alloc: Global) -> Result<String, AllocError>
         ensures { IfOk result (λ text. string_bytes text ≡ counts_text self.now.counts) }
     {
         self.counts.text(alloc)
     }
+}
+
+/// A message of which not all was taken.
+fn sent_text(alloc: Global, uid: Uid) -> Result<String, AllocError>
+    ensures { IfOk result (λ text. string_bytes text ≡ cut_text (Some uid)) }
+{
+    let text = format!(in alloc; " cut={uid}")?;
+    Ok(text)
 }
 
 /// A session's clerk and maildrop behind a space.

@@ -7,7 +7,7 @@ use creds::{Credential, DepositId, Name};
 use mailtext::MailText;
 use policy::Policy;
 use std::alloc::{AllocError, Global};
-use vault::{Deposited, Head, MessageKey, Total, Vault, VaultFault};
+use vault::{ClerkKind, Deposited, Head, MessageKey, Total, Vault, VaultFault};
 
 /// A vault that does what the one inside does, and notes each deposit and removal with its answer,
 /// and each refusal of the store or of memory with its cause.
@@ -242,6 +242,11 @@ impl<V: Vault> Vault for LoggedVault<'_, V> {
     fn credential(&mut self, clerk: &Name) -> Result<Option<Credential>, VaultFault> {
         let answer = self.vault.credential(clerk);
         told(&self.journal, "credential", answer)
+    }
+
+    fn clerks(&mut self) -> Result<Vec<ClerkKind>, VaultFault> {
+        let answer = self.vault.clerks();
+        told(&self.journal, "clerks", answer)
     }
 
     fn put_clerk(&mut self, clerk: &Name, credential: &Credential) -> Result<bool, VaultFault> {

@@ -1,5 +1,5 @@
 -- Worked rows of accounts: which lines are told as logins, and how they were judged; which lines mark, and what a QUIT removed.
-use Rattle.std.specs.Prelude.{◌≡◌, ℕ, true, List, [], ◌∷◌, ◌++◌, Some, refl, codes}
+use Rattle.std.specs.Prelude.{◌≡◌, ℕ, true, List, [], ◌∷◌, ◌++◌, length, Some, refl, codes}
 use Rattle.std.specs.Fmt.{digits}
 use Rattle.creds.specs.LoginName.{login_name}
 use Rattle.creds.specs.declared.login_name.LoginName.{LoginName}
@@ -13,9 +13,10 @@ use Rattle.office.specs.History.{Act, Open, Line, Restart, Tag, Done, Failed, No
 use Rattle.office.specs.Told.{told}
 use Rattle.office.specs.Events.{Admin, Bytes, Connect, Gone, Ignored, Tagged, Took, Trace}
 use Rattle.office.specs.Answers.{EndSession}
+use Rattle.office.specs.Trace.{rest}
 use Rattle.office.specs.Accounts.{account_of, acts_account}
 use Rattle.office.specs.declared.account.Account.{Account}
-use Rattle.office.specs.declared.account.Account.TheVariants.{Nothing, Login, NoName, Marked, Unmarked, Quit, QuitBeforeLogin, Retrieved, Topped, Denied, Ended}
+use Rattle.office.specs.declared.account.Account.TheVariants.{Nothing, Login, NoName, Marked, Unmarked, Quit, QuitBeforeLogin, Retrieved, Topped, Denied, Taken, Ended}
 use Rattle.office.specs.declared.account.End.TheVariants as end
 use Rattle.office.specs.declared.account.MessageCommand.TheVariants as to
 use Rattle.office.specs.declared.answer.MessageRow.{MessageRow}
@@ -125,6 +126,25 @@ reads_of_a_session : shows (run (connect 1 ++ says 1 as_bob)) (λ T. next T (cod
 unfolding digits login_name decode_pairs md5 M.digest_bytes M.hash_after M.compress M.rounds M.block_words
 reads_of_a_session = refl
 
+-- of RETR's reply a part is taken; all, after which TOP acts, also if the store fails at it; all, after which NOOP acts or nothing; and all of a farewell
+abbrev bob_gives : List ℕ → List Step
+bob_gives octets = connect 1 ++ says 1 as_bob ++ Give (Bytes 1 octets) ∷ []
+
+abbrev took_all : Trace → Tag → Account
+took_all T t = account_of T (Took 1 (length (rest T 1))) (Tagged t)
+
+takings_of_a_session : shows (run (bob_gives (codes "RETR 1" ++ line_end ++ codes "TOP 2 0" ++ line_end)))
+    (λ T. account_of T (Took 1 1) (Tagged Done) ∷ took_all T Done ∷ took_all T Failed ∷ took_all T NoMemory ∷ [])
+    ≡ Nothing ∷ Topped (row (codes "note") 2 15) ∷ Taken ∷ Ended end.NoMemoryForLine ∷ []
+unfolding digits login_name decode_pairs md5 M.digest_bytes M.hash_after M.compress M.rounds M.block_words
+takings_of_a_session = refl
+
+takings_of_all : shows (run (bob_gives (codes "RETR 1" ++ line_end ++ codes "NOOP" ++ line_end))) (λ T. took_all T Done ∷ [])
+    ++ shows (run (bob_gives (codes "RETR 1" ++ line_end))) (λ T. took_all T Done ∷ []) ++ shows (run (bob_gives (codes "QUIT" ++ line_end))) (λ T. took_all T Done ∷ [])
+    ≡ Taken ∷ Taken ∷ Taken ∷ []
+unfolding digits login_name decode_pairs md5 M.digest_bytes M.hash_after M.compress M.rounds M.block_words
+takings_of_all = refl
+
 retr_before_a_login : account_behind opened (codes "RETR 1") Done ≡ Nothing
 unfolding digits login_name decode_pairs md5 M.digest_bytes M.hash_after M.compress M.rounds M.block_words
 retr_before_a_login = refl
@@ -132,6 +152,6 @@ retr_before_a_login = refl
 -- a connection whose greeting waits is gone, lacks memory at a piece, or is refused a page; one that isn't open is ignored
 ends_of_connections : shows (run_judged_at_quit (Give Connect ∷ [])) (λ T. account_of T (Gone 1) (Tagged Done) ∷ account_of T (Bytes 1 (codes "NOOP" ++ line_end)) (Tagged NoMemory)
     ∷ account_of T (Took 1 1) (Tagged NoMemory) ∷ account_of T (Took 1 1) (Tagged Failed) ∷ account_of T (Took 1 1) (Tagged Done) ∷ account_of T (Gone 2) Ignored ∷ [])
-    ≡ Ended end.Gone ∷ Ended end.NoMemory ∷ Ended end.NoMemory ∷ Ended end.StoreFailed ∷ Nothing ∷ Nothing ∷ []
+    ≡ Ended end.Gone ∷ Ended end.NoMemoryForLine ∷ Ended end.NoMemory ∷ Ended end.StoreFailed ∷ Nothing ∷ Nothing ∷ []
 unfolding digits login_name decode_pairs md5 M.digest_bytes M.hash_after M.compress M.rounds M.block_words
 ends_of_connections = refl

@@ -27,7 +27,7 @@ use Rattle.office.specs.Kept.{LineContext, asks}
 use Rattle.office.specs.Transaction.{Transaction, LiesIn, transaction_of, transaction_said, transaction_answered, transaction_asks, transaction_reply}
 use Rattle.office.specs.Answered.{reply_of, tag_of, HasTransaction}
 use Rattle.office.specs.Accounts.{command_account, fault_told, line_account, transaction_account, quit_or, quit_account, removal_by, line_told, acts_account, acts_told}
-use Rattle.office.specs.Accounts.{failed_told, account_of, outcome_told, removal_told, removal_seen, state_account, named_in, named_seen, named_at}
+use Rattle.office.specs.Accounts.{failed_told, taken_told, part_or_all_told, account_of, outcome_told, removal_told, removal_seen, state_account, named_in, named_seen, named_at}
 use Rattle.office.specs.declared.answer.MessageRow.{MessageRow}
 use Rattle.office.specs.declared.account.Account.{Account}
 use Rattle.office.specs.declared.account.Account.TheVariants as account
@@ -157,10 +157,6 @@ module _ (B : Records) (G : List Entry) where
   pub part_taken : (serving closing : Bool) (c : ℕ) (next : Option Cut) → acts_account B G (acts_of_took true serving closing c Done next) ≡ account.Nothing
   part_taken serving closing c next = refl
 
-  pub closed_taken : (left serving : Bool) (c : ℕ) (next : Option Cut) → acts_account B G (acts_of_took left serving true c Done next) ≡ account.Nothing
-  closed_taken true serving c next = refl
-  closed_taken false serving c next = refl
-
   behind_idle : (H : List (Act × Tag)) (c : ℕ) → acts_account B G (H ++ (Idle c, Done) ∷ []) ≡ account.Nothing
   behind_idle [] c = refl
   behind_idle ((Line n x, t) ∷ []) c = refl
@@ -185,8 +181,9 @@ module _ (T : Trace) where
   piece_account c p outcome.Failed = refl
 
   pub taking_account : (c n : ℕ) (w : LineOutcome) → is_left T.log (history T) c n ≡ false → account_of T (event.Took c n) (Tagged (tag_of w))
-      ≡ acts_account T.base (history T) (acts_of_took (is_left T.log (history T) c n) (serving (history T) c) (closing (history T) c) c (tag_of w) (next_line T.log (history T) c []))
-  taking_account c n outcome.Done all = refl
+      ≡ taken_told (acts_account T.base (history T)
+      (acts_of_took (is_left T.log (history T) c n) (serving (history T) c) (closing (history T) c) c (tag_of w) (next_line T.log (history T) c [])))
+  taking_account c n outcome.Done all = ap (λ (left : Bool). part_or_all_told left (acts_told T (event.Took c n) Done)) all
   taking_account c n outcome.Failed all = ap (λ (left : Bool). failed_told left (acts_told T (event.Took c n) Failed)) all
 
   pub tick_told : (now : ℕ) (m : EventTag) → account_of T (event.Tick now) m ≡ account.Nothing

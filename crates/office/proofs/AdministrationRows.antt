@@ -18,7 +18,8 @@ use Rattle.policy.specs.declared.rule.Effect.TheVariants.{Allow}
 use Rattle.policy.specs.declared.rule.Pattern.TheVariants.{Any}
 use Rattle.vault.specs.Records.{Records, most_octets}
 use Rattle.vault.specs.Changes.{DepositAnswer, Accepted, KnownAs, Full, deposit_answer}
-use Rattle.office.specs.Answers.{AdminCommand, ShowMaildrop, AddMaildrop, DropMaildrop, ShowClerk, PutClerk, DropClerk, ShowPolicy, SetPolicy, ListSessions, EndSession, Explain, TextTooLarge, body_of}
+use Rattle.office.specs.Answers.{AdminCommand, ShowMaildrop, AddMaildrop, DropMaildrop, ListClerks, ShowClerk, PutClerk, DropClerk}
+use Rattle.office.specs.Answers.{ShowPolicy, SetPolicy, ListSessions, EndSession, Explain, TextTooLarge, body_of}
 use Rattle.office.specs.History.{Entry}
 use Rattle.office.specs.Told.{administered, deposited}
 use Rattle.office.specs.Events.{Bytes, Deposit, Admin}
@@ -97,6 +98,11 @@ kinds_of_clerks : map (λ name. told (Give (Admin zoe) ∷ []) (ShowClerk name))
     ≡ codes "pass\n" ∷ codes "apop\n" ∷ codes "apop\n" ∷ codes "no such clerk\n" ∷ []
 unfolding digits
 kinds_of_clerks = refl
+
+clerks_by_name : told (Give (Admin zoe) ∷ Give (Admin (DropClerk (codes "cat"))) ∷ []) ListClerks
+    ≡ codes "ann apop\nbob apop\ndan apop\neve pass\nmrose apop\nzoe apop\n"
+unfolding digits
+clerks_by_name = refl
 
 clerk_dropped : told [] (DropClerk (codes "ann")) ≡ codes "dropped\n"
 unfolding digits

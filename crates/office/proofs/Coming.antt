@@ -20,7 +20,7 @@ use Rattle.office.specs.Sessions.{live, login, holds, holder}
 use Rattle.office.specs.Told.{told}
 use Rattle.office.specs.Events.{Limits, Event, EventTag, Ignored, Tagged, Trace, given}
 use Rattle.office.specs.Events as event
-use Rattle.office.specs.Log.{opened, idle_seconds, moment, stream, taken, clock, next_number}
+use Rattle.office.specs.Log.{opened, limits_in, moment, stream, taken, clock, next_number}
 use Rattle.office.specs.Trace.{acts, history}
 use Rattle.office.specs.Formed.{is_formed, are_formed, is_u64}
 use Rattle.office.specs.Answered.{name_cmp}
@@ -95,10 +95,10 @@ record Log : Type 0 where
   took : ℕ
   clock : ℕ
   number : ℕ × ℕ
-  idle : ℕ
+  limits : Limits
 
 abbrev log : Trace → ℕ → Log
-log T q = record { octets = stream T.log q; took = taken T.log q; clock = clock T.log q; number = (opened T.log, moment T.log); idle = idle_seconds T.log }
+log T q = record { octets = stream T.log q; took = taken T.log q; clock = clock T.log q; number = (opened T.log, moment T.log); limits = limits_in T.log }
 
 -- no act, and the connections gave and took what they did
 pub record Nothing (T : Trace) (e : Event) (m : EventTag) : Type 0 where
@@ -116,7 +116,7 @@ nothing_stands Holds o o' T e m st n on p b s l k connections locks =
     let looks : (q : ℕ) → seen T' q ≡ seen T q = λ q.
     ap₂ (λ (x : Log) (G : List Entry). record (seen_at T.base T.log G q) { stream = x.octets; taken = x.took; clock = x.clock }) (n.log q) same in
     let number : (opened T'.log, moment T'.log) ≡ (opened T.log, moment T.log) = ap (λ (x : Log). x.number) (n.log 0) in
-    let idle : idle_seconds T'.log ≡ idle_seconds T.log = ap (λ (x : Log). x.idle) (n.log 0) in
+    let limits : limits_in T'.log ≡ limits_in T.log = ap (λ (x : Log). x.limits) (n.log 0) in
     record {
       keeps = record {
         contents = st.keeps.contents;
@@ -131,7 +131,7 @@ nothing_stands Holds o o' T e m st n on p b s l k connections locks =
       boot = b ∙ rw same st.boot;
       host = s ∙ rw same st.host;
       judged = ap (λ (x : Limits). x.removals) l ∙ rw same st.judged;
-      idle = ap (λ (x : Limits). x.idle) l ∙ (st.idle ∙ sym idle);
+      limits = l ∙ (st.limits ∙ sym limits);
       moment = ap (λ (x : ℕ × ℕ). x.1) k ∙ (st.moment ∙ ap (λ (x : ℕ × ℕ). x.1) (sym number));
       numbered = λ q some. let same : opened T'.log ≡ opened T.log = ap (λ (x : ℕ × ℕ). x.0) number in rw same (st.numbered q (rw (connections q) at some));
       opened = ap (λ (x : ℕ × ℕ). x.0) k ∙ (st.opened ∙ ap (λ (x : ℕ × ℕ). x.0) (sym number));
@@ -251,7 +251,7 @@ module _ {V : Type 0} (Holds : V → Contents → Type 0) (o o' : Office V) (T :
         boot = b ∙ st.boot;
         host = s ∙ st.host;
         judged = ap (λ (x : Limits). x.removals) l ∙ st.judged;
-        idle = ap (λ (x : Limits). x.idle) l ∙ st.idle;
+        limits = l ∙ st.limits;
         moment = ap (λ (x : ℕ × ℕ). x.1) m ∙ st.moment;
         numbered = λ q some. ⊎_elim
             (λ e. subst (λ x. (1 ≤ x) × (x ≤ newest)) (eqb-true newest q e) (omega arith, omega arith))
@@ -308,7 +308,7 @@ start_stands Holds Before v o T host boot limits k held p b s l n formed connect
       boot = b;
       host = s;
       judged = ap (λ (x : Limits). x.removals) l;
-      idle = ap (λ (x : Limits). x.idle) l;
+      limits = l;
       moment = ap (λ (x : ℕ × ℕ). x.1) n;
       numbered = λ q some. let none = connections q in absurd (true≢false (sym (rw none at some)));
       opened = ap (λ (x : ℕ × ℕ). x.0) n;

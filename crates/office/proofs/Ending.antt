@@ -15,7 +15,7 @@ use Rattle.office.specs.Told.{told}
 use Rattle.office.specs.Sessions.{live, login, holder, is_login_to, records}
 use Rattle.office.specs.Events.{Limits, Event, Tagged, Trace, given}
 use Rattle.office.specs.Events as event
-use Rattle.office.specs.Log.{opened, idle_seconds, moment, stream, taken, clock}
+use Rattle.office.specs.Log.{opened, limits_in, moment, stream, taken, clock}
 use Rattle.office.specs.Trace.{acts, history, is_left, act_of_part, gone_act}
 use Rattle.office.specs.Formed.{is_formed}
 use Rattle.office.specs.Answered.{name_cmp}
@@ -35,13 +35,13 @@ use Rattle.office.proofs.Events.{Whole, whole, whole-took, facts, seen_by, seen-
 abbrev counted : Trace → ℕ × ℕ
 counted T = (opened T.log, moment T.log)
 
--- the records, the rules, the office of greetings, the newest number with the moment, and the idle seconds are the same
+-- the records, the rules, the office of greetings, the newest number with the moment, and the settings are the same
 record Leaves (T : Trace) (e : Event) (t : Tag) : Type 0 where
   stored : records T.base (history (given T e (Tagged t))) ≡ records T.base (history T)
   ruled : in_force T.base (history (given T e (Tagged t))) ≡ in_force T.base (history T)
   office : setting (history (given T e (Tagged t))) ≡ setting (history T)
   number : counted (given T e (Tagged t)) ≡ counted T
-  seconds : idle_seconds (given T e (Tagged t)).log ≡ idle_seconds T.log
+  limits : limits_in (given T e (Tagged t)).log ≡ limits_in T.log
   formed : is_formed T.log e ≡ true
 
 -- it ends one connection, and leaves the others
@@ -76,7 +76,7 @@ module _ {V : Type 0} (Holds : V → Contents → Type 0) (o o' : Office V) (T :
         boot = b ∙ (st.boot ∙ ap (λ (x : ℕ × List ℕ × Removals). x.0) (sym l.office));
         host = s ∙ (st.host ∙ ap (λ (x : ℕ × List ℕ × Removals). x.1) (sym l.office));
         judged = ap (λ (x : Limits). x.removals) w ∙ (st.judged ∙ ap (λ (x : ℕ × List ℕ × Removals). x.2) (sym l.office));
-        idle = ap (λ (x : Limits). x.idle) w ∙ (st.idle ∙ sym l.seconds);
+        limits = w ∙ (st.limits ∙ sym l.limits);
         moment = ap (λ (x : ℕ × ℕ). x.1) n ∙ (st.moment ∙ ap (λ (x : ℕ × ℕ). x.1) (sym l.number));
         numbered = λ q some. subst (λ (m : ℕ). (1 ≤ q) × (q ≤ m)) (ap (λ (x : ℕ × ℕ). x.0) (sym l.number)) (st.numbered q (there q some));
         opened = ap (λ (x : ℕ × ℕ). x.0) n ∙ (st.opened ∙ ap (λ (x : ℕ × ℕ). x.0) (sym l.number));
@@ -132,7 +132,7 @@ gone_over T c = let e = eq-eqb c c refl in record { closed = rw e refl; authoriz
 
 pub gone_ends : (T : Trace) (c : ℕ) → Ends T (event.Gone c) Done c
 gone_ends T c = record {
-  leaves = record { stored = refl; ruled = refl; office = refl; number = refl; seconds = refl; formed = refl };
+  leaves = record { stored = refl; ruled = refl; office = refl; number = refl; limits = refl; formed = refl };
   others = gone_other T c;
   over = gone_over T c;
 }
@@ -159,7 +159,7 @@ module _ (T : Trace) (c n : ℕ) (t : Tag) (left : is_left T.log (history T) c n
       ruled = ap (λ (w : Whole). w.rules) gone_whole;
       office = ap (λ (w : Whole). w.office) gone_whole;
       number = refl;
-      seconds = refl;
+      limits = refl;
       formed = refl;
     };
     others = λ q apart. seen-took_other T c n q t apart;
@@ -202,7 +202,7 @@ module _ (T : Trace) (c : ℕ) where
   with_end = given T asked (Tagged Done)
 
   end_leaves : Leaves T asked Done
-  end_leaves = record { stored = refl; ruled = refl; office = refl; number = refl; seconds = refl; formed = refl }
+  end_leaves = record { stored = refl; ruled = refl; office = refl; number = refl; limits = refl; formed = refl }
 
   end_other : live (history T) c ≡ true → (q : ℕ) → eqb c q ≡ false → seen with_end q ≡ seen T q
   end_other alive q e = rw (alive, e) refl

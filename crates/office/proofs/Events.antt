@@ -22,7 +22,7 @@ use Rattle.office.specs.Formed.{is_formed}
 use Rattle.office.specs.Replying.{is_empty, reply_to_cut, said_to_line, stamp}
 use Rattle.office.specs.Told.{told}
 use Rattle.office.specs.Events.{Limits, Trace, Event, Bytes, Took, EventTag, Tagged, given}
-use Rattle.office.specs.Log.{opened, idle_seconds, moment, stream, taken, clock}
+use Rattle.office.specs.Log.{opened, limits_in, moment, stream, taken, clock}
 use Rattle.office.specs.Trace.{acts, history, line_act, act_of_part, acts_of_piece, acts_of_took, next_line, is_left, is_open, untaken}
 use Rattle.office.specs.Expected.{most_in_a_piece, ignored}
 use Rattle.office.specs.Output.{Output, nothing_owed, reads_text, Owes}
@@ -246,11 +246,11 @@ pub record Moves {V : Type 0} (Holds : V → Contents → Type 0) (o o' : Office
 
 moved_so : {V : Type 0} (Holds : V → Contents → Type 0) (o o' : Office V) (T : Trace) (e : Event) (t : Tag) (c : ℕ) → (st : StandsFor Holds o T) → is_formed T.log e ≡ true
     → o'.policy ≡ o.policy → o'.boot ≡ o.boot → string_bytes o'.host ≡ string_bytes o.host → o'.limits ≡ o.limits → counters o' ≡ counters o
-    → whole T.base (acts (given T e (Tagged t))) ≡ whole T.base (acts T) → idle_seconds (given T e (Tagged t)).log ≡ idle_seconds T.log
+    → whole T.base (acts (given T e (Tagged t))) ≡ whole T.base (acts T) → limits_in (given T e (Tagged t)).log ≡ limits_in T.log
     → counted (given T e (Tagged t)).log ≡ counted T.log → IsSome (get nat_cmp o.connections c)
     → ((q : ℕ) → eqb c q ≡ false → seen (given T e (Tagged t)) q ≡ seen T q) → ((q : ℕ) → (c ≡ q → ⊥) → get nat_cmp o'.connections q ≡ get nat_cmp o.connections q)
     → Moves Holds o o' T st.keeps.contents c (given T e (Tagged t)) → StandsFor Holds o' (given T e (Tagged t))
-moved_so Holds o o' T e t c st formed p b h l n same idle number there others connections m =
+moved_so Holds o o' T e t c st formed p b h l n same settings number there others connections m =
     let rules : in_force T.base (history (given T e (Tagged t))) ≡ in_force T.base (history T) = ap (λ (w : Whole). w.rules) same in
     let newest : opened (given T e (Tagged t)).log ≡ opened T.log = ap (λ (x : ℕ × ℕ). x.0) number in
     record {
@@ -260,7 +260,7 @@ moved_so Holds o o' T e t c st formed p b h l n same idle number there others co
       boot = b ∙ (st.boot ∙ ap (λ (w : Whole). w.office.0) (sym same));
       host = h ∙ (st.host ∙ ap (λ (w : Whole). w.office.1) (sym same));
       judged = ap (λ (x : Limits). x.removals) l ∙ (st.judged ∙ ap (λ (w : Whole). w.office.2) (sym same));
-      idle = ap (λ (x : Limits). x.idle) l ∙ (st.idle ∙ sym idle);
+      limits = l ∙ (st.limits ∙ sym settings);
       moment = ap (λ (x : ℕ × ℕ). x.1) n ∙ (st.moment ∙ ap (λ (x : ℕ × ℕ). x.1) (sym number));
       numbered = λ q. ⊎_elim
           (λ (e : c ≡ q) some. rw (newest, sym e) (st.numbered c there))
@@ -278,12 +278,12 @@ moved_so Holds o o' T e t c st formed p b h l n same idle number there others co
 pub moved : {V : Type 0} (Holds : V → Contents → Type 0) (o o' : Office V) (T : Trace) (e : Event) (m : EventTag) (t : Tag) (c : ℕ) → m ≡ Tagged t
     → (st : StandsFor Holds o T) → is_formed T.log e ≡ true
     → o'.policy ≡ o.policy → o'.boot ≡ o.boot → string_bytes o'.host ≡ string_bytes o.host → o'.limits ≡ o.limits → counters o' ≡ counters o
-    → whole T.base (acts (given T e (Tagged t))) ≡ whole T.base (acts T) → idle_seconds (given T e (Tagged t)).log ≡ idle_seconds T.log
+    → whole T.base (acts (given T e (Tagged t))) ≡ whole T.base (acts T) → limits_in (given T e (Tagged t)).log ≡ limits_in T.log
     → counted (given T e (Tagged t)).log ≡ counted T.log → IsSome (get nat_cmp o.connections c)
     → ((q : ℕ) → eqb c q ≡ false → seen (given T e (Tagged t)) q ≡ seen T q) → ((q : ℕ) → (c ≡ q → ⊥) → get nat_cmp o'.connections q ≡ get nat_cmp o.connections q)
     → Moves Holds o o' T st.keeps.contents c (given T e (Tagged t)) → StandsFor Holds o' (given T e m)
-moved Holds o o' T e m t c mark st formed p b h l n same idle number there others connections moves =
-    rw mark (moved_so Holds o o' T e t c st formed p b h l n same idle number there others connections moves)
+moved Holds o o' T e m t c mark st formed p b h l n same settings number there others connections moves =
+    rw mark (moved_so Holds o o' T e t c st formed p b h l n same settings number there others connections moves)
 
 -- what a line's event shows
 pub marked : (w : LineOutcome) (o : Outcome) → o ≡ shown_of w → event_tag_of o ≡ Tagged (tag_of w)

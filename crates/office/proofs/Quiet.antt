@@ -10,7 +10,7 @@ use Rattle.vault.specs.Calls.{IsAnswer, has_grown}
 use Rattle.vault.specs.declared.fault.VaultFault.{VaultFault}
 use Rattle.vault.specs.declared.fault.VaultFault.TheVariants as fault
 use Rattle.session.specs.declared.removals.Removals.{Removals}
-use Rattle.office.specs.Answers.{AdminCommand, ListMaildrops, ShowMaildrop, AddMaildrop, DropMaildrop, ShowClerk, PutClerk, DropClerk, ShowPolicy, SetPolicy, ListGroups}
+use Rattle.office.specs.Answers.{AdminCommand, ListMaildrops, ShowMaildrop, AddMaildrop, DropMaildrop, ListClerks, ShowClerk, PutClerk, DropClerk, ShowPolicy, SetPolicy, ListGroups}
 use Rattle.office.specs.Answers.{ListSessions, EndSession, Explain}
 use Rattle.office.specs.History.{Act, Administer, Tag, Done, Failed, NoMemory, Silence, Entry, in_force, is_done}
 use Rattle.office.specs.Connections.{setting, connected, closing, acted, serving, sent, user, failures}
@@ -20,7 +20,7 @@ use Rattle.office.specs.Answered.{name_cmp}
 use Rattle.office.specs.Told.{told}
 use Rattle.office.specs.Events.{Limits, Event, EventTag, Tagged, Trace, given}
 use Rattle.office.specs.Events as event
-use Rattle.office.specs.Log.{opened, idle_seconds, moment, stream, taken, clock}
+use Rattle.office.specs.Log.{opened, limits_in, moment, stream, taken, clock}
 use Rattle.office.specs.Trace.{acts, history}
 use Rattle.office.specs.Formed.{is_formed, are_formed}
 use Rattle.office.specs.Expected.{IsOutcome, shown_at, may_show, outcome_of}
@@ -98,6 +98,7 @@ command_left B H ListMaildrops t q m h = refl
 command_left B H (ShowMaildrop d) t q m h = refl
 command_left B H (AddMaildrop d) t q m h = refl
 command_left B H (DropMaildrop d) t q m h = refl
+command_left B H ListClerks t q m h = refl
 command_left B H (ShowClerk name) t q m h = refl
 command_left B H (PutClerk name credential) t q m h = refl
 command_left B H (DropClerk name) t q m h = refl
@@ -118,10 +119,10 @@ record Heard : Type 0 where
   took : ℕ
   clock : ℕ
   number : ℕ × ℕ
-  idle : ℕ
+  limits : Limits
 
 abbrev heard : Trace → ℕ → Heard
-heard T q = record { octets = stream T.log q; took = taken T.log q; clock = clock T.log q; number = (opened T.log, moment T.log); idle = idle_seconds T.log }
+heard T q = record { octets = stream T.log q; took = taken T.log q; clock = clock T.log q; number = (opened T.log, moment T.log); limits = limits_in T.log }
 
 event_heard : (T : Trace) (e : Event) (t : Tag) (q : ℕ) → IsQuiet e → heard (given T e (Tagged t)) q ≡ heard T q
 event_heard T (event.Deposit d class id text) t q h = refl
@@ -176,7 +177,7 @@ quiet Holds o o' T e t h st k p b s l n connections locks =
     let T' = given T e (Tagged t) in
     let office : setting (history T') ≡ setting (history T) = ap (λ (x : Left). x.office) (event_left T e t 0 [] h) in
     let number : (opened T'.log, moment T'.log) ≡ (opened T.log, moment T.log) = ap (λ (x : Heard). x.number) (event_heard T e t 0 h) in
-    let idle : idle_seconds T'.log ≡ idle_seconds T.log = ap (λ (x : Heard). x.idle) (event_heard T e t 0 h) in
+    let limits : limits_in T'.log ≡ limits_in T.log = ap (λ (x : Heard). x.limits) (event_heard T e t 0 h) in
     record {
       keeps = record { contents = k.stored.contents; held = k.stored.held; agree = k.stored.agree; sound = k.stored.sound; formed = k.stored.formed; began = begun_on e (Tagged t) T.log st.began };
       began = begins_on e (Tagged t) T.log st.began;
@@ -184,7 +185,7 @@ quiet Holds o o' T e t h st k p b s l n connections locks =
       boot = b ∙ (st.boot ∙ ap (λ (x : ℕ × List ℕ × Removals). x.0) (sym office));
       host = s ∙ (st.host ∙ ap (λ (x : ℕ × List ℕ × Removals). x.1) (sym office));
       judged = ap (λ (x : Limits). x.removals) l ∙ (st.judged ∙ ap (λ (x : ℕ × List ℕ × Removals). x.2) (sym office));
-      idle = ap (λ (x : Limits). x.idle) l ∙ (st.idle ∙ sym idle);
+      limits = l ∙ (st.limits ∙ sym limits);
       moment = ap (λ (x : ℕ × ℕ). x.1) n ∙ (st.moment ∙ ap (λ (x : ℕ × ℕ). x.1) (sym number));
       numbered = λ q some. let same : opened T'.log ≡ opened T.log = ap (λ (x : ℕ × ℕ). x.0) number in rw same (st.numbered q (rw (connections q) at some));
       opened = ap (λ (x : ℕ × ℕ). x.0) n ∙ (st.opened ∙ ap (λ (x : ℕ × ℕ). x.0) (sym number));
@@ -214,6 +215,7 @@ silent_command B G ListMaildrops t h f = refl
 silent_command B G (ShowMaildrop d) t h f = refl
 silent_command B G (AddMaildrop d) t h f = refl
 silent_command B G (DropMaildrop d) t h f = refl
+silent_command B G ListClerks t h f = refl
 silent_command B G (ShowClerk name) t h f = refl
 silent_command B G (PutClerk name credential) t h f = refl
 silent_command B G (DropClerk name) t h f = refl

@@ -17,7 +17,7 @@ use Rattle.office.proofs.Beginning.{begins_on, begun_on}
 pub boot_formed : (T : Trace) (boot : ℕ) → boot < 18446744073709551616 → is_formed T.log (event.Restart boot) ≡ true
 boot_formed T boot fits = lt-ltb boot (2 ^ 64) (omega (arith, fits))
 
--- the store, the policy, the host's name and the idle seconds stay
+-- the store, the policy, the host's name and the settings stay
 pub restart_stands : {V : Type 0} (Holds : V → Contents → Type 0) (o o' : Office V) (T : Trace) (boot : ℕ) → (st : StandsFor Holds o T) → is_formed T.log (event.Restart boot) ≡ true
     → ((k : Contents) → Holds o.vault k → Holds o'.vault k) → o'.policy ≡ o.policy → o'.boot ≡ boot → string_bytes o'.host ≡ string_bytes o.host → o'.limits ≡ o.limits → counters o' ≡ (0, 0)
     → ((q : ℕ) → get nat_cmp o'.connections q ≡ None) → ((d : List ℕ) → get name_cmp o'.locks d ≡ None) → StandsFor Holds o' (given T (event.Restart boot) (Tagged Done))
@@ -38,7 +38,7 @@ restart_stands Holds o o' T boot st formed on p b s l n connections locks =
       boot = b;
       host = s ∙ st.host;
       judged = ap (λ (x : Limits). x.removals) l ∙ st.judged;
-      idle = ap (λ (x : Limits). x.idle) l ∙ st.idle;
+      limits = l ∙ st.limits;
       moment = ap (λ (x : ℕ × ℕ). x.1) n;
       numbered = λ q some. let none = connections q in absurd (true≢false (sym (rw none at some)));
       opened = ap (λ (x : ℕ × ℕ). x.0) n;

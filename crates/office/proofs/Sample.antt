@@ -21,7 +21,7 @@ use Rattle.office.specs.Answers.{body_of}
 use Rattle.office.specs.History.{Done}
 use Rattle.office.specs.Sessions.{present}
 use Rattle.office.specs.Replying.{is_empty}
-use Rattle.office.specs.Events.{Event, Start, Connect, Bytes, Took, Deposit, EventTag, Log, Trace}
+use Rattle.office.specs.Events.{no_access, Event, Start, Connect, Bytes, Took, Deposit, EventTag, Log, Trace}
 use Rattle.office.specs.Events as events
 use Rattle.office.specs.Outcomes.{Outcome, Answered, event_tag_of}
 use Rattle.office.specs.Trace.{history, rest}
@@ -118,7 +118,7 @@ ran T (s ∷ steps) = ran (stepped T s) steps
 
 -- an office that was opened with removals judged so
 abbrev pub start_with : Removals → Trace
-start_with removals = given (record { base = W; log = [] }) (Start (codes "h.test") 7 (record { idle = 600; removals = removals }))
+start_with removals = given (record { base = W; log = [] }) (Start (codes "h.test") 7 (record { idle = 600; removals = removals; access = no_access }))
 
 abbrev pub start : Trace
 start = start_with JudgedAtDele

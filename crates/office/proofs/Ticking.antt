@@ -187,7 +187,7 @@ module _ {V : Type 0} (Holds : V → Contents → Type 0) (o o' : Office V) (T :
       let fits = st.numbered q (rw found refl) in
       open_idle T (max (moment T.log) t) q m.opened fits.0 fits.1
       ∙ (ap (λ c. nat_le (c + idle_seconds T.log) (max (moment T.log) t)) (sym m.clock)
-      ∙ (ap (λ s. nat_le (k.clock + s) (max (moment T.log) t)) (sym st.idle) ∙ ap (λ n. nat_le (k.clock + o.limits.idle) (max n t)) (sym st.moment)))
+      ∙ (ap (λ s. nat_le (k.clock + s) (max (moment T.log) t)) (sym (ap (λ (x : Limits). x.idle) st.limits)) ∙ ap (λ n. nat_le (k.clock + o.limits.idle) (max n t)) (sym st.moment)))
 
   kept_ticked : (q : ℕ) (l : Option Kept) → get nat_cmp o.connections q ≡ l → IsKeptFor st.keeps.contents (seen T q) l
       → IsKeptFor st.keeps.contents (seen ticked q) (unless_idle (max o.moment t) o.limits.idle l)
@@ -232,7 +232,7 @@ module _ {V : Type 0} (Holds : V → Contents → Type 0) (o o' : Office V) (T :
           boot = b ∙ (st.boot ∙ ap (λ (w : Whole). w.office.0) (sym same));
           host = s ∙ (st.host ∙ ap (λ (w : Whole). w.office.1) (sym same));
           judged = ap (λ (x : Limits). x.removals) l ∙ (st.judged ∙ ap (λ (w : Whole). w.office.2) (sym same));
-          idle = ap (λ (x : Limits). x.idle) l ∙ st.idle;
+          limits = l ∙ st.limits;
           moment = ap (λ (x : ℕ × ℕ). x.1) n ∙ ap (λ m. max m t) st.moment;
           numbered = λ q some. st.numbered q (was_kept q (get nat_cmp o.connections q) (rw (connections q) at some));
           opened = ap (λ (x : ℕ × ℕ). x.0) n ∙ st.opened;

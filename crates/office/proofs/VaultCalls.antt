@@ -10,6 +10,7 @@ use Rattle.creds.specs.Names.{is_name, is_deposit_id, by_name}
 use Rattle.creds.specs.declared.credential.Credential.{Credential}
 use Rattle.policy.specs.Policy.{decide}
 use Rattle.policy.specs.declared.rule.Action.{Action}
+use Rattle.vault.specs.declared.answer.ClerkKind.{ClerkKind}
 use Rattle.vault.specs.declared.answer.Deposited.{Deposited}
 use Rattle.vault.specs.declared.answer.Head.{Head}
 use Rattle.vault.specs.declared.answer.Total.{Total}
@@ -26,7 +27,9 @@ use Rattle.vault.specs.Changes.{with_maildrop, without_maildrop, with_maildrops,
 use Rattle.vault.specs.Changes as changes
 use Rattle.vault.specs.Calls.{IsDeposited, DepositLeft, deposit_result, deposit_answer_in, present_in, seen_as, heads_result, AreHeads, IsCredential, put_result, IsClerkPut}
 use Rattle.vault.specs.Calls.{drop_clerk_result, IsClerkDropped, IsMaildropAdded, drop_result, IsMaildropDropped, AreTotals}
-use Rattle.office.specs.Answers.{Answer, ListMaildrops, ShowMaildrop, AddMaildrop, DropMaildrop, ShowClerk, PutClerk, DropClerk, Explain}
+use Rattle.vault.specs.Clerks.{clerk_kinds, AreClerkKinds}
+use Rattle.vault.proofs.KindLemmas.{kinds_alike}
+use Rattle.office.specs.Answers.{Answer, ListClerks, ListMaildrops, ShowMaildrop, AddMaildrop, DropMaildrop, ShowClerk, PutClerk, DropClerk, Explain}
 use Rattle.office.specs.Answers as answer
 use Rattle.office.specs.History.{Deposit, Administer, Done, Answers, in_force, clerks, maildrops, exists, arrivals, receipts, deposits}
 use Rattle.office.specs.Sessions.{holder, present, records, removed}
@@ -268,6 +271,15 @@ module _ {Before : Contents → Type 0} (After : Contents → Type 0) (T : Trace
   pub maildrop_show_lacked : (d : List ℕ) (answered : Result (List Head) VaultFault) → AreHeads After k.contents d answered
       → Became After k.contents T (event.Admin (ShowMaildrop d)) grown outcome.NoMemory
   maildrop_show_lacked d answered did = lacked T (event.Admin (ShowMaildrop d)) grown tt refl k (still_there After (is_ok answered) k.contents did.held)
+
+  pub clerks_listed : (answered : Result (List ClerkKind) VaultFault) → AreClerkKinds After k.contents answered → (answered ≡ Err fault.Store → grown ≡ true)
+      → Became After k.contents T (event.Admin ListClerks) grown (by_vault.clerks_listed answered)
+  clerks_listed answered did cause =
+      called T (event.Admin ListClerks) grown tt refl k by_vault.clerks_listed (λ r. After (if is_ok r then k.contents else k.contents))
+      (Ok (clerk_kinds k.contents.clerks)) answered
+      did.answer did.held (λ h. h) (λ h. h) refl refl
+      (ap (λ rows. outcome.Answered (answer.Clerks rows)) (kinds_alike k.contents.clerks (clerks T.base (history T)) k.agree.clerks k.agree.credentials))
+      (λ h. keeps_same T (event.Admin ListClerks) Done k h refl refl) cause
 
   pub clerk_shown : (name : List ℕ) (answered : Result (Option Credential) VaultFault) → IsCredential After k.contents name answered → (answered ≡ Err fault.Store → grown ≡ true)
       → Became After k.contents T (event.Admin (ShowClerk name)) grown (by_vault.credential_told answered)

@@ -16,7 +16,6 @@ use Rattle.popline.specs.Replies.{Marked, Okay, NoSuchMessage, AlreadyMarked, By
 use Rattle.popline.specs.Replies.{RemovalFailed, StoreFailed}
 use Rattle.policy.specs.Policy.{Policy}
 use Rattle.popline.specs.Cutting.{Cut}
-use Rattle.creds.specs.declared.uid.Uid.{Uid}
 use Rattle.vault.specs.Records.{Records, class_of, uid_of, octets_of}
 use Rattle.vault.specs.declared.answer.Head.{Head}
 use Rattle.vault.specs.declared.record.Message as store
@@ -45,6 +44,7 @@ use Rattle.office.specs.declared.answer.MessageRow.{MessageRow}
 use Rattle.office.specs.declared.account.Account.{Account}
 use Rattle.office.specs.declared.account.Removal.{Removal}
 use Rattle.office.specs.declared.account.Account.TheVariants as account
+use Rattle.office.specs.declared.account.End.{End}
 use Rattle.office.specs.declared.account.End.TheVariants as end
 use Rattle.office.specs.declared.account.MessageCommand.{MessageCommand}
 use Rattle.office.specs.declared.account.MessageCommand.TheVariants as to
@@ -220,10 +220,25 @@ acts_account B G _ = account.Nothing
 abbrev pub acts_told : Trace → Event → Tag → Account
 acts_told T e t = acts_account T.base (history T) (acts_of T.log (history T) e t)
 
+-- all that was owed is taken: the line that acts then is told; if none is told, that it is taken
+abbrev pub taken_told : Account → Account
+taken_told account.Nothing = account.Taken
+taken_told told = told
+
+-- a part of it is taken, by which no line acts, or all
+abbrev pub part_or_all_told : (left : Bool) → Account → Account
+part_or_all_told true told = told
+part_or_all_told false told = taken_told told
+
 -- a page that is refused ends the connection; a line at which the store fails has its own account
 abbrev pub failed_told : (left : Bool) → Account → Account
 failed_told true told = account.Ended end.StoreFailed
-failed_told false told = told
+failed_told false told = taken_told told
+
+-- memory was wanting for more of what was owed, or, if all of it is taken, for the next line
+abbrev pub lacking : (left : Bool) → End
+lacking true = end.NoMemory
+lacking false = end.NoMemoryForLine
 
 -- a command that was answered so ended a session, and the connection with it
 abbrev pub answer_told : Answer → Account
@@ -235,14 +250,17 @@ abbrev pub outcome_told : Outcome → Account
 outcome_told (Answered answer) = answer_told answer
 outcome_told _ = account.Nothing
 
--- The account of an event that shows this tag: why it ended its connection, if no line did; or
--- that of its acts.
+-- The account of an event that shows this tag: why it ended its connection, if no line did; that of
+-- its acts; or that all that was owed is taken.
 abbrev pub account_at : Trace → Event → Tag → Account
 account_at T (event.Gone c) t = account.Ended end.Gone
-account_at T (event.Bytes c piece) NoMemory = account.Ended end.NoMemory
-account_at T (event.Took c octets) NoMemory = account.Ended end.NoMemory
+account_at T (event.Bytes c piece) NoMemory = account.Ended end.NoMemoryForLine
+account_at T (event.Took c octets) NoMemory =
+    account.Ended (lacking (is_left T.log (history T) c octets))
 account_at T (event.Took c octets) Failed =
     failed_told (is_left T.log (history T) c octets) (acts_told T (event.Took c octets) Failed)
+account_at T (event.Took c octets) Done =
+    part_or_all_told (is_left T.log (history T) c octets) (acts_told T (event.Took c octets) Done)
 account_at T (event.Admin command) Done =
     answer_told (administered T.base (history T) command)
 account_at T e t = acts_told T e t

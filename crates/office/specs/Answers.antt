@@ -6,6 +6,9 @@ use Rattle.creds.specs.declared.login_name.LoginName.{LoginName}
 use Rattle.creds.specs.declared.uid.Uid.{Uid}
 use Rattle.creds.specs.Uid.{uid_text}
 use Rattle.creds.specs.declared.credential.Credential.{Credential}
+use Rattle.vault.specs.declared.answer.ClerkKind.{ClerkKind}
+use Rattle.vault.specs.declared.answer.CredentialKind.{CredentialKind}
+use Rattle.vault.specs.declared.answer.CredentialKind.TheVariants.{Apop, Pass}
 use Rattle.vault.specs.declared.answer.Total.{Total}
 use Rattle.policy.specs.Policy.{Group, Policy}
 use Rattle.policy.specs.declared.rule.Action.{Action}
@@ -18,6 +21,7 @@ pub data AdminCommand : Type 0 where
   ShowMaildrop : (maildrop : List ℕ) → AdminCommand
   AddMaildrop : (maildrop : List ℕ) → AdminCommand
   DropMaildrop : (maildrop : List ℕ) → AdminCommand
+  ListClerks : AdminCommand
   ShowClerk : (clerk : List ℕ) → AdminCommand
   PutClerk : (clerk : List ℕ) → Credential → AdminCommand
   DropClerk : (clerk : List ℕ) → AdminCommand
@@ -44,6 +48,7 @@ pub data Answer : Type 0 where
   Dropped : Answer
   MaildropInUse : Answer
   NotEmpty : Answer
+  Clerks : List ClerkKind → Answer
   ByApopSecret : Answer
   ByPassword : Answer
   NoSuchClerk : Answer
@@ -67,6 +72,15 @@ body_lines line rows = flat_map (λ row. body_line (line row)) rows
 -- a maildrop's name, its messages and their octets
 abbrev pub total_text : Total → List ℕ
 total_text t = t.maildrop ++ codes " " ++ decimal t.messages ++ codes " " ++ decimal t.octets
+
+-- the word for a kind of credential
+abbrev pub kind_text : CredentialKind → List ℕ
+kind_text Apop = codes "apop"
+kind_text Pass = codes "pass"
+
+-- a clerk's name and the kind of the credential
+abbrev pub clerk_text : ClerkKind → List ℕ
+clerk_text row = row.clerk ++ codes " " ++ kind_text row.kind
 
 -- a message's unique-id and its octets
 abbrev pub message_text : Uid × ℕ → List ℕ
@@ -101,6 +115,7 @@ body_of WasThere = body_line (codes "was there")
 body_of Dropped = body_line (codes "dropped")
 body_of MaildropInUse = body_line (codes "in use")
 body_of NotEmpty = body_line (codes "not empty")
+body_of (Clerks rows) = body_lines clerk_text rows
 body_of ByApopSecret = body_line (codes "apop")
 body_of ByPassword = body_line (codes "pass")
 body_of NoSuchClerk = body_line (codes "no such clerk")

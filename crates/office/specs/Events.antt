@@ -1,15 +1,21 @@
 -- The events that an office is given, and traces of them.
-use Rattle.std.specs.Prelude.{ℕ, List, ◌∷◌}
+use Rattle.std.specs.Prelude.{ℕ, false, List, ◌∷◌}
 use Rattle.session.specs.declared.removals.Removals.{Removals}
 use Rattle.office.specs.Answers.{AdminCommand}
+use Rattle.office.specs.declared.limits.AdminAccess.{AdminAccess}
 use Rattle.vault.specs.Records.{Records}
 use Rattle.office.specs.History.{Tag}
 
--- an office's settings: after how many seconds an idle connection is ended, and when removals are
--- judged
+-- an office's settings: after how many seconds an idle connection is ended, when removals are
+-- judged, and which requests its administration answers
 pub record Limits : Type 0 where
   pub idle : ℕ
   pub removals : Removals
+  pub access : AdminAccess
+
+-- none of the requests that an administration answers only if it is opened so
+abbrev pub no_access : AdminAccess
+no_access = record { lists_clerks = false }
 
 -- Start is an office's opening; the others are those that `step` takes
 pub data Event : Type 0 where

@@ -2,7 +2,9 @@
 use Rattle.std.specs.Prelude.{ℕ, not, ◌&&◌, ◌+◌, ◌==◌, List, [], ◌∷◌, ◌++◌, max, if◌then◌else◌}
 use Rattle.popline.specs.Cutting.{has_newline}
 use Rattle.office.specs.History.{Done, is_no_memory}
-use Rattle.office.specs.Events.{Event, EventTag, Tagged, Log}
+use Rattle.session.specs.declared.removals.Removals.TheVariants.{JudgedAtDele}
+use Rattle.office.specs.declared.limits.AdminAccess.{AdminAccess}
+use Rattle.office.specs.Events.{Limits, no_access, Event, EventTag, Tagged, Log}
 use Rattle.office.specs.Events as event
 
 -- ---- what the events alone say
@@ -23,15 +25,27 @@ opened ((e, m) ∷ T) = opened_after e m (opened T)
 abbrev pub next_number : Log → ℕ
 next_number T = opened T + 1
 
--- the idle seconds after an event: an opening sets them
-abbrev pub idle_after : Event → EventTag → ℕ → ℕ
-idle_after (event.Start host boot limits) (Tagged t) before = limits.idle
-idle_after _ m before = before
+-- the settings before any opening: the least idle seconds, and all else as it is by default
+abbrev pub least_limits : Limits
+least_limits = record { idle = 600; removals = JudgedAtDele; access = no_access }
 
--- the idle seconds that the office was opened with
+-- the settings after an event: an opening sets them
+abbrev pub limits_after : Event → EventTag → Limits → Limits
+limits_after (event.Start host boot limits) (Tagged t) before = limits
+limits_after _ m before = before
+
+-- the settings that the office was opened with
+abbrev pub limits_in : Log → Limits
+limits_in [] = least_limits
+limits_in ((e, m) ∷ T) = limits_after e m (limits_in T)
+
+-- the idle seconds that it was opened with
 abbrev pub idle_seconds : Log → ℕ
-idle_seconds [] = 600
-idle_seconds ((e, m) ∷ T) = idle_after e m (idle_seconds T)
+idle_seconds T = (limits_in T).idle
+
+-- which requests of its administration it was opened to answer
+abbrev pub access_in : Log → AdminAccess
+access_in T = (limits_in T).access
 
 -- the moment after an event: the greatest tick since the last restart, or 0
 abbrev pub moment_after : Event → EventTag → ℕ → ℕ

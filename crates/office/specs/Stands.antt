@@ -17,7 +17,7 @@ use Rattle.office.specs.Replying.{stamp}
 use Rattle.office.specs.Events.{Log, Trace}
 use Rattle.office.specs.Formed.{are_formed}
 use Rattle.office.specs.Laws.{HasBegun, IsNewOrBegun}
-use Rattle.office.specs.Log.{opened, idle_seconds, moment, stream, taken, clock}
+use Rattle.office.specs.Log.{opened, limits_in, moment, stream, taken, clock}
 use Rattle.office.specs.Trace.{history, is_open_by}
 use Rattle.office.specs.Expected.{most_in_a_piece}
 use Rattle.office.specs.Transaction.{LiesIn}
@@ -168,7 +168,7 @@ pub record StandsFor {V : Type 0} (Holds : V → Contents
   pub boot : o.boot ≡ (setting (history T)).0
   pub host : string_bytes o.host ≡ (setting (history T)).1
   pub judged : o.limits.removals ≡ judging (history T)
-  pub idle : o.limits.idle ≡ idle_seconds T.log
+  pub limits : o.limits ≡ limits_in T.log
   pub moment : o.moment ≡ moment T.log
   -- an open connection's number was given since the last restart
   pub numbered : (c : ℕ) → IsSome (get nat_cmp o.connections c) → (1 ≤ c) × (c ≤ opened T.log)

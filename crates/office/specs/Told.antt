@@ -16,9 +16,11 @@ use Rattle.vault.specs.Changes.{DepositAnswer, Accepted, KnownAs, deposit_answer
 use Rattle.vault.specs.Changes.{put_maildrop_answer, put_clerk_answer, DropAnswer, drop_answer}
 use Rattle.vault.specs.Changes.{total_in}
 use Rattle.vault.specs.Changes as changes
+use Rattle.vault.specs.Clerks.{clerk_kinds}
 use Rattle.office.specs.Answers.{AdminCommand, ListMaildrops, ShowMaildrop, AddMaildrop}
-use Rattle.office.specs.Answers.{DropMaildrop, ShowClerk, PutClerk, DropClerk, ShowPolicy}
-use Rattle.office.specs.Answers.{SetPolicy, ListGroups, ListSessions, EndSession, Explain, Answer}
+use Rattle.office.specs.Answers.{DropMaildrop, ListClerks, ShowClerk, PutClerk, DropClerk}
+use Rattle.office.specs.Answers.{ShowPolicy, SetPolicy, ListGroups, ListSessions, EndSession}
+use Rattle.office.specs.Answers.{Explain, Answer}
 use Rattle.office.specs.History.{Act, Open, Line, Deposit, Administer, Tag, Done, Said, Silence}
 use Rattle.office.specs.History.{Says, Answers, Entry, in_force, clerks, credential, maildrops}
 use Rattle.office.specs.History.{exists, deposits}
@@ -90,6 +92,7 @@ administered B G (AddMaildrop d) =
 administered B G (DropMaildrop d) =
     if is_some (holder G d) then answer.MaildropInUse
     else answer_of_drop (drop_answer (exists B G d) (length (present B G d)))
+administered B G ListClerks = answer.Clerks (clerk_kinds (clerks B G))
 administered B G (ShowClerk name) = kind_of (credential B G name)
 administered B G (PutClerk name given) =
     answer_of_put answer.Replaced (put_clerk_answer name (clerks B G))

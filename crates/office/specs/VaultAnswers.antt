@@ -4,6 +4,7 @@ use Rattle.mailtext.specs.declared.kept.TextFault.{TextFault}
 use Rattle.mailtext.specs.declared.kept.TextFault.TheVariants as text_fault
 use Rattle.creds.specs.declared.uid.Uid.{Uid}
 use Rattle.creds.specs.declared.credential.Credential.{Credential}
+use Rattle.vault.specs.declared.answer.ClerkKind.{ClerkKind}
 use Rattle.vault.specs.declared.answer.Deposited.{Deposited}
 use Rattle.vault.specs.declared.answer.Deposited.TheVariants as stored
 use Rattle.vault.specs.declared.answer.Head.{Head}
@@ -39,6 +40,11 @@ deposited (Err e) = refused e
 abbrev pub listed : Result (List Total) VaultFault → Outcome
 listed (Ok totals) = Answered (answer.Maildrops totals)
 listed (Err e) = refused e
+
+-- a list of the clerks
+abbrev pub clerks_listed : Result (List ClerkKind) VaultFault → Outcome
+clerks_listed (Ok rows) = Answered (answer.Clerks rows)
+clerks_listed (Err e) = refused e
 
 -- a head's unique-id and octets
 abbrev pub row_of_head : Head → Uid × ℕ

@@ -5,7 +5,7 @@ ghost use Rattle.office.specs.History.{Says};
 ghost use Rattle.office.specs.Connections.{reading};
 ghost use Rattle.office.specs.Accounts.{verdict as verdict_of, login_told, reset_told};
 ghost use Rattle.office.specs.Accounts.{done_told, denial_told, message_told, sending_told};
-ghost use Rattle.office.specs.Accounts.{told_if_done};
+ghost use Rattle.office.specs.Accounts.{told_if_done, taken_told};
 ghost use Rattle.office.specs.Accounts.{command_account, fault_told, line_account};
 ghost use Rattle.office.specs.Accounts.{removal_told, was_done as was_done_so};
 
@@ -64,7 +64,10 @@ pub struct Removal {
 pub enum End {
     /// The client went, or was sent away.
     Gone,
+    /// Memory was wanting for more of what the connection was owed.
     NoMemory,
+    /// Memory was wanting for a line; all that was owed before it is taken.
+    NoMemoryForLine,
     /// The store refused a page of the message that was sent.
     StoreFailed,
     /// An administrator ended the session.
@@ -108,6 +111,8 @@ pub enum Account {
     Topped(MessageRow),
     /// A rule denied a session's command for the message of this unique-id: the rule's name.
     Denied(MessageCommand, Uid, Name),
+    /// The client took the last octet that it was owed; if a line acted then, it tells nothing.
+    Taken,
     /// A session quit.
     Quit(Removal),
     /// QUIT came before a login.
@@ -285,6 +290,20 @@ impl Account {
             Ok(LineOutcome::Done) => *self = told,
             Ok(LineOutcome::Failed) => *self = Account::Nothing,
             Err(_) => {}
+        }
+    }
+
+    /// Becomes the account of a taking of all that was owed, after which a line with this account
+    /// acted, or none.
+    pub(crate) fn add_taking(&mut self)
+        ensures { self.new ≡ taken_told self.old }
+    {
+        match self {
+            Account::Nothing => *self = Account::Taken,
+            Account::Login(_, _, _) | Account::NoName | Account::Marked | Account::Unmarked => {}
+            Account::Retrieved(_) | Account::Topped(_) | Account::Denied(_, _, _) => {}
+            Account::Taken | Account::Quit(_) | Account::QuitBeforeLogin => {}
+            Account::Ended(_) => {}
         }
     }
 

@@ -4,6 +4,9 @@ ghost use Rattle.creds.specs.Names.{is_name};
 ghost use Rattle.vault.specs.Records.{is_sound_credential};
 ghost use Rattle.vault.specs.Calls.{seen_as};
 ghost use Rattle.office.specs.Events as event;
+ghost use Rattle.office.specs.Events.{Trace};
+ghost use Rattle.office.specs.Log.{access_in};
+ghost use Rattle.office.specs.Stands.{StandsFor};
 ghost use Rattle.office.specs.Answers as asked;
 ghost use Rattle.office.specs.Seen.{outcome_seen, command_seen, row_seen};
 ghost use Rattle.office.specs.Outcomes as outcomes;
@@ -11,11 +14,13 @@ ghost use Rattle.office.specs.AfterEvent.{AfterEvent};
 ghost use Rattle.office.specs.VaultAnswers as by_vault;
 
 use crate::deposits::refused;
-use crate::{AdminCommand, Answer, MessageRow, Messages, Office, Outcome, Totals};
+use crate::{
+    AdminAccess, AdminCommand, Answer, Clerks, MessageRow, Messages, Office, Outcome, Totals,
+};
 use creds::{Credential, Name, Uid};
 use policy::Action;
 use std::alloc::{AllocError, Global};
-use vault::{Head, Total, Vault, VaultFault};
+use vault::{ClerkKind, Head, Total, Vault, VaultFault};
 
 /// A fact for the proofs: each name has its form. The body does nothing.
 fn name_has_form(name: &Name)
@@ -116,6 +121,16 @@ fn maildrop_dropped(answered: Result<(), VaultFault>) -> Outcome
     }
 }
 
+/// The answer to a list of the clerks, by the vault's answer.
+fn clerks_listed(answered: Result<Vec<ClerkKind>, VaultFault>) -> Outcome
+    ensures { outcome_seen result ≡ by_vault.clerks_listed (seen_as answered (λ v. v.items)) }
+{
+    match answered {
+        Ok(rows) => Outcome::Answered(Answer::Clerks(Clerks::new(rows))),
+        Err(fault) => refused(fault),
+    }
+}
+
 /// The answer to a look at a clerk, by the vault's answer.
 fn credential_told(answered: Result<Option<Credential>, VaultFault>) -> Outcome
     ensures { outcome_seen result ≡ by_vault.credential_told answered }
@@ -152,6 +167,14 @@ fn clerk_dropped(answered: Result<(), VaultFault>) -> Outcome
 }
 
 impl<V: Vault> Office<V> {
+    /// Which requests of its administration it was opened to answer. The reader of the requests
+    /// asks for it: [`Office::step`] answers each command.
+    pub fn admin_access(&self) -> AdminAccess
+        ensures { (T : Trace) → StandsFor V.holds self.now T → result ≡ access_in T.log }
+    {
+        self.limits.access()
+    }
+
     /// Each maildrop, with the number of its messages and their octets.
     fn list_maildrops(&mut self) -> Outcome
         ensures { AfterEvent V.Vault self.old self.new (event.Admin asked.ListMaildrops)
@@ -186,6 +209,14 @@ impl<V: Vault> Office<V> {
             return Outcome::Answered(Answer::MaildropInUse);
         }
         maildrop_dropped(self.vault.drop_maildrop(maildrop))
+    }
+
+    /// Each clerk, with the kind of the credential.
+    fn list_clerks(&mut self) -> Outcome
+        ensures { AfterEvent V.Vault self.old self.new (event.Admin asked.ListClerks)
+            (outcome_seen result) }
+    {
+        clerks_listed(self.vault.clerks())
     }
 
     /// Which kind of credential a clerk has.
@@ -235,6 +266,7 @@ impl<V: Vault> Office<V> {
             AdminCommand::ShowMaildrop(maildrop) => self.show_maildrop(maildrop),
             AdminCommand::AddMaildrop(maildrop) => self.add_maildrop(maildrop),
             AdminCommand::DropMaildrop(maildrop) => self.drop_maildrop(maildrop),
+            AdminCommand::ListClerks => self.list_clerks(),
             AdminCommand::ShowClerk(clerk) => self.show_clerk(clerk),
             AdminCommand::PutClerk(clerk, credential) => self.put_clerk(clerk, credential),
             AdminCommand::DropClerk(clerk) => self.drop_clerk(clerk),

@@ -4,7 +4,7 @@ ghost use Rattle.std.specs.Prelude.{◌≡◌};
 use creds::{LoginName, Uid};
 use policy::{Decision, Policy};
 use std::marker::Model;
-use vault::Total;
+use vault::{ClerkKind, Total};
 
 /// What a deposit or a command is answered, if the store didn't refuse it.
 #[derive(Drop)]
@@ -37,6 +37,8 @@ pub enum Answer {
     MaildropInUse,
     /// The maildrop has a message, and stays.
     NotEmpty,
+    /// The clerks, by name.
+    Clerks(Clerks),
     /// The clerk logs in by APOP.
     ByApopSecret,
     /// The clerk logs in by USER and PASS.
@@ -85,6 +87,36 @@ impl Totals {
 
     /// The maildrops, in the order of their names' octets.
     pub fn rows(&self) -> &[Total]
+        ensures { result.now ≡ self.now }
+    {
+        &self.rows
+    }
+}
+
+/// Clerks with the kind of each one's credential.
+#[derive(Drop)]
+pub struct Clerks {
+    rows: Vec<ClerkKind>,
+}
+
+impl Model for Clerks {
+    ghost use Rattle.std.specs.Prelude.{List};
+    ghost use Rattle.vault.specs.declared.answer.ClerkKind.{ClerkKind};
+
+    ghost Value = { List ClerkKind };
+
+    ghost view = { λ c. c.rows.items };
+}
+
+impl Clerks {
+    pub(crate) fn new(rows: Vec<ClerkKind>) -> Clerks
+        ensures { result ≡ rows.items }
+    {
+        Clerks { rows }
+    }
+
+    /// The clerks, in the order of their names' octets.
+    pub fn rows(&self) -> &[ClerkKind]
         ensures { result.now ≡ self.now }
     {
         &self.rows

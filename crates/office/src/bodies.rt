@@ -3,14 +3,14 @@
 ghost use Rattle.std.specs.Prelude.{◌≡◌, IfOk, map};
 ghost use Rattle.office.specs.Answers.{body_of, body_line, body_lines, total_text, message_text};
 ghost use Rattle.office.specs.Answers.{session_text, group_line, New, Known, Explained, PolicyIs};
-ghost use Rattle.office.specs.Answers.{RuleCount};
+ghost use Rattle.office.specs.Answers.{RuleCount, clerk_text, kind_text};
 ghost use Rattle.office.specs.Seen.{answer_seen, row_seen, session_seen};
 
 use crate::answer::{Answer, MessageRow, SessionRow};
 use creds::Uid;
 use policy::{Decision, Group, Policy};
 use std::alloc::{AllocError, Global};
-use vault::Total;
+use vault::{ClerkKind, CredentialKind, Total};
 
 /// The body of an answer, as scripts and HTTP show it: the written policy, or lines that each end
 /// with LF. A list without rows has an empty body. An error means want of memory.
@@ -32,6 +32,7 @@ pub fn answer_body(alloc: Global, answer: &Answer) -> Result<Vec<u8>, AllocError
         Answer::Dropped => octets_of(alloc, "dropped\n"),
         Answer::MaildropInUse => octets_of(alloc, "in use\n"),
         Answer::NotEmpty => octets_of(alloc, "not empty\n"),
+        Answer::Clerks(clerks) => clerk_lines(alloc, clerks.rows()),
         Answer::ByApopSecret => octets_of(alloc, "apop\n"),
         Answer::ByPassword => octets_of(alloc, "pass\n"),
         Answer::NoSuchClerk => octets_of(alloc, "no such clerk\n"),
@@ -123,6 +124,38 @@ fn total_line(alloc: Global, row: Total) -> Result<Vec<u8>, AllocError>
     let octets = row.octets;
     let text = format!(in alloc; "{maildrop} {messages} {octets}\n")?;
     Ok(text.into_bytes())
+}
+
+/// A line for each clerk.
+fn clerk_lines(alloc: Global, rows: &[ClerkKind]) -> Result<Vec<u8>, AllocError>
+    ensures { IfOk result (λ text. text.items ≡ body_lines clerk_text rows.now) }
+{
+    let mut text = Vec::new(alloc);
+    for row in rows {
+        let line = clerk_line(alloc, *row)?;
+        text.extend_from_slice(&line)?;
+    }
+    Ok(text)
+}
+
+/// The line of a clerk: the name, and the kind of the credential.
+fn clerk_line(alloc: Global, row: ClerkKind) -> Result<Vec<u8>, AllocError>
+    ensures { IfOk result (λ line. line.items ≡ body_line (clerk_text row)) }
+{
+    let clerk = row.clerk;
+    let kind = kind_word(row.kind);
+    let text = format!(in alloc; "{clerk} {kind}\n")?;
+    Ok(text.into_bytes())
+}
+
+/// The word for a kind of credential.
+fn kind_word(kind: CredentialKind) -> &'static str
+    ensures { result.now ≡ kind_text kind }
+{
+    match kind {
+        CredentialKind::Apop => "apop",
+        CredentialKind::Pass => "pass",
+    }
 }
 
 /// A line for each message.

@@ -13,6 +13,8 @@ pub enum AdminCommand {
     AddMaildrop(Name),
     /// Drops an empty maildrop that no session holds. Its name's deposit ids and counts stay.
     DropMaildrop(Name),
+    /// Each clerk with the kind of the credential.
+    ListClerks,
     /// Which kind of credential a clerk has.
     ShowClerk(Name),
     /// Puts a clerk's credential, in place of the one that is there; at most 1,000 clerks are kept.

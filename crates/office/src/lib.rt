@@ -38,7 +38,7 @@ mod transcript;
 mod waiting;
 
 pub use account::{Account, End, MessageCommand, Removal, Verdict, Way};
-pub use answer::{Answer, MessageRow, Messages, SessionRow, Sessions, Totals};
+pub use answer::{Answer, Clerks, MessageRow, Messages, SessionRow, Sessions, Totals};
 pub use bodies::answer_body;
 pub use command::AdminCommand;
 pub use event::{Event, Outcome, Reason};
@@ -48,7 +48,7 @@ pub use history_laws::{
     replies_have_their_form, served_is_allowed, taken_is_sent, unique_id_texts_differ,
     unique_ids_are_unique, view_stays_present,
 };
-pub use limits::Limits;
+pub use limits::{AdminAccess, Limits};
 pub use numbers::read_number;
 pub use office::{Office, OpenFault};
 pub use stop_laws::{step_and_open, stop_between_events};

@@ -21,7 +21,7 @@ ghost use Rattle.std.specs.Ordering.{nat_cmp};
 ghost use Rattle.std.specs.BTreeMap.{Updates};
 ghost use Rattle.office.specs.Locks.{Released};
 ghost use Rattle.office.specs.Answered.{shown_of};
-ghost use Rattle.office.specs.Accounts.{IsAccount, outcome_told};
+ghost use Rattle.office.specs.Accounts.{IsAccount, outcome_told, taken_told};
 ghost use Rattle.office.specs.Runs.{Step as Shown, followed, Follows, Enters, Ran};
 ghost use Rattle.office.specs.Runs.{HaveCauses, HaveMemory, AreAnswered, StopLeavesRun};
 ghost use Rattle.office.specs.Runs.{done_before};
@@ -81,6 +81,16 @@ fn outcome_of(line_outcome: LineOutcome) -> Outcome
     }
 }
 
+/// The outcome of a taking of all that was owed, after which a line was answered so, or none was.
+/// `account` is that line's, and becomes the taking's.
+fn after_all(line_outcome: LineOutcome, account: &mut Account) -> Outcome
+    ensures outcome { outcome_seen result ≡ shown_of line_outcome }
+    ensures account { account.new ≡ taken_told account.old }
+{
+    account.add_taking();
+    outcome_of(line_outcome)
+}
+
 /// What the outcome of a command tells: that it ended a session, if it did.
 fn ended_by(outcome: &Outcome) -> Account
     ensures { result ≡ outcome_told (outcome_seen outcome.now) }
@@ -105,20 +115,22 @@ fn cut_off(
     release(locks, held);
 }
 
-/// Ends a connection for want of memory, as `account` then says.
-fn cut_off_without_memory(
+/// Ends a connection that lacked memory for a line, as `account` then says.
+fn lack_memory(
     connections: &mut BTreeMap<u64, Connection>,
     locks: &mut Locks,
     c: u64,
     held: Option<Name>,
     account: &mut Account,
-)
+) -> Outcome
     ensures connections { Updates nat_cmp connections.old connections.new c None }
     ensures locks { Released held locks.old locks.new }
-    ensures account { account.new ≡ Account.Ended End.NoMemory }
+    ensures account { account.new ≡ Account.Ended End.NoMemoryForLine }
+    ensures outcome { result ≡ Outcome.NoMemory }
 {
-    *account = Account::Ended(End::NoMemory);
     cut_off(connections, locks, c, held);
+    *account = Account::Ended(End::NoMemoryForLine);
+    Outcome::NoMemory
 }
 
 impl<V: Vault> Office<V> {
@@ -247,10 +259,7 @@ impl<V: Vault> Office<V> {
             account,
         ) {
             Ok(line_outcome) => outcome_of(line_outcome),
-            Err(_) => {
-                cut_off_without_memory(&mut self.connections, &mut self.locks, c, held, account);
-                Outcome::NoMemory
-            }
+            Err(_) => lack_memory(&mut self.connections, &mut self.locks, c, held, account),
         }
     }
 
@@ -274,7 +283,8 @@ impl<V: Vault> Office<V> {
         let taken = match connection.take(self.alloc, &mut self.vault, octets, self.moment) {
             Ok(taken) => taken,
             Err(_) => {
-                cut_off_without_memory(&mut self.connections, &mut self.locks, c, held, account);
+                cut_off(&mut self.connections, &mut self.locks, c, held);
+                *account = Account::Ended(End::NoMemory);
                 return Outcome::NoMemory;
             }
         };
@@ -288,6 +298,7 @@ impl<V: Vault> Office<V> {
         }
         if connection.is_closing() {
             let _ = self.connections.remove(&c);
+            *account = Account::Taken;
             return Outcome::Done;
         }
         match connection.resume(
@@ -298,11 +309,8 @@ impl<V: Vault> Office<V> {
             c,
             account,
         ) {
-            Ok(line_outcome) => outcome_of(line_outcome),
-            Err(_) => {
-                cut_off_without_memory(&mut self.connections, &mut self.locks, c, held, account);
-                Outcome::NoMemory
-            }
+            Ok(line_outcome) => after_all(line_outcome, account),
+            Err(_) => lack_memory(&mut self.connections, &mut self.locks, c, held, account),
         }
     }
 
@@ -408,8 +416,8 @@ impl<V: Vault> Office<V> {
     /// Does one event, as [`Office::step`] does, and says what it judged: `account` becomes the
     /// account of this event, whatever it was before. It is that of the line that acted, also
     /// if the store failed; or why the connection ended, if it is gone, memory was wanting, a
-    /// page was refused or a command ended its session. Other events have none, nor has one that is
-    /// ignored.
+    /// page was refused or a command ended its session; or that all that was owed is taken, if the
+    /// line that acts then tells nothing. Other events have none, nor has one that is ignored.
     pub fn step_with_account(&mut self, event: Event<'_>, account: &mut Account) -> Outcome
         ensures stands { OfEachTrace V.Vault self.old self.new (λ T.
             StandsFor V.holds self.new (followed_by T (event_seen event.entry) result)) }

@@ -182,8 +182,8 @@ fn logging<'a>(alloc: Global) -> Result<Vec<Arg<'a>>, AllocError> {
 
 /// `serve --store PATH --spool DIR [--listen IPV4] [--pop-port N] [--admin-port N]
 /// [--admin-site NAME] [--host NAME] [--idle N] [--wait N] [--login-seconds N]
-/// [--full-house-seconds N] [--slow-guesses] [--proxy-protocol] [--removals WHEN] [--turns N]
-/// [--log] [--log-message-ids] [--log-reads] [--verbose]`.
+/// [--full-house-seconds N] [--slow-guesses] [--proxy-protocol] [--removals WHEN] [--list-clerks]
+/// [--turns N] [--log] [--log-message-ids] [--log-reads] [--verbose]`.
 fn serve<'a>(alloc: Global) -> Result<Command<'a>, AllocError> {
     let listen = option(
         alloc,
@@ -214,6 +214,7 @@ fn serve<'a>(alloc: Global) -> Result<Command<'a>, AllocError> {
         admin_site(alloc),
         host(alloc),
         removals(alloc),
+        flag(alloc, "list-clerks", "The administration lists the clerks at /clerks"),
         turns.value_parser(value_parser!(u64)),
     ]?;
     let about = "Serves clients over the network, and takes messages from a folder";

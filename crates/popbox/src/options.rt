@@ -166,6 +166,8 @@ pub struct ServeOptions<'a> {
     pub admin_port: u16,
     /// The host's name of the administration's site, as it was written.
     pub admin_site: Option<&'a str>,
+    /// Whether the administration lists the clerks.
+    pub list_clerks: bool,
     pub host: &'a str,
     /// After how many turns it ends; without them it goes on.
     pub turns: Option<u64>,
@@ -193,6 +195,7 @@ impl<'a> ServeOptions<'a> {
             pop_port: found.get_one("pop-port")?,
             admin_port: found.get_one("admin-port")?,
             admin_site: found.get_str("admin-site"),
+            list_clerks: found.get_flag("list-clerks"),
             host: found.get_str("host")?,
             turns: found.get_one("turns"),
             log: found.get_flag("log"),

@@ -1,11 +1,12 @@
 //! `popbox serve`: clients over the network.
 use crate::options::ServeOptions;
+use crate::version::{IS_PROVED, SLOW};
 use converse::{Fault, tell_fault};
 use journal::{
     FileId, Folder, Guarded, Journal, LoggedSpool, LoggedVault, LoggedWire, Loss, Peers, Shared,
     StoreWatch, note_end, note_loss, note_opening, note_start,
 };
-use office::{Limits, Office};
+use office::{AdminAccess, Limits, Office};
 use proxy::ProxiedWire;
 use recent::Recent;
 use serving::{
@@ -52,6 +53,9 @@ pub fn serve_over<V: Vault, E: Write>(
     let totals = totals_of(&mut vault, &journal);
     let watch = StoreWatch::new(rt, path.as_str(), before);
     let limits = limits.with_removals(options.removals);
+    let limits = limits.with_access(AdminAccess {
+        lists_clerks: options.list_clerks,
+    });
     match Office::open(rt.alloc(), vault, options.host, boot, limits) {
         Err((fault, vault)) => (Err(Fault::from(fault)), vault.into_vault().into_vault()),
         Ok(mut office) => {
@@ -102,6 +106,13 @@ fn tell_refused<E: Write>(err: &mut E, is_verbose: bool, at: SocketAddr, error: 
     1
 }
 
+/// Tells that the program isn't proved, and how slow it is then.
+fn tell_slow<E: Write>(err: &mut E) {
+    if !IS_PROVED {
+        let _ = writeln!(err, "{SLOW}");
+    }
+}
+
 /// Listens, says so, and serves the clients and administrators that come.
 fn serve<'a, V: Vault, E: Write>(
     rt: &'a HostRuntime,
@@ -121,6 +132,7 @@ fn serve<'a, V: Vault, E: Write>(
     let mut out = io::writer(rt);
     writeln!(out, "pop on {}:{}", at.ip(), port).map_err(|_| Fault::CannotWrite)?;
     writeln!(out, "admin on 127.0.0.1:{admin_port}").map_err(|_| Fault::CannotWrite)?;
+    tell_slow(err);
     let pop = SocketAddr::from((at.ip(), port));
     let settings = options.settings()?;
     note_start(

@@ -9,7 +9,7 @@ use mailtext::MailText;
 use policy::Policy;
 use std::alloc::Global;
 use std::marker::Model;
-use vault::{Deposited, Head, MessageKey, Total, Vault, VaultFault};
+use vault::{ClerkKind, Deposited, Head, MessageKey, Total, Vault, VaultFault};
 
 /// A vault around another one, which keeps the heads of the maildrops that were asked for, and the
 /// totals of all maildrops, and answers the same question again from them. Every fault forgets
@@ -138,6 +138,11 @@ impl<V: Vault> Vault for Recent<V> {
     fn credential(&mut self, clerk: &Name) -> Result<Option<Credential>, VaultFault> {
         let found = self.vault.credential(clerk);
         after_look(&mut self.kept, &mut self.totals, found)
+    }
+
+    fn clerks(&mut self) -> Result<Vec<ClerkKind>, VaultFault> {
+        let listed = self.vault.clerks();
+        after_look(&mut self.kept, &mut self.totals, listed)
     }
 
     fn put_clerk(&mut self, clerk: &Name, credential: &Credential) -> Result<bool, VaultFault> {

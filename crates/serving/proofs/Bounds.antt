@@ -14,7 +14,7 @@ use Rattle.adminhttp.specs.Fields.{Header, is_named, values_of, only, length_tex
 use Rattle.adminhttp.specs.Steps.{◌>>=◌, value_or}
 use Rattle.adminhttp.specs.Bodies.{body_of, first_octets, without_line_end, credential_of, policy_of, or_fault}
 use Rattle.adminhttp.specs.Targets.{target_of}
-use Rattle.adminhttp.specs.Request.{Asked, clerk_put, policy_put, maildrop_asked, clerk_asked, policy_asked, session_asked, asked_of, asked_by, asked_of_site, HeadComesTo}
+use Rattle.adminhttp.specs.Request.{Asked, clerk_put, policy_put, maildrop_asked, clerks_asked, clerk_asked, policy_asked, session_asked, asked_of, asked_by, asked_of_site, HeadComesTo}
 use Rattle.adminhttp.specs.Request.{ComesTo as RequestComesTo, IsRequest}
 use Rattle.std.specs.List.{All}
 use Rattle.std.specs.Prelude.{IfNone}
@@ -22,6 +22,8 @@ use Rattle.std.proofs.Common.{◌++◌, ◌||◌, true≢false}
 use Rattle.std.proofs.lemmas.List.Elements.{All-nil, All-cons, All-head, All-tail, All-append}
 use Rattle.vault.specs.Records.{Records}
 use Rattle.office.specs.Events.{Log, Trace}
+use Rattle.office.specs.Log.{access_in}
+use Rattle.office.specs.declared.limits.AdminAccess.{AdminAccess}
 use Rattle.serving.specs.Calls.{Call}
 use Rattle.serving.specs.declared.wire.Link.{Link}
 use Rattle.serving.specs.declared.requests.Response.{Response}
@@ -181,6 +183,11 @@ unfolding maildrop_asked
 maildrop_no_more maildrop method e =
     if_more (bytes_eq method (codes "GET")) _ _ (λ k. cc) (λ k. if_more (bytes_eq method (codes "PUT")) _ _ (λ k. cc) (λ k. if_more (bytes_eq method (codes "DELETE")) _ _ (λ k. cc) (λ k. cc) k) k) e
 
+clerks_no_more : (access : AdminAccess) (method : List ℕ) → clerks_asked access method ≡ Err More → ⊥
+unfolding clerks_asked
+clerks_no_more access method e =
+    if_more access.lists_clerks _ _ (λ k. get_no_more (bytes_eq method (codes "GET")) _ _ k) (λ k. cc) e
+
 session_no_more : (number : ℕ) (method : List ℕ) → session_asked number method ≡ Err More → ⊥
 unfolding session_asked
 session_no_more number method e = if_more (bytes_eq method (codes "DELETE")) _ _ (λ k. cc) (λ k. cc) e
@@ -216,34 +223,37 @@ unfolding policy_asked
 policy_short method headers behind e =
     if_more (bytes_eq method (codes "GET")) _ _ (λ k. cc) (λ k. if_more (bytes_eq method (codes "PUT")) _ _ (policy_put_short headers behind) (λ k. cc) k) e
 
-of_short : (t : Target) (method : List ℕ) (headers : List Header) (behind : List ℕ) → asked_of t method headers behind ≡ Err More → length behind < 1048576
-of_short target.Maildrops method headers behind e = absurd (get_no_more (bytes_eq method (codes "GET")) _ _ e)
-of_short (target.Maildrop maildrop) method headers behind e = absurd (maildrop_no_more maildrop method e)
-of_short (target.Clerk clerk) method headers behind e = clerk_short clerk method headers behind e
-of_short target.Policy method headers behind e = policy_short method headers behind e
-of_short target.Groups method headers behind e = absurd (get_no_more (bytes_eq method (codes "GET")) _ _ e)
-of_short target.Sessions method headers behind e = absurd (get_no_more (bytes_eq method (codes "GET")) _ _ e)
-of_short (target.Session number) method headers behind e = absurd (session_no_more number method e)
-of_short (target.Explain clerk maildrop class action) method headers behind e = absurd (get_no_more (bytes_eq method (codes "GET")) _ _ e)
+of_short : (access : AdminAccess) (t : Target) (method : List ℕ) (headers : List Header) (behind : List ℕ) → asked_of access t method headers behind ≡ Err More → length behind < 1048576
+of_short access target.Maildrops method headers behind e = absurd (get_no_more (bytes_eq method (codes "GET")) _ _ e)
+of_short access (target.Maildrop maildrop) method headers behind e = absurd (maildrop_no_more maildrop method e)
+of_short access target.Clerks method headers behind e = absurd (clerks_no_more access method e)
+of_short access (target.Clerk clerk) method headers behind e = clerk_short clerk method headers behind e
+of_short access target.Policy method headers behind e = policy_short method headers behind e
+of_short access target.Groups method headers behind e = absurd (get_no_more (bytes_eq method (codes "GET")) _ _ e)
+of_short access target.Sessions method headers behind e = absurd (get_no_more (bytes_eq method (codes "GET")) _ _ e)
+of_short access (target.Session number) method headers behind e = absurd (session_no_more number method e)
+of_short access (target.Explain clerk maildrop class action) method headers behind e = absurd (get_no_more (bytes_eq method (codes "GET")) _ _ e)
 
-by_short : (method at : List ℕ) (headers : List Header) (behind : List ℕ) → asked_by method at headers behind ≡ Err More → length behind < 1048576
+by_short : (access : AdminAccess) (method at : List ℕ) (headers : List Header) (behind : List ℕ) → asked_by access method at headers behind ≡ Err More → length behind < 1048576
 unfolding asked_by
-by_short method at headers behind e =
-    behind_step (value_or (target_of at) NotFound) (λ found. asked_of found method headers behind) (λ k. absurd (or_no_more (target_of at) NotFound k)) (λ found is k. of_short found method headers behind k) e
+by_short access method at headers behind e =
+    behind_step (value_or (target_of at) NotFound) (λ found. asked_of access found method headers behind)
+    (λ k. absurd (or_no_more (target_of at) NotFound k)) (λ found is k. of_short access found method headers behind k) e
 
 -- ---- a request
 
-site_short : (site : Site) (method at : List ℕ) (headers : List Header) (behind : List ℕ) → asked_of_site site method at headers behind ≡ Err More → length behind < 1048576
+site_short : (site : Site) (access : AdminAccess) (method at : List ℕ) (headers : List Header) (behind : List ℕ)
+    → asked_of_site site access method at headers behind ≡ Err More → length behind < 1048576
 unfolding asked_of_site
-site_short site method at headers behind e = if_more (is_own site headers) _ _ (by_short method at headers behind) (λ k. cc) e
+site_short site access method at headers behind e = if_more (is_own site headers) _ _ (by_short access method at headers behind) (λ k. cc) e
 
-behind_short : (site : Site) (text behind : List ℕ) → HeadComesTo site text behind (Err More) → length behind < 1048576
-behind_short site text behind (inl (h, is, e)) = site_short site h.method h.target _ behind (sym e)
-behind_short site text behind (inr (none, e)) = cc
+behind_short : (site : Site) (access : AdminAccess) (text behind : List ℕ) → HeadComesTo site access text behind (Err More) → length behind < 1048576
+behind_short site access text behind (inl (h, is, e)) = site_short site access h.method h.target _ behind (sym e)
+behind_short site access text behind (inr (none, e)) = cc
 
 -- a request that isn't whole has fewer than 8,192 + 1,048,576 octets
-pub more_within : (site : Site) (b : List ℕ) → IsRequest site b (Err More) → length b < 1056768
-more_within site b asked = by (head_at b) refl asked where
+pub more_within : (site : Site) (access : AdminAccess) (b : List ℕ) → IsRequest site access b (Err More) → length b < 1056768
+more_within site access b asked = by (head_at b) refl asked where
   front_within : length (take 8192 b) ≤ 8192
   front_within = let e = length-take 8192 b in omega (arith, e)
 
@@ -254,11 +264,11 @@ more_within site b asked = by (head_at b) refl asked where
   short : (s n : ℕ) → s + n ≤ 8192 → length (drop (s + n) b) < 1048576 → length b < 1056768
   short s n within few = let len = length-drop (s + n) b in omega (arith, within, few, len)
 
-  by : (o : Option (ℕ × ℕ)) → head_at b ≡ o → RequestComesTo site b o (Err More) → length b < 1056768
+  by : (o : Option (ℕ × ℕ)) → head_at b ≡ o → RequestComesTo site access b o (Err More) → length b < 1056768
   by None is asked = unended_within (nat_le (length b) 8192) refl (ap stop_in asked)
   by (Some (s, n)) is asked =
       let within : s + n ≤ 8192 = (let w = head_within (empty_lines (take 8192 b)) (take 8192 b) s n is in omega (arith, w, front_within)) in
-      short s n within (behind_short site (head_text b (s, n)) (behind_head b (s, n)) asked)
+      short s n within (behind_short site access (head_text b (s, n)) (behind_head b (s, n)) asked)
 
 -- ---- the links that are held
 
@@ -280,7 +290,7 @@ module _ (site : Site) (now : ℕ) (B : Records) where
 
   -- a request of which a piece came, and to which there is no response yet
   given_short : (L M : Log) (whole : List ℕ) (place : Option ℕ) (r : Option (List ℕ)) → IsGiven site B L whole M place r → r ≡ None → length whole < 1056768
-  given_short L _ whole _ _ (NotYet short) e = more_within site whole short
+  given_short L _ whole _ _ (NotYet short) e = more_within site (access_in L) whole short
   given_short L _ whole _ _ (NoCommand response is) e = cc
   given_short L _ whole _ _ (GivenOne command t response q a) e = cc
 

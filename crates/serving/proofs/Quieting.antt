@@ -73,6 +73,15 @@ module _ {V : Type 0} (Holds : V → Contents → Type 0) (IsClean : V → Type 
     facts = record { quiet = quiet_none; caused = All-nil (HasCause [] []); did = λ B L s k. did B L };
   }
 
+  -- the same, of an office that stands for the log
+  pub gives_none_standing : (o : Office V) (Did : Records → Log → Log → List Call → Type 0) → ((B : Records) (L : Log) → StandsFor Holds o (trace_of B L) → Did B L [] [])
+      → Giving Holds IsClean Faults o o (λ given. DidApart Holds IsClean o o Did given [])
+  gives_none_standing o Did did = record {
+    given = [];
+    was_given = given_none Holds IsClean Faults o;
+    facts = record { quiet = quiet_none; caused = All-nil (HasCause [] []); did = λ B L s k. did B L s };
+  }
+
   pub gives_command : (o o1 : Office V) (command : AdminCommand) (m : EventTag) (Did : Records → Log → Log → List Call → Type 0) → WasGiven Holds IsClean Faults o o1 ((event.Admin command, m) ∷ [])
       → ((B : Records) (L : Log) → StandsFor Holds o (trace_of B L) → IsClean (vault_of o1) → Did B L ((event.Admin command, m) ∷ []) [])
       → Giving Holds IsClean Faults o o1 (λ given. DidApart Holds IsClean o o1 Did given [])

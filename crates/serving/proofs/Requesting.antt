@@ -17,13 +17,15 @@ use Rattle.office.specs.History.{Tag, Done, Failed, NoMemory, Entry}
 use Rattle.office.specs.Answers.{AdminCommand}
 use Rattle.office.specs.Events.{Event, EventTag, Tagged, Log, Trace}
 use Rattle.office.specs.Events as event
+use Rattle.office.specs.Log.{access_in}
 use Rattle.office.specs.Trace.{history}
 use Rattle.office.specs.Outcomes.{Outcome, event_tag_of}
 use Rattle.office.specs.Expected.{IsOutcome, shown_at}
 use Rattle.office.specs.Taken.{trace_of, IsAdmitted}
 use Rattle.office.specs.Stands.{StandsFor}
 use Rattle.office.specs.declared.office.Office.{Office}
-use Rattle.adminhttp.specs.Request.{IsRequest}
+use Rattle.office.specs.declared.limits.AdminAccess.{AdminAccess}
+use Rattle.adminhttp.specs.Request.{Asked, IsRequest}
 use Rattle.adminhttp.specs.Sites.{Site}
 use Rattle.adminhttp.specs.Responses.{fault_response, refusal_response}
 use Rattle.adminhttp.specs.declared.refusal.Refusal.TheVariants.{OutOfMemory}
@@ -58,10 +60,16 @@ command_mark B L G command Done = refl
 command_mark B L G command Failed = refl
 command_mark B L G command NoMemory = refl
 
+-- what an office reads of octets is what the log's opening says
+pub as_opened : (site : Site) (L : Log) (read : List ℕ) (access : AdminAccess) (asked : Asked) → access ≡ access_in L → IsRequest site access read asked
+    → IsRequest site (access_in L) read asked
+as_opened site L read access asked same is = subst (λ a. IsRequest site a read asked) same is
+
 pub asked_one : {V : Type 0} (Holds : V → Contents → Type 0) (site : Site) (B : Records) (L : Log) (read : List ℕ) (office : Office V) (lent : ℕ → ℕ)
     (command : AdminCommand) (o : Outcome) (response : List ℕ)
     → IsOutcome (trace_of B L) lent (event.Admin command) o → StandsFor Holds office (trace_of B ((event.Admin command, event_tag_of o) ∷ L))
-    → IsAdmitted (trace_of B L) (event.Admin command) (event_tag_of o) → IsRequest site read (Ok command) → IsToldBy o response → HasAsked Holds site B L read office (Some response)
+    → IsAdmitted (trace_of B L) (event.Admin command) (event_tag_of o) → IsRequest site (access_in L) read (Ok command) → IsToldBy o response
+    → HasAsked Holds site B L read office (Some response)
 asked_one Holds site B L read office lent command o response h s a q r =
     let m : event_tag_of o ≡ Tagged h.tag = ap event_tag_of h.is ∙ command_mark B L (history (trace_of B L)) command h.tag in
     record {
@@ -74,7 +82,7 @@ asked_one Holds site B L read office lent command o response h s a q r =
 
 -- the octets that ask for it come to this response
 pub comes_to : (site : Site) (B : Records) (L : Log) (read : List ℕ) (lent : ℕ → ℕ) (command : AdminCommand) (o : Outcome) (response : List ℕ)
-    → IsOutcome (trace_of B L) lent (event.Admin command) o → IsRequest site read (Ok command) → IsToldBy o response
+    → IsOutcome (trace_of B L) lent (event.Admin command) o → IsRequest site (access_in L) read (Ok command) → IsToldBy o response
     → ComesTo site B L read ((event.Admin command, event_tag_of o) ∷ []) (Some response)
 comes_to site B L read lent command o response h q r =
     let m : event_tag_of o ≡ Tagged h.tag = ap event_tag_of h.is ∙ command_mark B L (history (trace_of B L)) command h.tag in
@@ -89,16 +97,16 @@ pub asked_none : {V : Type 0} (Holds : V → Contents → Type 0) (site : Site) 
 asked_none Holds site B L read office r s given = record { log = L; place = None; stands = s; admitted = λ before. before; given = given }
 
 -- a policy's fault, or want of memory
-pub to_fault : (site : Site) (B : Records) (L : Log) (read response : List ℕ) (fault : PolicyFault) → IsRequest site read (Err (BadPolicy fault))
+pub to_fault : (site : Site) (B : Records) (L : Log) (read response : List ℕ) (fault : PolicyFault) → IsRequest site (access_in L) read (Err (BadPolicy fault))
     → (response ≡ fault_response fault) ⊎ (response ≡ refusal_response OutOfMemory) → IsResponse site B L read None response
-to_fault site B L read response fault q (inl e) = subst (IsResponse site B L read None) (sym e) (ToFault fault q)
+to_fault site B L read response fault q (inl e) = subst (IsResponse site B L read None) (sym e) (ToFault fault [] L q refl)
 to_fault site B L read response fault q (inr e) = subst (IsResponse site B L read None) (sym e) ForMemory
 
 -- ---- a log with one event more
 
 response_grows : (site : Site) (B : Records) (L : Log) (e : Event) (m : EventTag) (read : List ℕ) (place : Option ℕ) (response : List ℕ) → IsResponse site B L read place response → IsResponse site B ((e, m) ∷ L) read place response
-response_grows site B L e m read _ _ (ToRefusal refusal q) = ToRefusal refusal q
-response_grows site B L e m read _ _ (ToFault fault q) = ToFault fault q
+response_grows site B L e m read _ _ (ToRefusal refusal newer older q is) = ToRefusal refusal ((e, m) ∷ newer) older q (ap (λ l. (e, m) ∷ l) is)
+response_grows site B L e m read _ _ (ToFault fault newer older q is) = ToFault fault ((e, m) ∷ newer) older q (ap (λ l. (e, m) ∷ l) is)
 response_grows site B L e m read _ _ ForMemory = ForMemory
 response_grows site B L e m read _ _ (ToCommand command t newer older response q is a) =
     ToCommand command t ((e, m) ∷ newer) older response q (ap (λ l. (e, m) ∷ l) is) a

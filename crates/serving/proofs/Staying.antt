@@ -9,7 +9,8 @@ use Rattle.office.specs.Connections.{connected, connected_after, closing, closin
 use Rattle.office.specs.Told.{told, said_to, answers_if_done}
 use Rattle.office.specs.Sessions.{live}
 use Rattle.office.specs.Answers as answer
-use Rattle.office.specs.Answers.{AdminCommand, ListMaildrops, ShowMaildrop, AddMaildrop, DropMaildrop, ShowClerk, PutClerk, DropClerk, ShowPolicy, SetPolicy, ListGroups, ListSessions, EndSession, Explain}
+use Rattle.office.specs.Answers.{AdminCommand, ListMaildrops, ShowMaildrop, AddMaildrop, DropMaildrop, ListClerks, ShowClerk, PutClerk, DropClerk}
+use Rattle.office.specs.Answers.{ShowPolicy, SetPolicy, ListGroups, ListSessions, EndSession, Explain}
 use Rattle.office.specs.Events.{Event, EventTag, Tagged, Ignored, Log}
 use Rattle.office.specs.Events as event
 use Rattle.office.specs.Log.{next_number, taken, moment}
@@ -257,6 +258,7 @@ command_connected B G ListMaildrops t d b e = e
 command_connected B G (ShowMaildrop m) t d b e = e
 command_connected B G (AddMaildrop m) t d b e = e
 command_connected B G (DropMaildrop m) t d b e = e
+command_connected B G ListClerks t d b e = e
 command_connected B G (ShowClerk c) t d b e = e
 command_connected B G (PutClerk c k) t d b e = e
 command_connected B G (DropClerk c) t d b e = e

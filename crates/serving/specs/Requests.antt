@@ -9,6 +9,7 @@ use Rattle.office.specs.History.{Tag, Done, Failed, NoMemory}
 use Rattle.office.specs.Answers.{AdminCommand}
 use Rattle.office.specs.Events.{EventTag, Tagged, Log}
 use Rattle.office.specs.Events as event
+use Rattle.office.specs.Log.{access_in}
 use Rattle.office.specs.Outcomes.{Outcome}
 use Rattle.office.specs.Outcomes as outcome
 use Rattle.office.specs.Trace.{history}
@@ -40,10 +41,15 @@ IsAnswer B L command NoMemory response = response ≡ refusal_response OutOfMemo
 -- A response to what was read from a link: that of its refusal, or of its policy's fault; or that of its command, whose own event stands in the
 -- log after so many others (`place`). Want of memory may stand in place of each.
 pub data IsResponse (site : Site) (B : Records) (L : Log) (read : List ℕ) : (place : Option ℕ) → (response : List ℕ) → Type 0 where
-  ToRefusal : (refusal : Refusal) → IsRequest site read (Err (Bad refusal)) → IsResponse site B L read None (refusal_response refusal)
-  ToFault : (fault : PolicyFault) → IsRequest site read (Err (BadPolicy fault)) → IsResponse site B L read None (fault_response fault)
+  ToRefusal : (refusal : Refusal) (newer older : Log)
+      → IsRequest site (access_in older) read (Err (Bad refusal)) → L ≡ newer ++ older
+      → IsResponse site B L read None (refusal_response refusal)
+  ToFault : (fault : PolicyFault) (newer older : Log)
+      → IsRequest site (access_in older) read (Err (BadPolicy fault)) → L ≡ newer ++ older
+      → IsResponse site B L read None (fault_response fault)
   ForMemory : IsResponse site B L read None (refusal_response OutOfMemory)
-  ToCommand : (command : AdminCommand) (t : Tag) (newer older : Log) (response : List ℕ) → IsRequest site read (Ok command)
+  ToCommand : (command : AdminCommand) (t : Tag) (newer older : Log) (response : List ℕ)
+      → IsRequest site (access_in older) read (Ok command)
       → L ≡ newer ++ (event.Admin command, Tagged t) ∷ older → IsAnswer B older command t response
       → IsResponse site B L read (Some (length older)) response
 
@@ -189,11 +195,12 @@ IsToldBy _ response = response ≡ refusal_response StoreFailed
 -- what comes of a request whose octets were read, after a log: which log, which place the command's event has, and which response
 pub data IsGiven (site : Site) (B : Records) (L : Log) (read : List ℕ) : Log → (place : Option ℕ) → (response : Option (List ℕ)) → Type 0 where
   -- the request isn't whole
-  NotYet : IsRequest site read (Err More) → IsGiven site B L read L None None
+  NotYet : IsRequest site (access_in L) read (Err More) → IsGiven site B L read L None None
   -- it asks for no command
   NoCommand : (response : List ℕ) → IsResponse site B L read None response → IsGiven site B L read L None (Some response)
   -- it asks for one
-  GivenOne : (command : AdminCommand) (t : Tag) (response : List ℕ) → IsRequest site read (Ok command) → IsAnswer B L command t response
+  GivenOne : (command : AdminCommand) (t : Tag) (response : List ℕ)
+      → IsRequest site (access_in L) read (Ok command) → IsAnswer B L command t response
       → IsGiven site B L read ((event.Admin command, Tagged t) ∷ L) (Some (length L))
       (Some response)
 

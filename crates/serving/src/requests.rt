@@ -4,6 +4,7 @@ ghost use Rattle.std.specs.Prelude.{length, option_map, IfNone, IfOk, ◌⊎◌,
 ghost use Rattle.std.specs.Prelude.{not, if◌then◌else◌, OnErr};
 ghost use Rattle.vault.specs.Records.{Records};
 ghost use Rattle.office.specs.Events.{Log};
+ghost use Rattle.office.specs.Log.{access_in};
 ghost use Rattle.office.specs.Taken.{trace_of};
 ghost use Rattle.office.specs.Seen.{answer_seen, command_seen, outcome_seen};
 ghost use Rattle.office.specs.Stands.{StandsFor, vault_of};
@@ -202,14 +203,16 @@ fn command<V: Vault, L: Listener>(
     link: Link,
     command: &AdminCommand,
 ) -> Response
-    ensures works { (site : Site) (read : List ℕ)
-        → IsRequest site read (Ok (command_seen command.now))
+    ensures works { (site : Site) (read : List ℕ) → ((B : Records) (L : Log)
+        → StandsFor V.holds office.old (trace_of B L)
+        → IsRequest site (access_in L) read (Ok (command_seen command.now)))
         → GivesApart V.holds V.is_clean V.faults office.old office.new
         (HeardApart L.heard listener.old listener.new
         (ComeTo site read (Some (octets_of result)))) }
     ensures asked { (site : Site) (B : Records) (L : Log) (read : List ℕ)
         → StandsFor V.holds office.old (trace_of B L)
-        → IsRequest site read (Ok (command_seen command.now)) → V.is_clean (vault_of office.new)
+        → IsRequest site (access_in L) read (Ok (command_seen command.now))
+        → V.is_clean (vault_of office.new)
         → HasAsked V.holds site B L read office.new (Some (octets_of result)) }
     ensures clean { V.is_clean (vault_of office.new) → V.is_clean (vault_of office.old) }
 {
@@ -288,7 +291,7 @@ fn respond_to<V: Vault, L: Listener>(
         → V.is_clean (vault_of office.new) → HasAsked V.holds site.now B L read.now office.new
         (option_map octets_of result) }
 {
-    match Request::read(alloc, site, read) {
+    match Request::read(alloc, site, office.admin_access(), read) {
         Got::More => None,
         Got::Bad(refusal) => Some(refuse(alloc, listener, link, read, refusal)),
         Got::BadPolicy(fault) => Some(refuse_policy(alloc, listener, link, &fault)),

@@ -51,7 +51,7 @@ use Rattle.sqlvault.proofs.SmallLemmas.{nat_lt-true}
 
 -- ---- clerks
 
-by_name_permuted : (xs ys : List (List ℕ)) → IsPermutation xs ys → by_name xs ≡ by_name ys
+pub by_name_permuted : (xs ys : List (List ℕ)) → IsPermutation xs ys → by_name xs ≡ by_name ys
 by_name_permuted = along_permutation (λ xs ys. by_name xs ≡ by_name ys) (λ xs. refl) (λ x xs ys h. ap (put_by_name x) h) (λ x y xs. puts_commute x y (by_name xs)) (λ xs ys zs h k. h ∙ k)
 
 pub names_are : (cs : List vault.Clerk) → map (λ (c : vault.Clerk). c.name) cs ≡ map (λ (r : Clerk). r.name) (map clerk_row cs)

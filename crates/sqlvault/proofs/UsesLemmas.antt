@@ -10,9 +10,10 @@ use Rattle.vault.specs.declared.fault.VaultFault.TheVariants as fault
 use Rattle.vault.specs.Records.{credential_in, is_one_of}
 use Rattle.vault.specs.Changes.{Contents, records_of, totals, without_keys, with_messages, without_clerk, with_clerks, without_maildrop, with_maildrops, drop_answer}
 use Rattle.vault.specs.Calls.{IsRefusal, IsPageRead, deposit_answer_in, deposit_result, DepositLeft, heads_result, text_under, drop_clerk_result, drop_result, present_in}
+use Rattle.vault.specs.Clerks.{clerk_kinds}
 use Rattle.vault.proofs.ListLemmas.{bytes_same}
 use Rattle.sqlvault.specs.declared.uses.Stock.{Stock}
-use Rattle.sqlvault.specs.Uses.{IsOfAnyCall, clerk_of, message_of, head_of, total_of, filled, emptied}
+use Rattle.sqlvault.specs.Uses.{IsOfAnyCall, clerk_of, message_of, head_of, total_of, kind_row, filled, emptied}
 
 -- a call that expects an answer is refused for no cause of its own
 pub any : {A : Type 0} (x : A) (e : VaultFault) → IsRefusal (Ok x) e → IsOfAnyCall e
@@ -59,6 +60,9 @@ text_is key s = let own : (key == key) ≡ true = grind (arith) in rw own refl
 
 pub credential_is : (s : Stock) → credential_in s.clerk (clerk_of s ∷ []) ≡ Some s.credential
 credential_is s = let own : bytes_eq s.clerk s.clerk ≡ true = bytes_same s.clerk in rw own refl
+
+pub one_clerk : (s : Stock) → clerk_kinds (clerk_of s ∷ []) ≡ kind_row s ∷ []
+one_clerk s = let own : bytes_eq s.clerk s.clerk ≡ true = bytes_same s.clerk in rw own refl
 
 pub page_is : (key k : ℕ) (s : Stock) (buffer : List ℕ) (n : ℕ) → k ≡ key → IsPageRead (text_under k (filled key s).messages) 0 buffer (Ok n) → IsPageRead s.text 0 buffer (Ok n)
 page_is key k s buffer n same read =

@@ -1,5 +1,6 @@
 -- What the sample callers keep in a store in memory, and what its calls answer them.
 use Rattle.std.specs.Prelude.{◌≡◌, ◌≤◌, ℕ, true, List, [], ◌∷◌, length, take, Some, Ok}
+use Rattle.vault.specs.declared.answer.ClerkKind.{ClerkKind}
 use Rattle.vault.specs.declared.answer.Deposited.TheVariants.{New}
 use Rattle.vault.specs.declared.answer.Head.{Head}
 use Rattle.vault.specs.declared.answer.Total.{Total}
@@ -8,6 +9,7 @@ use Rattle.vault.specs.declared.record.Clerk.{Clerk}
 use Rattle.vault.specs.declared.record.Keyed.{Keyed}
 use Rattle.vault.specs.Changes.{Contents, IsPage, receipt_for, message_for}
 use Rattle.vault.specs.Calls.{IsRefusal}
+use Rattle.vault.specs.Clerks.{kind_of}
 use Rattle.sqlvault.specs.declared.uses.Filled.{Filled}
 use Rattle.sqlvault.specs.declared.uses.Mail.{Mail}
 use Rattle.sqlvault.specs.declared.uses.Kept.{Kept}
@@ -64,9 +66,14 @@ pub record ShowsMail (s : Stock) (buffer : List ℕ) (mail : Mail) : Type 0 wher
   pub fits : mail.octets_read ≤ length buffer
   pub page : IsPage s.text 0 (length buffer) (take mail.octets_read buffer)
 
--- the clerk's credential and the policy are those of the stock
+-- its clerk with the kind of the credential
+abbrev pub kind_row : Stock → ClerkKind
+kind_row s = record { clerk = s.clerk; kind = kind_of s.credential }
+
+-- the clerk's credential, the only clerk and the policy are those of the stock
 pub record ShowsKept (s : Stock) (answers : Kept) : Type 0 where
   pub found : answers.credential ≡ Some s.credential
+  pub listed : answers.clerks.items ≡ kind_row s ∷ []
   pub set : answers.policy ≡ s.policy
 
 -- all of the stock was new, it was shown as it was put, and no head was left after the message was

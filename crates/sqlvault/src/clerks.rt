@@ -1,14 +1,16 @@
 //! The clerks.
-ghost use Rattle.std.specs.Prelude.{◌≡◌, length, map, min, true, is_some, Some, IfOk};
+ghost use Rattle.std.specs.Prelude.{◌≡◌, List, [], ◌∷◌, ◌++◌, length, map, min, true, is_some};
+ghost use Rattle.std.specs.Prelude.{Some, IfOk, OnOk};
 ghost use Rattle.std.specs.List.{list_all};
 ghost use Rattle.sqlite.specs.Held.{state};
 ghost use Rattle.sqlite.specs.State.{HasCleanDisk};
 ghost use Rattle.creds.specs.Names.{is_name, by_name};
 ghost use Rattle.vault.specs.declared.record.Clerk as vault;
-ghost use Rattle.vault.specs.Records.{is_sound_credential, credential_in};
+ghost use Rattle.vault.specs.Records.{is_sound_credential, is_sound_clerk, credential_in};
 ghost use Rattle.vault.specs.Changes.{Contents, put_clerk_answer};
 ghost use Rattle.vault.specs.Calls.{IsAnswer, seen_as, put_result, IsCredential, IsClerkPut};
 ghost use Rattle.vault.specs.Calls.{IsClerkDropped};
+ghost use Rattle.vault.specs.Clerks.{clerk_kinds, AreClerkKinds};
 ghost use Rattle.mailsql.specs.Rows as tables;
 ghost use Rattle.mailsql.specs.Changes as changes;
 ghost use Rattle.sqlvault.specs.Clerks.{row_name, row_of, AreClerks};
@@ -26,10 +28,10 @@ use mailsql::clerks;
 use mailsql::rows::Clerk;
 use sqlite::{Alter, Connection, Error};
 use std::alloc::Global;
-use vault::{VaultFault, in_order};
+use vault::{ClerkKind, VaultFault, clerk_kinds, in_order};
 
 /// The greatest number of clerks.
-pub(crate) const MAX_CLERKS: u64 = 1000;
+pub(crate) const MAX_CLERKS: u64 = vault::MAX_CLERKS as u64;
 
 /// The kind of a credential, as a row has it.
 fn kind_of(credential: &Credential) -> i64
@@ -152,6 +154,76 @@ pub(crate) fn clerk_names<S: Alter>(
     match clerks::all_clerks(alloc, conn) {
         Ok(rows) => match sorted_names(alloc, rows.as_slice()) {
             Ok(names) => Ok(names),
+            Err(error) => Err(Refusal::Met(error)),
+        },
+        Err(error) => Err(Refusal::Met(error)),
+    }
+}
+
+/// The clerk of a row; `None` if the row is no clerk's.
+fn read_clerk(row: &Clerk) -> Option<vault::Clerk>
+    ensures { (c : vault.Clerk) → row.now ≡ clerk_row c → is_sound_clerk c ≡ true
+        → result ≡ Some c }
+{
+    match Name::read(row.name.as_slice()) {
+        Some(name) => match read_credential(row) {
+            Some(credential) => Some(vault::Clerk { name, credential }),
+            None => None,
+        },
+        None => None,
+    }
+}
+
+/// Adds the clerk of a row after the others.
+fn push_clerk(clerks: &mut Vec<vault::Clerk>, row: &Clerk) -> Result<(), Error>
+    ensures { (c : vault.Clerk) → row.now ≡ clerk_row c → is_sound_clerk c ≡ true
+        → OnOk result (clerks.new.items ≡ clerks.old.items ++ c ∷ []) }
+{
+    match read_clerk(row) {
+        Some(clerk) => {
+            clerks.extend_from_slice(&[clerk])?;
+            Ok(())
+        }
+        None => Err(unreadable()),
+    }
+}
+
+/// The clerks of the rows, in the order of the rows.
+fn read_clerks(alloc: Global, rows: &[Clerk]) -> Result<Vec<vault::Clerk>, Error>
+    ensures { (cs : List vault.Clerk) → rows.now ≡ map clerk_row cs
+        → list_all is_sound_clerk cs ≡ true → IfOk result (λ clerks. clerks.items ≡ cs) }
+{
+    let mut clerks = Vec::new(alloc);
+    for row in rows {
+        push_clerk(&mut clerks, row)?;
+    }
+    Ok(clerks)
+}
+
+/// The clerks of the rows with the kinds of their credentials, in the order of the names' octets.
+fn kinds_in(alloc: Global, rows: &[Clerk]) -> Result<Vec<ClerkKind>, Error>
+    ensures { (cs : List vault.Clerk) → rows.now ≡ map clerk_row cs
+        → list_all is_sound_clerk cs ≡ true
+        → IfOk result (λ kinds. kinds.items ≡ clerk_kinds cs) }
+{
+    let clerks = read_clerks(alloc, rows)?;
+    Ok(clerk_kinds(alloc, &clerks)?)
+}
+
+/// Every clerk with the kind of the credential, in the order of the names' octets. Nothing is
+/// changed.
+pub(crate) fn list_clerks<S: Alter>(
+    alloc: Global,
+    conn: &mut Connection<S>,
+) -> Result<Vec<ClerkKind>, Refusal>
+    ensures done { (c : Contents) → HasCleanDisk (state S.Store conn.new)
+        → Holds (state S.Store conn.old) c → AreClerkKinds (Holds (state S.Store conn.new)) c
+        (seen_as (answer_of result) (λ v. v.items)) }
+    ensures looks { Looks S.Store conn.old conn.new (IsMet result) }
+{
+    match clerks::all_clerks(alloc, conn) {
+        Ok(rows) => match kinds_in(alloc, rows.as_slice()) {
+            Ok(kinds) => Ok(kinds),
             Err(error) => Err(Refusal::Met(error)),
         },
         Err(error) => Err(Refusal::Met(error)),

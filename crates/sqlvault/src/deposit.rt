@@ -31,10 +31,10 @@ use std::alloc::Global;
 use vault::{Deposited, Receipt, VaultFault};
 
 /// The greatest number of messages in a maildrop.
-pub(crate) const MAX_MESSAGES: u64 = 10_000;
+pub(crate) const MAX_MESSAGES: u64 = vault::MAX_MESSAGES as u64;
 
 /// The greatest number of deposits of one class under one maildrop name.
-pub(crate) const MAX_DEPOSITS: u64 = 1_000_000_000;
+pub(crate) const MAX_DEPOSITS: u64 = vault::MAX_DEPOSITS as u64;
 
 /// The number of a row. An error if it is below 0, which a sound store's never is.
 pub(crate) fn read_number(number: i64) -> Result<u64, Error>

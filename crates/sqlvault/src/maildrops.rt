@@ -12,7 +12,7 @@ use sqlite::{Alter, Connection, Error};
 use vault::VaultFault;
 
 /// The greatest number of maildrops.
-pub(crate) const MAX_MAILDROPS: u64 = 1000;
+pub(crate) const MAX_MAILDROPS: u64 = vault::MAX_MAILDROPS as u64;
 
 /// Whether there is a maildrop of this name.
 pub(crate) fn has_maildrop<S: Alter>(conn: &mut Connection<S>, name: &Name) -> Result<bool, Error>

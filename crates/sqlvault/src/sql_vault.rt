@@ -19,7 +19,7 @@ use sqlite::{Alter, Connection, Error, ErrorCode, FileFrom, FileStore, Files, Me
 use sqlite_disk::Disk;
 use std::alloc::Global;
 use std::marker::Model;
-use vault::{Deposited, Head, MessageKey, Receipt, Total, Vault, VaultFault};
+use vault::{ClerkKind, Deposited, Head, MessageKey, Receipt, Total, Vault, VaultFault};
 
 /// A mail store over the tables of a connection. Contracts see the connection, and how many calls
 /// answered `Store`.
@@ -399,6 +399,11 @@ impl<S: Alter> Vault for SqlVault<S> {
 
     fn credential(&mut self, clerk: &Name) -> Result<Option<Credential>, VaultFault> {
         let answer = clerks::find_credential(self.alloc, &mut self.conn, clerk);
+        self.told(answer)
+    }
+
+    fn clerks(&mut self) -> Result<Vec<ClerkKind>, VaultFault> {
+        let answer = clerks::list_clerks(self.alloc, &mut self.conn);
         self.told(answer)
     }
 

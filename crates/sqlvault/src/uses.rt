@@ -10,7 +10,7 @@ use creds::{Credential, DepositId, Name};
 use mailtext::MailText;
 use policy::Policy;
 use std::alloc::Global;
-use vault::{Deposited, Head, MessageKey, Total, Vault, VaultFault};
+use vault::{ClerkKind, Deposited, Head, MessageKey, Total, Vault, VaultFault};
 
 /// What the sample puts into a store.
 #[derive(Drop)]
@@ -109,11 +109,13 @@ fn look<V: Vault>(vault: &mut V, stock: &Stock, buffer: &mut [u8]) -> Result<Mai
 pub struct Kept {
     /// The clerk's credential.
     pub credential: Option<Credential>,
+    /// Each clerk with the kind of the credential.
+    pub clerks: Vec<ClerkKind>,
     /// The policy.
     pub policy: Policy,
 }
 
-/// Looks up the clerk's credential and the policy. An error is that of a call.
+/// Looks up the clerk's credential, the clerks and the policy. An error is that of a call.
 fn look_up<V: Vault>(vault: &mut V, stock: &Stock) -> Result<Kept, VaultFault>
     ensures shown { (key : ℕ) → V.is_clean vault.new → V.holds vault.old (filled key stock.now)
         → IfOk result (ShowsKept stock.now) }
@@ -124,8 +126,13 @@ fn look_up<V: Vault>(vault: &mut V, stock: &Stock) -> Result<Kept, VaultFault>
     ensures clean { V.is_clean vault.new → V.is_clean vault.old }
 {
     let credential = vault.credential(&stock.clerk)?;
+    let clerks = vault.clerks()?;
     let policy = vault.policy()?;
-    Ok(Kept { credential, policy })
+    Ok(Kept {
+        credential,
+        clerks,
+        policy,
+    })
 }
 
 /// Removes the message, and drops the clerk and the maildrop. Answers the heads that were left. An

@@ -79,6 +79,22 @@ answer no such clerk
 answer deny by rule default
 ";
 
+/// Each clerk with the kind of the credential, by name.
+pub const LISTED: &str = r"> clerks
+answer
+> clerk pass bob s3 cret
+answer added
+> clerk apop ann tanstaaf
+answer added
+> clerks
+answer ann apop
+answer bob pass
+> clerk drop ann
+answer dropped
+> clerks
+answer bob pass
+";
+
 /// A policy with a fault leaves the one in force.
 pub const POLICIES: &str = r#"> policy
 answer

@@ -1,7 +1,7 @@
 //! The worked rows of sessions, deposits and administration, each with the store that it begins
 //! with, for the tests that refuse a growth of memory or a call of the store in them.
 use crate::administration::{
-    CLERKS, CREDENTIALS, DEPOSITS, DROPPED, LOWER_CASE, OPENING, POLICIES, UPPER_CASE,
+    CLERKS, CREDENTIALS, DEPOSITS, DROPPED, LISTED, LOWER_CASE, OPENING, POLICIES, UPPER_CASE,
 };
 use crate::connections::{AFTER_A_RESTART, BEFORE_A_RESTART, GONE, IDLE, SESSIONS};
 use crate::logins::{NAMES_IN_FORCE, WRONG_DIGESTS, WRONG_PASSWORDS};
@@ -34,7 +34,7 @@ pub enum Setting {
 pub type Row = (&'static str, Setting, &'static [&'static str]);
 
 /// Deposits and administration.
-pub static OFFICE_ROWS: [Row; 6] = [
+pub static OFFICE_ROWS: [Row; 7] = [
     ("the_sample_store", Setting::Empty, &[SAMPLE]),
     ("deposits_are_answered", Setting::Empty, &[DEPOSITS]),
     (
@@ -43,6 +43,7 @@ pub static OFFICE_ROWS: [Row; 6] = [
         &[DROPPED],
     ),
     ("clerks_are_answered", Setting::Empty, &[CLERKS]),
+    ("clerks_are_listed", Setting::Empty, &[LISTED]),
     ("policies_are_answered", Setting::Empty, &[POLICIES]),
     ("sessions_ended_from_outside", Setting::Sample, &[SESSIONS]),
 ];

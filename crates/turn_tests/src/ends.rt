@@ -19,7 +19,7 @@ struct Ends {
 fn end_word(end: End) -> &'static str {
     match end {
         End::Gone => "gone",
-        End::NoMemory => "no memory",
+        End::NoMemory | End::NoMemoryForLine => "no memory",
         End::StoreFailed => "store failed",
         End::SessionEnded => "session ended",
         End::Idle => "idle",

@@ -72,7 +72,7 @@ fn answer(
     request: &[u8],
     told: &mut Stream,
 ) -> Result<(), AllocError> {
-    match Request::read(alloc, &None, request) {
+    match Request::read(alloc, &None, office.admin_access(), request) {
         Got::Command(command) => match office.step(Event::Admin(&command)) {
             Outcome::Answered(answer) => told.add(response(alloc, &answer)?.as_slice()),
             _ => Ok(()),

@@ -105,7 +105,7 @@ fn account_text(alloc: Global, account: &Account) -> Result<String, AllocError> 
         Account::Retrieved(message) => sent_text(alloc, "retrieved", message),
         Account::Topped(message) => sent_text(alloc, "topped", message),
         Account::Denied(command, uid, rule) => denied_text(alloc, *command, *uid, *rule),
-        Account::Ended(_) | Account::Nothing => Ok(String::new(alloc)),
+        Account::Ended(_) | Account::Nothing | Account::Taken => Ok(String::new(alloc)),
     }
 }
 

@@ -4,6 +4,7 @@ pub mod DoneLemmas
 pub mod MaildropLemmas
 pub mod TotalLemmas
 pub mod ClerkLemmas
+pub mod KindLemmas
 pub mod MailLemmas
 pub mod PageLemmas
 pub mod DepositLemmas

@@ -1,6 +1,7 @@
 pub mod Records
 pub mod Changes
 pub mod Calls
+pub mod Clerks
 pub mod Stops
 pub mod Pages
 pub mod Plain

@@ -35,3 +35,21 @@ pub struct Total {
     /// The sum of their octets.
     pub octets: u64,
 }
+
+/// The two kinds of a clerk's credential.
+#[derive(Clone, Copy, PartialEq, Eq, Debug)]
+pub enum CredentialKind {
+    /// A secret for APOP (RFC 1939, section 7).
+    Apop,
+    /// A password for USER and PASS (RFC 1939, section 7), of which a digest is kept.
+    Pass,
+}
+
+/// A clerk, and the kind of the credential.
+#[derive(Clone, Copy, PartialEq, Eq)]
+pub struct ClerkKind {
+    /// The clerk's name.
+    pub clerk: Name,
+    /// The kind of the clerk's credential.
+    pub kind: CredentialKind,
+}

@@ -1,15 +1,19 @@
 //! Clerks of a store in memory, and their credentials.
 ghost use Rattle.std.specs.Prelude.{◌≡◌, ◌≢◌, ℕ, List, [], ◌∷◌, ◌++◌, length, map, is_ok, is_some};
-ghost use Rattle.std.specs.Prelude.{true, if◌then◌else◌, find, option_map};
+ghost use Rattle.std.specs.Prelude.{true, if◌then◌else◌, find, option_map, IfOk};
 ghost use Rattle.std.specs.Str.{bytes_eq};
-ghost use Rattle.creds.specs.Names.{is_name};
+ghost use Rattle.creds.specs.Names.{is_name, by_name};
 ghost use Rattle.vault.specs.Records.{credential_in, is_sound_credential};
 ghost use Rattle.vault.specs.Changes.{put_clerk_answer, with_credential, with_clerk, without_clerk};
-ghost use Rattle.vault.specs.Calls.{IsAnswer, put_result, drop_clerk_result};
+ghost use Rattle.vault.specs.Calls.{IsAnswer, put_result, drop_clerk_result, seen_as};
+ghost use Rattle.vault.specs.Clerks.{kind_of, kind_under, clerk_kinds};
 
+use crate::answer::{ClerkKind, CredentialKind};
 use crate::fault::VaultFault;
+use crate::lists::in_order;
 use crate::record::Clerk;
 use creds::{Credential, Name};
+use std::alloc::{AllocError, Global};
 
 /// The greatest number of clerks.
 pub const MAX_CLERKS: usize = 1000;
@@ -22,6 +26,64 @@ pub(crate) fn credential_of(clerks: &[Clerk], name: &Name) -> Option<Credential>
         .iter()
         .find(|clerk| clerk.name == *name)
         .map(|clerk| clerk.credential)
+}
+
+/// The kind of a credential.
+fn kind_of(credential: &Credential) -> CredentialKind
+    ensures { result ≡ kind_of credential.now }
+{
+    match credential {
+        Credential::Apop(_) => CredentialKind::Apop,
+        Credential::Pass(_) => CredentialKind::Pass,
+    }
+}
+
+/// The clerk of that name, with the kind of the credential, if there is one.
+fn kind_under(clerks: &[Clerk], name: &Name) -> Option<ClerkKind>
+    ensures { result ≡ kind_under clerks.now name.now }
+{
+    match credential_of(clerks, name) {
+        Some(credential) => Some(ClerkKind {
+            clerk: *name,
+            kind: kind_of(&credential),
+        }),
+        None => None,
+    }
+}
+
+/// The clerks' names. An `Err` is want of memory.
+fn names_of(alloc: Global, clerks: &[Clerk]) -> Result<Vec<Name>, AllocError>
+    ensures { IfOk result (λ names. names.items ≡ map (λ x. x.name) clerks.now) }
+{
+    clerks.iter().map(|clerk| clerk.name).collect(alloc)
+}
+
+/// The clerks' names, sorted by their octets. An `Err` is want of memory.
+fn names_in_order(alloc: Global, clerks: &[Clerk]) -> Result<Vec<Name>, AllocError>
+    ensures { IfOk result (λ names. names.items ≡ by_name (map (λ x. x.name) clerks.now)) }
+{
+    let names = names_of(alloc, clerks)?;
+    Ok(in_order(alloc, &names)?)
+}
+
+/// Every clerk with the kind of the credential, sorted by the octets of the name. An `Err` is want
+/// of memory.
+pub fn clerk_kinds(alloc: Global, clerks: &[Clerk]) -> Result<Vec<ClerkKind>, AllocError>
+    ensures { IfOk result (λ kinds. kinds.items ≡ clerk_kinds clerks.now) }
+{
+    let names = names_in_order(alloc, clerks)?;
+    names
+        .iter()
+        .filter_map(|name| kind_under(clerks, name))
+        .collect(alloc)
+}
+
+/// Every clerk with the kind of the credential, as a call of a vault answers it.
+pub(crate) fn list_clerks(alloc: Global, clerks: &[Clerk]) -> Result<Vec<ClerkKind>, VaultFault>
+    ensures answer { IsAnswer (Ok (clerk_kinds clerks.now)) (seen_as result (λ v. v.items)) }
+    ensures in_memory { result ≢ Err VaultFault.Store }
+{
+    Ok(clerk_kinds(alloc, clerks)?)
 }
 
 /// Gives the clerk this credential, if the clerk has that name.

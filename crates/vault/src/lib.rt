@@ -1,5 +1,5 @@
-//! What a mail store keeps (clerks, maildrops, messages, deposits and the policy), its twelve calls
-//! (the trait `Vault`), and a store in memory.
+//! What a mail store keeps (clerks, maildrops, messages, deposits and the policy), its thirteen
+//! calls (the trait `Vault`), and a store in memory.
 #![tactic(auto)]
 
 mod answer;
@@ -15,9 +15,11 @@ mod record;
 mod refusing;
 mod vault;
 
-pub use answer::{Deposited, Head, Total};
+pub use answer::{ClerkKind, CredentialKind, Deposited, Head, Total};
+pub use clerks::{MAX_CLERKS, clerk_kinds};
+pub use deposits::{MAX_DEPOSITS, MAX_MESSAGES};
 pub use fault::VaultFault;
-pub use lists::in_order;
+pub use lists::{MAX_MAILDROPS, in_order};
 pub use message_key::MessageKey;
 pub use pages::PagedText;
 pub use plain::PlainVault;

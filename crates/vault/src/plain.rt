@@ -7,8 +7,8 @@ ghost use Rattle.vault.specs.Calls.{IsPaged, AreRemoved, IsCredential, IsClerkDr
 ghost use Rattle.vault.specs.Calls.{IsMaildropDropped};
 ghost use Rattle.vault.specs.Changes.{Contents};
 
-use crate::answer::{Deposited, Head, Total};
-use crate::clerks::{credential_of, drop_credential, has_form, put_credential};
+use crate::answer::{ClerkKind, Deposited, Head, Total};
+use crate::clerks::{credential_of, drop_credential, has_form, list_clerks, put_credential};
 use crate::deposits::{accept, ask, judge};
 use crate::fault::VaultFault;
 use crate::lists::{drop_name, put_name, totals_of};
@@ -142,6 +142,10 @@ impl Vault for PlainVault {
         ensures succeeds { is_ok result ≡ true }
     {
         Ok(credential_of(&self.clerks, clerk))
+    }
+
+    fn clerks(&mut self) -> Result<Vec<ClerkKind>, VaultFault> {
+        list_clerks(self.alloc, &self.clerks)
     }
 
     fn put_clerk(&mut self, clerk: &Name, credential: &Credential) -> Result<bool, VaultFault> {

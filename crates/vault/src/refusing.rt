@@ -5,9 +5,10 @@ ghost use Rattle.vault.specs.Call.{Looks, Commits};
 ghost use Rattle.vault.specs.Calls.{seen_as, IsDeposited, AreHeads, IsPaged, AreRemoved};
 ghost use Rattle.vault.specs.Calls.{IsCredential, IsClerkPut, IsClerkDropped, IsMaildropAdded};
 ghost use Rattle.vault.specs.Calls.{IsMaildropDropped, AreTotals, IsPolicy, IsPolicySet};
+ghost use Rattle.vault.specs.Clerks.{AreClerkKinds};
 ghost use Rattle.vault.specs.Refusals.{refusing_call, is_next, one_more, faults_of, over, IsInTurn};
 
-use crate::answer::{Deposited, Head, Total};
+use crate::answer::{ClerkKind, Deposited, Head, Total};
 use crate::fault::VaultFault;
 use crate::message_key::MessageKey;
 use crate::vault::Vault;
@@ -185,6 +186,19 @@ impl<V: Vault> Vault for Refusing<V> {
             return Err(VaultFault::Store);
         }
         self.vault.credential(clerk)
+    }
+
+    fn clerks(&mut self) -> Result<Vec<ClerkKind>, VaultFault>
+        ensures done { (c : Contents) → V.holds self.old.vault c → V.is_clean self.new.vault
+            → AreClerkKinds (V.holds self.new.vault) c (seen_as result (λ v. v.items)) }
+        ensures looks { Looks (over V.holds) (faults_of V.faults) (over V.is_clean)
+            (over V.is_up) (over V.may_leave) self.old self.new result }
+        ensures turn { IsInTurn V.faults self.old self.new result }
+    {
+        if self.countdown.is_due() {
+            return Err(VaultFault::Store);
+        }
+        self.vault.clerks()
     }
 
     fn put_clerk(&mut self, clerk: &Name, credential: &Credential) -> Result<bool, VaultFault>

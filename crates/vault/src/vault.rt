@@ -6,8 +6,9 @@ ghost use Rattle.vault.specs.Call.{Looks, Commits};
 ghost use Rattle.vault.specs.Calls.{seen_as, IsDeposited, AreHeads, IsPaged, AreRemoved};
 ghost use Rattle.vault.specs.Calls.{IsCredential, IsClerkPut, IsClerkDropped, IsMaildropAdded};
 ghost use Rattle.vault.specs.Calls.{IsMaildropDropped, AreTotals, IsPolicy, IsPolicySet};
+ghost use Rattle.vault.specs.Clerks.{AreClerkKinds};
 
-use crate::answer::{Deposited, Head, Total};
+use crate::answer::{ClerkKind, Deposited, Head, Total};
 use crate::fault::VaultFault;
 use crate::message_key::MessageKey;
 use creds::{Credential, DepositId, Name};
@@ -100,6 +101,13 @@ pub trait Vault {
     fn credential(&mut self, clerk: &Name) -> Result<Option<Credential>, VaultFault>
         ensures done { (c : Contents) → holds self.old c → is_clean self.new
             → IsCredential (holds self.new) c clerk.now result }
+        ensures looks { Looks holds faults is_clean is_up may_leave self.old self.new result };
+
+    /// Every clerk with the kind of the credential, sorted by the octets of the name; 1,000 at
+    /// most.
+    fn clerks(&mut self) -> Result<Vec<ClerkKind>, VaultFault>
+        ensures done { (c : Contents) → holds self.old c → is_clean self.new
+            → AreClerkKinds (holds self.new) c (seen_as result (λ v. v.items)) }
         ensures looks { Looks holds faults is_clean is_up may_leave self.old self.new result };
 
     /// Adds a clerk, or replaces the credential of one who is there. Answers whether the clerk was

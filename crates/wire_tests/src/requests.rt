@@ -2,11 +2,16 @@
 //! with the responses of an office.
 
 use adminhttp::{Got, Refusal, Request, Route, policy_response, response};
-use office::{Event, Limits, Office, Outcome};
+use office::{AdminAccess, Event, Limits, Office, Outcome};
 use policy::PolicyFault;
 use std::alloc::Global;
 use std::test::Fail;
 use vault::PlainVault;
+
+/// An administration that lists no clerks.
+pub(crate) const CLOSED: AdminAccess = AdminAccess {
+    lists_clerks: false,
+};
 
 /// Requests that are refused, each with its refusal.
 static REFUSED: [(&str, Refusal); 20] = [
@@ -70,7 +75,7 @@ static REFUSED: [(&str, Refusal); 20] = [
 
 /// Whether a request is refused so.
 fn is_refused(alloc: Global, octets: &[u8], refusal: Refusal) -> bool {
-    match Request::read(alloc, &None, octets) {
+    match Request::read(alloc, &None, CLOSED, octets) {
         Got::Bad(told) => told == refusal,
         _ => false,
     }
@@ -78,12 +83,12 @@ fn is_refused(alloc: Global, octets: &[u8], refusal: Refusal) -> bool {
 
 /// Whether more of a request is to come.
 fn is_unfinished(alloc: Global, octets: &[u8]) -> bool {
-    matches!(Request::read(alloc, &None, octets), Got::More)
+    matches!(Request::read(alloc, &None, CLOSED, octets), Got::More)
 }
 
 /// Whether a request is read as a command.
 fn is_command(alloc: Global, octets: &[u8]) -> bool {
-    matches!(Request::read(alloc, &None, octets), Got::Command(_))
+    matches!(Request::read(alloc, &None, CLOSED, octets), Got::Command(_))
 }
 
 #[test]
@@ -159,7 +164,7 @@ fn method_not_allowed(rt: HostRuntime) -> Result<(), Fail> {
 
 /// The response to a request whose body is no policy.
 fn told_fault(alloc: Global, octets: &[u8]) -> Option<Vec<u8>> {
-    match Request::read(alloc, &None, octets) {
+    match Request::read(alloc, &None, CLOSED, octets) {
         Got::BadPolicy(fault) => policy_response(alloc, &fault).ok(),
         _ => None,
     }
@@ -177,7 +182,7 @@ fn policy_with_a_fault(rt: HostRuntime) -> Result<(), Fail> {
     let request = b"PUT /policy HTTP/1.1\r\nContent-Length: 1\r\n\r\n\xff";
     assert!(rt;
         matches!(
-            Request::read(alloc, &None, request),
+            Request::read(alloc, &None, CLOSED, request),
             Got::BadPolicy(PolicyFault::NotToml)
         )
     );
@@ -277,7 +282,7 @@ static ANSWERED: [(&str, &str); 16] = [
 
 /// The response of an office to a request.
 fn answer_to(alloc: Global, office: &mut Office<PlainVault>, octets: &[u8]) -> Option<Vec<u8>> {
-    let Got::Command(command) = Request::read(alloc, &None, octets) else {
+    let Got::Command(command) = Request::read(alloc, &None, office.admin_access(), octets) else {
         return None;
     };
     match office.step(Event::Admin(&command)) {
@@ -302,6 +307,84 @@ fn requests_to_an_office(rt: HostRuntime) -> Result<(), Fail> {
         return Err("no office".into());
     };
     for (octets, want) in &ANSWERED {
+        assert!(rt; is_answered(alloc, &mut office, octets.as_bytes(), want.as_bytes()));
+    }
+    Ok(())
+}
+
+/// Requests for the list of the clerks, each with its refusal by an administration that lists none,
+/// and by one that lists them.
+static OF_THE_LIST: [(&str, Refusal, Option<Refusal>); 4] = [
+    ("GET /clerks HTTP/1.1\r\n\r\n", Refusal::NotFound, None),
+    (
+        "PUT /clerks HTTP/1.1\r\n\r\n",
+        Refusal::NotFound,
+        Some(Refusal::NotAllowed(Route::Clerks)),
+    ),
+    (
+        "GET /clerks/ HTTP/1.1\r\n\r\n",
+        Refusal::NotFound,
+        Some(Refusal::NotFound),
+    ),
+    (
+        "GET /clerks?x HTTP/1.1\r\n\r\n",
+        Refusal::NotFound,
+        Some(Refusal::NotFound),
+    ),
+];
+
+/// The refusal of a request to an administration with this access, if it is refused.
+fn refusal_of(alloc: Global, access: AdminAccess, octets: &[u8]) -> Option<Refusal> {
+    match Request::read(alloc, &None, access, octets) {
+        Got::Bad(told) => Some(told),
+        _ => None,
+    }
+}
+
+#[test]
+fn requests_for_the_list_of_clerks(rt: HostRuntime) -> Result<(), Fail> {
+    let open = AdminAccess { lists_clerks: true };
+    for (request, closed, opened) in &OF_THE_LIST {
+        let octets = request.as_bytes();
+        assert!(rt; refusal_of(rt.alloc(), CLOSED, octets) == Some(*closed), "{request}");
+        assert!(rt; refusal_of(rt.alloc(), open, octets) == *opened, "{request}");
+    }
+    Ok(())
+}
+
+/// Requests to an office that lists its clerks, each with its response.
+static LISTED: [(&str, &str); 4] = [
+    (
+        "GET /clerks HTTP/1.1\r\n\r\n",
+        "HTTP/1.1 200 OK\r\nContent-Type: text/plain\r\nContent-Length: 0\r\n\
+         Connection: close\r\n\r\n",
+    ),
+    (
+        "PUT /clerks/bob HTTP/1.1\r\nContent-Length: 6\r\n\r\napop x",
+        "HTTP/1.1 201 Created\r\nContent-Type: text/plain\r\nContent-Length: 6\r\n\
+         Connection: close\r\n\r\nadded\n",
+    ),
+    (
+        "PUT /clerks/ann HTTP/1.1\r\nContent-Length: 6\r\n\r\npass x",
+        "HTTP/1.1 201 Created\r\nContent-Type: text/plain\r\nContent-Length: 6\r\n\
+         Connection: close\r\n\r\nadded\n",
+    ),
+    (
+        "GET /clerks HTTP/1.1\r\n\r\n",
+        "HTTP/1.1 200 OK\r\nContent-Type: text/plain\r\nContent-Length: 18\r\n\
+         Connection: close\r\n\r\nann pass\nbob apop\n",
+    ),
+];
+
+#[test]
+fn clerks_listed_by_an_office(rt: HostRuntime) -> Result<(), Fail> {
+    let alloc = rt.alloc();
+    let limits = Limits::new(600).ok_or("limits")?;
+    let limits = limits.with_access(AdminAccess { lists_clerks: true });
+    let Ok(mut office) = Office::open(alloc, PlainVault::new(alloc), "h.test", 7, limits) else {
+        return Err("no office".into());
+    };
+    for (octets, want) in &LISTED {
         assert!(rt; is_answered(alloc, &mut office, octets.as_bytes(), want.as_bytes()));
     }
     Ok(())

@@ -1,6 +1,7 @@
 //! Requests to an administration that has a site: which are its own, and which are refused.
 
 use crate::benches::{bench_over, request, turns};
+use crate::requests::CLOSED;
 use adminhttp::{Got, Refusal, Request};
 use creds::HostName;
 use std::alloc::Global;
@@ -67,7 +68,7 @@ fn ask(alloc: Global, site: &Option<HostName>, line: &str, headers: &str) -> Got
     let Ok(request) = format!(in alloc; "{line} HTTP/1.1\r\n{headers}\r\n") else {
         return Got::NoMemory;
     };
-    Request::read(alloc, site, request.as_bytes())
+    Request::read(alloc, site, CLOSED, request.as_bytes())
 }
 
 /// Whether such a request adds a maildrop.

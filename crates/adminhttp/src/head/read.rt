@@ -3,6 +3,7 @@
 ghost use Rattle.std.specs.Prelude.{◌≡◌, length, Err, None, IfSome, IfNone, IfOk, IfErr};
 ghost use Rattle.httparse.specs.Grammar.{RequestHead};
 ghost use Rattle.httparse.specs.Spans.{IsRequestAt, IsRequestWithin};
+ghost use Rattle.office.specs.declared.limits.AdminAccess.{AdminAccess};
 ghost use Rattle.adminhttp.specs.Head.{IsHead, IsNoHead, IsLent, most_headers};
 ghost use Rattle.adminhttp.specs.Request.{IsRequest};
 ghost use Rattle.adminhttp.specs.RequestLines.{IsLine};
@@ -36,7 +37,8 @@ fn parse_head(text: &[u8], headers: &mut [HeaderSpan]) -> Option<RequestSpans>
 pub fn read_head<'b>(octets: &'b [u8], headers: &mut [HeaderSpan]) -> Result<Head<'b>, NoCommand>
     requires { length headers.old ≡ most_headers }
     ensures ok { IfOk result (IsLent octets.now headers.new) }
-    ensures stop { IfErr result (λ stop. (site : Site) → IsRequest site octets.now (Err stop)) }
+    ensures stop { IfErr result (λ stop. (site : Site) (access : AdminAccess)
+        → IsRequest site access octets.now (Err stop)) }
     ensures none { IfErr result (λ _. IsLine octets.now None) }
 {
     let Some((start, len)) = locate(front_of(octets)) else {

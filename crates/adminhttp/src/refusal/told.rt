@@ -56,6 +56,9 @@ fn not_allowed(route: Route) -> &'static str
         Route::Maildrop =>
             "HTTP/1.1 405 Method Not Allowed\r\nContent-Type: text/plain\r\nAllow: GET, PUT, DELETE\r\nContent-Length: 19\r\n\
          Connection: close\r\n\r\nmethod not allowed\n",
+        Route::Clerks =>
+            "HTTP/1.1 405 Method Not Allowed\r\nContent-Type: text/plain\r\nAllow: GET\r\n\
+         Content-Length: 19\r\nConnection: close\r\n\r\nmethod not allowed\n",
         Route::Clerk =>
             "HTTP/1.1 405 Method Not Allowed\r\nContent-Type: text/plain\r\nAllow: GET, PUT, DELETE\r\nContent-Length: 19\r\n\
          Connection: close\r\n\r\nmethod not allowed\n",

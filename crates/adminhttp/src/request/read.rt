@@ -16,24 +16,26 @@ use crate::sites::is_own;
 use crate::target::read_target;
 use creds::HostName;
 use httparse::spans::{EMPTY_HEADER_SPAN, HeaderSpan};
-use office::AdminCommand;
+use office::{AdminAccess, AdminCommand};
 use std::alloc::Global;
 
 impl Request {
-    /// What the octets that have come of a request come to.
+    /// What the octets that have come of a request come to, in an administration that was opened
+    /// to answer `access`.
     ///
     /// Empty lines in front are dropped. Faults are looked for in this order: a head that hasn't
     /// ended within 8,192 octets or is none; if the administration has a site, headers by which the
     /// request isn't the site's own: no one Host (RFC 9110, 7.2) that is the site's name,
     /// `localhost`, `[::1]` or an address of 127.0.0.0/8, with a port or without, or an Origin that
-    /// isn't of that Host, or a Sec-Fetch-Site but `same-origin` and `none`; a target of no route,
-    /// or with a part of another form; a method that the route has not; for PUT on a clerk and on
-    /// the policy a length that isn't given, that isn't one number, or that is over 1,048,576
-    /// octets, and then the body's own. What follows the body is ignored.
-    pub fn read(alloc: Global, site: &Option<HostName>, octets: &[u8]) -> Got
-        ensures { IfSome (asked_in result) (IsRequest site.now octets.now) }
+    /// isn't of that Host, or a Sec-Fetch-Site but `same-origin` and `none`; a target of no route
+    /// (`/clerks` is of one only if `access` has it), or with a part of another form; a method that
+    /// the route has not; for PUT on a clerk and on the policy a length that isn't given, that isn't
+    /// one number, or that is over 1,048,576 octets, and then the body's own. What follows the body
+    /// is ignored.
+    pub fn read(alloc: Global, site: &Option<HostName>, access: AdminAccess, octets: &[u8]) -> Got
+        ensures { IfSome (asked_in result) (IsRequest site.now access octets.now) }
     {
-        match ask(alloc, site, octets) {
+        match ask(alloc, site, access, octets) {
             Ok(command) => Got::Command(command),
             Err(NoCommand::More) => Got::More,
             Err(NoCommand::Bad(refusal)) => Got::Bad(refusal),
@@ -44,15 +46,20 @@ impl Request {
 }
 
 /// The command that octets ask, or why there is none.
-fn ask(alloc: Global, site: &Option<HostName>, octets: &[u8]) -> Result<AdminCommand, NoCommand>
-    ensures ok { IfOk result (λ command. IsRequest site.now octets.now
+fn ask(
+    alloc: Global,
+    site: &Option<HostName>,
+    access: AdminAccess,
+    octets: &[u8],
+) -> Result<AdminCommand, NoCommand>
+    ensures ok { IfOk result (λ command. IsRequest site.now access octets.now
         (Ok (command_seen command))) }
     ensures fault { IfErr result (λ stop. stop ≢ NoCommand.NoMemory
-        → IsRequest site.now octets.now (Err stop)) }
+        → IsRequest site.now access octets.now (Err stop)) }
 {
     let mut headers = [EMPTY_HEADER_SPAN; MAX_HEADERS];
     let head = read_head(octets, &mut headers)?;
-    ask_of_site(alloc, site, &head, &headers[..head.headers])
+    ask_of_site(alloc, site, access, &head, &headers[..head.headers])
 }
 
 /// The command that a head and what is after it ask of a site.
@@ -60,35 +67,41 @@ fn ask(alloc: Global, site: &Option<HostName>, octets: &[u8]) -> Result<AdminCom
 fn ask_of_site(
     alloc: Global,
     site: &Option<HostName>,
+    access: AdminAccess,
     head: &Head<'_>,
     headers: &[HeaderSpan],
 ) -> Result<AdminCommand, NoCommand>
     requires within { LieIn head.now headers.now }
     requires utf8 { IsUtf8 head.now.target.now }
-    ensures ok { IfOk result (λ command. asked_of_site site.now head.now.method.now
+    ensures ok { IfOk result (λ command. asked_of_site site.now access head.now.method.now
         head.now.target.now (headers_of head.now headers.now) head.now.behind.now
         ≡ Ok (command_seen command)) }
     ensures fault { IfErr result (λ stop. stop ≢ NoCommand.NoMemory
-        → asked_of_site site.now head.now.method.now head.now.target.now
+        → asked_of_site site.now access head.now.method.now head.now.target.now
         (headers_of head.now headers.now) head.now.behind.now ≡ Err stop) }
 {
     if !is_own(site, head.text, headers) {
         return Err(NoCommand::Bad(Refusal::ForeignSite));
     }
-    ask_by(alloc, head, headers)
+    ask_by(alloc, access, head, headers)
 }
 
 /// The command that a head and what is after it ask.
 #[tactic(auto, unfolding(crate::specs::Request::asked_by))]
-fn ask_by(alloc: Global, head: &Head<'_>, headers: &[HeaderSpan]) -> Result<AdminCommand, NoCommand>
+fn ask_by(
+    alloc: Global,
+    access: AdminAccess,
+    head: &Head<'_>,
+    headers: &[HeaderSpan],
+) -> Result<AdminCommand, NoCommand>
     requires within { LieIn head.now headers.now }
     requires utf8 { IsUtf8 head.now.target.now }
-    ensures ok { IfOk result (λ command. asked_by head.now.method.now head.now.target.now
+    ensures ok { IfOk result (λ command. asked_by access head.now.method.now head.now.target.now
         (headers_of head.now headers.now) head.now.behind.now ≡ Ok (command_seen command)) }
     ensures fault { IfErr result (λ stop. stop ≢ NoCommand.NoMemory
-        → asked_by head.now.method.now head.now.target.now (headers_of head.now headers.now)
-        head.now.behind.now ≡ Err stop) }
+        → asked_by access head.now.method.now head.now.target.now
+        (headers_of head.now headers.now) head.now.behind.now ≡ Err stop) }
 {
     let target = read_target(alloc, head.target)?;
-    read_command(alloc, &target, head, headers)
+    read_command(alloc, access, &target, head, headers)
 }

@@ -54,6 +54,7 @@ fn read_on(route: Route, path: &[u8]) -> Option<Target>
     match route {
         Route::Maildrops => alone(path, b"/maildrops", Target::Maildrops),
         Route::Maildrop => Some(Target::Maildrop(Name::read(behind(path, b"/maildrops/")?)?)),
+        Route::Clerks => alone(path, b"/clerks", Target::Clerks),
         Route::Clerk => Some(Target::Clerk(Name::read(behind(path, b"/clerks/")?)?)),
         Route::Policy => alone(path, b"/policy", Target::Policy),
         Route::Groups => alone(path, b"/groups", Target::Groups),

@@ -13,4 +13,5 @@ returns c =
     let g = c.in_ok-insert-6.ensures in
     let h = c.in_ok-insert-7.ensures in
     let k = c.in_ok-insert-8.ensures in
-    rw (k.1, h.1, g.1, f.1, e.1, d.1, b.1, a.1, c.new-router.ensures) refl
+    let l = c.in_ok-insert-9.ensures in
+    rw (l.1, k.1, h.1, g.1, f.1, e.1, d.1, b.1, a.1, c.new-router.ensures) refl

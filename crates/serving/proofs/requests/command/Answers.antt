@@ -36,5 +36,5 @@ returns-clause-works g c = λ site read asks.
       told_still g.L.Listener.heard l l1 l2 (heard_of_all B L ((event.Admin seen, event_tag_of out) ∷ []))
           (command_told g.L.Listener.heard l l1 B L seen (event_tag_of out) told (c.step_with_account-outcome.ensures.account (trace_of B L) stands clean) c.tell_end.ensures)
           (told_same g.L.Listener.heard l1 l2 c.asked.ensures.told),
-      comes_to site B L read (lent_by o) seen out response (c.step_with_account-outcome.ensures.outcome (trace_of B L) stands clean) asks c.response_to-response.ensures.told,
+      comes_to site B L read (lent_by o) seen out response (c.step_with_account-outcome.ensures.outcome (trace_of B L) stands clean) (asks B L stands) c.response_to-response.ensures.told,
     )))

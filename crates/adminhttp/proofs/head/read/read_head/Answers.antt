@@ -3,7 +3,7 @@ use Rattle.std.proofs.lemmas.List.{take_rest}
 use Rattle.adminhttp.proofs.head.read.read_head.Goals as goal
 
 pub returns-in_default-parse_head-clause-stop : goal.returns-in_default-parse_head-clause-stop
-returns-in_default-parse_head-clause-stop c = λ site.
+returns-in_default-parse_head-clause-stop c = λ site access.
     (let width : (c.in-Some.start + c.in-Some.len) - c.in-Some.start ≡ c.in-Some.len = omega arith in
     let place = rw c.front_of.ensures.value at (sym c.locate.ensures.value ∙ c.in-Some.is) in
     let none = rw width at c.in_default-parse_head.ensures.none in

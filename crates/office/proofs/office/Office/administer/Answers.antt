@@ -12,6 +12,9 @@ returns-in-AddMaildrop g c = rw c.in-AddMaildrop.is c.add_maildrop.ensures
 pub returns-in-DropMaildrop : goal.returns-in-DropMaildrop
 returns-in-DropMaildrop g c = rw c.in-DropMaildrop.is c.drop_maildrop.ensures
 
+pub returns-in-ListClerks : goal.returns-in-ListClerks
+returns-in-ListClerks g c = rw c.in-ListClerks.is c.list_clerks.ensures
+
 pub returns-in-ShowClerk : goal.returns-in-ShowClerk
 returns-in-ShowClerk g c = rw c.in-ShowClerk.is c.show_clerk.ensures
 

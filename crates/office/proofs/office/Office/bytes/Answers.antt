@@ -98,7 +98,7 @@ returns-in-Ok-clause-after g c = record {
 }
 
 pub returns-in-Err-clause-after : goal.returns-in-Err-clause-after
-returns-in-Err-clause-after g c = record {
+returns-in-Err-clause-after g c = rw c.lack_memory.ensures.outcome (record {
   counted = c.hear.ensures.acts.counted;
   clean = c.hear.ensures.acts.clean;
   each = λ T st clean.
@@ -120,7 +120,7 @@ returns-in-Err-clause-after g c = record {
       let gone = over-bytes T n p x.0 line x.1 in
       let goes = bytes_goes T (lent_by o) n p m.opened (none_owed ct k.session k.output (untaken_of (seen T n)) m.owed nothing) fits in
       let first = (c.get_mut.follows.holds k').3 (search rules) in
-      let second = c.cut_off_without_memory.ensures.connections in
+      let second = c.lack_memory.ensures.connections in
       stands_after g.V.Vault o _ T (Bytes n p) outcome.NoMemory
       (moved g.V.Vault.holds o _ T (Bytes n p) _ NoMemory n refl st refl refl refl refl refl refl (whole-bytes T n p NoMemory) refl refl
       (rw found refl) (λ q e. seen-bytes_other T n p q NoMemory e) (λ q ne. second.2 q (is_apart n q ne) ∙ first.2 q (is_apart n q ne)) (record {
@@ -132,13 +132,13 @@ returns-in-Err-clause-after g c = record {
         locks = released T.base (acts T) (acts (given T (Bytes n p) (Tagged NoMemory))) n (λ d q e. ap (λ s. holds_by s d) (seen-bytes_other T n p q NoMemory e))
             (λ d. let out = gone.authorization in rw out refl) ct (seen T n) k.session c.hear.new.locks _ m.session refl refl
             (λ d. c.in-Err.ensures.err.1.locks d ∙ st.locks d)
-            (subst (λ h. Released h c.hear.new.locks c.cut_off_without_memory.new.locks) c.maildrop-held.ensures c.cut_off_without_memory.ensures.locks);
+            (subst (λ h. Released h c.hear.new.locks c.lack_memory.new.locks) c.maildrop-held.ensures c.lack_memory.ensures.locks);
       }))
       (record { tag = NoMemory; may = line; is = rw goes refl }) tt (λ up answered. absurd answered)
       (λ up. line_left T n st.keeps sound (streamed (seen T n) p o.moment) (clocked o.moment p k) p (judged_at ct o.policy k.stamp o.locks) k.state ready j (Bytes n p)
       (λ h nx. records-bytes_line T n p line_outcome.Done (line_after k p) h nx) (λ h nx. records-bytes_part T n p Done h) (c.hear.ensures.acts.stop ct st.keeps.held clean up))
       (g.met.V.Vault.settled _) clean;
-}
+})
 
 pub hear-requires : goal.hear-requires
 hear-requires c = grind (arith, common_steps)
@@ -194,4 +194,4 @@ returns-in-Ok-clause-account g c fresh T st clean =
     did.account fresh ∙ (is ∙ sym (ap (account_of T (Bytes n p)) (marked w _ c.outcome_of.ensures) ∙ piece_account T n p w))
 
 pub returns-in-Err-clause-account : goal.returns-in-Err-clause-account
-returns-in-Err-clause-account g c fresh T st clean = c.cut_off_without_memory.ensures.account
+returns-in-Err-clause-account g c fresh T st clean = rw c.lack_memory.ensures.outcome c.lack_memory.ensures.account

@@ -5,8 +5,8 @@ use Rattle.office.specs.Events.{Took, Tagged, given}
 use Rattle.office.specs.History.{Done, Failed, NoMemory}
 use Rattle.office.specs.Connections.{closing, serving, user}
 use Rattle.office.specs.Trace.{acts, history, is_left, next_line}
-use Rattle.office.specs.Accounts.{account_of}
-use Rattle.office.proofs.Accounts.{taking_account, part_taken, closed_taken}
+use Rattle.office.specs.Accounts.{account_of, taken_told}
+use Rattle.office.proofs.Accounts.{taking_account, part_taken}
 use Rattle.office.specs.Replying.{is_empty}
 use Rattle.office.specs.Output.{nothing_owed}
 use Rattle.office.specs.Kept.{Kept, line_after, maildrop_of}
@@ -109,11 +109,11 @@ returns-in-Err-clause-after g c = record {
       let left : is_left T.log (history T) x n ≡ true = left_over s n (took_more ct s k n o.moment at.matches at.fits c.in-Err.ensures.err) in
       let more = more_than_lent ct T x k at.matches c.in-Err.ensures.err in
       let first = (c.get_mut.follows.holds k1).3 (search rules) in
-      let second = c.cut_off_without_memory.ensures.connections in
+      let second = c.cut_off.ensures.connections in
       stands_after g.V.Vault o _ T (Took x n) outcome.NoMemory
       (ended_by g.V.Vault.holds o _ T (Took x n) NoMemory x (took_ends T x n NoMemory left (lacking_ends (serving (history T) x) x)) st k found
       (λ d h. c.take.ensures.looks.held d h clean) refl refl refl refl refl second.1 (λ q e. second.2 q e ∙ first.2 q e)
-      (subst (λ h. Released h o.locks c.cut_off_without_memory.new.locks) c.maildrop-held.ensures c.cut_off_without_memory.ensures.locks))
+      (subst (λ h. Released h o.locks c.cut_off.new.locks) c.maildrop-held.ensures c.cut_off.ensures.locks))
       (record { tag = NoMemory; may = rw (left, more) refl; is = rw at.goes refl }) tt (λ up answered. absurd answered)
       (λ up. before_left T (Took x n) st.keeps (c.take.ensures.looks.stop ct st.keeps.held clean up)) (g.met.V.Vault.settled _) clean;
 }
@@ -136,11 +136,11 @@ returns-then-not-taken-clause-after g c = record {
       let left : is_left T.log (history T) x n ≡ true = left_over s n (took_more ct s k n o.moment at.matches at.fits (text_feeds k.output.source reads)) in
       let serves : serving (history T) x ≡ true = at.matches.serving reads in
       let first = (c.get_mut.follows.holds k1).3 (search rules) in
-      let second = c.cut_off.ensures.connections in
+      let second = c.cut_off-then-not-taken.ensures.connections in
       stands_after g.V.Vault o _ T (Took x n) outcome.Failed
       (ended_by g.V.Vault.holds o _ T (Took x n) Failed x (took_ends T x n Failed left (refused_ends (serving (history T) x) x serves)) st k found
       (λ d h. c.take.ensures.looks.held d h clean) refl refl refl refl refl second.1 (λ q e. second.2 q e ∙ first.2 q e)
-      (subst (λ h. Released h o.locks c.cut_off.new.locks) c.maildrop-held.ensures c.cut_off.ensures.locks))
+      (subst (λ h. Released h o.locks c.cut_off-then-not-taken.new.locks) c.maildrop-held.ensures c.cut_off-then-not-taken.ensures.locks))
       (record { tag = Failed; may = rw (left, serves) refl; is = rw at.goes refl })
       (c.in-Ok.ensures.cause c.if-not-taken.true ct (untaken_of s) st.keeps.held clean at.matches.owed) (λ up answered. absurd answered)
       (λ up. before_left T (Took x n) st.keeps (c.take.ensures.looks.stop ct st.keeps.held clean up)) (g.met.V.Vault.settled _) clean;
@@ -248,13 +248,13 @@ returns-in-Ok-resume-clause-after g c = record {
       let change = (c.get_mut.follows.holds k').3 (search rules) in
       let did = line.answered ct j.transaction held clean j.has_transaction in
       stands_after g.V.Vault o _ T (Took x n) _
-      (moved g.V.Vault.holds o _ T (Took x n) _ (tag_of w) x (marked w _ c.outcome_of.ensures) st refl refl refl refl refl refl (whole-took T x n (tag_of w)) refl refl
+      (moved g.V.Vault.holds o _ T (Took x n) _ (tag_of w) x (marked w _ c.after_all.ensures.outcome) st refl refl refl refl refl refl (whole-took T x n (tag_of w)) refl refl
       (rw found refl) (λ q e. seen-took_other T x n q (tag_of w) e) (λ q ne. change.2 q (is_apart x q ne))
       (taking_moves T x n st.keeps sound o.policy st.policy o.locks st.locks o.moment st.moment k1 a.ready a.over a.open_yet w k' did _ line.locks g.V.Vault.holds o _ change.1 refl did.held))
-      (taking_answered T x n st.keeps sound o.policy st.policy o.locks st.locks o.moment st.moment k1 a.ready a.over a.open_yet w k' did (lent_by o) _ at.goes c.outcome_of.ensures)
-      (line_cause (g.V.Vault.faults o.vault) (g.V.Vault.faults c.resume.new.vault) w _ c.outcome_of.ensures
+      (taking_answered T x n st.keeps sound o.policy st.policy o.locks st.locks o.moment st.moment k1 a.ready a.over a.open_yet w k' did (lent_by o) _ at.goes c.after_all.ensures.outcome)
+      (line_cause (g.V.Vault.faults o.vault) (g.V.Vault.faults c.resume.new.vault) w _ c.after_all.ensures.outcome
       (λ f. grown_before (g.V.Vault.faults o.vault) (g.V.Vault.faults c.take.new.vault) (g.V.Vault.faults c.resume.new.vault) c.take.ensures.looks.counted (did.cause f)))
-      (λ up answered. line.acts.up ct held clean (does.looks.up ct st.keeps.held before up yes) (line_answered w _ c.outcome_of.ensures answered))
+      (λ up answered. line.acts.up ct held clean (does.looks.up ct st.keeps.held before up yes) (line_answered w _ c.after_all.ensures.outcome answered))
       (λ up. line_left T x st.keeps sound (took s n o.moment) k1 k1.pending (judged_at ct o.policy k1.stamp o.locks) k1.state a.ready j (Took x n)
       (λ h nx. records-took_line T x n line_outcome.Done (line_after k1 k1.pending) a.over a.open_yet (next_kept T x ∙ nx)) (λ h nx. records-took_none T x n a.over a.open_yet (next_kept T x ∙ nx))
       (c.resume.ensures.acts.stop ct held clean (does.looks.up ct st.keeps.held before up yes)))
@@ -262,7 +262,7 @@ returns-in-Ok-resume-clause-after g c = record {
 }
 
 pub returns-in-Err-resume-clause-after : goal.returns-in-Err-resume-clause-after
-returns-in-Err-resume-clause-after g c = record {
+returns-in-Err-resume-clause-after g c = rw c.lack_memory.ensures.outcome (record {
   counted = omega (arith, c.take.ensures.looks.counted, c.resume.ensures.acts.counted);
   clean = λ clean. c.take.ensures.looks.clean (c.resume.ensures.acts.clean clean);
   each = λ T st clean.
@@ -285,7 +285,7 @@ returns-in-Err-resume-clause-after g c = record {
       let next = next_there ct (took s n o.moment) k1 k1.pending a.ready c.in-Err-resume.ensures.err.0 in
       let line = next_kept T x ∙ next.1 in
       let first = (c.get_mut.follows.holds c.resume.new.self).3 (search rules) in
-      let second = c.cut_off_without_memory-in-Err-resume.ensures.connections in
+      let second = c.lack_memory.ensures.connections in
       let gone = over-took T x n next.0 a.over a.open_yet line in
       let sits : k1.session ≡ k.session = ap (λ (k : Kept). k.session) c.take.ensures.kept in
       stands_after g.V.Vault o _ T (Took x n) outcome.NoMemory
@@ -299,15 +299,15 @@ returns-in-Err-resume-clause-after g c = record {
         locks = released T.base (acts T) (acts (given T (Took x n) (Tagged NoMemory))) x (λ d q e. ap (λ s. holds_by s d) (seen-took_other T x n q NoMemory e))
             (λ d. let out = gone.authorization in rw out refl) ct s k1.session c.resume.new.locks _ (subst (IsSession ct s) (sym sits) at.matches.session) refl refl
             (λ d. c.in-Err-resume.ensures.err.1.locks d ∙ st.locks d)
-            (subst (λ h. Released h c.resume.new.locks c.cut_off_without_memory-in-Err-resume.new.locks)
-            (c.maildrop-held.ensures ∙ ap maildrop_of (sym sits)) c.cut_off_without_memory-in-Err-resume.ensures.locks);
+            (subst (λ h. Released h c.resume.new.locks c.lack_memory.new.locks)
+            (c.maildrop-held.ensures ∙ ap maildrop_of (sym sits)) c.lack_memory.ensures.locks);
       }))
       (record { tag = NoMemory; may = rw (a.over, a.open_yet, line) refl; is = rw at.goes refl }) tt (λ up answered. absurd answered)
       (λ up. line_left T x st.keeps sound (took s n o.moment) k1 k1.pending (judged_at ct o.policy k1.stamp o.locks) k1.state a.ready j (Took x n)
       (λ h nx. records-took_line T x n line_outcome.Done (line_after k1 k1.pending) a.over a.open_yet (next_kept T x ∙ nx)) (λ h nx. records-took_none T x n a.over a.open_yet (next_kept T x ∙ nx))
       (c.resume.ensures.acts.stop ct held clean (does.looks.up ct st.keeps.held before up yes)))
       (g.met.V.Vault.settled _) clean;
-}
+})
 
 pub take-requires : goal.take-requires
 take-requires g c = lent_ready c.in-Some.connection.now.output c.args.octets (c.lends.ensures.some c.if-not-lends.false).1
@@ -353,13 +353,22 @@ returns-in-Ok-resume-clause-account g c fresh T st clean =
     let did = line.answered ct j.transaction held clean j.has_transaction in
     let named : k1.state.user ≡ user (history T) x = ap (λ (k : Kept). k.state.user) c.take.ensures.kept ∙ at.matches.user in
     let is = taking_told T x n st.keeps sound o.policy st.policy o.locks st.locks o.moment st.moment k1 a.ready a.over a.open_yet w c.resume.new.self did named in
-    did.account fresh ∙ (is ∙ sym (ap (account_of T (Took x n)) (marked w _ c.outcome_of.ensures) ∙ taking_account T x n w a.over))
+    c.after_all.ensures.account ∙ (ap taken_told (did.account fresh ∙ is) ∙ sym (ap (account_of T (Took x n)) (marked w _ c.after_all.ensures.outcome) ∙ taking_account T x n w a.over))
 
 pub returns-in-Err-resume-clause-account : goal.returns-in-Err-resume-clause-account
-returns-in-Err-resume-clause-account g c fresh T st clean = c.cut_off_without_memory-in-Err-resume.ensures.account
+returns-in-Err-resume-clause-account g c fresh T st clean =
+    let before = c.resume.ensures.acts.clean clean in
+    let a = all g (goal.at.returns-in-Err-resume-clause-account g c).After-resume T st before in
+    rw (c.lack_memory.ensures.outcome, a.over) c.lack_memory.ensures.account
 
 pub returns-in-Err-clause-account : goal.returns-in-Err-clause-account
-returns-in-Err-clause-account g c fresh T st clean = c.cut_off_without_memory.ensures.account
+returns-in-Err-clause-account g c fresh T st clean =
+    let s = seen T c.args.c in
+    let n = c.args.octets in
+    let at = taking g (goal.at.returns-in-Err-clause-account g c).After-take T st in
+    let left : is_left T.log (history T) c.args.c n ≡ true =
+    left_over s n (took_more st.keeps.contents s c.in-Some.connection.now n c.args.self.now.moment at.matches at.fits c.in-Err.ensures.err) in
+    rw left refl
 
 pub returns-then-not-taken-clause-account : goal.returns-then-not-taken-clause-account
 returns-then-not-taken-clause-account g c fresh T st clean =
@@ -400,7 +409,10 @@ returns-then-is_closing-clause-account g c fresh T st clean =
     let k : Kept = c.in-Some.connection.now in
     let s = seen T x in
     let ct = st.keeps.contents in
-    let found : get nat_cmp o.connections x ≡ Some k = sym c.in-Some.ensures.value in
-    let m : Matches ct s k = subst (IsKeptFor ct s) found (st.connections x) in
-    let closed : closing (history T) x ≡ true = sym m.closing ∙ (sym (ap (λ (k : Kept). k.state.closing) c.take.ensures.kept) ∙ (sym c.is_closing.ensures ∙ c.if-is_closing.true)) in
-    rw closed (fresh ∙ sym (closed_taken T.base (history T) (is_left T.log (history T) x n) (serving (history T) x) x (next_line T.log (history T) x [])))
+    let k1 : Kept = c.take.new.self in
+    let at = taking g (goal.at.returns-then-is_closing-clause-account g c).After-take T st in
+    let none : k1.output ≡ nothing_owed = c.owes_nothing.ensures.nothing c.if-not-owes_nothing.false in
+    let over : is_left T.log (history T) x n ≡ false = all_over s n (took_all ct s k n o.moment at.matches at.fits k1.output
+    (c.in-Ok.ensures.owes c.if-not-taken.false ct (untaken_of s) st.keeps.held clean at.matches.owed) none) in
+    let closed : closing (history T) x ≡ true = sym at.matches.closing ∙ (sym (ap (λ (k : Kept). k.state.closing) c.take.ensures.kept) ∙ (sym c.is_closing.ensures ∙ c.if-is_closing.true)) in
+    rw (over, closed) refl
