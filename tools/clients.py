@@ -40,7 +40,14 @@ class Wrong(Exception):
 
 
 # What a case can fail by.
-FAULTS = (Wrong, OSError, ValueError, subprocess.SubprocessError, http.client.HTTPException)
+FAULTS = (
+    Wrong,
+    OSError,
+    TypeError,
+    ValueError,
+    subprocess.SubprocessError,
+    http.client.HTTPException,
+)
 
 
 def wants(found, wanted):
