@@ -136,8 +136,8 @@ def leave_unread(server, line):
 
 @case
 def message_broken_off(program, folder):
-    """The end of a connection names the message of which not all was taken, by RETR or TOP; and no
-    message if all was."""
+    """The end of a connection names the message of which not all was taken, by RETR or TOP; and
+    none if all was."""
     with serving(program, folder) as server:
         fill(server, "orders.note.n-1.eml")
         server.leave("orders.note.n-2.eml", LONG)
@@ -152,7 +152,6 @@ def message_broken_off(program, folder):
         ann = Mail(server)
         ann.say("USER ann/orders", f"PASS {PASSWORD}", "RETR 2", "QUIT")
         server.wait_told("event=quit connection=4 ")
-    text = log_of(folder)
     octets = len(LONG) + LONG.count("\n")
     end = f"event=closed connection={{}} {CLIENT} clerk=ann maildrop=orders marked=0 dele=0 rset=0"
     wanted = [
@@ -160,4 +159,4 @@ def message_broken_off(program, folder):
         f"{end.format(2)} retr=0/0 top=\\d+/\\d+ denied=0 cut=note\\.2 cause=gone",
         f"{end.format(3)} retr=1/{octets} top=1/10 denied=0 cause=gone",
     ]
-    return compare(lines_told(text, "closed"), wanted)
+    return compare(lines_told(log_of(folder), "closed"), wanted)

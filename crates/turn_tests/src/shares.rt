@@ -36,7 +36,7 @@ fn office_with_a_long_message(alloc: Global) -> Result<Office<PlainVault>, Fail>
 /// What ann sends.
 const ANN: &[u8] = b"USER ann/orders\r\nPASS s3 cret\r\nRETR 1\r\n";
 
-/// How many octets ann was told after each of three turns, with so many silent links beside hers.
+/// How many octets ann got after each of three turns, with so many silent links beside hers.
 fn told(alloc: Global, silent: u32) -> Result<[usize; 3], Fail> {
     let mut office = office_with_a_long_message(alloc)?;
     let mut wire = ScriptWire::new(alloc, Vec::new(alloc), 20_000);
