@@ -105,7 +105,7 @@ fn tell_refused<E: Write>(err: &mut E, is_verbose: bool, at: SocketAddr, error: 
     1
 }
 
-/// Tells that the program isn't proved, and how slow it is then.
+/// Prints how slow the program is, if it isn't proved.
 fn tell_slow<E: Write>(err: &mut E) {
     if !IS_PROVED {
         let _ = writeln!(err, "{SLOW}");
