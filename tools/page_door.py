@@ -210,23 +210,58 @@ def a_help_desk_may_do_less(program, folder):
         wants(place.asked("GET", "/api/policy", *OWN, user="desk"), (200, before))
 
 
+def at_once(count, ask, go_on):
+    """The statuses of requests that are made at once, of which three are refused before `go_on`."""
+    found = []
+    asks = [threading.Thread(target=lambda: found.append(ask()[0])) for _ in range(count)]
+    for it in asks:
+        it.start()
+    wait_for(lambda: len(found) == 3, "three are not refused", 60)
+    wants(found, [503, 503, 503])
+    go_on()
+    for it in asks:
+        it.join()
+    return sorted(found)
+
+
 @case
 def six_at_once_reach_popbox(program, folder):
-    with site(program, folder) as place:
-        found = []
+    with site(program, folder) as place, contextlib.ExitStack() as still:
+        still.enter_context(stopped(place.server))
+        found = at_once(9, lambda: place.asked("GET", "/api/policy", *OWN), still.close)
+        wants(found, [200] * 6 + [503] * 3)
+
+
+@case
+def four_reviews_are_made_at_once(program, folder):
+    waits = f"#!/bin/bash\nuntil [[ -e {folder}/go ]]; do sleep 0.1; done\nexec {program} \"$@\"\n"
+    with open(f"{folder}/waits", "w", encoding="utf-8") as file:
+        file.write(waits)
+    os.chmod(file.name, 0o755)
+    with site(program, folder, reviews=file.name) as place:
 
         def ask():
-            found.append(place.asked("GET", "/api/policy", *OWN)[0])
+            return place.asked("POST", "/review/written", *OWN, body=OFFICE.encode())
 
-        asks = [threading.Thread(target=ask) for _ in range(9)]
-        with stopped(place.server):
-            for it in asks:
-                it.start()
-            wait_for(lambda: len(found) == 3, "three are not refused", 60)
-            wants(found, [503, 503, 503])
-        for it in asks:
-            it.join()
-        wants(sorted(found), [200] * 6 + [503] * 3)
+        found = at_once(7, ask, lambda: os.mkdir(f"{folder}/go"))
+        wants(found, [200] * 4 + [503] * 3)
+
+
+@case
+def an_address_that_asks_without_end_is_refused(program, folder):
+    with site(program, folder) as place:
+        url = f"{place.url}/page.css"
+        words = ["curl", "-k", "--no-progress-meter", "-o", "/dev/null", "-w", "%{http_code}\n"]
+        many = ["--http2", "--parallel", "--parallel-max", "120", f"{url}?[1-2500]"]
+        with subprocess.Popen([*words, *many], stdout=subprocess.PIPE, text=True) as asks:
+            told = {asks.stdout.readline().strip()}
+            while "503" not in told and (line := asks.stdout.readline()):
+                told.add(line.strip())
+            # Another address is answered meanwhile.
+            has = ["--interface", "127.0.0.2", "--user", f"admin:{PASSWORD}", url]
+            ran = subprocess.run([*words, *has], capture_output=True, text=True, check=True)
+            asks.kill()
+        wants((told, ran.stdout), ({"401", "503"}, "200\n"))
 
 
 @case

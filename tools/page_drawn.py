@@ -251,7 +251,7 @@ def chances(folder):
         cells = {} if number == 0 else dict(tables[0])
         for names in by if number == 0 else chance.sample(by, 500):
             lowest = chance.choice((-1000, -200, 1))
-            numbers = [chance.randint(lowest, 1000) for _ in range(41 + 2)]
+            numbers = [chance.randint(lowest, 1000) for _ in range(43)]
             cells[names] = [numbers[0], numbers[1:22], numbers[22:43]]
         tables.append(cells)
         keys = ("clerk", "maildrop", "open", "read", "remove")
@@ -301,7 +301,7 @@ def longest_wait(page, field, keys):
     for key in keys:
         page.keys(key)
         time.sleep(0.1)
-    page.wait(lambda: page.js("return waits.length") >= len(keys), "keys are lost")
+    page.wait(lambda: page.value(field) == keys, "keys are lost")
     return page.js("return Math.max(...waits)") / 1000
 
 
@@ -334,8 +334,11 @@ def a_table_of_20_301_cells_is_drawn_soon(program, folder):
                 for names, cell in new.items()
             }
             same(drawn(page), want)
-            print(f"first rows after {soonest:.1f} s; a key waits {filtering:.2f} s, {writing:.2f} s")
-            wants((soonest < 2, filtering < 0.2, writing < 0.2), (True, True, True))
+            # A machine with more to do than it has processors has longer.
+            slower = max(1, os.getloadavg()[0] / os.cpu_count())
+            found = f"rows after {soonest:.1f} s, keys after {filtering:.2f} s and {writing:.2f} s"
+            is_soon = soonest < 2 * slower, max(filtering, writing) < 0.1 * slower
+            wants((found, is_soon), (found, (True, True)))
 
 
 @case

@@ -169,22 +169,15 @@ def set_policy_notes_names_that_the_server_does_not_have(place):
         wants([it for it in why.splitlines() if " on the server: " in it], told)
 
 
-# A curl that answers for a server with a list of its clerks, and notes what it is asked.
-LISTS = """for it; do url=$it; done
-echo "$url" >>ASKED
-case "$url" in
-*/clerks) printf 'ann pass\\nbob apop\\n' ;;
-*) exec REAL "$@" ;;
-esac"""
-
-
 @case
 def set_policy_takes_the_servers_list_of_clerks(place):
     asked = f"{place.folder}/asked"
-    place.stand_in("curl", LISTS.replace("ASKED", asked))
-    members = ["ann", "anne", "bo", "bob"]
-    group = f'[[group]]\nname = "desk"\nmembers = {members}\n\n'.replace("'", '"')
-    with office(place) as server:
+    place.stand_in("curl", f'for it; do url=$it; done\necho "$url" >>{asked}\nexec REAL "$@"')
+    members = '["ann", "anne", "bo", "bob"]'
+    group = f'[[group]]\nname = "desk"\nmembers = {members}\n\n'
+    with office(place, words=["--list-clerks"]) as server:
+        server.administer("PUT", "/clerks/ann", "pass x")
+        server.administer("PUT", "/clerks/bob", "apop x")
         new = write(place, group + rule("@desk", "orders", ["open"]))
         _, _, why, _ = set_policy(place, server, new, said=b"n\n")
         told = [f"note: no clerk on the server: {it}" for it in ("anne", "bo")]

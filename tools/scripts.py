@@ -112,9 +112,9 @@ def make_store(place, texts):
 
 
 @contextlib.contextmanager
-def office(place, texts=()):
+def office(place, texts=(), words=()):
     """A server with the maildrops `orders`, which has these messages, and `sales`."""
-    server = Server(place.program, place.folder, "--admin-site", "localhost")
+    server = Server(place.program, place.folder, "--admin-site", "localhost", *words)
     try:
         for path in ("orders", "sales"):
             server.administer("PUT", f"/maildrops/{path}")
