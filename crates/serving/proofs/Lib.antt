@@ -12,7 +12,6 @@ pub mod Looking
 pub mod Origins
 pub mod Places
 pub mod Pacing
-pub mod Waiting
 pub mod Working
 pub mod Offering
 pub mod Turns

@@ -27,5 +27,3 @@ mod strangers;
 mod swapped;
 #[cfg(test)]
 mod turns;
-#[cfg(test)]
-mod waiting;
