@@ -40,7 +40,14 @@ class Wrong(Exception):
 
 
 # What a case can fail by.
-FAULTS = (Wrong, OSError, ValueError, subprocess.SubprocessError, http.client.HTTPException)
+FAULTS = (
+    Wrong,
+    OSError,
+    TypeError,
+    ValueError,
+    subprocess.SubprocessError,
+    http.client.HTTPException,
+)
 
 
 def wants(found, wanted):
@@ -96,7 +103,7 @@ class Client:
         while not got.endswith(b"\n"):
             octet = self.socket.recv(1)
             if not octet:
-                raise Wrong(f"an end behind {got!r}")
+                raise Wrong(f"an end after {got!r}")
             got += octet
         return got
 

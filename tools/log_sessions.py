@@ -1,9 +1,7 @@
 """The cases of tools/check-log of sessions: what each removed, was denied and fetched."""
 
-import os
-
 from clients import REPLY, Wrong, is_silent
-from logged import CLIENT, PASSWORD, POLICY, SECRET, Mail, Server, case, compare, fill, lines_told
+from logged import CLIENT, PASSWORD, POLICY, SECRET, Mail, case, compare, fill, lines_told
 from logged import log_of, serving, with_and_without
 
 # A message of 101,400 octets with CRLF; so many of it that no link takes them unread.
@@ -138,28 +136,22 @@ def leave_unread(server, line):
 
 @case
 def message_broken_off(program, folder):
-    """The end of a connection tells of which message not all was taken, by RETR or TOP; and of none
-    if all was."""
-    with open(f"{folder}/log", "w+b") as log:
-        server = Server(program, folder, log)
-        try:
-            fill(server, "orders.note.n-1.eml")
-            server.leave("orders.note.n-2.eml", LONG)
-            server.wait_gone("orders.note.n-2.eml")
-            for number, line in enumerate(("RETR 2", "TOP 2 2000"), 1):
-                leave_unread(server, line)
-                server.wait_told(f"event=closed connection={number} ")
-            ann = Mail(server)
-            ann.say("USER ann/orders", f"PASS {PASSWORD}", "RETR 2", "TOP 1 0")
-            ann.close()
-            server.wait_told("event=closed connection=3 ")
-            ann = Mail(server)
-            ann.say("USER ann/orders", f"PASS {PASSWORD}", "RETR 2", "QUIT")
-            server.wait_told("event=quit connection=4 ")
-        finally:
-            server.end()
-        log.seek(0)
-        text = log.read().decode()
+    """The end of a connection names the message of which not all was taken, by RETR or TOP; and
+    none if all was."""
+    with serving(program, folder) as server:
+        fill(server, "orders.note.n-1.eml")
+        server.leave("orders.note.n-2.eml", LONG)
+        server.wait_gone("orders.note.n-2.eml")
+        for number, line in enumerate(("RETR 2", "TOP 2 2000"), 1):
+            leave_unread(server, line)
+            server.wait_told(f"event=closed connection={number} ")
+        ann = Mail(server)
+        ann.say("USER ann/orders", f"PASS {PASSWORD}", "RETR 2", "TOP 1 0")
+        ann.close()
+        server.wait_told("event=closed connection=3 ")
+        ann = Mail(server)
+        ann.say("USER ann/orders", f"PASS {PASSWORD}", "RETR 2", "QUIT")
+        server.wait_told("event=quit connection=4 ")
     octets = len(LONG) + LONG.count("\n")
     end = f"event=closed connection={{}} {CLIENT} clerk=ann maildrop=orders marked=0 dele=0 rset=0"
     wanted = [
@@ -167,4 +159,4 @@ def message_broken_off(program, folder):
         f"{end.format(2)} retr=0/0 top=\\d+/\\d+ denied=0 cut=note\\.2 cause=gone",
         f"{end.format(3)} retr=1/{octets} top=1/10 denied=0 cause=gone",
     ]
-    return compare(lines_told(text, "closed"), wanted)
+    return compare(lines_told(log_of(folder), "closed"), wanted)

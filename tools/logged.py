@@ -159,7 +159,7 @@ class Mail(clients.Client):
 
 
 def compare(text, wanted):
-    """What differs between a log and the lines that are wanted, each behind a moment."""
+    """What differs between a log and the lines that are wanted, each after a moment."""
     lines = without_slow(text).splitlines()
     differs = [
         f"line {number} is {line!r}, where {it!r} is wanted"

@@ -126,16 +126,19 @@ line_asked : (access : AdminAccess) (m t : List ℕ) (headers : List Header) (be
 unfolding asked_by
 line_asked access m t headers behind c h = line_by_target access (target_of t) m headers behind c h
 
-line_served : (access : AdminAccess) (own : Bool) (m t : List ℕ) (headers : List Header) (behind : List ℕ) (c : AdminCommand) → Ok c ≡ cond own (asked_by access m t headers behind) (Err (Bad ForeignSite))
+line_served : (access : AdminAccess) (own : Bool) (m t : List ℕ) (headers : List Header) (behind : List ℕ) (c : AdminCommand)
+    → Ok c ≡ cond own (asked_by access m t headers behind) (Err (Bad ForeignSite))
     → Some (line_of c) ≡ line_in m t
 line_served access true m t headers behind c h = line_asked access m t headers behind c h
 line_served access false m t headers behind c h = absurd (cc h)
 
-line_of_site : (site : Site) (access : AdminAccess) (m t : List ℕ) (headers : List Header) (behind : List ℕ) (c : AdminCommand) → Ok c ≡ asked_of_site site access m t headers behind → Some (line_of c) ≡ line_in m t
+line_of_site : (site : Site) (access : AdminAccess) (m t : List ℕ) (headers : List Header) (behind : List ℕ) (c : AdminCommand)
+    → Ok c ≡ asked_of_site site access m t headers behind → Some (line_of c) ≡ line_in m t
 unfolding asked_of_site
 line_of_site site access m t headers behind c h = line_served access (is_own site headers) m t headers behind c h
 
-at_head : (site : Site) (access : AdminAccess) (text behind : List ℕ) (c : AdminCommand) (place : ℕ × ℕ) (b : List ℕ) → HeadComesTo site access (head_text b place) behind (Ok c) → IsLineAt b (Some place) (Some (line_of c))
+at_head : (site : Site) (access : AdminAccess) (text behind : List ℕ) (c : AdminCommand) (place : ℕ × ℕ) (b : List ℕ)
+    → HeadComesTo site access (head_text b place) behind (Ok c) → IsLineAt b (Some place) (Some (line_of c))
 at_head site access text behind c place b (inl x) = inl (x.0, x.1, line_of_site site access x.0.method x.0.target (map name_and_value x.0.fields) behind c x.2)
 at_head site access text behind c place b (inr x) = absurd (cc x.1)
 

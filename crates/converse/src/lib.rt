@@ -14,6 +14,7 @@ mod fault;
 mod fields;
 pub mod form;
 mod noted;
+mod noted_folder;
 mod printer;
 mod printing;
 mod record;
@@ -28,8 +29,9 @@ mod writing;
 
 pub use fault::{Fault, fault_text, put_fault, read_fault, tell_fault};
 pub use noted::Noted;
+pub use noted_folder::NotedFolder;
 pub use printer::{Flushed, Printer};
-pub use record::Record;
+pub use record::{FileRecord, Record};
 pub use streams::{Sink, Source};
 pub use texts::Texts;
 

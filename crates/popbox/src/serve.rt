@@ -10,8 +10,7 @@ use office::{AdminAccess, Limits, Office};
 use proxy::ProxiedWire;
 use recent::Recent;
 use serving::{
-    Clock, FolderSpool, NotedListener, NotedWire, Server, SocketWire, Wire, begin_noted,
-    serve_while,
+    Clock, FolderSpool, NotedListener, NotedSpool, NotedWire, SocketWire, Wire, begin, serve_while,
 };
 use std::io;
 use std::io::Write;
@@ -106,7 +105,7 @@ fn tell_refused<E: Write>(err: &mut E, is_verbose: bool, at: SocketAddr, error: 
     1
 }
 
-/// Tells that the program isn't proved, and how slow it is then.
+/// Prints how slow the program is, if it isn't proved.
 fn tell_slow<E: Write>(err: &mut E) {
     if !IS_PROVED {
         let _ = writeln!(err, "{SLOW}");
@@ -226,14 +225,11 @@ fn serve_turns<'a, V: Vault, W: Wire + Peers + Drop>(
     journal: Journal<'a>,
     watch: &'a StoreWatch<'a>,
 ) -> Result<u8, Fault> {
-    let wire = Guarded::new(LoggedWire::new(wire, journal), watch);
-    let files = FolderSpool::new(rt, rt.alloc(), spool);
+    let mut wire = Guarded::new(LoggedWire::new(wire, journal), watch);
+    let files = NotedSpool::new(FolderSpool::new(rt, rt.alloc(), spool));
     let folder = Folder::new(rt, spool);
-    let spool = Guarded::new(LoggedSpool::new(files, journal, folder), watch);
-    let Server { links, wire, spool } = begin_noted(rt.alloc(), office, wire, spool);
-    let mut links = links;
-    let mut wire = wire;
-    let mut spool = spool;
+    let mut spool = Guarded::new(LoggedSpool::new(files, journal, folder), watch);
+    let mut links = begin(rt.alloc(), office, &wire, &spool);
     links.set_wait(u64::from(options.wait));
     links.set_login_seconds(u64::from(options.login_seconds));
     links.set_full_house_seconds(u64::from(options.full_house_seconds));

@@ -74,7 +74,7 @@ less_on link least less (Looked Pop of io octets) le h = h
 less_on link least less (Looked Admin of io octets) le h = h
 less_on link least less (Read Pop of room io octets) le h = (h.0, h.1, omega (arith, le, h.2), h.3)
 less_on link least less (Read Admin of room io octets) le h = h
-less_on link least less (Wrote port of io octets) le h = h
+less_on link least less (Wrote port of offered io octets) le h = h
 less_on link least less (Closed Pop of) le h = h
 less_on link least less (Closed Admin of) le h = h
 
@@ -92,7 +92,7 @@ none_on link least k (Accepted port came) h ne = refl
 none_on link least k (Looked port of io octets) h ne = refl
 none_on link least k (Read Pop of room io octets) h ne = none_at (of.number == k) octets (ne_eqb of.number k (λ e. ne (sym e ∙ ap (λ (l : Link). l.number) h.0)))
 none_on link least k (Read Admin of room io octets) h ne = refl
-none_on link least k (Wrote port of io octets) h ne = refl
+none_on link least k (Wrote port of offered io octets) h ne = refl
 none_on link least k (Closed port of) h ne = refl
 
 -- they read nothing on another one
@@ -108,7 +108,7 @@ ends_append b (Waited millis ∷ xs) ys = ends_append false xs ys
 ends_append b (Accepted port came ∷ xs) ys = ends_append b xs ys
 ends_append b (Looked port of io octets ∷ xs) ys = ends_append b xs ys
 ends_append b (Read port of room io octets ∷ xs) ys = ends_append (b || has_line octets) xs ys
-ends_append b (Wrote port of io octets ∷ xs) ys = ends_append b xs ys
+ends_append b (Wrote port of offered io octets ∷ xs) ys = ends_append b xs ys
 ends_append b (Closed port of ∷ xs) ys = ends_append b xs ys
 
 -- reads on a line wait for nothing
@@ -118,7 +118,7 @@ ends_still link least (Waited millis ∷ xs) a = absurd a.0
 ends_still link least (Accepted port came ∷ xs) a = absurd a.0
 ends_still link least (Looked port of io octets ∷ xs) a = ends_still link least xs a.1
 ends_still link least (Read port of room io octets ∷ xs) a = ends_still link least xs a.1
-ends_still link least (Wrote port of io octets ∷ xs) a = absurd a.0
+ends_still link least (Wrote port of offered io octets ∷ xs) a = absurd a.0
 ends_still link least (Closed port of ∷ xs) a = ends_still link least xs a.1
 
 some_at : (c : Bool) (octets rest : List ℕ) → has_line ((if c then octets else []) ++ rest) ≡ true → (has_line octets ≡ true) ⊎ (has_line rest ≡ true)
@@ -140,7 +140,7 @@ ends_now link least b (Read Pop of room io octets ∷ xs) a e = ⊎_elim
     (λ (here : has_line octets ≡ true). (let on : (b || has_line octets) ≡ true = ap (λ c. b || c) here ∙ or_true b in subst (λ c. ends_line c xs ≡ true) (sym on) (ends_still link least xs a.1)))
     (λ (later : has_line (read_on link.number xs) ≡ true). ends_now link least (b || has_line octets) xs a.1 later)
     (some_at (of.number == link.number) octets (read_on link.number xs) e)
-ends_now link least b (Wrote port of io octets ∷ xs) a e = absurd a.0
+ends_now link least b (Wrote port of offered io octets ∷ xs) a e = absurd a.0
 ends_now link least b (Closed port of ∷ xs) a e = ends_now link least b xs a.1 e
 
 -- ---- one call handed on
@@ -162,7 +162,7 @@ unread k inside (Read Pop of room io octets) b e = ⊎_elim
     (λ (q : of.number ≡ k). absurd (same_number of k inside q b e))
     (λ (ne : of.number ≡ k → ⊥). ap (λ o. has_line (o ++ [])) (none_at (of.number == k) octets (ne_eqb of.number k ne)))
     (cases_eq of.number k)
-unread k inside (Wrote port of io octets) b e = refl
+unread k inside (Wrote port of offered io octets) b e = refl
 unread k inside (Closed port of) b e = refl
 
 so_on : (o : Option (Option IpAddr)) (k : ℕ) (inside : List Call) (call : Call) → IsBehindLine inside call → IsSo o k inside → IsSo o k (inside ++ call ∷ [])
@@ -179,7 +179,7 @@ one_more (Waited millis) e = absurd (true≢false e)
 one_more (Accepted port came) e = refl
 one_more (Looked port of io octets) e = refl
 one_more (Read port of room io octets) e = refl
-one_more (Wrote port of io octets) e = refl
+one_more (Wrote port of offered io octets) e = refl
 one_more (Closed port of) e = refl
 
 pressed_on : (inside : List Call) (call : Call) → is_wait call ≡ false → ends_line false inside ≡ true → ends_line false (inside ++ call ∷ []) ≡ true

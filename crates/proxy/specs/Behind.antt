@@ -28,7 +28,7 @@ read_on k (call ∷ calls) = octets_on k call ++ read_on k calls
 -- a call gave its end, or that it is broken, or closed it
 abbrev pub ends_on : ℕ → Call → Bool
 ends_on k (Read Pop link room io octets) = is_fault io && link.number == k
-ends_on k (Wrote Pop link io octets) = is_fault io && link.number == k
+ends_on k (Wrote Pop link offered io octets) = is_fault io && link.number == k
 ends_on k (Closed Pop link) = link.number == k
 ends_on k _ = false
 

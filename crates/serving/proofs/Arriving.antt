@@ -20,7 +20,7 @@ use Rattle.serving.specs.Calls.{Call, Accepted, Closed}
 use Rattle.serving.specs.declared.links.Seat.{Seat}
 use Rattle.serving.specs.Wires.{opened_by}
 use Rattle.serving.specs.Works.{is_admin, wait_of, arrival_of, closing_of, none_waited, tells_none, moment_of, is_opening, refusals, is_refusal, HasCause, Came, seat_of, unseated_of, link_of, is_open_seat, is_shut_seat, has_moved}
-use Rattle.serving.specs.ClientParts.{IsOpening, HaveCome, AreAccepted, closing, IsClosed, AreClosed}
+use Rattle.serving.specs.ClientParts.{is_client_write, IsOpening, HaveCome, AreAccepted, closing, IsClosed, AreClosed}
 use Rattle.serving.specs.Parts.{WasGiven}
 use Rattle.serving.proofs.Accepting.{IsRefusal}
 use Rattle.serving.proofs.Working.{none_joined, count_joined, any_right, none_of, caused_then}
@@ -55,6 +55,7 @@ module _ {V : Type 0} (Holds : V → Contents → Type 0) (IsClean : V → Type 
     closed = refl;
     seated = sym (append-nil seats);
     apart = refl;
+    unwritten = refl;
     only = All-nil IsOpening;
     caused = All-nil (HasCause [] []);
   }
@@ -74,6 +75,7 @@ module _ {V : Type 0} (Holds : V → Contents → Type 0) (IsClean : V → Type 
       closed = refl;
       seated = sym (append-nil seats);
       apart = refl;
+      unwritten = refl;
       only = All-nil IsOpening;
       caused = All-nil (HasCause [] (Accepted Pop None ∷ []));
     };
@@ -94,6 +96,7 @@ module _ {V : Type 0} (Holds : V → Contents → Type 0) (IsClean : V → Type 
       closed = refl;
       seated = is;
       apart = refl;
+      unwritten = refl;
       only = All-cons IsOpening (event.Connect, m) [] tt (All-nil IsOpening);
       caused = All-cons (HasCause [] (Accepted Pop (Some link) ∷ [])) (event.Connect, m) [] tt (All-nil (HasCause [] (Accepted Pop (Some link) ∷ [])));
     };
@@ -114,6 +117,7 @@ module _ {V : Type 0} (Holds : V → Contents → Type 0) (IsClean : V → Type 
       closed = refl;
       seated = sym (append-nil seats);
       apart = refl;
+      unwritten = refl;
       only = All-cons IsOpening (event.Connect, m) [] tt (All-nil IsOpening);
       caused = All-cons (HasCause [] (Accepted Pop (Some link) ∷ Closed Pop link ∷ [])) (event.Connect, m) [] tt (All-nil (HasCause [] (Accepted Pop (Some link) ∷ Closed Pop link ∷ [])));
     };
@@ -140,6 +144,7 @@ module _ {V : Type 0} (Holds : V → Contents → Type 0) (IsClean : V → Type 
     seated = b.seated
         ∙ (ap (λ xs. xs ++ filter_map seat_of came2) a.seated ∙ (append_assoc seats (filter_map seat_of came1) (filter_map seat_of came2) ∙ ap (λ xs. seats ++ xs) (sym (filter_map-append seat_of came1 came2))));
     apart = none_of is_admin c1 c2 a.apart b.apart;
+    unwritten = none_of is_client_write c1 c2 a.unwritten b.unwritten;
     only = All-append IsOpening g2 g1 b.only a.only;
     caused = caused_then [] g1 g2 c1 c2 a.caused b.caused;
   }

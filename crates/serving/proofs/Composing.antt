@@ -12,11 +12,14 @@ made wait seconds full slow = record { wait = wait; login_seconds = seconds; ful
 pub set_same : (wait seconds seconds_then full full_then : ℕ) (slow : Bool) → seconds_then ≡ seconds → full_then ≡ full → made wait seconds_then full_then slow ≡ made wait seconds full slow
 set_same wait seconds seconds_then full full_then slow a b = rw (a, b) refl
 
+pub set_slow : (wait seconds full : ℕ) (slow slow_then : Bool) → slow_then ≡ slow → made wait seconds full slow_then ≡ made wait seconds full slow
+set_slow wait seconds full slow slow_then e = rw e refl
+
 pub keeps_none : (a : Clients) → Keeps a a
-keeps_none a = record { set = refl; last = refl; polled = λ e. e }
+keeps_none a = record { set = refl; last = refl; polled = λ e. e; pacing = λ h. h }
 
 pub keeps_then : (a b c : Clients) → Keeps a b → Keeps b c → Keeps a c
-keeps_then a b c x y = record { set = y.set ∙ x.set; last = y.last ∙ x.last; polled = λ e. y.polled (x.polled e) }
+keeps_then a b c x y = record { set = y.set ∙ x.set; last = y.last ∙ x.last; polled = λ e. y.polled (x.polled e); pacing = λ h. y.pacing (x.pacing h) }
 
 pub seats_none : (a : Clients) → KeepsSeats a a
 seats_none a = record { keeps = keeps_none a; seats = refl }

@@ -16,9 +16,11 @@ use Rattle.serving.specs.Calls.{Call}
 use Rattle.serving.specs.declared.links.Seat.{Seat}
 use Rattle.serving.specs.declared.links.Links.{Links}
 use Rattle.serving.specs.declared.newcomers.Newcomer.{Newcomer}
-use Rattle.serving.specs.Works.{is_admin, waits, wait_of, arrivals, arrival_of, closings, closing_of, none_waited, tells_none, is_cut_of, is_cut, moments, moment_of, openings, is_opening, refusals, is_refusal, HasCause, AreCaused, seat_of, unseated_of, HasAccepted, most_links, HadTurn, AreDeposits, is_open_seat, is_shut_seat, link_of_seat, IsLateGone, AreLateGone, way_by, has_moved, is_moving}
+use Rattle.serving.specs.Works.{IsOffered, is_admin, waits, wait_of, arrivals, arrival_of, closings, closing_of, none_waited, tells_none, is_cut_of, is_cut, moments, moment_of}
+use Rattle.serving.specs.Works.{openings, is_opening, refusals, is_refusal, HasCause, AreCaused, seat_of, unseated_of, HasAccepted, most_links, HadTurn, AreDeposits, is_open_seat}
+use Rattle.serving.specs.Works.{is_shut_seat, link_of_seat, IsLateGone, AreLateGone, way_by, has_moved, is_moving}
 use Rattle.serving.specs.Parts.{Part, Asking, Giving, IsQuiet, IsQuietFor, Also, PollsBy, Releases}
-use Rattle.serving.specs.ClientParts.{IsPassed, AreAccepted, IsNotedSo, WereServed, closing, AreClosed}
+use Rattle.serving.specs.ClientParts.{is_client_write, IsPassed, AreAccepted, IsNotedSo, WereServed, closing, AreClosed}
 use Rattle.serving.specs.Spools.{FileCall}
 use Rattle.serving.specs.HttpParts.{AskedApart, DidApart}
 use Rattle.serving.specs.HttpWorks.{HasAcceptedForAdmin, HadHttpTurns}
@@ -32,6 +34,7 @@ use Rattle.serving.proofs.Resting.{rests_so, waits_then, not_true, is_left}
 use Rattle.serving.proofs.Arriving.{shut_moved}
 use Rattle.serving.proofs.Hearing.{told_then, turn_heard}
 use Rattle.serving.proofs.Turns.{served_so}
+use Rattle.serving.proofs.Offering.{none_offered, offered_left, offered_right, unwritten_turns, unwritten_accepted, unwritten_closings}
 use Rattle.serving.proofs.Freeing.{freed_left, freed_right}
 use Rattle.serving.specs.Newcomers.{newcomer, limit, lies_unread, waited_of, AllHaveSeats, IsSettled, CountsFrom, IsComer}
 use Rattle.serving.specs.Late.{HasLived, IsNotedSince, HasEndedLate}
@@ -387,6 +390,17 @@ module _ {V W S H : Type 0} (Holds : V → Contents → Type 0) (IsClean : V →
               turned_left way B L G3 gx ((((cp ++ ca) ++ cq) ++ cl) ++ cr) cx q
               (turned_left way B L G2 gr (((cp ++ ca) ++ cq) ++ cl) cr q (turned_right way B L G1 gl ((cp ++ ca) ++ cq) cl q (h (to_links q.connection here)))))
               seats2 (had.turns B (G1 ++ L) s2 k3);
+          offered =
+              (let R = IsOffered B L G4 seats2 in
+              let none : (calls : List Call) → list_any is_client_write calls ≡ false → All R calls = λ calls h. none_offered B L G4 seats2 calls h in
+              let of_links : All R cl = All-weaker (IsOffered B (G1 ++ L) gl seats2) R
+              (λ call h. offered_left B L G3 gx seats2 call (offered_left B L G2 gr seats2 call (offered_right B L G1 gl seats2 call h))) cl (had.offered B (G1 ++ L) s2 k3) in
+              let of_reqs : All R cr = none cr (unwritten_turns links.site now B (G2 ++ L) held links_then.requests.exchanges.items gr cr (reqs.facts.0.did B (G2 ++ L) s3 k4).1) in
+              let of_close : All R cx = none cx (ap (list_any is_client_write) x.facts.0.calls_are ∙ unwritten_closings (filter (is_shut_seat trace4) seats2)) in
+              let of_asked : All R cq = none cq (unwritten_accepted now 64 more links.requests.exchanges.items held cq asked.facts.1) in
+              let of_first : All R (cp ++ ca) = All-append R cp ca (none cp (ap (list_any is_client_write) pass.facts.calls_are)) (none ca come.unwritten) in
+              All-append R ((((cp ++ ca) ++ cq) ++ cl) ++ cr) cx
+              (All-append R (((cp ++ ca) ++ cq) ++ cl) cr (All-append R ((cp ++ ca) ++ cq) cl (All-append R (cp ++ ca) cq of_first of_asked) of_links) of_reqs) of_close);
           caused = All-append Q gx G3 (All-append Q gs gz (by_cause gs caused_s) caused_z)
               (All-append Q gr G2 (by_cause gr caused_r) (All-append Q gl G1 (by_cause gl caused_l) (All-append Q ga gp (by_cause ga caused_a) (by_cause gp caused_p))));
           closed = filter_map-append closing_of ((((cp ++ ca) ++ cq) ++ cl) ++ cr) cx

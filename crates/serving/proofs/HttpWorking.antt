@@ -22,7 +22,9 @@ use Rattle.serving.specs.HttpTurns.{is_late_at}
 use Rattle.serving.specs.Works.{most_at_once}
 use Rattle.serving.proofs.Turns.{not_zero}
 use Rattle.serving.proofs.Working.{any_right}
-use Rattle.serving.specs.HttpWorks.{HaveComeForAdmin, NoMore, IsKept, IsTurnedAway, WantsMemory, HasAcceptedForAdmin, response_of, ComesTo, HasHeard, GaveAPiece, AreWrites, AreWritesOf, told_its_end, took_nothing, is_whole, IsToldOf, HasToldAll, HasTold, HasHttpTurn, IsServed, HadHttpTurns, NoneHeld, IsHeldOn, IsClosed}
+use Rattle.serving.specs.HttpWorks.{HaveComeForAdmin, NoMore, IsKept, IsTurnedAway, WantsMemory, HasAcceptedForAdmin, response_of, ComesTo, HasHeard, GaveAPiece, AreWrites}
+use Rattle.serving.specs.HttpWorks.{AreWritesOf, admin_share, told_its_end, took_nothing, is_whole, IsToldOf, HasToldAll, HasTold, HasHttpTurn, IsServed, HadHttpTurns, NoneHeld}
+use Rattle.serving.specs.HttpWorks.{IsHeldOn, IsClosed}
 use Rattle.serving.specs.HttpParts.{Tells}
 
 or_true : (b : Bool) → (b || true) ≡ true
@@ -78,11 +80,11 @@ module _ (site : Site) (B : Records) (L : Log) (e e2 : Exchange) where
 
 pub writes_then : (l : Link) (r : List ℕ) (w w1 w2 : ℕ) (c1 c2 : List Call) → AreWrites l r w c1 w1 → AreWrites l r w1 c2 w2 → AreWrites l r w (c1 ++ c2) w2
 writes_then l r w w1 w2 [] c2 a b = subst (λ n. AreWrites l r n c2 w2) a b
-writes_then l r w w1 w2 (Wrote Admin k (Count n) octets ∷ c1) c2 a b = (a.0, a.1, writes_then l r (w + n) w1 w2 c1 c2 a.2 b)
-writes_then l r w w1 w2 (Wrote Admin k Later octets ∷ c1) c2 a b = (a.0, writes_then l r w w1 w2 c1 c2 a.1 b)
-writes_then l r w w1 w2 (Wrote Admin k End octets ∷ c1) c2 a b = (a.0, writes_then l r w w1 w2 c1 c2 a.1 b)
-writes_then l r w w1 w2 (Wrote Admin k Broken octets ∷ c1) c2 a b = (a.0, writes_then l r w w1 w2 c1 c2 a.1 b)
-writes_then l r w w1 w2 (Wrote Pop k io octets ∷ c1) c2 a b = absurd a
+writes_then l r w w1 w2 (Wrote Admin k offered (Count n) octets ∷ c1) c2 a b = (a.0, a.1, a.2, writes_then l r (w + n) w1 w2 c1 c2 a.3 b)
+writes_then l r w w1 w2 (Wrote Admin k offered Later octets ∷ c1) c2 a b = (a.0, a.1, writes_then l r w w1 w2 c1 c2 a.2 b)
+writes_then l r w w1 w2 (Wrote Admin k offered End octets ∷ c1) c2 a b = (a.0, a.1, writes_then l r w w1 w2 c1 c2 a.2 b)
+writes_then l r w w1 w2 (Wrote Admin k offered Broken octets ∷ c1) c2 a b = (a.0, a.1, writes_then l r w w1 w2 c1 c2 a.2 b)
+writes_then l r w w1 w2 (Wrote Pop k offered io octets ∷ c1) c2 a b = absurd a
 writes_then l r w w1 w2 (Waited millis ∷ c1) c2 a b = absurd a
 writes_then l r w w1 w2 (Accepted port link ∷ c1) c2 a b = absurd a
 writes_then l r w w1 w2 (Looked port link io octets ∷ c1) c2 a b = absurd a
@@ -102,11 +104,12 @@ pub writes_here : (l : Link) (r : Option Response) (response : Response) (w w2 :
 writes_here l r response w w2 c is a = let e : Some response ≡ r = sym is in subst (λ o. AreWritesOf l o w c w2) e a
 
 -- a write that took none
-pub wrote_none : (l : Link) (r : List ℕ) (w : ℕ) (io : Io) (octets : List ℕ) → is_fault io ≡ true → AreWrites l r w (Wrote Admin l io octets ∷ []) w
-wrote_none l r w End octets e = (refl, refl)
-wrote_none l r w Broken octets e = (refl, refl)
-wrote_none l r w Later octets e = (refl, refl)
-wrote_none l r w (Count n) octets e = cc
+pub wrote_none : (l : Link) (r : List ℕ) (w offered : ℕ) (io : Io) (octets : List ℕ) → is_fault io ≡ true
+    → offered ≡ length (take admin_share (drop w r)) → AreWrites l r w (Wrote Admin l offered io octets ∷ []) w
+wrote_none l r w offered End octets e all = (refl, all, refl)
+wrote_none l r w offered Broken octets e all = (refl, all, refl)
+wrote_none l r w offered Later octets e all = (refl, all, refl)
+wrote_none l r w offered (Count n) octets e all = cc
 
 pub whole_here : (r : Option Response) (response : Response) (w : ℕ) → r ≡ Some response → is_whole r w ≡ nat_le (length (octets_of response)) w
 whole_here r response w is = ap (λ o. is_whole o w) is
@@ -256,9 +259,11 @@ module _ (e e2 : Exchange) (r : Response) where
       }
 
   -- the next octets were taken
-  pub told_some : (n : ℕ) (octets : List ℕ) → e.response ≡ Some r → e.is_over ≡ false → 0 < n → octets ≡ take n (drop e.written (octets_of r)) → e2.link ≡ e.link → e2.read ≡ e.read → e2.response ≡ e.response → e2.written ≡ e.written + n
-      → e2.is_over ≡ nat_le (length (octets_of r)) (e.written + n) → Tells e e2 (if n == 0 then 0 else 1) n (not (n == 0)) (Wrote Admin e.link (Count n) octets ∷ [])
-  told_some n octets has goes some is link read same written over =
+  pub told_some : (offered n : ℕ) (octets : List ℕ) → e.response ≡ Some r → e.is_over ≡ false → 0 < n
+      → offered ≡ length (take admin_share (drop e.written (octets_of r))) → octets ≡ take n (drop e.written (octets_of r)) → e2.link ≡ e.link
+      → e2.read ≡ e.read → e2.response ≡ e.response → e2.written ≡ e.written + n
+      → e2.is_over ≡ nat_le (length (octets_of r)) (e.written + n) → Tells e e2 (if n == 0 then 0 else 1) n (not (n == 0)) (Wrote Admin e.link offered (Count n) octets ∷ [])
+  told_some offered n octets has goes some all is link read same written over =
       let z = not_zero n some in
       let full : is_whole e2.response e2.written ≡ nat_le (length (octets_of r)) (e.written + n) = whole_here e2.response r e2.written (same ∙ has) ∙ ap (nat_le (length (octets_of r))) written in
       record {
@@ -266,7 +271,7 @@ module _ (e e2 : Exchange) (r : Response) where
           link = link;
           read = read;
           response = same;
-          writes = writes_here e.link e.response r e.written e2.written (Wrote Admin e.link (Count n) octets ∷ []) has (refl, is, written);
+          writes = writes_here e.link e.response r e.written e2.written (Wrote Admin e.link offered (Count n) octets ∷ []) has (refl, all, is, written);
           idle = λ h. absurd (true≢false (sym h ∙ goes));
           over = over ∙ (or_none (nat_le (length (octets_of r)) (e.written + n)) ∙ sym (ap (λ b. b || (is_whole e2.response e2.written || false)) goes ∙ ap (λ b. b || false) full));
           times_are = rw z (omega arith);
@@ -276,15 +281,16 @@ module _ (e e2 : Exchange) (r : Response) where
       }
 
   -- the link's end was told
-  pub told_cut : (io : Io) (octets : List ℕ) → e.response ≡ Some r → e.is_over ≡ false → is_fault io ≡ true → e2.link ≡ e.link → e2.read ≡ e.read → e2.response ≡ e.response → e2.written ≡ e.written → e2.is_over ≡ true
-      → Tells e e2 0 0 false (Wrote Admin e.link io octets ∷ [])
-  told_cut io octets has goes fault link read same written over = record {
+  pub told_cut : (offered : ℕ) (io : Io) (octets : List ℕ) → e.response ≡ Some r → e.is_over ≡ false → is_fault io ≡ true
+      → offered ≡ length (take admin_share (drop e.written (octets_of r))) → e2.link ≡ e.link → e2.read ≡ e.read → e2.response ≡ e.response → e2.written ≡ e.written → e2.is_over ≡ true
+      → Tells e e2 0 0 false (Wrote Admin e.link offered io octets ∷ [])
+  told_cut offered io octets has goes fault all link read same written over = record {
     is = record {
       link = link;
       read = read;
       response = same;
-      writes = writes_here e.link e.response r e.written e2.written (Wrote Admin e.link io octets ∷ []) has
-          (subst (AreWrites e.link (octets_of r) e.written (Wrote Admin e.link io octets ∷ [])) (sym written) (wrote_none e.link (octets_of r) e.written io octets fault));
+      writes = writes_here e.link e.response r e.written e2.written (Wrote Admin e.link offered io octets ∷ []) has
+          (subst (AreWrites e.link (octets_of r) e.written (Wrote Admin e.link offered io octets ∷ [])) (sym written) (wrote_none e.link (octets_of r) e.written offered io octets fault all));
       idle = λ h. absurd (true≢false (sym h ∙ goes));
       over = over ∙ sym (ap (λ b. e.is_over || (is_whole e2.response e2.written || (b || false))) fault ∙ (ap (λ b. e.is_over || b) (or_true (is_whole e2.response e2.written)) ∙ or_true e.is_over));
       times_are = omega arith;
@@ -294,15 +300,17 @@ module _ (e e2 : Exchange) (r : Response) where
   }
 
 -- the link took nothing for now
-pub told_later : (e : Exchange) (r : Response) → e.response ≡ Some r → e.is_over ≡ false → e.written < length (octets_of r) → Tells e e 0 0 false (Wrote Admin e.link Later [] ∷ [])
-told_later e r has goes less =
+pub told_later : (e : Exchange) (r : Response) (offered : ℕ) → e.response ≡ Some r → e.is_over ≡ false → e.written < length (octets_of r)
+    → offered ≡ length (take admin_share (drop e.written (octets_of r)))
+    → Tells e e 0 0 false (Wrote Admin e.link offered Later [] ∷ [])
+told_later e r offered has goes less all =
     let part : is_whole e.response e.written ≡ false = whole_here e.response r e.written has ∙ not_le (length (octets_of r)) e.written less in
     record {
       is = record {
         link = refl;
         read = refl;
         response = refl;
-        writes = writes_here e.link e.response r e.written e.written (Wrote Admin e.link Later [] ∷ []) has (refl, refl);
+        writes = writes_here e.link e.response r e.written e.written (Wrote Admin e.link offered Later [] ∷ []) has (refl, all, refl);
         idle = λ h. absurd (true≢false (sym h ∙ goes));
         over = or_none e.is_over ∙ ap (λ b. e.is_over || (b || false)) (sym part);
         times_are = omega arith;

@@ -11,7 +11,9 @@ pub mod Parts
 pub mod Looking
 pub mod Origins
 pub mod Places
+pub mod Pacing
 pub mod Working
+pub mod Offering
 pub mod Turns
 pub mod Arriving
 pub mod Hearing

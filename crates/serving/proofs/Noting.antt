@@ -44,10 +44,10 @@ tells_read counts calls calls_then p link room io octets t more h =
     (still_counted counts p (λ of. has_read of link.number io octets) t (λ u. refl) h.1)
 
 -- a write
-pub tells_write : (counts : Counts) (calls calls_then : List Call) (p : Port) (link : Link) (io : Io) (octets : List ℕ) (t : ToldOfPorts)
-    → calls_then ≡ calls ++ Wrote p link io octets ∷ [] → AreTold counts calls t → AreTold counts calls_then (at_port p (λ of. has_written of link.number io octets) t)
-tells_write counts calls calls_then p link io octets t more h =
-    tells_on counts calls calls_then (Wrote p link io octets) t more h
+pub tells_write : (counts : Counts) (calls calls_then : List Call) (p : Port) (link : Link) (offered : ℕ) (io : Io) (octets : List ℕ) (t : ToldOfPorts)
+    → calls_then ≡ calls ++ Wrote p link offered io octets ∷ [] → AreTold counts calls t → AreTold counts calls_then (at_port p (λ of. has_written of link.number io octets) t)
+tells_write counts calls calls_then p link offered io octets t more h =
+    tells_on counts calls calls_then (Wrote p link offered io octets) t more h
     (still_counted counts p (λ of. has_written of link.number io octets) t (λ u. refl) h.1)
 
 -- a link is closed

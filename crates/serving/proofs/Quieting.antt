@@ -26,8 +26,8 @@ quiet_accepted came = record { no_moments = refl; no_openings = refl; no_refusal
 pub quiet_read : (link : Link) (room : ℕ) (io : Io) (octets : List ℕ) → IsQuiet [] (Read Admin link room io octets ∷ [])
 quiet_read link room io octets = record { no_moments = refl; no_openings = refl; no_refusals = refl; no_waits = refl; no_arrivals = refl; no_closings = refl }
 
-pub quiet_wrote : (link : Link) (io : Io) (octets : List ℕ) → IsQuiet [] (Wrote Admin link io octets ∷ [])
-quiet_wrote link io octets = record { no_moments = refl; no_openings = refl; no_refusals = refl; no_waits = refl; no_arrivals = refl; no_closings = refl }
+pub quiet_wrote : (link : Link) (offered : ℕ) (io : Io) (octets : List ℕ) → IsQuiet [] (Wrote Admin link offered io octets ∷ [])
+quiet_wrote link offered io octets = record { no_moments = refl; no_openings = refl; no_refusals = refl; no_waits = refl; no_arrivals = refl; no_closings = refl }
 
 pub quiet_closed : (link : Link) → IsQuiet [] (Closed Admin link ∷ [])
 quiet_closed link = record { no_moments = refl; no_openings = refl; no_refusals = refl; no_waits = refl; no_arrivals = refl; no_closings = refl }

@@ -106,13 +106,13 @@ any_taken l (Read port k room (Count n) xs ∷ calls) h = refl
 any_taken l (Read port k room Later xs ∷ calls) h = any_taken l calls (omega (arith, h))
 any_taken l (Read port k room End xs ∷ calls) h = any_taken l calls (omega (arith, h))
 any_taken l (Read port k room Broken xs ∷ calls) h = any_taken l calls (omega (arith, h))
-any_taken l (Wrote port k (Count n) xs ∷ calls) h = refl
-any_taken l (Wrote Pop k Later xs ∷ calls) h = any_taken l calls (omega (arith, h))
-any_taken l (Wrote Pop k End xs ∷ calls) h = any_taken l calls (omega (arith, h))
-any_taken l (Wrote Pop k Broken xs ∷ calls) h = any_taken l calls (omega (arith, h))
-any_taken l (Wrote Admin k Later xs ∷ calls) h = any_taken l calls (omega (arith, h))
-any_taken l (Wrote Admin k End xs ∷ calls) h = any_taken l calls (omega (arith, h))
-any_taken l (Wrote Admin k Broken xs ∷ calls) h = any_taken l calls (omega (arith, h))
+any_taken l (Wrote port k offered (Count n) xs ∷ calls) h = refl
+any_taken l (Wrote Pop k offered Later xs ∷ calls) h = any_taken l calls (omega (arith, h))
+any_taken l (Wrote Pop k offered End xs ∷ calls) h = any_taken l calls (omega (arith, h))
+any_taken l (Wrote Pop k offered Broken xs ∷ calls) h = any_taken l calls (omega (arith, h))
+any_taken l (Wrote Admin k offered Later xs ∷ calls) h = any_taken l calls (omega (arith, h))
+any_taken l (Wrote Admin k offered End xs ∷ calls) h = any_taken l calls (omega (arith, h))
+any_taken l (Wrote Admin k offered Broken xs ∷ calls) h = any_taken l calls (omega (arith, h))
 any_taken l (Closed port k ∷ calls) h = refl
 
 any_taking : (l : Link) (calls : List Call) → 0 < length (filter (is_taking_of l) calls) → has_moved calls ≡ true
@@ -125,13 +125,13 @@ any_taking l (Read port k room (Count n) xs ∷ calls) h = refl
 any_taking l (Read port k room Later xs ∷ calls) h = any_taking l calls h
 any_taking l (Read port k room End xs ∷ calls) h = any_taking l calls h
 any_taking l (Read port k room Broken xs ∷ calls) h = any_taking l calls h
-any_taking l (Wrote port k (Count n) xs ∷ calls) h = refl
-any_taking l (Wrote Pop k Later xs ∷ calls) h = any_taking l calls h
-any_taking l (Wrote Pop k End xs ∷ calls) h = any_taking l calls h
-any_taking l (Wrote Pop k Broken xs ∷ calls) h = any_taking l calls h
-any_taking l (Wrote Admin k Later xs ∷ calls) h = any_taking l calls h
-any_taking l (Wrote Admin k End xs ∷ calls) h = any_taking l calls h
-any_taking l (Wrote Admin k Broken xs ∷ calls) h = any_taking l calls h
+any_taking l (Wrote port k offered (Count n) xs ∷ calls) h = refl
+any_taking l (Wrote Pop k offered Later xs ∷ calls) h = any_taking l calls h
+any_taking l (Wrote Pop k offered End xs ∷ calls) h = any_taking l calls h
+any_taking l (Wrote Pop k offered Broken xs ∷ calls) h = any_taking l calls h
+any_taking l (Wrote Admin k offered Later xs ∷ calls) h = any_taking l calls h
+any_taking l (Wrote Admin k offered End xs ∷ calls) h = any_taking l calls h
+any_taking l (Wrote Admin k offered Broken xs ∷ calls) h = any_taking l calls h
 any_taking l (Closed port k ∷ calls) h = refl
 
 share_if : (b : Bool) → 0 < (if b then 1048576 else 16384)
@@ -151,11 +151,11 @@ shared_moved l links calls h =
 
 writes_moved : (l : Link) (r : List ℕ) (w w1 : ℕ) (calls : List Call) → AreWrites l r w calls w1 → w < w1 → has_moved calls ≡ true
 writes_moved l r w w1 [] a h = absurd (omega (arith, a, h))
-writes_moved l r w w1 (Wrote Admin k (Count n) octets ∷ calls) a h = refl
-writes_moved l r w w1 (Wrote Admin k Later octets ∷ calls) a h = writes_moved l r w w1 calls a.1 h
-writes_moved l r w w1 (Wrote Admin k End octets ∷ calls) a h = writes_moved l r w w1 calls a.1 h
-writes_moved l r w w1 (Wrote Admin k Broken octets ∷ calls) a h = writes_moved l r w w1 calls a.1 h
-writes_moved l r w w1 (Wrote Pop k io octets ∷ calls) a h = absurd a
+writes_moved l r w w1 (Wrote Admin k offered (Count n) octets ∷ calls) a h = refl
+writes_moved l r w w1 (Wrote Admin k offered Later octets ∷ calls) a h = writes_moved l r w w1 calls a.2 h
+writes_moved l r w w1 (Wrote Admin k offered End octets ∷ calls) a h = writes_moved l r w w1 calls a.2 h
+writes_moved l r w w1 (Wrote Admin k offered Broken octets ∷ calls) a h = writes_moved l r w w1 calls a.2 h
+writes_moved l r w w1 (Wrote Pop k offered io octets ∷ calls) a h = absurd a
 writes_moved l r w w1 (Waited millis ∷ calls) a h = absurd a
 writes_moved l r w w1 (Accepted port link ∷ calls) a h = absurd a
 writes_moved l r w w1 (Looked port link io octets ∷ calls) a h = absurd a

@@ -1,15 +1,17 @@
 -- Worked rows of a turn with three links: the first is at its end, the second is owed 20,000 octets,
 -- and the third is silent.
-use Rattle.std.proofs.Common.{◌≡◌, ℕ, Bool, true, false, List, [], ◌∷◌, None, arith, refl, ap, ◌∙◌}
+use Rattle.std.proofs.Common.{◌≡◌, ℕ, Bool, true, false, min, List, [], ◌∷◌, length, None, arith, refl, sym, ap, ◌∙◌}
 use Rattle.std.specs.List.{filter}
-use Rattle.office.specs.Events.{EventTag, Trace}
+use Rattle.vault.specs.Records.{Records}
+use Rattle.office.specs.Events.{EventTag, Log, Trace}
 use Rattle.office.specs.Events as event
-use Rattle.office.specs.Trace.{is_open}
+use Rattle.office.specs.Trace.{is_open, rest}
+use Rattle.office.specs.Taken.{trace_of}
 use Rattle.serving.specs.declared.wire.Port.TheVariants.{Pop, Admin}
 use Rattle.serving.specs.declared.wire.Io.TheVariants.{Count, Later, End}
 use Rattle.serving.specs.declared.links.Seat.{Seat}
 use Rattle.serving.specs.Calls.{Call, Waited, Accepted, Read, Wrote, Closed}
-use Rattle.serving.specs.Works.{waits, arrivals, none_waited, closings, is_cut, had_its_turn, share_by, has_moved, HasCause, is_open_seat}
+use Rattle.serving.specs.Works.{waits, arrivals, none_waited, closings, is_cut, had_its_turn, share_by, has_moved, HasCause, WasLent, is_open_seat}
 
 abbrev ended : Seat
 ended = record { link = record { number = 0 }; connection = 1 }
@@ -29,7 +31,7 @@ seats = ended ∷ owed ∷ silent ∷ []
 abbrev calls : (octets : List ℕ) → List Call
 calls octets =
     Waited 1000 ∷ Accepted Pop None ∷ Accepted Admin None
-    ∷ Read Pop ended.link 4096 End [] ∷ Wrote Pop owed.link (Count 16384) octets
+    ∷ Read Pop ended.link 4096 End [] ∷ Wrote Pop owed.link 16384 (Count 16384) octets
     ∷ Read Pop silent.link 4096 Later [] ∷ Closed Pop ended.link ∷ []
 
 -- ---- it waited once, and accepted links until none waited
@@ -68,6 +70,29 @@ share_is_written octets = refl
 rest_waits_for_nothing : (octets : List ℕ) → had_its_turn (share_by 3) false owed.link (calls octets) ≡ false
 rest_waits_for_nothing octets = refl
 
+-- the write was offered all that was lent: 16,384 octets of the 20,000, and the rest in the next turn
+full_write_is_offered : (B : Records) (L : Log) → length (rest (trace_of B L) 2) ≡ 20000 → WasLent B L [] seats owed.link 16384
+full_write_is_offered B L e = record {
+  seat = owed;
+  among = (1, omega arith, refl);
+  is = refl;
+  later = [];
+  front = [];
+  given_are = refl;
+  lent = sym (ap (λ n. min n 16384) e);
+}
+
+rest_is_offered : (B : Records) (L : Log) → length (rest (trace_of B L) 2) ≡ 3616 → WasLent B L [] seats owed.link 3616
+rest_is_offered B L e = record {
+  seat = owed;
+  among = (1, omega arith, refl);
+  is = refl;
+  later = [];
+  front = [];
+  given_are = refl;
+  lent = sym (ap (λ n. min n 16384) e);
+}
+
 -- alone it would have been written on further
 alone_has_more : (octets : List ℕ) → had_its_turn (share_by 1) true owed.link (calls octets) ≡ false
 alone_has_more octets = refl
@@ -102,7 +127,7 @@ turn_moved octets = refl
 abbrev idle_calls : List Call
 idle_calls =
     Waited 1000 ∷ Accepted Pop None ∷ Accepted Admin None
-    ∷ Wrote Pop owed.link Later [] ∷ Read Pop silent.link 4096 Later [] ∷ []
+    ∷ Wrote Pop owed.link 3616 Later [] ∷ Read Pop silent.link 4096 Later [] ∷ []
 
 idle_turn_rests : has_moved idle_calls ≡ false
 idle_turn_rests = refl

@@ -1,5 +1,6 @@
 -- What each part of a turn does, and what they do together.
-use Rattle.std.proofs.Common.{◌≡◌, ℕ, zero, suc, ◌+◌, ◌<◌, ◌≤◌, Bool, true, false, not, ◌&&◌, ◌||◌, ◌==◌, List, [], ◌∷◌, ◌++◌, length, take, get_or, refl, sym, ◌∙◌, ap, arith, Option, ⊎_elim, ◌⊎◌, inl, inr, subst, true≢false, append_assoc, eq-eqb, eqb-true}
+use Rattle.std.proofs.Common.{◌≡◌, ℕ, zero, suc, ◌+◌, ◌<◌, ◌≤◌, Bool, true, false, not, min, ◌&&◌, ◌||◌, ◌==◌, List, [], ◌∷◌, ◌++◌, length, take, get_or, refl, sym, ◌∙◌, ap, arith}
+use Rattle.std.proofs.Common.{Option, ⊎_elim, ◌⊎◌, inl, inr, subst, true≢false, append_assoc, eq-eqb, eqb-true}
 use Rattle.std.specs.Bool.{if◌then◌else◌}
 use Rattle.std.specs.List.{All, Contains, list_any, filter}
 use Rattle.std.proofs.lemmas.Bool.{cases_Bool}
@@ -9,7 +10,7 @@ use Rattle.vault.specs.Records.{Records}
 use Rattle.vault.specs.Changes.{Contents}
 use Rattle.office.specs.Events.{Event, EventTag, Tagged, Ignored, Log, Trace}
 use Rattle.office.specs.Events as event
-use Rattle.office.specs.Trace.{history, is_open, rest, rest_if, untaken}
+use Rattle.office.specs.Trace.{history, is_open, rest, rest_if, untaken, most_lent}
 use Rattle.office.specs.Taken.{trace_of}
 use Rattle.office.specs.Stands.{StandsFor, vault_of}
 use Rattle.office.specs.declared.office.Office.{Office}
@@ -22,17 +23,21 @@ use Rattle.serving.specs.Wires.{is_fault}
 use Rattle.serving.specs.Hearing.{Hearing, WithHeard}
 use Rattle.serving.proofs.Hearing.{unheard}
 use Rattle.serving.specs.Parts.{Also, WasGiven, Part, IsQuietFor}
-use Rattle.serving.specs.Works.{is_read_of, is_later_of, is_taking_of, most_writes, octets_taken, had_its_turn, refusals, HasCause, WasAsked, IsReadByLine, IsHeldBack, reads_by_line, most_at_once, IsKeptBack, Way, HadTurn, StaysUnread, LiesUnread}
-use Rattle.serving.specs.ClientParts.{OwesNothing, IsWritten, IsWrittenOut, IsNotReady, IsUnread, IsHeard, IsReadOnce, NotReady, WasRead, HasLooked, Unlooked, NothingCame, PieceCame, HadTurns, IsNotedSo}
+use Rattle.serving.specs.Works.{IsOffered, is_read_of, is_later_of, is_taking_of, most_writes, octets_taken, had_its_turn, refusals, HasCause, WasAsked, IsReadByLine, IsHeldBack}
+use Rattle.serving.specs.Works.{reads_by_line, most_at_once, IsKeptBack, Way, HadTurn, StaysUnread, LiesUnread}
+use Rattle.serving.specs.ClientParts.{is_client_write, AreOffered, OwesNothing, IsWritten, IsWrittenOut, IsNotReady, IsUnread, IsHeard, IsReadOnce, NotReady, WasRead, HasLooked}
+use Rattle.serving.specs.ClientParts.{Unlooked, NothingCame, PieceCame, HadTurns, IsNotedSo}
 use Rattle.serving.specs.declared.guesses.Refusal.{Refusal}
 use Rattle.creds.specs.declared.login_name.LoginName.{LoginName}
 use Rattle.serving.specs.declared.pace.Pace.{Pace}
 use Rattle.office.specs.Waiting as waiting
 use Rattle.office.specs.Logins.{brings_login}
+use Rattle.serving.proofs.Offering.{offered_then, offered_more, none_offered, lent_once, unwritten_look}
 use Rattle.serving.proofs.Seating.{any_default, contained, whole_front}
 use Rattle.serving.specs.Newcomers.{newcomer, lies_unread}
 use Rattle.serving.specs.declared.newcomers.Newcomer.{Newcomer}
-use Rattle.serving.proofs.Working.{lies_left, lies_right, given_none, asked_then, count_joined, any_right, of_then, of_more, of_none, turn_read, turn_later, turn_full, turn_shared, turn_left, turn_right, turn_polled, line_right, taken_joined, turned_right, fewer_quiet, turns_later, shut_by}
+use Rattle.serving.proofs.Working.{none_of, lies_left, lies_right, given_none, asked_then, count_joined, any_right, of_then, of_more, of_none, turn_read, turn_later, turn_full}
+use Rattle.serving.proofs.Working.{turn_shared, turn_left, turn_right, turn_polled, line_right, taken_joined, turned_right, fewer_quiet, turns_later, shut_by}
 
 -- ---- one call
 
@@ -76,51 +81,61 @@ line_more wait wait2 true false same more h = let k : false ≡ true = more refl
 line_more wait wait2 false false same more h = ap (λ n. not (n == 0)) same ∙ h
 
 module _ {V : Type 0} (Holds : V → Contents → Type 0) (IsClean : V → Type 0) (Faults : V → ℕ) where
-  pub wrote_some : (o o1 : Office V) (seat : Seat) (n : ℕ) (octets : List ℕ) (m : EventTag) → 0 < n
-      → IsWritten Holds IsClean o o1 seat (if n == 0 then 0 else 1) n (not (n == 0)) ((event.Took seat.connection n, m) ∷ []) (Wrote Pop seat.link (Count n) octets ∷ [])
-  wrote_some o o1 seat n octets m some =
+  -- all that was lent was offered
+  abbrev pub OffersAll : (o : Office V) (seat : Seat) (offered : ℕ) → Type 0
+  OffersAll o seat offered = (B : Records) (L : Log) → StandsFor Holds o (trace_of B L) → offered ≡ min (length (rest (trace_of B L) seat.connection)) most_lent
+
+  pub wrote_some : (o o1 : Office V) (seat : Seat) (offered n : ℕ) (octets : List ℕ) (m : EventTag) → 0 < n → OffersAll o seat offered
+      → IsWritten Holds IsClean o o1 seat (if n == 0 then 0 else 1) n (not (n == 0)) ((event.Took seat.connection n, m) ∷ []) (Wrote Pop seat.link offered (Count n) octets ∷ [])
+  wrote_some o o1 seat offered n octets m some all =
       let z = not_zero n some in
       let q = same_number seat.link.number in
       record {
         of_seat = record {
           quiet = record { no_moments = refl; no_openings = refl; no_refusals = refl; no_waits = refl; no_arrivals = refl; no_closings = refl };
           apart = refl;
-          caused = All-cons (HasCause (seat ∷ []) (Wrote Pop seat.link (Count n) octets ∷ [])) (event.Took seat.connection n, m) [] tt (All-nil (HasCause (seat ∷ []) (Wrote Pop seat.link (Count n) octets ∷ [])));
+          caused = All-cons (HasCause (seat ∷ []) (Wrote Pop seat.link offered (Count n) octets ∷ [])) (event.Took seat.connection n, m) [] tt
+              (All-nil (HasCause (seat ∷ []) (Wrote Pop seat.link offered (Count n) octets ∷ [])));
         };
         taken = rw (z, q) (omega arith);
         octets_are = rw q (omega arith);
+        offered = lent_once Holds IsClean o o1 seat offered (Count n) octets ((event.Took seat.connection n, m) ∷ []) all;
         ends = λ e. (let k : not (n == 0) ≡ true = ap not z in absurd (true≢false (sym k ∙ e)));
       }
 
-  pub wrote_later : (o : Office V) (seat : Seat) (octets : List ℕ) → IsWritten Holds IsClean o o seat 0 0 false [] (Wrote Pop seat.link Later octets ∷ [])
-  wrote_later o seat octets = record {
+  pub wrote_later : (o : Office V) (seat : Seat) (offered : ℕ) (octets : List ℕ) → OffersAll o seat offered
+      → IsWritten Holds IsClean o o seat 0 0 false [] (Wrote Pop seat.link offered Later octets ∷ [])
+  wrote_later o seat offered octets all = record {
     of_seat = record {
       quiet = record { no_moments = refl; no_openings = refl; no_refusals = refl; no_waits = refl; no_arrivals = refl; no_closings = refl };
       apart = refl;
-      caused = All-nil (HasCause (seat ∷ []) (Wrote Pop seat.link Later octets ∷ []));
+      caused = All-nil (HasCause (seat ∷ []) (Wrote Pop seat.link offered Later octets ∷ []));
     };
     taken = omega arith;
     octets_are = omega arith;
+    offered = lent_once Holds IsClean o o seat offered Later octets [] all;
     ends = λ e. inl (or_none (seat.link.number == seat.link.number) (same_number seat.link.number));
   }
 
-  pub wrote_cut : (o o1 : Office V) (seat : Seat) (io : Io) (octets : List ℕ) (m : EventTag) → is_fault io ≡ true → OwesNothing Holds IsClean o o1 seat.connection ((event.Gone seat.connection, m) ∷ [])
-      → IsWritten Holds IsClean o o1 seat 0 0 false ((event.Gone seat.connection, m) ∷ []) (Wrote Pop seat.link io octets ∷ [])
-  wrote_cut o o1 seat io octets m fault owes = record {
+  pub wrote_cut : (o o1 : Office V) (seat : Seat) (offered : ℕ) (io : Io) (octets : List ℕ) (m : EventTag) → is_fault io ≡ true
+      → OffersAll o seat offered → OwesNothing Holds IsClean o o1 seat.connection ((event.Gone seat.connection, m) ∷ [])
+      → IsWritten Holds IsClean o o1 seat 0 0 false ((event.Gone seat.connection, m) ∷ []) (Wrote Pop seat.link offered io octets ∷ [])
+  wrote_cut o o1 seat offered io octets m fault all owes = record {
     of_seat = record {
       quiet = record { no_moments = refl; no_openings = refl; no_refusals = refl; no_waits = refl; no_arrivals = refl; no_closings = refl };
       apart = refl;
-      caused = All-cons (HasCause (seat ∷ []) (Wrote Pop seat.link io octets ∷ [])) (event.Gone seat.connection, m) []
+      caused = All-cons (HasCause (seat ∷ []) (Wrote Pop seat.link offered io octets ∷ [])) (event.Gone seat.connection, m) []
           (seat, first_seat seat, refl, or_none ((seat.link.number == seat.link.number) && is_fault io) (cut_so seat.link.number io fault))
-          (All-nil (HasCause (seat ∷ []) (Wrote Pop seat.link io octets ∷ [])));
+          (All-nil (HasCause (seat ∷ []) (Wrote Pop seat.link offered io octets ∷ [])));
     };
     taken = omega arith;
     octets_are = omega arith;
+    offered = lent_once Holds IsClean o o1 seat offered io octets ((event.Gone seat.connection, m) ∷ []) all;
     ends = λ e. inr owes;
   }
 
   pub wrote_none : (o : Office V) (seat : Seat) → OwesNothing Holds IsClean o o seat.connection [] → IsWritten Holds IsClean o o seat 0 0 false [] []
-  wrote_none o seat owes = record { of_seat = of_none (seat ∷ []); taken = omega arith; octets_are = omega arith; ends = λ e. inr owes }
+  wrote_none o seat owes = record { of_seat = of_none (seat ∷ []); taken = omega arith; octets_are = omega arith; offered = λ B L s k. All-nil (IsOffered B L [] (seat ∷ [])); ends = λ e. inr owes }
 
   -- one read
   module _ (o : Office V) (seat : Seat) (room : ℕ) where
@@ -149,11 +164,12 @@ module _ {V : Type 0} (Holds : V → Contents → Type 0) (IsClean : V → Type 
 
   module _ (wait : ℕ) (by_line may is_noted : Bool) where
     pub heard_none : (o : Office V) (seat : Seat) → (is_noted ≡ true → ⊥) → IsNotReady Holds o seat.connection → IsHeard Holds o seat wait by_line may is_noted [] []
-    heard_none o seat calm idle = record { of_seat = of_none (seat ∷ []); heard = inr (inr (refl, inl idle)); noted = λ e. absurd (calm e) }
+    heard_none o seat calm idle = record { of_seat = of_none (seat ∷ []); heard = inr (inr (refl, inl idle)); noted = λ e. absurd (calm e); unwritten = refl }
 
     -- what was looked at stays unread
-    pub heard_unread : (o : Office V) (seat : Seat) (calls : List Call) → IsQuietFor (seat ∷ []) [] calls → IsUnread Holds o seat wait may calls → IsHeard Holds o seat wait by_line may is_noted [] calls
-    heard_unread o seat calls quiet u = record { of_seat = quiet; heard = inr (inr (refl, inr u)); noted = λ e. u }
+    pub heard_unread : (o : Office V) (seat : Seat) (calls : List Call) → list_any is_client_write calls ≡ false → IsQuietFor (seat ∷ []) [] calls
+        → IsUnread Holds o seat wait may calls → IsHeard Holds o seat wait by_line may is_noted [] calls
+    heard_unread o seat calls none quiet u = record { of_seat = quiet; heard = inr (inr (refl, inr u)); noted = λ e. u; unwritten = none }
 
     -- a read that asked for all
     whole_read : (seat : Seat) (room : ℕ) (io : Io) (octets : List ℕ) → room ≡ most_at_once → list_any (is_read_of seat.link) (Read Pop seat.link room io octets ∷ []) ≡ true
@@ -188,6 +204,7 @@ module _ {V : Type 0} (Holds : V → Contents → Type 0) (IsClean : V → Type 
       of_seat = of_then (seat ∷ []) [] [] looks [] quiet (of_none (seat ∷ []));
       heard = inr (inr (refl, inl idle));
       noted = λ e. absurd (calm e);
+      unwritten = none_of is_client_write looks [] (unwritten_look Holds o seat pace refusals room login looks looked) refl;
     }
     heard_behind o seat pace refusals room login _ looks _ quiet looked some line calm (WasRead io octets given q) =
         let call = Read Pop seat.link room io octets in
@@ -199,12 +216,13 @@ module _ {V : Type 0} (Holds : V → Contents → Type 0) (IsClean : V → Type 
               (λ (u : IsReadByLine (looks ++ call ∷ []) by_line seat). inr (inl u))
               (heard_so o seat pace refusals room login io octets looks some line looked);
           noted = λ e. absurd (calm e);
+          unwritten = none_of is_client_write looks (call ∷ []) (unwritten_look Holds o seat pace refusals room login looks looked) refl;
         }
 
   -- ---- a link
 
   pub written_none : (o : Office V) (seat : Seat) → IsWritten Holds IsClean o o seat 0 0 true [] []
-  written_none o seat = record { of_seat = of_none (seat ∷ []); taken = omega arith; octets_are = omega arith; ends = λ e. cc }
+  written_none o seat = record { of_seat = of_none (seat ∷ []); taken = omega arith; octets_are = omega arith; offered = λ B L s k. All-nil (IsOffered B L [] (seat ∷ [])); ends = λ e. cc }
 
   owes_then : (o o1 o2 : Office V) (c : ℕ) (g1 g2 : Log) → WasGiven Holds IsClean Faults o o1 g1 → WasGiven Holds IsClean Faults o1 o2 g2 → OwesNothing Holds IsClean o1 o2 c g2 → OwesNothing Holds IsClean o o2 c (g2 ++ g1)
   owes_then o o1 o2 c g1 g2 a b owes = λ B L s k. subst (λ l. rest (trace_of B l) c ≡ []) (sym (append_assoc g2 g1 L)) (owes B (g1 ++ L) (a.stands B L s (b.clean k)) k)
@@ -215,6 +233,7 @@ module _ {V : Type 0} (Holds : V → Contents → Type 0) (IsClean : V → Type 
     of_seat = of_then (seat ∷ []) g1 g2 c1 c2 a.of_seat b.of_seat;
     taken = (let k = count_joined (is_taking_of seat.link) c1 c2 in let p = a.taken in let q = b.taken in omega (arith, k, p, q));
     octets_are = (let k = taken_joined seat.link c1 c2 in let p = a.octets_are in let q = b.octets_are in omega (arith, k, p, q));
+    offered = λ B L s k. offered_then B L g1 g2 (seat ∷ []) c1 c2 (a.offered B L s (wb.clean k)) (b.offered B (g1 ++ L) (wa.stands B L s (wb.clean k)) k);
     ends = λ e.
         ⊎_elim
         (λ (later : list_any (is_later_of seat.link) c2 ≡ true). inl (any_right (is_later_of seat.link) c1 c2 later))
@@ -228,19 +247,20 @@ module _ {V : Type 0} (Holds : V → Contents → Type 0) (IsClean : V → Type 
     of_seat = a.of_seat;
     taken = (let p = a.taken in omega (arith, p, h));
     octets_are = (let p = a.octets_are in omega (arith, p, h2));
+    offered = a.offered;
     ends = a.ends;
   }
 
   -- it ended early
   pub written_ended : (o o1 : Office V) (seat : Seat) (n k share : ℕ) (g : Log) (c : List Call) → IsWritten Holds IsClean o o1 seat n k false g c → IsWrittenOut Holds IsClean o o1 seat share false g c
-  written_ended o o1 seat n k share g c a = record { of_seat = a.of_seat; goes_on = λ e. cc; ends = a.ends }
+  written_ended o o1 seat n k share g c a = record { of_seat = a.of_seat; offered = a.offered; goes_on = λ e. cc; ends = a.ends }
 
   -- the share is written
   pub written_share : (o o1 : Office V) (seat : Seat) (n k share : ℕ) (goes : Bool) (g : Log) (c : List Call) → share ≤ k → IsWritten Holds IsClean o o1 seat n k goes g c → IsWrittenOut Holds IsClean o o1 seat share true g c
-  written_share o o1 seat n k share goes g c h a = record { of_seat = a.of_seat; goes_on = λ e. inr (let p = a.octets_are in omega (arith, p, h)); ends = λ e. cc }
+  written_share o o1 seat n k share goes g c h a = record { of_seat = a.of_seat; offered = a.offered; goes_on = λ e. inr (let p = a.octets_are in omega (arith, p, h)); ends = λ e. cc }
 
   pub written_all : (o o1 : Office V) (seat : Seat) (n k share : ℕ) (goes : Bool) (g : Log) (c : List Call) → most_writes ≤ n → IsWritten Holds IsClean o o1 seat n k goes g c → IsWrittenOut Holds IsClean o o1 seat share true g c
-  written_all o o1 seat n k share goes g c h a = record { of_seat = a.of_seat; goes_on = λ e. inl (let p = a.taken in omega (arith, p, h)); ends = λ e. cc }
+  written_all o o1 seat n k share goes g c h a = record { of_seat = a.of_seat; offered = a.offered; goes_on = λ e. inl (let p = a.taken in omega (arith, p, h)); ends = λ e. cc }
 
   -- a link that was written its share had its turn
   turn_written : (o o1 : Office V) (way : Way) (seat : Seat) (g : Log) (c : List Call) → way.poll_now ≡ true → IsWrittenOut Holds IsClean o o1 seat way.share true g c → had_its_turn way.share way.poll_now seat.link c ≡ true
@@ -254,6 +274,7 @@ module _ {V : Type 0} (Holds : V → Contents → Type 0) (IsClean : V → Type 
       → HadTurns Holds IsClean o o1 way noted (seat ∷ []) (seat ∷ []) g c
   served_written o o1 way noted seat g c e calm a = record {
     of_seats = a.of_seat;
+    offered = a.offered;
     turns = λ B L s k.
         All-cons (HadTurn way B L g (trace_of B (g ++ L)) c) seat [] (λ here. inl (turn_written o o1 way seat g c e a)) (All-nil (HadTurn way B L g (trace_of B (g ++ L)) c));
     noted_so = λ B L s k.
@@ -275,6 +296,7 @@ module _ {V : Type 0} (Holds : V → Contents → Type 0) (IsClean : V → Type 
       → IsWrittenOut Holds IsClean o o1 seat way.share false g1 c1 → IsHeard Holds o1 seat way.wait way.by_line (way.may seat.connection) (lies_unread (newcomer seat.connection noted)) g2 c2 → HadTurns Holds IsClean o o2 way noted (seat ∷ []) (seat ∷ []) (g2 ++ g1) (c1 ++ c2)
   served_one o o1 o2 way noted seat g1 g2 c1 c2 wa wb a b = record {
     of_seats = of_then (seat ∷ []) g1 g2 c1 c2 a.of_seat b.of_seat;
+    offered = λ B L s k. offered_then B L g1 g2 (seat ∷ []) c1 c2 (a.offered B L s (wb.clean k)) (none_offered B (g1 ++ L) g2 (seat ∷ []) c2 b.unwritten);
     noted_so = λ B L s k.
         All-cons (IsNotedSo noted B L (g2 ++ g1) (c1 ++ c2) way.wait way.may (seat ∷ [])) seat []
         (λ h. record { seat = seat; among = first_seat seat; is = refl; unread = unread_at B L s k (b.noted h) })
@@ -303,9 +325,11 @@ module _ {V : Type 0} (Holds : V → Contents → Type 0) (IsClean : V → Type 
 
   -- more is done for the same link
   pub served_then : (o o1 o2 : Office V) (way : Way) (noted : List Newcomer) (seat : Seat) (g1 g2 : Log) (c1 c2 : List Call) → WasGiven Holds IsClean Faults o o1 g1 → WasGiven Holds IsClean Faults o1 o2 g2
-      → HadTurns Holds IsClean o o1 way noted (seat ∷ []) (seat ∷ []) g1 c1 → IsQuietFor (seat ∷ []) g2 c2 → HadTurns Holds IsClean o o2 way noted (seat ∷ []) (seat ∷ []) (g2 ++ g1) (c1 ++ c2)
-  served_then o o1 o2 way noted seat g1 g2 c1 c2 wa wb a b = record {
+      → HadTurns Holds IsClean o o1 way noted (seat ∷ []) (seat ∷ []) g1 c1 → IsQuietFor (seat ∷ []) g2 c2
+      → AreOffered Holds IsClean o1 o2 (seat ∷ []) g2 c2 → HadTurns Holds IsClean o o2 way noted (seat ∷ []) (seat ∷ []) (g2 ++ g1) (c1 ++ c2)
+  served_then o o1 o2 way noted seat g1 g2 c1 c2 wa wb a b all = record {
     of_seats = of_then (seat ∷ []) g1 g2 c1 c2 a.of_seats b;
+    offered = λ B L s k. offered_then B L g1 g2 (seat ∷ []) c1 c2 (a.offered B L s (wb.clean k)) (all B (g1 ++ L) (wa.stands B L s (wb.clean k)) k);
     turns = λ B L s k.
         (let s1 = wa.stands B L s (wb.clean k) in
         let fewer = fewer_quiet B (g1 ++ L) g2 (seat ∷ []) c2 (wb.admitted B (g1 ++ L) s1 k) b.caused b.quiet.no_openings in
@@ -323,6 +347,7 @@ module _ {V : Type 0} (Holds : V → Contents → Type 0) (IsClean : V → Type 
       → HadTurns Holds IsClean o o1 way noted seats these g c → HadTurns Holds IsClean o o1 way2 noted seats these g c
   served_so o o1 way way2 noted seats these g c share wait lines may still a = record {
     of_seats = a.of_seats;
+    offered = a.offered;
     noted_so = λ B L s k i d within e.
         (let u = a.noted_so B L s k i d within e in
         record { seat = u.seat; among = u.among; is = u.is; unread = unread_in B L u.seat (way.may (get_or these i d).connection) (way2.may (get_or these i d).connection) (may i d within) u.unread });
@@ -348,6 +373,7 @@ module _ {V : Type 0} (Holds : V → Contents → Type 0) (IsClean : V → Type 
   pub served_among : (o o1 : Office V) (way : Way) (noted : List Newcomer) (seats : List Seat) (seat : Seat) (g : Log) (c : List Call) → Contains seats seat → HadTurns Holds IsClean o o1 way noted (seat ∷ []) (seat ∷ []) g c → HadTurns Holds IsClean o o1 way noted seats (seat ∷ []) g c
   served_among o o1 way noted seats seat g c has a = record {
     of_seats = of_more (seat ∷ []) seats g c (λ s h. subst (Contains seats) (only_one seat s h) has) a.of_seats;
+    offered = λ B L s k. offered_more B L g (seat ∷ []) seats c (λ q h. subst (Contains seats) (only_one seat q h) has) (a.offered B L s k);
     turns = a.turns;
     noted_so = λ B L s k.
         All-weaker (IsNotedSo noted B L g c way.wait way.may (seat ∷ [])) (IsNotedSo noted B L g c way.wait way.may seats)
@@ -364,6 +390,7 @@ module _ {V : Type 0} (Holds : V → Contents → Type 0) (IsClean : V → Type 
   pub served_none : (o : Office V) (way : Way) (noted : List Newcomer) (seats : List Seat) → HadTurns Holds IsClean o o way noted seats [] [] []
   served_none o way noted seats = record {
     of_seats = of_none seats;
+    offered = λ B L s k. All-nil (IsOffered B L [] seats);
     turns = λ B L s k. All-nil (HadTurn way B L [] (trace_of B L) []);
     noted_so = λ B L s k. All-nil (IsNotedSo noted B L [] [] way.wait way.may seats);
   }
@@ -380,6 +407,7 @@ module _ {V : Type 0} (Holds : V → Contents → Type 0) (IsClean : V → Type 
       subst (λ xs. (c : ℕ) → lies_unread (newcomer c noted2) ≡ true → (lies_unread (newcomer c noted) ≡ true) ⊎ (c ≡ (get_or xs i d).connection)) is law in
       record {
         of_seats = of_then seats g1 g2 c1 c2 a.of_seats b.of_seats;
+        offered = λ B L s k. offered_then B L g1 g2 seats c1 c2 (a.offered B L s (wb.clean k)) (b.offered B (g1 ++ L) (wa.stands B L s (wb.clean k)) k);
         turns = λ B L s k.
             (let s1 = wa.stands B L s (wb.clean k) in
             let fewer = fewer_quiet B (g1 ++ L) g2 seats c2 (wb.admitted B (g1 ++ L) s1 k) b.of_seats.caused b.of_seats.quiet.no_openings in

@@ -13,7 +13,7 @@ pub data Call : Type 0 where
   Looked : Port → Link → Io → (octets : List ℕ) → Call
   -- to read from a link, so many octets at most, and these were read
   Read : Port → Link → (room : ℕ) → Io → (octets : List ℕ) → Call
-  -- to write on a link, and these octets were counted
-  Wrote : Port → Link → Io → (octets : List ℕ) → Call
+  -- to write on a link, which was offered so many octets, and these were counted
+  Wrote : Port → Link → (offered : ℕ) → Io → (octets : List ℕ) → Call
   -- to close a link
   Closed : Port → Link → Call

@@ -15,7 +15,7 @@ use Rattle.office.specs.declared.office.Office.{Office}
 use Rattle.serving.specs.declared.wire.Port.TheVariants.{Pop}
 use Rattle.serving.specs.declared.wire.Io.{Io}
 use Rattle.serving.specs.declared.wire.Io.TheVariants.{Count}
-use Rattle.serving.specs.Calls.{Call, Waited, Looked, Read, Closed}
+use Rattle.serving.specs.Calls.{Call, Waited, Looked, Read, Wrote, Closed}
 use Rattle.serving.specs.declared.links.Seat.{Seat}
 use Rattle.serving.specs.declared.links.Clients.{Clients}
 use Rattle.serving.specs.declared.newcomers.Newcomer.{Newcomer}
@@ -31,8 +31,21 @@ use Rattle.serving.specs.Works.{is_taking_of, octets_taken, most_writes, share_b
 use Rattle.serving.specs.Works.{openings, refusals, AreCaused, IsKeptBack, reads_by_line}
 use Rattle.serving.specs.Works.{IsReadByLine, LiesUnread, Came, seat_of, unseated_of, link_of}
 use Rattle.serving.specs.Works.{HasAccepted, Way, way_by, HadTurn, HasFreed, is_open_seat}
-use Rattle.serving.specs.Works.{is_shut_seat}
+use Rattle.serving.specs.Works.{is_shut_seat, IsOffered}
 use Rattle.serving.specs.Parts.{IsQuietFor}
+
+-- a write on a client's link
+abbrev pub is_client_write : Call → Bool
+is_client_write (Wrote Pop link offered io octets) = true
+is_client_write _ = false
+
+-- Each write on a client's link was offered all that was lent then, since any log for which the
+-- office stood.
+abbrev pub AreOffered : {V : Type 0} (Holds : V → Contents → Type 0) (IsClean : V → Type 0)
+    (office office_then : Office V) (seats : List Seat) (given : Log) (calls : List Call) → Type 0
+AreOffered Holds IsClean office office_then seats given calls =
+    (B : Records) (L : Log) → StandsFor Holds office (trace_of B L) → IsClean (vault_of office_then)
+    → All (IsOffered B L given seats) calls
 
 -- an event is one
 abbrev pub IsOpening : Event × EventTag → Type 0
@@ -63,6 +76,7 @@ pub record HaveCome {V : Type 0} (Holds : V → Contents → Type 0) (IsClean : 
   pub closed : closings calls ≡ filter_map unseated_of came
   pub seated : seats_then ≡ seats ++ filter_map seat_of came
   pub apart : list_any is_admin calls ≡ false
+  pub unwritten : list_any is_client_write calls ≡ false
   pub only : All IsOpening given
   pub caused : AreCaused [] calls given
 
@@ -84,12 +98,14 @@ pub record IsWritten {V : Type 0} (Holds : V → Contents → Type 0) (IsClean :
   pub of_seat : IsQuietFor (seat ∷ []) given calls
   pub taken : times ≤ length (filter (is_taking_of seat.link) calls)
   pub octets_are : octets ≤ octets_taken seat.link calls
+  pub offered : AreOffered Holds IsClean office office_then (seat ∷ []) given calls
   pub ends : goes ≡ false → (list_any (is_later_of seat.link) calls ≡ true) ⊎ OwesNothing Holds IsClean office office_then seat.connection given
 
 -- A link was written its share, or as often as it may be, if it goes on; or it takes no more for now, or nothing more is owed.
 pub record IsWrittenOut {V : Type 0} (Holds : V → Contents → Type 0) (IsClean : V → Type 0) (office office_then : Office V) (seat : Seat) (share : ℕ) (goes : Bool)
     (given : Log) (calls : List Call) : Type 0 where
   pub of_seat : IsQuietFor (seat ∷ []) given calls
+  pub offered : AreOffered Holds IsClean office office_then (seat ∷ []) given calls
   pub goes_on : goes ≡ true → (most_writes ≤ length (filter (is_taking_of seat.link) calls)) ⊎ (share ≤ octets_taken seat.link calls)
   pub ends : goes ≡ false → (list_any (is_later_of seat.link) calls ≡ true) ⊎ OwesNothing Holds IsClean office office_then seat.connection given
 
@@ -152,6 +168,7 @@ pub record IsHeard {V : Type 0} (Holds : V → Contents → Type 0) (office : Of
       ⊎ (IsReadByLine calls by_line seat ⊎ ((given ≡ [])
       × (IsNotReady Holds office seat.connection ⊎ IsUnread Holds office seat wait may calls)))
   pub noted : is_noted ≡ true → IsUnread Holds office seat wait may calls
+  pub unwritten : list_any is_client_write calls ≡ false
 
 -- logins may be kept back: behind refusals, where guesses are slow, or behind a session that ended
 -- in this turn
@@ -177,6 +194,7 @@ pub record HadTurns {V : Type 0} (Holds : V → Contents → Type 0) (IsClean : 
     (office office_then : Office V) (way : Way) (noted : List Newcomer) (seats these : List Seat)
     (given : Log) (calls : List Call) : Type 0 where
   pub of_seats : IsQuietFor seats given calls
+  pub offered : AreOffered Holds IsClean office office_then seats given calls
   pub turns : (B : Records) (L : Log) → StandsFor Holds office (trace_of B L)
       → IsClean (vault_of office_then)
       → All (HadTurn way B L given (trace_of B (given ++ L)) calls) these

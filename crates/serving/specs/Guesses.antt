@@ -2,7 +2,8 @@
 -- its origin, and a list has the last refusal of each origin and login name, the oldest refusal
 -- first.
 use Rattle.std.specs.Prelude.{◌≡◌, ℕ, Bool, true, false, not, ◌&&◌, ◌+◌, ◌-◌, ◌*◌, ◌==◌, nat_lt}
-use Rattle.std.specs.Prelude.{nat_le}
+use Rattle.std.specs.Prelude.{nat_le, ◌≤◌}
+use Rattle.std.specs.List.{All}
 use Rattle.std.specs.Prelude.{min, List, [], ◌∷◌, ◌++◌, length, drop, filter, find, slice_index}
 use Rattle.std.specs.Prelude.{Option, Some, None, if◌then◌else◌}
 use Rattle.std.specs.Net.Addr.{ipv4_bits, ipv6_segments, IsCanonicalOf}
@@ -11,6 +12,7 @@ use Rattle.creds.specs.declared.login_name.LoginName.{LoginName}
 use Rattle.std.specs.declared.net.ip_addr.IpAddr.{IpAddr}
 use Rattle.std.specs.declared.net.ip_addr.IpAddr.TheVariants.{V4, V6}
 use Rattle.serving.specs.declared.guesses.Refusal.{Refusal}
+use Rattle.serving.specs.declared.links.Links.{Links}
 
 -- ---- origins
 
@@ -80,6 +82,17 @@ one_more now origin name refusals = record {
   at = now;
   seconds = next_seconds now (refusal_of origin name refusals);
 }
+
+-- a refusal keeps the next login back for 1 to 15 seconds
+abbrev pub IsPacing : Refusal → Type 0
+IsPacing r = (1 ≤ r.seconds) × (r.seconds ≤ 15)
+
+abbrev pub ArePacing : List Refusal → Type 0
+ArePacing refusals = All IsPacing refusals
+
+-- so each does that serving keeps
+abbrev pub AllArePacing : Links → Type 0
+AllArePacing links = ArePacing links.clients.guesses.refusals.items
 
 -- What becomes of the refusals behind a line of a client that counts by an origin: where it was a
 -- login that was refused, one more under its name; where the client is logged in by it, none of its

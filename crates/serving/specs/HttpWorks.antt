@@ -80,16 +80,22 @@ pub data HasHeard (site : Site) (B : Records) (L : Log) (e e_then : Exchange) : 
 
 -- ---- what is written of a response
 
--- writes on a link, from so many octets of its response on: each that took octets took the next
--- ones
+-- how many octets of it are offered at once, and are written in one turn
+abbrev pub admin_share : ℕ
+admin_share = 16384
+
+-- writes on a link, from so many octets of its response on: each was offered all that follow, or the
+-- first 16,384 of them, and each that took octets took the next ones
 abbrev pub AreWrites : Link → (response : List ℕ) → (written : ℕ) → List Call → (written_then : ℕ)
     → Type 0
 AreWrites link response written [] written_then = written_then ≡ written
-AreWrites link response written (Wrote Admin l (Count n) octets ∷ calls) written_then =
-    (l ≡ link) × (octets ≡ take n (drop written response))
+AreWrites link response written (Wrote Admin l offered (Count n) octets ∷ calls) written_then =
+    (l ≡ link) × (offered ≡ length (take admin_share (drop written response)))
+    × (octets ≡ take n (drop written response))
     × AreWrites link response (written + n) calls written_then
-AreWrites link response written (Wrote Admin l io octets ∷ calls) written_then =
-    (l ≡ link) × AreWrites link response written calls written_then
+AreWrites link response written (Wrote Admin l offered io octets ∷ calls) written_then =
+    (l ≡ link) × (offered ≡ length (take admin_share (drop written response)))
+    × AreWrites link response written calls written_then
 AreWrites link response written (call ∷ calls) written_then = ⊥
 
 -- none, while there is no response
@@ -101,12 +107,12 @@ AreWritesOf link (Some response) written calls written_then =
 
 -- a write took nothing for now
 abbrev pub took_nothing : Call → Bool
-took_nothing (Wrote port link Later octets) = true
+took_nothing (Wrote port link offered Later octets) = true
 took_nothing _ = false
 
 -- a write told the link's end, or that it is broken
 abbrev pub told_its_end : Call → Bool
-told_its_end (Wrote port link io octets) = is_fault io
+told_its_end (Wrote port link offered io octets) = is_fault io
 told_its_end _ = false
 
 -- all octets of the response are written
@@ -114,10 +120,7 @@ abbrev pub is_whole : Option Response → (written : ℕ) → Bool
 is_whole None written = false
 is_whole (Some response) written = nat_le (length (octets_of response)) written
 
--- how many octets are written of a response in one turn, and how many writes it has at most
-abbrev pub admin_share : ℕ
-admin_share = 16384
-
+-- how many writes a response has in one turn at most
 abbrev pub most_writes : ℕ
 most_writes = 64
 

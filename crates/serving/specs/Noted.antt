@@ -1,5 +1,5 @@
 -- What the calls of a wire tell of its traffic.
-use Rattle.std.specs.Prelude.{ℕ, false, List, [], ◌∷◌, Some}
+use Rattle.std.specs.Prelude.{ℕ, false, List, [], ◌∷◌, length, Some}
 use Rattle.serving.specs.Wires.{Told, ToldOfPorts, at_port, counted, has_accepted, has_read, has_written, has_closed}
 use Rattle.serving.specs.Calls.{Call, Waited, Accepted, Looked, Read, Wrote, Closed}
 use Rattle.serving.specs.declared.notes.WireCall.{WireCall}
@@ -14,7 +14,7 @@ abbrev pub told_behind : Call → ToldOfPorts → ToldOfPorts
 told_behind (Accepted port (Some link)) t = at_port port has_accepted t
 told_behind (Read port link room io octets) t =
     at_port port (λ of. has_read of link.number io octets) t
-told_behind (Wrote port link io octets) t = at_port port (λ of. has_written of link.number io octets) t
+told_behind (Wrote port link offered io octets) t = at_port port (λ of. has_written of link.number io octets) t
 told_behind (Closed port link) t = at_port port (λ of. has_closed of link.number) t
 told_behind _ t = t
 
@@ -33,5 +33,5 @@ call_of (asked.Wait millis) octets = Waited millis
 call_of (asked.Accept port link) octets = Accepted port link
 call_of (asked.Look port link io) octets = Looked port link io (counted io octets)
 call_of (asked.Read port link room io) octets = Read port link room io (counted io octets)
-call_of (asked.Write port link io) octets = Wrote port link io (counted io octets)
+call_of (asked.Write port link io) octets = Wrote port link (length octets) io (counted io octets)
 call_of (asked.Close port link) octets = Closed port link

@@ -21,6 +21,7 @@ use Rattle.serving.specs.Calls.{Call}
 use Rattle.serving.specs.declared.links.Seat.{Seat}
 use Rattle.serving.specs.declared.links.Clients.{Clients}
 use Rattle.serving.specs.declared.newcomers.Newcomer.{Newcomer}
+use Rattle.serving.specs.Guesses.{ArePacing}
 use Rattle.serving.specs.Settings.{settings_of}
 use Rattle.serving.specs.Newcomers.{newcomer, others, AreSeatedAt, AreNotedNow, IsNewlyNoted}
 use Rattle.serving.specs.Paces.{has_freed}
@@ -116,12 +117,13 @@ pub record IsEnded {V : Type 0} (Holds : V → Contents → Type 0) (IsClean : V
   pub shut : IsShutBy Holds IsClean office office_then c given
 
 module _ (links links_then : Clients) where
-  -- The settings stay, and which spool file was tried last; and if the next turn didn't wait
-  -- before, it doesn't.
+  -- The settings stay, and which spool file was tried last; if the next turn didn't wait before, it
+  -- doesn't; and each refusal still keeps a login back for 1 to 15 seconds.
   pub record Keeps : Type 0 where
     pub set : settings_of links_then ≡ settings_of links
     pub last : links_then.last ≡ links.last
     pub polled : links.poll_now ≡ true → links_then.poll_now ≡ true
+    pub pacing : ArePacing links.guesses.refusals.items → ArePacing links_then.guesses.refusals.items
 
   -- and the seats
   pub record KeepsSeats : Type 0 where

@@ -14,16 +14,19 @@ use Rattle.serving.specs.Hearing.{Hearing}
 use Rattle.serving.specs.Works.{AreNewlyAdmitted, is_failed}
 use Rattle.serving.specs.HttpTurns.{AllGoOn, AreFew}
 use Rattle.serving.specs.Newcomers.{AllHaveSeats}
+use Rattle.serving.specs.Guesses.{AllArePacing}
 use Rattle.serving.specs.Settings.{settings}
 use Rattle.serving.specs.Turns.{Works}
 use Rattle.serving.specs.declared.links.Links.{Links}
 
--- What the next turn finds as the first one did: how the loop was set, and that those who haven't
--- logged in have seats; and that the administration's links are few, and none of them is over.
+-- What the next turn finds as the first one did: how the loop was set, that those who haven't
+-- logged in have seats, and that each refusal keeps a login back for 1 to 15 seconds; and that the
+-- administration's links are few, and none of them is over.
 pub record LeavesAsFound (now : ℕ) (links links_then : Links) : Type 0 where
   pub set : settings links_then ≡ settings links
   pub site : links_then.site ≡ links.site
   pub seated : AllHaveSeats links → AllHaveSeats links_then
+  pub pacing : AllArePacing links → AllArePacing links_then
   pub few : AreFew links → AreFew links_then
   pub ongoing : AllGoOn now links_then
 

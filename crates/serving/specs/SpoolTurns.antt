@@ -60,8 +60,9 @@ pub record SpoolPart {V S : Type 0} (Holds : V → Contents → Type 0) (IsClean
   pub deposits : AreDeposits given
   pub facts : (T : Trace) → StandsFor Holds office T → IsClean (vault_of office_then) → Facts T given calls
 
--- it keeps how the loop was set, the seats, and who hasn't logged in
+-- it keeps how the loop was set, the seats, who hasn't logged in, and whose logins were refused
 pub record KeepsClients (links links_then : Clients) : Type 0 where
   pub set : settings_of links_then ≡ settings_of links
   pub seats : links_then.seats ≡ links.seats
   pub newcomers : links_then.newcomers ≡ links.newcomers
+  pub guesses : links_then.guesses ≡ links.guesses

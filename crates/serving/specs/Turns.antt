@@ -21,7 +21,7 @@ use Rattle.serving.specs.Works.{AreNewlyAdmitted, HasCause, AreCaused, IsLateGon
 use Rattle.serving.specs.Works.{is_failed, WasAsked, Came, AreDeposits}
 use Rattle.serving.specs.Works.{seat_of, unseated_of, link_of, HasAccepted, most_links, Way, may_by, way_by}
 use Rattle.serving.specs.Works.{HadTurn, HasFreed, is_open_seat, is_shut_seat, link_of_seat}
-use Rattle.serving.specs.Works.{has_moved}
+use Rattle.serving.specs.Works.{has_moved, IsOffered}
 use Rattle.serving.specs.Hearing.{Hearing, WasTold, idle_ends, heard_of_all, late_ends}
 use Rattle.serving.specs.SpoolTurns.{IsSpoolTurn, has_dealt}
 use Rattle.serving.specs.HttpWorks.{HttpWorks}
@@ -86,6 +86,9 @@ pub record IsTurn (T after : Trace) (now : ℕ) (links links_then : Links) (came
   pub ended : freed ≡ true → ((links.clients.wait == 0) ≡ false) × HasFreed T.base T.log given seats
   pub turns : All (HadTurn (way_of now links links_then seats freed) T.base T.log given after
       calls) seats
+  -- Each write on a client's link was offered all that was lent then: what its connection was owed,
+  -- or the first 16,384 octets of it.
+  pub offered : All (IsOffered T.base T.log given seats) calls
   -- 5. No connection went but by its link's end, or because its client is late.
   pub caused : All (HasCauseInTurn now links seats calls) given
   -- Exactly those links were closed that got no seat, and those whose connections aren't open.

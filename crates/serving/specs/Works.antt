@@ -2,13 +2,13 @@
 -- becomes of each link. `IsTurn` of specs/Turns puts these words together.
 use Rattle.std.specs.Prelude.{◌≡◌, ◌⊎◌, ⊤, ℕ, Bool, true, false, not, ◌+◌, ◌&&◌, ◌||◌, ◌==◌, nat_le}
 use Rattle.std.specs.Prelude.{List, [], ◌∷◌, ◌++◌, length, filter, filter_map, Option, Some, None}
-use Rattle.std.specs.Prelude.{if◌then◌else◌, nat_lt}
+use Rattle.std.specs.Prelude.{if◌then◌else◌, nat_lt, min}
 use Rattle.std.specs.List.{All, Contains, list_any}
 use Rattle.vault.specs.Records.{Records}
 use Rattle.office.specs.History.{Done, Failed}
 use Rattle.office.specs.Events.{Event, EventTag, Tagged, Log, Trace}
 use Rattle.office.specs.Events as event
-use Rattle.office.specs.Trace.{history, is_open}
+use Rattle.office.specs.Trace.{history, is_open, rest, most_lent}
 use Rattle.office.specs.Sessions.{live}
 use Rattle.office.specs.Taken.{trace_of, IsAdmitted}
 use Rattle.serving.specs.Wires.{is_fault}
@@ -64,7 +64,7 @@ abbrev pub is_admin : Call → Bool
 is_admin (Accepted Admin link) = true
 is_admin (Looked Admin link io octets) = true
 is_admin (Read Admin link room io octets) = true
-is_admin (Wrote Admin link io octets) = true
+is_admin (Wrote Admin link offered io octets) = true
 is_admin (Closed Admin link) = true
 is_admin _ = false
 
@@ -80,18 +80,18 @@ is_read_of link _ = false
 
 -- it took nothing for now
 abbrev pub is_later_of : Link → Call → Bool
-is_later_of link (Wrote Pop l Later octets) = l.number == link.number
+is_later_of link (Wrote Pop l offered Later octets) = l.number == link.number
 is_later_of link _ = false
 
 -- it took octets
 abbrev pub is_taking_of : Link → Call → Bool
-is_taking_of link (Wrote Pop l (Count n) octets) = l.number == link.number
+is_taking_of link (Wrote Pop l offered (Count n) octets) = l.number == link.number
 is_taking_of link _ = false
 
 -- a read from it or a write on it told its end, or that it is broken
 abbrev pub is_cut_of : Link → Call → Bool
 is_cut_of link (Read Pop l room io octets) = l.number == link.number && is_fault io
-is_cut_of link (Wrote Pop l io octets) = l.number == link.number && is_fault io
+is_cut_of link (Wrote Pop l offered io octets) = l.number == link.number && is_fault io
 is_cut_of link _ = false
 
 abbrev pub is_cut : Link → List Call → Bool
@@ -99,7 +99,7 @@ is_cut link calls = list_any (is_cut_of link) calls
 
 -- how many octets it took
 abbrev pub count_taken : Link → Call → ℕ
-count_taken link (Wrote Pop l (Count n) octets) = if l.number == link.number then n else 0
+count_taken link (Wrote Pop l offered (Count n) octets) = if l.number == link.number then n else 0
 count_taken link _ = 0
 
 abbrev pub octets_taken : Link → List Call → ℕ
@@ -131,7 +131,7 @@ had_its_turn share poll_now link calls =
 abbrev pub is_moving : Call → Bool
 is_moving (Accepted port (Some link)) = true
 is_moving (Read port link room (Count n) octets) = true
-is_moving (Wrote port link (Count n) octets) = true
+is_moving (Wrote port link offered (Count n) octets) = true
 is_moving (Closed port link) = true
 is_moving _ = false
 
@@ -343,6 +343,26 @@ pub record HasFreed (B : Records) (older given : Log) (seats : List Seat) : Type
   pub seat : Seat
   pub among : Contains seats seat
   pub session : HasEnded B older given seat.connection
+
+-- ---- what is offered to a link
+
+-- A write on the link of one of these seats was offered so many octets: all that its connection was
+-- owed after some of these events, or the first 16,384 of them.
+pub record WasLent (B : Records) (older given : Log) (seats : List Seat) (link : Link)
+    (offered : ℕ) : Type 0 where
+  pub seat : Seat
+  pub among : Contains seats seat
+  pub is : seat.link ≡ link
+  pub later : Log
+  pub front : Log
+  pub given_are : given ≡ later ++ front
+  pub lent : offered ≡ min (length (rest (trace_of B (front ++ older)) seat.connection)) most_lent
+
+-- so it is of each write on a client's link
+abbrev pub IsOffered : (B : Records) (older given : Log) (seats : List Seat) → Call → Type 0
+IsOffered B older given seats (Wrote Pop link offered io octets) =
+    WasLent B older given seats link offered
+IsOffered B older given seats _ = ⊤
 
 -- deposits, and no other event
 abbrev pub AreDeposits : Log → Type 0

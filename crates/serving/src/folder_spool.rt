@@ -52,7 +52,8 @@ fn is_own(opened: &Metadata, named: &Metadata) -> bool
 }
 
 impl<'a, R: Files + Clock + AllocGlobal + Clone + Drop> FolderSpool<'a, R> {
-    /// The folder at a path. It need not be there yet.
+    /// The folder at a path. It need not be there yet. No clause speaks of it: of a folder nothing
+    /// is known.
     pub fn new(rt: &'a R, alloc: Global, folder: &'a str) -> FolderSpool<'a, R> {
         FolderSpool {
             rt,

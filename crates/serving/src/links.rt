@@ -1,5 +1,5 @@
 //! The open links, each with its connection.
-ghost use Rattle.std.specs.Prelude.{◌≡◌, ◌||◌, [], None, min};
+ghost use Rattle.std.specs.Prelude.{◌≡◌, ◌||◌, [], None, length, min};
 ghost use Rattle.serving.specs.Settings.{settings, settings_of, none_set, with_wait};
 ghost use Rattle.serving.specs.Settings.{with_login_seconds, with_full_house_seconds};
 ghost use Rattle.serving.specs.Settings.{with_slow_guesses};
@@ -49,6 +49,7 @@ impl Links {
         ensures settings { settings result ≡ none_set }
         ensures seats { result.clients.seats.items ≡ [] }
         ensures newcomers { result.clients.newcomers.newcomers.items ≡ [] }
+        ensures refusals { result.clients.guesses.refusals.items ≡ [] }
         ensures requests { result.requests.exchanges.items ≡ [] }
         ensures site { result.site ≡ None }
     {
@@ -163,7 +164,9 @@ impl Links {
     }
 
     /// How many links of clients are open.
-    pub fn count(&self) -> usize {
+    pub fn count(&self) -> usize
+        ensures { result ≡ length self.now.clients.seats.items }
+    {
         self.clients.seats.len()
     }
 
@@ -175,7 +178,9 @@ impl Links {
     }
 
     /// How many links of the administration are open.
-    pub fn requests(&self) -> usize {
+    pub fn requests(&self) -> usize
+        ensures { result ≡ length self.now.requests.exchanges.items }
+    {
         self.requests.count()
     }
 }
@@ -206,6 +211,7 @@ impl Clients {
         ensures settings { settings_of result ≡ none_set }
         ensures seats { result.seats.items ≡ [] }
         ensures newcomers { result.newcomers.newcomers.items ≡ [] }
+        ensures refusals { result.guesses.refusals.items ≡ [] }
     {
         Clients {
             seats: ArrayVec::new(),

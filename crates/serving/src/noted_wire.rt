@@ -129,10 +129,10 @@ impl<W: Wire> Wire for NotedWire<W> {
             → AreTold self.new.counts self.new.notes.calls
             (at_port port (λ of. has_written of link.number result (counted result octets.now)) t) }
         ensures called { (a : List Call) → a ≡ self.old.notes.calls
-            → a ++ call.Wrote port link result (counted result octets.now) ∷ []
+            → a ++ call.Wrote port link (length octets.now) result (counted result octets.now) ∷ []
             ≡ self.new.notes.calls }
         ensures inside { WasAsked W.tells W.asked self.old.wire self.new.wire
-            (call.Wrote port link result (counted result octets.now)) }
+            (call.Wrote port link (length octets.now) result (counted result octets.now)) }
     {
         let io = self.wire.write(port, link, octets);
         self.notes.note(&WireCall::Write(port, link, io), octets);

@@ -120,7 +120,9 @@ impl Requests {
     }
 
     /// How many links are open.
-    pub(crate) fn count(&self) -> usize {
+    pub(crate) fn count(&self) -> usize
+        ensures { result ≡ length self.now.exchanges.items }
+    {
         self.exchanges.len()
     }
 

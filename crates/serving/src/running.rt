@@ -7,6 +7,7 @@ ghost use Rattle.serving.specs.Settings.{settings};
 ghost use Rattle.serving.specs.HttpTurns.{AreFew};
 ghost use Rattle.serving.specs.HttpWorks.{AreShort};
 ghost use Rattle.serving.specs.Newcomers.{AllHaveSeats};
+ghost use Rattle.serving.specs.Guesses.{AllArePacing};
 ghost use Rattle.serving.specs.Running.{HasRun};
 
 use crate::links::Links;
@@ -33,6 +34,11 @@ pub trait Clock {
 
 /// Does one turn after the other, each at the moment that a clock gives, until it gives none, or
 /// so many turns were done.
+///
+/// Each turn finds what the first one did: the settings, the administration's site, seats for all
+/// who haven't logged in, and refusals that keep a login back for 1 to 15 seconds. No clause says
+/// which refusals are kept between turns, nor, where something moved in a turn, whether the next
+/// one waits, but after a whole share, a file that was dealt with, and a session that ended.
 pub fn serve_while<V: Vault, W: Wire, S: Spool, L: Listener, C: Clock>(
     links: &mut Links,
     wire: &mut W,
@@ -54,6 +60,7 @@ pub fn serve_while<V: Vault, W: Wire, S: Spool, L: Listener, C: Clock>(
         links.new office.new wire.new spool.new listener.new clock.new }
     ensures few { AreFew links.old → AreFew links.new }
     ensures seated { AllHaveSeats links.old → AllHaveSeats links.new }
+    ensures pacing { AllArePacing links.old → AllArePacing links.new }
     ensures short { (T : Trace) → StandsFor V.holds office.old T → V.is_clean (vault_of office.new)
         → AreShort links.old → AreShort links.new }
     ensures settings { settings links.new ≡ settings links.old }

@@ -8,6 +8,7 @@ ghost use Rattle.serving.specs.Served.{Serves};
 ghost use Rattle.serving.specs.HttpTurns.{AreFew};
 ghost use Rattle.serving.specs.HttpWorks.{AreShort};
 ghost use Rattle.serving.specs.Newcomers.{AllHaveSeats};
+ghost use Rattle.serving.specs.Guesses.{AllArePacing};
 ghost use Rattle.serving.specs.Settings.{settings, none_set};
 ghost use Rattle.adminhttp.specs.Sites.{Site};
 
@@ -44,6 +45,7 @@ pub fn begin_noted<V: Vault, W: Wire, S: Spool>(
         result.links.clients.seats.items result.links.requests.exchanges.items site }
     ensures few { AreFew result.links }
     ensures seated { AllHaveSeats result.links }
+    ensures pacing { AllArePacing result.links }
     ensures short { AreShort result.links }
     ensures settings { settings result.links ≡ none_set }
 {

@@ -177,7 +177,7 @@ fn is_same_port(one: Port, other: Port) -> bool
 
 impl SocketWire {
     /// Listens for clients at an address, and tells the port: that of the address, or if this is
-    /// 0 one that the system chose.
+    /// 0 one that the system chose. No clause speaks of it: of sockets nothing is known.
     pub fn bind<R: Net>(rt: &R, alloc: Global, at: SocketAddr) -> io::Result<(SocketWire, u16)> {
         let poll = Poll::new(rt)?;
         let events = Events::with_capacity(alloc, 256)?;
@@ -195,7 +195,7 @@ impl SocketWire {
     }
 
     /// Listens for the administration at an address, and tells the port, as [`SocketWire::bind`]
-    /// does.
+    /// does, and no clause speaks of it either.
     pub fn bind_admin<R: Net>(&mut self, rt: &R, at: SocketAddr) -> io::Result<u16> {
         let (door, port) = Door::open(rt, &self.poll, ADMIN_LISTENER, at)?;
         self.admin_door = Some(door);
@@ -268,7 +268,7 @@ impl SocketWire {
     }
 
     /// The address of a link's other end, as the system told it when the link was accepted; `None`
-    /// if the link is closed.
+    /// if the link is closed. No clause speaks of it: the log alone asks.
     pub fn peer(&self, port: Port, link: Link) -> Option<SocketAddr> {
         peer_among(self.places.as_slice(), port, link)
     }

@@ -7,6 +7,7 @@ ghost use Rattle.office.specs.Stands.{StandsFor, vault_of};
 ghost use Rattle.serving.specs.Wires.{ToldOfPorts, AreFresh};
 ghost use Rattle.serving.specs.Served.{StillServes, Serves};
 ghost use Rattle.serving.specs.Newcomers.{AllHaveSeats};
+ghost use Rattle.serving.specs.Guesses.{AllArePacing};
 ghost use Rattle.serving.specs.Settings.{settings, none_set};
 ghost use Rattle.serving.specs.Parts.{Part};
 ghost use Rattle.serving.specs.ClientParts.{IsPassed};
@@ -77,6 +78,7 @@ pub fn serve_turn<V: Vault, W: Wire, S: Spool, L: Listener>(
     ensures ongoing { AllGoOn now links.new }
     ensures few { AreFew links.old → AreFew links.new }
     ensures seated { AllHaveSeats links.old → AllHaveSeats links.new }
+    ensures pacing { AllArePacing links.old → AllArePacing links.new }
     ensures short { (T : Trace) → StandsFor V.holds office.old T → V.is_clean (vault_of office.new)
         → AreShort links.old → AreShort links.new }
     ensures settings { settings links.new ≡ settings links.old }
@@ -113,6 +115,7 @@ pub fn begin<V: Vault, W: Wire, S: Spool>(
         result.clients.seats.items result.requests.exchanges.items site }
     ensures few { AreFew result }
     ensures seated { AllHaveSeats result }
+    ensures pacing { AllArePacing result }
     ensures short { AreShort result }
     ensures settings { settings result ≡ none_set }
 {

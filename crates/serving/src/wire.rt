@@ -91,7 +91,8 @@ pub trait Wire {
             → tells self.new (at_port port (λ of. has_written of link.number result
             (counted result octets.now)) t) }
         ensures called { (a : List Call) → asked self.old a
-            → asked self.new (a ++ Wrote port link result (counted result octets.now) ∷ []) };
+            → asked self.new (a ++ Wrote port link (length octets.now) result
+            (counted result octets.now) ∷ []) };
 
     /// The address that a link came from; `None` if it isn't known.
     fn address(&self, port: Port, link: Link) -> Option<IpAddr>

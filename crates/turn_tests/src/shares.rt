@@ -19,14 +19,14 @@ fn serve(
     serve_turn(links, wire, office, spool, &mut NoListener, 0);
 }
 
-/// An office with a message of 80,000 octets in the maildrop `orders`.
-fn office_with_a_long_message(alloc: Global) -> Result<Office<PlainVault>, Fail> {
+/// An office with a message of so many lines of forty octets in the maildrop `orders`.
+fn office_with_a_long_message(alloc: Global, lines: u32) -> Result<Office<PlainVault>, Fail> {
     let mut office = office_of_two(alloc, &["orders"])?;
     let orders = name("orders")?;
     let note = name("note")?;
     let id = DepositId::read(b"d1").ok_or("id")?;
     let mut text = Vec::new(alloc);
-    for _ in 0..2000u32 {
+    for _ in 0..lines {
         text.extend_from_slice(b"A line of forty octets with its end...\r\n")?;
     }
     let _ = office.step(Event::Deposit(&orders, &note, &id, &text));
@@ -36,10 +36,11 @@ fn office_with_a_long_message(alloc: Global) -> Result<Office<PlainVault>, Fail>
 /// What ann sends.
 const ANN: &[u8] = b"USER ann/orders\r\nPASS s3 cret\r\nRETR 1\r\n";
 
-/// How many octets ann got after each of three turns, with so many silent links beside hers.
-fn told(alloc: Global, silent: u32) -> Result<[usize; 3], Fail> {
-    let mut office = office_with_a_long_message(alloc)?;
-    let mut wire = ScriptWire::new(alloc, Vec::new(alloc), 20_000);
+/// How many octets ann got after each of three turns, by a link that takes so many at once, of
+/// so many lines, with so many silent links beside hers.
+fn told_by(alloc: Global, most: usize, lines: u32, silent: u32) -> Result<[usize; 3], Fail> {
+    let mut office = office_with_a_long_message(alloc, lines)?;
+    let mut wire = ScriptWire::new(alloc, Vec::new(alloc), most);
     // The wire gives the link that came last first.
     for _ in 0..silent {
         wire.connect(Vec::new(alloc))?;
@@ -53,6 +54,11 @@ fn told(alloc: Global, silent: u32) -> Result<[usize; 3], Fail> {
         behind[turn] = wire.written(0).len();
     }
     Ok(behind)
+}
+
+/// The same of 2,000 lines, by a link that takes all that it is offered.
+fn told(alloc: Global, silent: u32) -> Result<[usize; 3], Fail> {
+    told_by(alloc, 20_000, 2000, silent)
 }
 
 #[test]
@@ -70,6 +76,21 @@ fn beside_another(rt: HostRuntime) -> Result<(), Fail> {
     assert!(rt; behind[0] < 20_000);
     assert_eq!(rt; behind[1], behind[0].saturating_add(16_384));
     assert_eq!(rt; behind[2], behind[1].saturating_add(16_384));
+    Ok(())
+}
+
+#[test]
+fn alone_64_full_writes(rt: HostRuntime) -> Result<(), Fail> {
+    let behind = told_by(rt.alloc(), 20_000, 60_000, 0)?;
+    assert_eq!(rt; behind[1], behind[0].saturating_add(1_048_576));
+    Ok(())
+}
+
+#[test]
+fn alone_64_writes(rt: HostRuntime) -> Result<(), Fail> {
+    let behind = told_by(rt.alloc(), 100, 2000, 0)?;
+    assert_eq!(rt; behind[1], behind[0].saturating_add(6_400));
+    assert_eq!(rt; behind[2], behind[1].saturating_add(6_400));
     Ok(())
 }
 

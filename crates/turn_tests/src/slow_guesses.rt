@@ -214,6 +214,49 @@ fn the_oldest_goes(_rt: HostRuntime) -> Result<(), Fail> {
     Ok(())
 }
 
+/// For how many seconds the last of so many refusals keeps a login back, each so many seconds after
+/// the one before it; 20 stand for more.
+fn seconds_after(name: &LoginName, times: u64, apart: u64) -> u64 {
+    let mut guesses = Guesses::new();
+    let mut moment = 100;
+    for _ in 0..times {
+        moment = apart.saturating_add(moment);
+        guesses.refuse(7, name, moment);
+    }
+    let mut seconds = 0;
+    for second in 0..20u64 {
+        if guesses.hold_back(7, name, second.saturating_add(moment)) {
+            seconds = second.saturating_add(1);
+        }
+    }
+    seconds
+}
+
+/// How many refusals there were, how many seconds apart, and for how many seconds the last of them
+/// keeps a login back.
+static PACES: [(u64, u64, u64); 9] = [
+    (1, 100, 1),
+    (2, 100, 2),
+    (3, 100, 4),
+    (4, 100, 8),
+    (5, 100, 15),
+    (6, 100, 15),
+    (40, 1, 15),
+    (4, 599, 8),
+    (4, 600, 1),
+];
+
+#[test]
+fn seconds_double_until_15(rt: HostRuntime) -> Result<(), Fail> {
+    let Some(name) = LoginName::read(b"ann/orders") else {
+        return Err(Fail::new("no name"));
+    };
+    for (times, apart, seconds) in &PACES {
+        assert_eq!(rt; seconds_after(&name, *times, *apart), *seconds);
+    }
+    Ok(())
+}
+
 /// By which number an IPv6 address counts that ends so.
 fn origin_of_six(d: u16, g: u16, h: u16) -> u64 {
     origin_of(&IpAddr::V6(Ipv6Addr::new(0x2001, 0xdb8, 0, d, 0, 0, g, h)))

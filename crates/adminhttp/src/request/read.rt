@@ -29,9 +29,9 @@ impl Request {
     /// `localhost`, `[::1]` or an address of 127.0.0.0/8, with a port or without, or an Origin that
     /// isn't of that Host, or a Sec-Fetch-Site but `same-origin` and `none`; a target of no route
     /// (`/clerks` is of one only if `access` has it), or with a part of another form; a method that
-    /// the route has not; for PUT on a clerk and on the policy a length that isn't given, that isn't
-    /// one number, or that is over 1,048,576 octets, and then the body's own. What follows the body
-    /// is ignored.
+    /// the route has not; for PUT on a clerk and on the policy a length that isn't given, isn't one
+    /// number, or is over 1,048,576 octets, and then the body's own. What follows the body is
+    /// ignored.
     pub fn read(alloc: Global, site: &Option<HostName>, access: AdminAccess, octets: &[u8]) -> Got
         ensures { IfSome (asked_in result) (IsRequest site.now access octets.now) }
     {

@@ -137,5 +137,5 @@ returns-in-Some-number-clause-comers g c =
     let free : length c.args.links.now.seats.items < 128 = search rules in
     let old = c.args.links.now in
     noted_one c.args.now old _ c.in-Some.link c.in-Some-number.connection c.note.result
-    (record { set = set_same old.wait old.newcomers.seconds _ old.newcomers.full_house_seconds _ old.guesses.are_slow c.note.ensures.seconds c.note.ensures.full; last = refl; polled = λ e. e })
+    (record { set = set_same old.wait old.newcomers.seconds _ old.newcomers.full_house_seconds _ old.guesses.are_slow c.note.ensures.seconds c.note.ensures.full; last = refl; polled = λ e. e; pacing = λ h. h })
     refl c.push.ensures.items c.note.ensures.newcomers c.note.ensures.room free

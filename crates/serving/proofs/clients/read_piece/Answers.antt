@@ -6,6 +6,7 @@ use Rattle.serving.specs.Works.{reads_by_line, is_moving}
 use Rattle.serving.specs.Parts.{PollsBy}
 use Rattle.serving.proofs.Working.{part_none}
 use Rattle.serving.proofs.Hearing.{unheard}
+use Rattle.serving.proofs.Offering.{unwritten_look}
 use Rattle.serving.proofs.Turns.{heard_none, heard_unread, heard_asked, heard_after, read_part}
 use Rattle.serving.proofs.Unread.{may_so, line_so, looked_quiet, unread_so}
 use Rattle.serving.proofs.Working.{any_right}
@@ -66,7 +67,8 @@ returns-then-part-eq0-clause-works g c =
     let unread = subst (λ w. IsUnread Holds o seat w may a.calls) p.ensures.pace.wait
     (unread_so Holds o seat pace refusals may part.result.count part.result.login a.calls (λ h. subst (λ w. (links.lock_released || (links.guesses.are_slow && nat_lt w most_paced)) ≡ true) p.ensures.pace.waited (may_so links.guesses.are_slow links.lock_released pace.is_shut (nat_lt pace.waited most_paced) pace.origin p.ensures.pace.shut p.ensures.fast h)) none a.facts) in
     heard_asked Holds IsClean g.V.Vault.faults g.W.Wire.asked g.L.Listener.heard o c.args.wire.now part.new.wire c.args.listener.now seat links.wait lines may noted (PollsBy links.poll_now (links.poll_now || false)) a.calls a.was_asked
-    (heard_unread Holds IsClean g.V.Vault.faults links.wait lines may noted o seat a.calls (looked_quiet Holds o seat pace refusals part.result.count part.result.login a.calls a.facts)
+    (heard_unread Holds IsClean g.V.Vault.faults links.wait lines may noted o seat a.calls
+    (unwritten_look Holds o seat pace refusals part.result.count part.result.login a.calls a.facts) (looked_quiet Holds o seat pace refusals part.result.count part.result.login a.calls a.facts)
     unread) (polled_quiet links.poll_now a.calls)
 
 pub returns-then-not-read_once-clause-works : goal.returns-then-not-read_once-clause-works

@@ -19,6 +19,7 @@ returns-clause-keeps g c =
         set = b.keeps.set ∙ a.keeps.set;
         last = b.keeps.last ∙ a.keeps.last;
         polled = λ e. b.keeps.polled (is_left x.new.links.poll_now x.result (a.keeps.polled e));
+        pacing = λ h. b.keeps.pacing (a.keeps.pacing h);
       };
       seats = b.seats ∙ a.seats;
     }

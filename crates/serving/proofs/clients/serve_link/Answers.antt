@@ -84,7 +84,7 @@ returns-clause-works g c =
     (λ g1 g2 c1 c2 wa wb a b. (
       heard_then Holds IsClean Heard g.V.Vault.faults o y.new.office z.new.office l y.new.listener z.new.listener g1 g2 wa wb a.0 b.0,
       (
-        served_then Holds IsClean g.V.Vault.faults o y.new.office z.new.office way y.new.links.newcomers.newcomers.items c.args.seat g1 g2 c1 c2 wa wb a.1.0 b.1.of_seat,
+        served_then Holds IsClean g.V.Vault.faults o y.new.office z.new.office way y.new.links.newcomers.newcomers.items c.args.seat g1 g2 c1 c2 wa wb a.1.0 b.1.of_seat b.1.offered,
         polled_then links.poll_now true (y.new.links.poll_now || z.result) c1 c2 a.1.1 (λ e. refl),
       ),
     )) first z.ensures.works

@@ -22,7 +22,7 @@ no_seat = record { link = record { number = 0 }; connection = 0 }
 pub loop-place-init : goal.loop-place-init
 loop-place-init g c = record {
   serves = λ T beside s clean. s;
-  keeps = record { keeps = record { set = refl; last = refl; polled = λ e. e }; seats = refl };
+  keeps = record { keeps = record { set = refl; last = refl; polled = λ e. e; pacing = λ h. h }; seats = refl };
   settled = settled_none c.args.now c.args.links.now.newcomers.newcomers.items;
   touched = λ n. inl refl;
   frees = λ e. cc;

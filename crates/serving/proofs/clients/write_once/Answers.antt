@@ -120,12 +120,13 @@ returns-in-Count-clause-works g c =
     let m = event_tag_of (outcome_seen c.step_with_account.result) in
     record {
       given = (event.Took seat.connection n, m) ∷ [];
-      calls = Wrote Pop seat.link (Count n) (take n lent) ∷ [];
+      calls = Wrote Pop seat.link (length lent) (Count n) (take n lent) ∷ [];
       was_given = given_one Holds g.V.Vault.is_clean g.V.Vault.faults o c.step_with_account.new.self (event.Took seat.connection n) (outcome_seen c.step_with_account.result) c.step_with_account.ensures.clean c.step_with_account.ensures.stands c.step_with_account.ensures.admitted c.step_with_account.ensures.counted c.step_with_account.ensures.cause;
-      was_asked = asked_one g.W.Wire.asked c.args.wire.now c.write.new.self (Wrote Pop seat.link (Count n) (take n lent)) c.in-Count.ensures.called;
+      was_asked = asked_one g.W.Wire.asked c.args.wire.now c.write.new.self (Wrote Pop seat.link (length lent) (Count n) (take n lent)) c.in-Count.ensures.called;
       facts = (
         heard_one g.V.Vault.holds g.V.Vault.is_clean g.L.Listener.heard o c.step_with_account.new.self c.args.listener.now c.hear.new.self (event.Took seat.connection n) m seat.connection c.step_with_account.new.account (λ T. refl) c.step_with_account.ensures.account c.hear.ensures.told,
-        wrote_some Holds g.V.Vault.is_clean g.V.Vault.faults o c.step_with_account.new.self seat n (take n lent) m c.in-Count.ensures.within.0,
+        wrote_some Holds g.V.Vault.is_clean g.V.Vault.faults o c.step_with_account.new.self seat (length lent) n (take n lent) m c.in-Count.ensures.within.0
+            (λ B L s. c.owed-lent.ensures.exact (trace_of B L) s),
       );
     }
 
@@ -133,12 +134,16 @@ pub returns-in-Later-clause-works : goal.returns-in-Later-clause-works
 returns-in-Later-clause-works g c =
     let o = c.args.office.now in
     let seat = c.args.seat in
+    let lent = c.owed-lent.result.now in
     record {
       given = [];
-      calls = Wrote Pop seat.link Later [] ∷ [];
+      calls = Wrote Pop seat.link (length lent) Later [] ∷ [];
       was_given = given_none g.V.Vault.holds g.V.Vault.is_clean g.V.Vault.faults o;
-      was_asked = asked_one g.W.Wire.asked c.args.wire.now c.write.new.self (Wrote Pop seat.link Later []) c.in-Later.ensures.called;
-      facts = (unheard g.V.Vault.holds g.V.Vault.is_clean g.L.Listener.heard o c.args.listener.now, wrote_later g.V.Vault.holds g.V.Vault.is_clean g.V.Vault.faults o seat []);
+      was_asked = asked_one g.W.Wire.asked c.args.wire.now c.write.new.self (Wrote Pop seat.link (length lent) Later []) c.in-Later.ensures.called;
+      facts = (
+        unheard g.V.Vault.holds g.V.Vault.is_clean g.L.Listener.heard o c.args.listener.now,
+        wrote_later g.V.Vault.holds g.V.Vault.is_clean g.V.Vault.faults o seat (length lent) [] (λ B L s. c.owed-lent.ensures.exact (trace_of B L) s),
+      );
     }
 
 pub returns-in-End-clause-works : goal.returns-in-End-clause-works
@@ -156,12 +161,13 @@ returns-in-End-clause-works g c =
     let octets = counted io lent in
     record {
       given = (event.Gone connection, event_tag_of o) ∷ [];
-      calls = Wrote Pop seat.link io octets ∷ [];
+      calls = Wrote Pop seat.link (length lent) io octets ∷ [];
       was_given = given_one Holds g.V.Vault.is_clean g.V.Vault.faults office c.step_with_account-in-End.new.self (event.Gone connection) (outcome_seen c.step_with_account-in-End.result) c.step_with_account-in-End.ensures.clean c.step_with_account-in-End.ensures.stands c.step_with_account-in-End.ensures.admitted c.step_with_account-in-End.ensures.counted c.step_with_account-in-End.ensures.cause;
-      was_asked = asked_one g.W.Wire.asked c.args.wire.now c.write.new.self (Wrote Pop seat.link io octets) c.write.ensures.called;
+      was_asked = asked_one g.W.Wire.asked c.args.wire.now c.write.new.self (Wrote Pop seat.link (length lent) io octets) c.write.ensures.called;
       facts = (
         heard_one g.V.Vault.holds g.V.Vault.is_clean g.L.Listener.heard office c.step_with_account-in-End.new.self c.args.listener.now c.hear-in-End.new.self (event.Gone connection) (event_tag_of o) connection c.step_with_account-in-End.new.account (λ T. refl) c.step_with_account-in-End.ensures.account c.hear-in-End.ensures.told,
-        wrote_cut Holds g.V.Vault.is_clean g.V.Vault.faults office c.step_with_account-in-End.new.self seat io octets (event_tag_of o) fault
+        wrote_cut Holds g.V.Vault.is_clean g.V.Vault.faults office c.step_with_account-in-End.new.self seat (length lent) io octets
+            (event_tag_of o) fault (λ B L s. c.owed-lent.ensures.exact (trace_of B L) s)
             (λ B L s k.
             (let now = trace_of B L in
             let here = lent_open now connection (length lent) lent (c.owed-lent.ensures.lent now s) some (omega arith) in

@@ -124,6 +124,7 @@ returns-clause-closes g c =
           set = set_same links.wait links.newcomers.seconds _ links.newcomers.full_house_seconds _ links.guesses.are_slow c.forget.ensures.seconds c.forget.ensures.full;
           last = refl;
           polled = λ e. is_left links.poll_now (nat_lt 0 links.wait) e;
+          pacing = λ h. h;
         };
         seated = λ h.
             subst (λ l. HaveSeats l c.remove.new.self.items) (sym gone)

@@ -83,8 +83,10 @@ returns-in-Count-clause-works g c =
     let is : part ≡ take 16384 whole = c.part_of-part.ensures ∙ ap (λ xs. take 16384 (drop e.written xs)) c.octets-octets.ensures in
     let fits : n ≤ length (take 16384 whole) = subst (λ xs. n ≤ length xs) is c.in-Count.ensures.within.1 in
     let goes : e.is_over ≡ false = search rules in
-    asks_one g.W.Wire.asked c.args.wire.now c.write.new.self (Wrote Admin e.link (Count n) (take n part)) (Tells e _ (if n == 0 then 0 else 1) n (not (n == 0))) (quiet_wrote e.link (Count n) (take n part))
-    (told_some e _ r n (take n part) c.in-Some.is goes c.in-Count.ensures.within.0 (ap (take n) is ∙ front_of_front n 16384 whole fits) refl refl refl refl (ap (λ xs. nat_le (length xs) (e.written + n)) c.octets-octets.ensures))
+    asks_one g.W.Wire.asked c.args.wire.now c.write.new.self (Wrote Admin e.link (length part) (Count n) (take n part))
+    (Tells e _ (if n == 0 then 0 else 1) n (not (n == 0))) (quiet_wrote e.link (length part) (Count n) (take n part))
+    (told_some e _ r (length part) n (take n part) c.in-Some.is goes c.in-Count.ensures.within.0 (ap length is)
+    (ap (take n) is ∙ front_of_front n 16384 whole fits) refl refl refl refl (ap (λ xs. nat_le (length xs) (e.written + n)) c.octets-octets.ensures))
     c.in-Count.ensures.called
 
 pub returns-in-Later-clause-works : goal.returns-in-Later-clause-works
@@ -92,13 +94,19 @@ returns-in-Later-clause-works g c =
     let e = c.args.exchange.now in
     let goes : e.is_over ≡ false = search rules in
     let less : e.written < length (octets_of c.in-Some.response) = search rules in
-    asks_one g.W.Wire.asked c.args.wire.now c.write.new.self (Wrote Admin e.link Later []) (Tells e e 0 0 false) (quiet_wrote e.link Later []) (told_later e c.in-Some.response c.in-Some.is goes less) c.in-Later.ensures.called
+    let part = c.part_of-part.result.now in
+    let is : part ≡ take 16384 (drop e.written (octets_of c.in-Some.response)) = c.part_of-part.ensures ∙ ap (λ xs. take 16384 (drop e.written xs)) c.octets-octets.ensures in
+    asks_one g.W.Wire.asked c.args.wire.now c.write.new.self (Wrote Admin e.link (length part) Later []) (Tells e e 0 0 false) (quiet_wrote e.link (length part) Later [])
+    (told_later e c.in-Some.response (length part) c.in-Some.is goes less (ap length is)) c.in-Later.ensures.called
 
 pub returns-in-End-clause-works : goal.returns-in-End-clause-works
 returns-in-End-clause-works g c =
     let e = c.args.exchange.now in
     let io = c.write.result in
-    let octets = counted io c.part_of-part.result.now in
+    let part = c.part_of-part.result.now in
+    let octets = counted io part in
+    let is : part ≡ take 16384 (drop e.written (octets_of c.in-Some.response)) = c.part_of-part.ensures ∙ ap (λ xs. take 16384 (drop e.written xs)) c.octets-octets.ensures in
     let fault : is_fault io ≡ true = search rules in
     let goes : e.is_over ≡ false = search rules in
-    asks_one g.W.Wire.asked c.args.wire.now c.write.new.self (Wrote Admin e.link io octets) (Tells e _ 0 0 false) (quiet_wrote e.link io octets) (told_cut e _ c.in-Some.response io octets c.in-Some.is goes fault refl refl refl refl refl) c.write.ensures.called
+    asks_one g.W.Wire.asked c.args.wire.now c.write.new.self (Wrote Admin e.link (length part) io octets) (Tells e _ 0 0 false) (quiet_wrote e.link (length part) io octets)
+    (told_cut e _ c.in-Some.response (length part) io octets c.in-Some.is goes fault (ap length is) refl refl refl refl refl) c.write.ensures.called

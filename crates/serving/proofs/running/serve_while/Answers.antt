@@ -14,6 +14,7 @@ loop-turn-init g c = record {
   );
   few = λ a. a;
   seated = λ h. h;
+  pacing = λ h. h;
   short = λ T s clean a. a;
   settings = refl;
   site = refl;
@@ -34,10 +35,11 @@ loop-turn-preserved g c =
         turned_more g.V.Vault.holds g.V.Vault.is_clean g.V.Vault.faults g.W.Wire.asked g.S.Spool.asked g.L.Listener.heard g.C.Clock.gave c.args.links.now c.args.office.now c.args.wire.now c.args.spool.now c.args.listener.now c.args.clock.now
             m.0 k.links k.office k.wire k.spool k.listener k.clock now x.new.links x.new.office x.new.wire x.new.spool x.new.listener c.moment.new.self m.2
             c.in-Some.ensures.called x.ensures.clean x.ensures.works
-            (record { set = x.ensures.settings; site = x.ensures.site; seated = x.ensures.seated; few = x.ensures.few; ongoing = x.ensures.ongoing }),
+            (record { set = x.ensures.settings; site = x.ensures.site; seated = x.ensures.seated; pacing = x.ensures.pacing; few = x.ensures.few; ongoing = x.ensures.ongoing }),
       );
       few = λ a. x.ensures.few (k.invariant.few a);
       seated = λ h. x.ensures.seated (k.invariant.seated h);
+      pacing = λ h. x.ensures.pacing (k.invariant.pacing h);
       short = λ T s clean a.
           (let before = x.ensures.clean clean in
           let gone = m.2.each T s before in

@@ -6,6 +6,7 @@ use Rattle.serving.specs.Settings.{settings}
 use Rattle.serving.specs.HttpTurns.{AreFew}
 use Rattle.serving.specs.HttpWorks.{AreShort}
 use Rattle.serving.specs.Newcomers.{AllHaveSeats}
+use Rattle.serving.specs.Guesses.{AllArePacing}
 use Rattle.serving.specs.Running.{HasTurned}
 use Rattle.serving.proofs.running.serve_while.Given as goal
 
@@ -20,6 +21,7 @@ invariant-loop-turn g l = record {
       l.fn.links l.fn.office l.fn.wire l.fn.spool l.fn.listener l.fn.clock l.links l.office l.wire l.spool l.listener l.clock;
   few : AreFew l.fn.links → AreFew l.links;
   seated : AllHaveSeats l.fn.links → AllHaveSeats l.links;
+  pacing : AllArePacing l.fn.links → AllArePacing l.links;
   short : (T : Trace) → StandsFor g.V.Vault.holds l.fn.office T → g.V.Vault.is_clean (vault_of l.office) → AreShort l.fn.links → AreShort l.links;
   settings : settings l.links ≡ settings l.fn.links;
   site : l.links.site ≡ l.fn.links.site;

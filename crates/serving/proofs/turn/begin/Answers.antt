@@ -9,6 +9,7 @@ use Rattle.std.proofs.Common.{◌≤◌, length}
 use Rattle.std.specs.List.{All}
 use Rattle.serving.specs.HttpWorks.{IsShort}
 use Rattle.serving.specs.Newcomers.{HaveSeats, NoSeat}
+use Rattle.serving.specs.Guesses.{IsPacing, ArePacing}
 use Rattle.serving.proofs.turn.begin.Goals as goal
 
 pub returns-clause-serves : goal.returns-clause-serves
@@ -58,3 +59,6 @@ returns-clause-short g c = subst (All IsShort) (sym c.new.ensures.requests) (All
 
 pub returns-clause-seated : goal.returns-clause-seated
 returns-clause-seated g c = subst (λ ns. HaveSeats ns c.new.result.clients.seats.items) (sym c.new.ensures.newcomers) (subst (HaveSeats []) (sym c.new.ensures.seats) NoSeat)
+
+pub returns-clause-pacing : goal.returns-clause-pacing
+returns-clause-pacing g c = subst ArePacing (sym c.new.ensures.refusals) (All-nil IsPacing)

@@ -21,6 +21,7 @@ use Rattle.serving.proofs.Settling.{late_settled, settled_seats, comer_so, waite
 use Rattle.std.specs.List.{All}
 use Rattle.serving.proofs.Newly.{more_is}
 use Rattle.serving.specs.Works.{seat_of}
+use Rattle.serving.specs.Guesses.{ArePacing}
 use Rattle.serving.specs.Parts.{Giving}
 use Rattle.serving.specs.Late.{HasEndedLate}
 use Rattle.serving.proofs.Timely.{late_both}
@@ -172,3 +173,8 @@ returns-clause-seated g c = λ h.
     let closed = c.close_links.ensures.closes.seated (c.end_late_ones.ensures.ends.seated served) in
     subst (λ n. HaveSeats n.newcomers.items c.serve_spool.new.links.seats.items) (sym c.serve_spool.ensures.keeps.newcomers)
     (subst (λ v. HaveSeats c.close_links.new.links.newcomers.newcomers.items v.items) (sym c.serve_spool.ensures.keeps.seats) closed))
+
+pub returns-clause-pacing : goal.returns-clause-pacing
+returns-clause-pacing g c = λ h.
+    subst (λ gs. ArePacing gs.refusals.items) (sym c.serve_spool.ensures.keeps.guesses)
+    (c.close_links.ensures.closes.keeps.pacing (c.end_late_ones.ensures.keeps.keeps.pacing (c.serve_links.ensures.keeps.keeps.pacing (c.accept_links.ensures.comers.keeps.pacing h))))
