@@ -3,6 +3,7 @@ browser. nginx's site is that of packaging/page, with other paths and a name of 
 
 import base64
 import contextlib
+import fcntl
 import os
 import random
 import shutil
@@ -152,6 +153,14 @@ class Site:
         self.start(name, words, env={**os.environ, **settings}, **quiet)
         wait_for(lambda: os.path.exists(path), f"{path} isn't there", SHOWN)
         os.chmod(path, 0o666)
+
+    def wait_for_policies(self):
+        """Waits until no companion puts a policy in force; one that does so has the folder locked."""
+        folder = os.open(self.keep, os.O_RDONLY)
+        try:
+            fcntl.flock(folder, fcntl.LOCK_EX)
+        finally:
+            os.close(folder)
 
     def socket_of(self, name):
         return f"{self.folder}/popbox-{name}.sock"

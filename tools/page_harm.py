@@ -237,6 +237,7 @@ def nginx_that_ends_meanwhile_is_said(program, folder):
             os.kill(place.server.run.pid, signal.SIGCONT)
         place.start_nginx()
         time.sleep(3)
+        place.wait_for_policies()
         page.reload()
         page.reviewed()
         is_put = "eve" in place.get("/policy")
