@@ -214,7 +214,11 @@ fn serve<'a>(alloc: Global) -> Result<Command<'a>, AllocError> {
         admin_site(alloc),
         host(alloc),
         removals(alloc),
-        flag(alloc, "list-clerks", "The administration lists the clerks at /clerks"),
+        flag(
+            alloc,
+            "list-clerks",
+            "The administration lists the clerks at /clerks"
+        ),
         turns.value_parser(value_parser!(u64)),
     ]?;
     let about = "Serves clients over the network, and takes messages from a folder";

@@ -346,8 +346,14 @@ fn requests_for_the_list_of_clerks(rt: HostRuntime) -> Result<(), Fail> {
     let open = AdminAccess { lists_clerks: true };
     for (request, closed, opened) in &OF_THE_LIST {
         let octets = request.as_bytes();
-        assert!(rt; refusal_of(rt.alloc(), CLOSED, octets) == Some(*closed), "{request}");
-        assert!(rt; refusal_of(rt.alloc(), open, octets) == *opened, "{request}");
+        assert!(rt;
+            refusal_of(rt.alloc(), CLOSED, octets) == Some(*closed),
+            "{request}"
+        );
+        assert!(rt;
+            refusal_of(rt.alloc(), open, octets) == *opened,
+            "{request}"
+        );
     }
     Ok(())
 }
