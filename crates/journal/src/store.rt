@@ -264,6 +264,11 @@ impl<V: Vault> Vault for LoggedVault<'_, V> {
         told(&self.journal, "drop_maildrop", answer)
     }
 
+    fn tidy(&mut self) -> Result<(), VaultFault> {
+        let answer = self.vault.tidy();
+        told(&self.journal, "tidy", answer)
+    }
+
     fn policy(&mut self) -> Result<Policy, VaultFault> {
         let answer = self.vault.policy();
         told(&self.journal, "policy", answer)

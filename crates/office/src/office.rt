@@ -183,6 +183,20 @@ impl<V: Vault> Office<V> {
         }
     }
 
+    /// Lets the store do what it puts off while somebody waits. It is no event: the office stands
+    /// for the trace that it stood for. A refusal is counted by the store.
+    pub fn rest(&mut self)
+        ensures stands { (T : Trace) → StandsFor V.holds self.old T → V.is_clean (vault_of self.new)
+            → StandsFor V.holds self.new T }
+        ensures clean { V.is_clean (vault_of self.new) → V.is_clean (vault_of self.old) }
+        ensures counted { V.faults (vault_of self.old) ≤ V.faults (vault_of self.new) }
+        ensures stop { (c : Contents) → V.holds (vault_of self.old) c
+            → V.is_clean (vault_of self.new) → V.is_up (vault_of self.old)
+            → LeavesHeld (V.may_leave (vault_of self.new)) c }
+    {
+        let _ = self.vault.tidy();
+    }
+
     /// Whether no further connection may be opened.
     fn is_full(&self) -> bool
         ensures value { (T : Trace) → StandsFor V.holds self.now T → result ≡ is_full T }

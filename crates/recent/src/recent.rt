@@ -135,6 +135,11 @@ impl<V: Vault> Vault for Recent<V> {
         }
     }
 
+    fn tidy(&mut self) -> Result<(), VaultFault> {
+        let tidied = self.vault.tidy();
+        after_look(&mut self.kept, &mut self.totals, tidied)
+    }
+
     fn credential(&mut self, clerk: &Name) -> Result<Option<Credential>, VaultFault> {
         let found = self.vault.credential(clerk);
         after_look(&mut self.kept, &mut self.totals, found)

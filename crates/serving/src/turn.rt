@@ -95,6 +95,10 @@ pub fn serve_turn<V: Vault, W: Wire, S: Spool, L: Listener>(
     end_late_ones(office, wire, listener, &mut links.clients, now, seconds);
     close_links(office, wire, &mut links.clients);
     serve_spool(office, spool, &mut links.clients);
+    // Nobody waits: the next turn would wait a second, and the links had nothing in this one.
+    if !links.poll_now() {
+        office.rest();
+    }
     // For the proof: what each connection took was sent to it.
     taken_is_sent();
 }

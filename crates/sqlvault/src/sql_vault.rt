@@ -21,6 +21,13 @@ use std::alloc::Global;
 use std::marker::Model;
 use vault::{Deposited, Head, MessageKey, Receipt, Total, Vault, VaultFault};
 
+/// From so many octets on the log has 1,000 pages or more, and SQLite copies it before the next
+/// write.
+const LONG_LOG: u64 = 4_096_000;
+
+/// About so many octets of the log a small write takes: some pages of each of four trees.
+const SMALL_WRITE: u64 = 32_768;
+
 /// A mail store over the tables of a connection. Contracts see the connection, and how many calls
 /// answered `Store`.
 #[derive(Drop)]
@@ -28,6 +35,9 @@ pub struct SqlVault<S: Alter> {
     alloc: Global,
     conn: Connection<S>,
     faults: u64,
+    /// About how many octets of its log were written since it was copied last. A hint, which no
+    /// contract sees.
+    logged: u64,
 }
 
 impl<S: Alter> Model for SqlVault<S> {
@@ -259,6 +269,7 @@ impl<S: Alter> SqlVault<S> {
                 alloc,
                 conn,
                 faults: 0,
+                logged: 0,
             }),
             Err(refusal) => Err((fault_of(refusal), conn)),
         }
@@ -322,6 +333,13 @@ impl<S: Alter> SqlVault<S> {
         self.told(answer)
     }
 
+    /// Notes that a call wrote a text of so many octets, or removed so many messages' worth.
+    fn logs(&mut self, octets: u64)
+        ensures { self.new ≡ self.old }
+    {
+        self.logged = self.logged.saturating_add(octets).saturating_add(SMALL_WRITE);
+    }
+
     /// The answer with its refusal as the vault's fault, which is counted if it is `Store`.
     fn told<T: Drop>(&mut self, answer: Result<T, Refusal>) -> Result<T, VaultFault>
         ensures answer { result ≡ answer_of answer }
@@ -356,6 +374,14 @@ impl<S: Alter> Vault for SqlVault<S> {
     ghost settled = { λ vault c clean up held left may. settled_at _ c held up
         (λ db o m. S.Store.settled vault.conn.store db o m) left may };
 
+    fn tidy(&mut self) -> Result<(), VaultFault> {
+        if self.logged < LONG_LOG {
+            return Ok(());
+        }
+        self.logged = 0;
+        self.checkpoint()
+    }
+
     fn policy(&mut self) -> Result<Policy, VaultFault> {
         let answer = rules::policy(self.alloc, &mut self.conn);
         self.told(answer)
@@ -363,6 +389,7 @@ impl<S: Alter> Vault for SqlVault<S> {
 
     fn set_policy(&mut self, policy: &Policy) -> Result<(), VaultFault> {
         let answer = rules::set_policy(self.alloc, &mut self.conn, policy);
+        self.logs(0);
         self.told(answer)
     }
 
@@ -379,6 +406,7 @@ impl<S: Alter> Vault for SqlVault<S> {
         text: &MailText,
     ) -> Result<Deposited, VaultFault> {
         let answer = deposit::deposit(self.alloc, &mut self.conn, maildrop, class, id, text);
+        self.logs(text.octets() as u64);
         self.told(answer)
     }
 
@@ -394,6 +422,7 @@ impl<S: Alter> Vault for SqlVault<S> {
 
     fn remove(&mut self, maildrop: &Name, keys: &[MessageKey]) -> Result<(), VaultFault> {
         let answer = mail::remove(&mut self.conn, maildrop, keys);
+        self.logs((keys.len() as u64).saturating_mul(4_096));
         self.told(answer)
     }
 
@@ -404,21 +433,25 @@ impl<S: Alter> Vault for SqlVault<S> {
 
     fn put_clerk(&mut self, clerk: &Name, credential: &Credential) -> Result<bool, VaultFault> {
         let answer = clerks::put_clerk(self.alloc, &mut self.conn, clerk, credential);
+        self.logs(0);
         self.told(answer)
     }
 
     fn drop_clerk(&mut self, clerk: &Name) -> Result<(), VaultFault> {
         let answer = clerks::drop_clerk(self.alloc, &mut self.conn, clerk);
+        self.logs(0);
         self.told(answer)
     }
 
     fn add_maildrop(&mut self, maildrop: &Name) -> Result<bool, VaultFault> {
         let answer = maildrops::add_maildrop(&mut self.conn, maildrop);
+        self.logs(0);
         self.told(answer)
     }
 
     fn drop_maildrop(&mut self, maildrop: &Name) -> Result<(), VaultFault> {
         let answer = maildrops::drop_maildrop(&mut self.conn, maildrop);
+        self.logs(0);
         self.told(answer)
     }
 }

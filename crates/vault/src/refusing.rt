@@ -243,6 +243,17 @@ impl<V: Vault> Vault for Refusing<V> {
         self.vault.drop_maildrop(maildrop)
     }
 
+    fn tidy(&mut self) -> Result<(), VaultFault>
+        ensures looks { Looks (over V.holds) (faults_of V.faults) (over V.is_clean)
+            (over V.is_up) (over V.may_leave) self.old self.new result }
+        ensures turn { IsInTurn V.faults self.old self.new result }
+    {
+        if self.countdown.is_due() {
+            return Err(VaultFault::Store);
+        }
+        self.vault.tidy()
+    }
+
     fn policy(&mut self) -> Result<Policy, VaultFault>
         ensures done { (c : Contents) → V.holds self.old.vault c → V.is_clean self.new.vault
             → IsPolicy (V.holds self.new.vault) c result }

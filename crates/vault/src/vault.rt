@@ -155,6 +155,11 @@ pub trait Vault {
         ensures commits { Commits holds faults is_clean is_up may_leave self.old self.new
             (λ c Held. IsPolicySet Held c policy.now) result };
 
+    /// Does what the store puts off while somebody waits, such as copying a long log. Nothing is
+    /// changed. Most stores have nothing to do.
+    fn tidy(&mut self) -> Result<(), VaultFault>
+        ensures looks { Looks holds faults is_clean is_up may_leave self.old self.new result };
+
     /// The contents that a clean store holds are sound.
     ghost sound: { (vault : Self) (c : Contents) → holds vault c → is_clean vault → AreSound c };
 
