@@ -31,10 +31,6 @@ opened_if : (b : Bool) (s : Outcome) (c : ℕ) → or_ignored (reason_if b TooMa
 opened_if true s c e = cc
 opened_if false s c e = e
 
-ignored_if : (b : Bool) (s : Outcome) (r : Reason) → or_ignored (reason_if b TooManyConnections) s ≡ outcome.Ignored r → (b ≡ true) ⊎ (s ≡ outcome.Ignored r)
-ignored_if true s r e = inl refl
-ignored_if false s r e = inr e
-
 -- what Connect is never answered
 is_odd : Outcome → Bool
 is_odd (Opened c) = false

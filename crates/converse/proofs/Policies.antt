@@ -26,10 +26,6 @@ ended_still Is Also written more p w fault.OutOfMemory h = tt
 pub ended_unwritten : (Is Also : PolicyFault → Type 0) (more : Bool) → ((e : PolicyFault) → Is e → Also e) → (f : Fault) → IsPolicyEnd Is false f → IsPolicyEnd Also more f
 ended_unwritten Is Also more p f h = ended_still Is Also false more p (λ e. absurd (true≢false (sym e))) f h
 
--- memory ran out
-pub ended_lacking : (Is : PolicyFault → Type 0) (written : Bool) (f : Fault) → f ≡ fault.OutOfMemory → IsPolicyEnd Is written f
-ended_lacking Is written f same = subst (IsPolicyEnd Is written) (sym same) tt
-
 -- a call of the writer failed
 pub ended_writing : (Is : PolicyFault → Type 0) (written : Bool) (f : Fault) → f ≡ fault.CannotWrite → written ≡ true → IsPolicyEnd Is written f
 ended_writing Is written f same failed = subst (IsPolicyEnd Is written) (sym same) failed

@@ -12,8 +12,10 @@ pub mod check_store;
 pub mod export;
 mod fault;
 mod fields;
+mod folder;
 pub mod form;
 mod noted;
+mod noted_folder;
 mod printer;
 mod printing;
 mod record;
@@ -28,8 +30,9 @@ mod writing;
 
 pub use fault::{Fault, fault_text, put_fault, read_fault, tell_fault};
 pub use noted::Noted;
+pub use noted_folder::NotedFolder;
 pub use printer::{Flushed, Printer};
-pub use record::Record;
+pub use record::{FileRecord, Record};
 pub use streams::{Sink, Source};
 pub use texts::Texts;
 

@@ -1,6 +1,7 @@
-//! The octets that went through a reader or a writer, which only clauses read.
-ghost use Rattle.std.specs.Prelude.{◌≡◌, ℕ, List, [], ◌++◌};
+//! What went through a reader, a writer or a folder, which only clauses read.
+ghost use Rattle.std.specs.Prelude.{◌≡◌, ℕ, List, [], ◌∷◌, ◌++◌};
 ghost use Rattle.std.specs.Borrow.{ftrue};
+ghost use Rattle.converse.specs.Exported.{File};
 
 use std::marker::{Model, PhantomData};
 
@@ -28,5 +29,33 @@ impl Record {
     /// These octets too.
     pub(crate) fn note(&mut self, _octets: &[u8])
         ensures { self.new.noted ≡ self.old.noted ++ _octets.now }
+    {}
+}
+
+/// Files, the newest last, that only clauses read: it takes no memory.
+#[derive(Drop)]
+pub struct FileRecord {
+    marker: PhantomData<u8>,
+    pub ghost files: { List File },
+}
+
+impl Model for FileRecord {
+    ghost also_owns = { λ _. ftrue };
+}
+
+impl FileRecord {
+    /// No file.
+    pub(crate) fn new() -> FileRecord
+        ensures { result.files ≡ [] }
+    {
+        FileRecord {
+            marker: PhantomData,
+        }
+    }
+
+    /// A file of this name and these octets too.
+    pub(crate) fn note(&mut self, _name: &[u8], _octets: &[u8])
+        ensures { self.new.files ≡ self.old.files
+            ++ record { name = _name.now; octets = _octets.now } ∷ [] }
     {}
 }

@@ -6,7 +6,7 @@ use crate::store_file::log_octets;
 use causes::{Watched, tell_closed_store, tell_refusal, tell_unread};
 use converse::check_store::StoreFile;
 use converse::export::Folder;
-use converse::{Fault, Noted, tell_fault};
+use converse::{Fault, Noted, NotedFolder, tell_fault};
 use creds::Name;
 use jobs::{check_all, export_from, open_fault};
 use mailsql::meta::find_meta_row;
@@ -279,14 +279,14 @@ fn export_over<A: Alter, E: Write>(
     let alloc: Global = rt.alloc();
     let out = BufWriter::new(alloc, io::writer(rt)).map_err(|_| Fault::OutOfMemory)?;
     let mut out = Noted::new(Watched::new(out));
-    let mut folder = NamedFolder {
+    let mut folder = NotedFolder::new(NamedFolder {
         rt,
         path: options.folder,
         is_settled: false,
         faults: 0,
         refusal: None,
         taken: None,
-    };
+    });
     let compared = !options.damaged;
     let status = export_from(alloc, vault, maildrop, compared, &mut folder, &mut out, err);
     if options.is_verbose && status != 0 {
@@ -294,7 +294,7 @@ fn export_over<A: Alter, E: Write>(
             let store = options.store;
             let _ = writeln!(err, "why: {store}: it has no maildrop {maildrop}");
         }
-        tell_folder(err, &folder);
+        tell_folder(err, &folder.inner);
         tell_refusal(err, "standard output", out.inner.refusal());
     }
     Ok(status)

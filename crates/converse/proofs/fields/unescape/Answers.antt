@@ -11,6 +11,3 @@ loop-rest-preserved c =
       short = grind (arith, common_steps, next.shorter, read.len, c.loop-rest.invariant.short);
       is = behind_more _ _ _ _ _ _ c.loop-rest.invariant.is next.is read.items;
     }
-
-pub returns-in_default-clause-is : goal.returns-in_default-clause-is
-returns-in_default-clause-is c = search rules

@@ -35,36 +35,6 @@ returns-in_err-hear-clause-read g c =
           }),
     )
 
-pub returns-in_default-clause-counted : goal.returns-in_default-clause-counted
-returns-in_default-clause-counted g c = search rules
-
-pub returns-in_default-clause-clean : goal.returns-in_default-clause-clean
-returns-in_default-clause-clean g c = search rules
-
-pub returns-then-count-eq0-clause-counted : goal.returns-then-count-eq0-clause-counted
-returns-then-count-eq0-clause-counted g c = search rules
-
-pub returns-then-count-eq0-clause-clean : goal.returns-then-count-eq0-clause-clean
-returns-then-count-eq0-clause-clean g c = search rules
-
-pub returns-then-count-eq0-clause-read : goal.returns-then-count-eq0-clause-read
-returns-then-count-eq0-clause-read g c = search rules
-
-pub returns-in_err-hear-clause-counted : goal.returns-in_err-hear-clause-counted
-returns-in_err-hear-clause-counted g c = search rules
-
-pub returns-in_err-hear-clause-clean : goal.returns-in_err-hear-clause-clean
-returns-in_err-hear-clause-clean g c = search rules
-
-pub returns-clause-counted : goal.returns-clause-counted
-returns-clause-counted g c = search rules
-
-pub returns-clause-clean : goal.returns-clause-clean
-returns-clause-clean g c = search rules
-
-pub returns-clause-read : goal.returns-clause-read
-returns-clause-read g c = search rules
-
 pub returns-in_default-clause-failed : goal.returns-in_default-clause-failed
 returns-in_default-clause-failed g c = c.in_default.ensures.given.1
 

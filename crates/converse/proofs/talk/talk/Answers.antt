@@ -66,18 +66,6 @@ returns-clause-talked g c =
           }),
     )
 
-pub returns-in_err-c-clause-counted : goal.returns-in_err-c-clause-counted
-returns-in_err-c-clause-counted g c = search rules
-
-pub returns-in_err-c-clause-clean : goal.returns-in_err-c-clause-clean
-returns-in_err-c-clause-clean g c = search rules
-
-pub returns-clause-counted : goal.returns-clause-counted
-returns-clause-counted g c = search rules
-
-pub returns-clause-clean : goal.returns-clause-clean
-returns-clause-clean g c = search rules
-
 pub returns-in_err-c-clause-failed : goal.returns-in_err-c-clause-failed
 returns-in_err-c-clause-failed g c =
     let f = c.in_err-c.field-0.0 in
