@@ -751,7 +751,7 @@ function keepDraft() {
 }
 
 async function replaceDraft(text) {
-  const isOther = state.draft.trim() && state.draft !== text;
+  const isOther = state.draft.trim() && ![text, state.force].includes(state.draft);
   const body = [paragraph('What the draft says now is lost.')];
   if (isOther && !await agrees('Replace the draft?', body, 'Replace')) return;
   $('draft').value = text;
@@ -918,7 +918,8 @@ async function putInForce() {
     paragraph(`Decisions that become allowed: ${gives.length}; denied: ${takes.length}.`),
     never.length ? warning(`Rules that never decide: ${never.length}.`) : null,
     nobody ? warning('By this draft nobody may open any maildrop.') : null,
-    paragraph('It binds at once, also clerks who are in. The server keeps what is in force now.'),
+    paragraph('It binds at once, also clerks who are in.'),
+    paragraph('What is in force now is kept: “Policies that were in force before” gives it back.'),
   ];
   if (!await agrees('Put the draft in force?', body, 'Put in force')) return;
   $('d-put').disabled = true;
