@@ -12,6 +12,7 @@ pub mod Looking
 pub mod Origins
 pub mod Places
 pub mod Pacing
+pub mod Waiting
 pub mod Working
 pub mod Offering
 pub mod Turns

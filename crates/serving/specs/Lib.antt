@@ -21,6 +21,7 @@ pub mod Running
 pub mod Deposits
 pub mod Scripts
 pub mod Places
+pub mod Due
 pub mod ScriptSpools
 pub mod Guesses
 pub mod Newcomers

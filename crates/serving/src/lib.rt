@@ -9,6 +9,7 @@ mod ahead;
 mod arrivals;
 mod clients;
 mod counts;
+mod due;
 mod ends;
 mod file_name;
 mod file_notes;
@@ -38,6 +39,7 @@ mod turn;
 mod wire;
 
 pub use counts::Counts;
+pub use due::nobody_is_passed_over;
 pub use file_name::{FileName, names_read_back};
 pub use file_notes::FileNotes;
 pub use folder_spool::FolderSpool;

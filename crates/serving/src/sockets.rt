@@ -3,10 +3,12 @@ ghost use Rattle.std.specs.Prelude.{◌≡◌, ◌≤◌, ◌⊎◌, ◌++◌, �
 ghost use Rattle.std.specs.Prelude.{find, option_copied};
 ghost use Rattle.serving.specs.Wires.{IsWithin, counted as shown_of};
 ghost use Rattle.serving.specs.Counting.{count_at, counted_with};
+ghost use Rattle.serving.specs.Due.{presses, chosen};
 ghost use Rattle.serving.specs.Places.{is_same_port, is_place_of, peer_in, address_in, HasPlace};
 
 use crate::ahead::Ahead;
 use crate::counts::Counts;
+use crate::due;
 use crate::wire::{Io, Link, Port, Wire};
 use mio::net::{TcpListener, TcpStream};
 use mio::{Events, Interest, Poll, Token};
@@ -77,7 +79,7 @@ impl Door {
 
 /// A place for a link.
 #[derive(Drop)]
-struct Place {
+pub(crate) struct Place {
     /// The port and the number of the link that has it, or had it last.
     port: Port,
     number: u64,
@@ -87,8 +89,17 @@ struct Place {
     peer: Option<SocketAddr>,
     /// What came and was looked at, but not read yet.
     ahead: Ahead,
-    /// Octets may have come: the system told so, and no read has given `Later` since.
+    /// Octets may have come: the system told so, and no read has emptied the socket since.
     unread: bool,
+    /// The other end sends no more, or the link is broken: the system told so.
+    is_ending: bool,
+    /// Its socket may be read before the next wait.
+    is_due: bool,
+    /// The number of its last turn at reading, or of its link's beginning: of those that wait, the
+    /// one that waits longest has the least.
+    pub(crate) turn: u64,
+    /// Its number among the places, so that no two turns are the same.
+    at: u64,
     /// The last write gave `Later`, and the system hasn't told since that more may be written.
     is_blocked: bool,
 }
@@ -106,6 +117,8 @@ pub struct SocketWire {
     places: Vec<Place>,
     /// How many links were accepted at each port: the number of its next one.
     counts: Counts,
+    /// Every turn at reading so far has a smaller number.
+    turns: u64,
 }
 
 /// A read or write of so many octets: 0 is the end of the link.
@@ -134,7 +147,7 @@ fn failed(kind: ErrorKind) -> Io
 /// Places without a link.
 fn free_places(alloc: Global) -> io::Result<Vec<Place>> {
     let mut places = Vec::new(alloc);
-    for _ in 0..PLACES {
+    for at in 0..PLACES {
         places.push(Place {
             port: Port::Pop,
             number: 0,
@@ -142,6 +155,10 @@ fn free_places(alloc: Global) -> io::Result<Vec<Place>> {
             peer: None,
             ahead: Ahead::new(alloc),
             unread: false,
+            is_ending: false,
+            is_due: false,
+            turn: 0,
+            at,
             is_blocked: false,
         })?;
     }
@@ -190,6 +207,7 @@ impl SocketWire {
             admin_door: None,
             places: free_places(alloc)?,
             counts: Counts::new(),
+            turns: 0,
         };
         Ok((wire, port))
     }
@@ -227,6 +245,7 @@ impl SocketWire {
                 }
             } else if let Some(place) = self.places.get_mut(token.0) {
                 place.unread = true;
+                place.is_ending |= event.is_read_closed() || event.is_error();
                 if event.is_writable() {
                     place.is_blocked = false;
                 }
@@ -261,7 +280,12 @@ impl SocketWire {
             stream: Some(stream),
             peer: Some(peer),
             ahead: Ahead::new(self.alloc),
+            // It is read in the turn that accepts it: it may have ended already.
             unread: true,
+            is_ending: false,
+            is_due: true,
+            turn: self.turns.saturating_add(place.at),
+            at: place.at,
             is_blocked: false,
         };
         Some(link)
@@ -292,8 +316,22 @@ impl Place {
 
     /// Whether a read may give octets at once. Octets that were looked at and left unread don't
     /// count: a login among them waits for another link.
-    fn is_pressing(&self) -> bool {
+    pub(crate) fn is_pressing(&self) -> bool
+        ensures { result ≡ presses self.now }
+    {
         self.unread && !self.is_blocked && self.ahead.is_empty()
+    }
+
+    /// Lets its socket be read before the next wait, if it presses, and its other end has ended or
+    /// fewer than `most` wait longer; then its turn comes behind so many.
+    pub(crate) fn choose(&mut self, turns: u64, most: usize, waiting: &[u64])
+        ensures { self.new ≡ chosen turns most waiting.now self.old }
+    {
+        self.is_due = self.is_pressing()
+            && (self.is_ending || due::before(self.turn, waiting) < most);
+        if self.is_due {
+            self.turn = turns.saturating_add(self.at);
+        }
     }
 
     /// Reads the octets that were looked at before, or else the socket.
@@ -349,7 +387,7 @@ impl Place {
         came
     }
 
-    /// Reads the socket, if octets may have come.
+    /// Reads the socket, if octets may have come and it is due.
     fn read_stream(&mut self, buffer: &mut [u8]) -> Io
         ensures within { IsWithin (length buffer.old) result }
         ensures ahead { self.new.ahead ≡ self.old.ahead }
@@ -358,11 +396,17 @@ impl Place {
         let Some(stream) = &mut self.stream else {
             return Io::Broken;
         };
-        if !self.unread {
+        if !self.unread || !self.is_due {
             return Io::Later;
         }
         match stream.read(buffer) {
-            Ok(count) => counted(count, buffer.len()),
+            Ok(count) => {
+                // Fewer octets than there was room for: the socket has no more of them.
+                if count < buffer.len() && !self.is_ending {
+                    self.unread = false;
+                }
+                counted(count, buffer.len())
+            }
             Err(error) => {
                 if error.kind() != ErrorKind::Interrupted {
                     self.unread = false;
@@ -406,6 +450,8 @@ impl Wire for SocketWire {
         if self.poll.poll(&mut self.events, Some(time)).is_ok() {
             self.note_events();
         }
+        self.turns = self.turns.saturating_add(PLACES);
+        due::choose(self.places.as_mut_slice(), self.turns);
         self.door.is_refused = false;
         if let Some(door) = &mut self.admin_door {
             door.is_refused = false;
@@ -453,6 +499,7 @@ impl Wire for SocketWire {
             place.stream = None;
             place.ahead.clear();
             place.unread = false;
+            place.is_ending = false;
             place.is_blocked = false;
         }
     }

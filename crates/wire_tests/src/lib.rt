@@ -27,3 +27,5 @@ mod strangers;
 mod swapped;
 #[cfg(test)]
 mod turns;
+#[cfg(test)]
+mod waiting;
