@@ -8,6 +8,7 @@ pub mod NotedWires
 pub mod Requests
 pub mod Spools
 pub mod NotedFiles
+pub mod NotedHearings
 pub mod Served
 pub mod Settings
 pub mod Works
