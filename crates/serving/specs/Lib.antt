@@ -10,7 +10,11 @@ pub mod Spools
 pub mod NotedFiles
 pub mod Served
 pub mod Settings
+pub mod Given
+pub mod KeptBack
 pub mod Works
+pub mod Ways
+pub mod Seen
 pub mod Late
 pub mod Hearing
 pub mod HttpTurns
