@@ -11,7 +11,11 @@ pub mod NotedFiles
 pub mod NotedHearings
 pub mod Served
 pub mod Settings
+pub mod Given
+pub mod KeptBack
 pub mod Works
+pub mod Ways
+pub mod Seen
 pub mod Late
 pub mod Hearing
 pub mod HttpTurns
