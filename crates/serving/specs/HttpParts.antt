@@ -81,10 +81,10 @@ HadTurnAt site now place stays held held_then B L given calls =
 
 -- What follows of a response was written once or more, and if that doesn't go on nothing more
 -- can be written for now.
-pub record Tells (e e_then : Exchange) (times octets : ℕ) (goes : Bool) (calls : List Call)
+pub record Tells (e e_then : Exchange) (times octets : ℕ) (has_more : Bool) (calls : List Call)
     : Type 0 where
   pub is : IsToldOf e e_then times octets calls
-  pub ends : goes ≡ false → HasToldAll e_then calls
+  pub ends : has_more ≡ false → HasToldAll e_then calls
 
 -- the exchange is still that of its link, which was accepted when it was
 pub record KeepsLink (e e_then : Exchange) : Type 0 where

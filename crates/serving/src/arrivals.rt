@@ -61,9 +61,9 @@ impl<V: Vault, W: Wire, L: Listener> Server<V, W, L> {
         ensures comers { AreNoted clients.old clients.new now }
         ensures heard { (h : List Hearing) → L.heard self.old.listener h
             → L.heard self.new.listener h }
-        ensures works { (goes : Bool) × Does V.Vault W.Wire L.Listener self.old self.new
+        ensures works { (has_more : Bool) × Does V.Vault W.Wire L.Listener self.old self.new
             (AreAccepted V.holds V.is_clean self.old.office self.new.office
-            clients.old.seats.items clients.new.seats.items 64 goes) }
+            clients.old.seats.items clients.new.seats.items 64 has_more) }
     {
         for _times in 0..MOST_LINKS {
             if !self.accept_link(clients, now) {

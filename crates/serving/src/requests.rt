@@ -25,7 +25,7 @@ ghost use Rattle.serving.specs.Hearing.{Hearing, WasTold, HeardApart, heard_by};
 ghost use Rattle.serving.specs.Requests.{octets_of, IsToldBy, HasAsked, HasOneMore, StillAnswers};
 ghost use Rattle.serving.specs.Requests.{StillAsked, AllStillAnswer, AllStillAsked};
 
-use crate::listener::{Asked, Listener};
+use crate::listener::{AdminRequest, Listener};
 use crate::octets::part_of;
 use crate::server::Server;
 use crate::wire::{Io, Link, Port, Wire};
@@ -225,7 +225,7 @@ fn command<V: Vault, L: Listener>(
     tell_end(listener, command, &account);
     let (response, content) = response_to(alloc, &outcome);
     let line = Some(RequestLine::of(command));
-    listener.asked(link, &Asked { line, content });
+    listener.asked(link, &AdminRequest { line, content });
     response
 }
 
@@ -242,7 +242,7 @@ fn refuse<L: Listener>(
 {
     let line = RequestLine::read(alloc, read).unwrap_or(None);
     let content = Content::Refusal(refusal);
-    listener.asked(link, &Asked { line, content });
+    listener.asked(link, &AdminRequest { line, content });
     Response::Fixed(refusal)
 }
 
@@ -274,7 +274,7 @@ fn refuse_policy<L: Listener>(
         method: Method::Put,
         target: Target::Policy,
     });
-    listener.asked(link, &Asked { line, content });
+    listener.asked(link, &AdminRequest { line, content });
     response
 }
 
@@ -426,8 +426,8 @@ fn accept_request<W: Wire>(wire: &mut W, requests: &mut Requests, now: u64) -> b
 pub(crate) fn accept_requests<W: Wire>(wire: &mut W, requests: &mut Requests, most: usize, now: u64)
     ensures few { length requests.old.exchanges.items ≤ most_exchanges
         → length requests.new.exchanges.items ≤ most_exchanges }
-    ensures works { (goes : Bool) × AsksApart W.asked wire.old wire.new
-        (HasAcceptedForAdmin now most goes requests.old.exchanges.items
+    ensures works { (has_more : Bool) × AsksApart W.asked wire.old wire.new
+        (HasAcceptedForAdmin now most has_more requests.old.exchanges.items
         requests.new.exchanges.items) }
     ensures answers { AllStillAnswer W.tells wire.old requests.old.exchanges.items wire.new
         requests.new.exchanges.items }

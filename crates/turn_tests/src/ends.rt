@@ -2,7 +2,7 @@
 //! too long to log in, and of one that hadn't logged in while all places were taken.
 use crate::two_clerks::office_of_two;
 use office::{Account, End};
-use serving::{Asked, Link, Listener, ScriptSpool, ScriptWire, Server};
+use serving::{AdminRequest, Link, Listener, ScriptSpool, ScriptWire, Server};
 use std::alloc::{AllocError, Global};
 use std::test::Fail;
 
@@ -48,7 +48,7 @@ impl Listener for Ends {
         }
     }
 
-    fn asked(&mut self, _link: Link, _asked: &Asked<'_>) {}
+    fn asked(&mut self, _link: Link, _asked: &AdminRequest<'_>) {}
 }
 
 /// What is heard of silent clients, of whom so many come before the turn at each of these moments,

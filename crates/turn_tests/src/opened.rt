@@ -2,7 +2,7 @@
 
 use crate::two_clerks::office_of_two;
 use office::Account;
-use serving::{Asked, Link, Listener, ScriptSpool, ScriptWire, Server};
+use serving::{AdminRequest, Link, Listener, ScriptSpool, ScriptWire, Server};
 use std::test::Fail;
 
 /// The last link that was opened, its connection, and how many there were.
@@ -24,7 +24,7 @@ impl Listener for Doorman {
 
     fn hear(&mut self, _connection: u64, _account: &Account) {}
 
-    fn asked(&mut self, _link: Link, _asked: &Asked<'_>) {}
+    fn asked(&mut self, _link: Link, _asked: &AdminRequest<'_>) {}
 }
 
 #[test]
