@@ -113,28 +113,25 @@ fn tell_slow<E: Write>(err: &mut E) {
     }
 }
 
-/// Listens, and says so on standard output and in the log. Gives the wire; its error is the exit
-/// status if the system refused to listen, or the fault.
-fn listen_and_say<'a, E: Write>(
-    rt: &'a HostRuntime,
+/// Says at which ports the server listens, on standard output and in the log.
+fn say_start<E: Write>(
+    rt: &HostRuntime,
     at: SocketAddr,
+    ports: (u16, u16),
     spool: &str,
     options: &ServeOptions<'_>,
-    journal: &Journal<'a>,
-    watch: &StoreWatch<'a>,
+    journal: &Journal<'_>,
+    watch: &StoreWatch<'_>,
     totals: &Option<Vec<Total>>,
     err: &mut E,
-) -> Result<NotedWire<SocketWire>, Result<u8, Fault>> {
-    let (wire, port, admin_port) = match listen(rt, at, options.admin_port) {
-        Ok(listening) => listening,
-        Err((at, error)) => return Err(Ok(tell_refused(err, options.is_verbose, at, &error))),
-    };
+) -> Result<(), Fault> {
+    let (port, admin_port) = ports;
     let mut out = io::writer(rt);
-    writeln!(out, "pop on {}:{}", at.ip(), port).map_err(|_| Err(Fault::CannotWrite))?;
-    writeln!(out, "admin on 127.0.0.1:{admin_port}").map_err(|_| Err(Fault::CannotWrite))?;
+    writeln!(out, "pop on {}:{}", at.ip(), port).map_err(|_| Fault::CannotWrite)?;
+    writeln!(out, "admin on 127.0.0.1:{admin_port}").map_err(|_| Fault::CannotWrite)?;
     tell_slow(err);
     let pop = SocketAddr::from((at.ip(), port));
-    let settings = options.settings().map_err(Err)?;
+    let settings = options.settings()?;
     note_start(
         journal,
         rt,
@@ -147,7 +144,7 @@ fn listen_and_say<'a, E: Write>(
     if options.is_verbose && !journal.is_on() {
         Folder::new(rt, spool).tell_left(err);
     }
-    Ok(wire)
+    Ok(())
 }
 
 /// Listens, says so, and serves the clients and administrators that come. Gives the office back.
@@ -162,10 +159,18 @@ fn serve<'a, V: Vault, E: Write>(
     totals: &Option<Vec<Total>>,
     err: &mut E,
 ) -> (Result<u8, Fault>, Office<V>) {
-    let wire = match listen_and_say(rt, at, spool, options, &journal, watch, totals, err) {
-        Ok(wire) => wire,
-        Err(status) => return (status, office),
+    let (wire, port, admin_port) = match listen(rt, at, options.admin_port) {
+        Ok(listening) => listening,
+        Err((at, error)) => {
+            let status = tell_refused(err, options.is_verbose, at, &error);
+            return (Ok(status), office);
+        }
     };
+    let ports = (port, admin_port);
+    let said = say_start(rt, at, ports, spool, options, &journal, watch, totals, err);
+    if let Err(fault) = said {
+        return (Err(fault), office);
+    }
     let (served, office) = if options.proxy_protocol {
         let wire = ProxiedWire::new(rt.alloc(), wire, rt);
         serve_turns(rt, office, wire, spool, options, journal, watch)
