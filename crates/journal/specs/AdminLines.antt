@@ -5,7 +5,7 @@ use Rattle.adminhttp.specs.Contents.{response_of, status_code, line_told}
 use Rattle.adminhttp.specs.RequestLines.{method_text, path_of}
 use Rattle.adminhttp.specs.declared.content.Content.{Content}
 use Rattle.adminhttp.specs.declared.request_line.RequestLine.{RequestLine}
-use Rattle.serving.specs.declared.listener.Asked.{Asked}
+use Rattle.serving.specs.declared.listener.AdminRequest.{AdminRequest}
 
 -- the values of a request's line, if it has one
 abbrev pub request_text : Option RequestLine → List ℕ
@@ -24,7 +24,7 @@ answer_text None = []
 answer_text (Some line) = codes " answer=\"" ++ line ++ codes "\""
 
 -- the line of what was asked
-abbrev pub asked_text : (who : List ℕ) → Asked → (is_sent : Bool) → List ℕ
+abbrev pub asked_text : (who : List ℕ) → AdminRequest → (is_sent : Bool) → List ℕ
 asked_text who asked is_sent =
     codes "event=admin " ++ who ++ request_text asked.line
     ++ codes " status=" ++ status_text asked.content is_sent

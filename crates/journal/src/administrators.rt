@@ -1,6 +1,6 @@
 //! The connections of the administration, as the log has them.
 use super::asked_text::{asked_line, unasked_line};
-use serving::{Asked, Link};
+use serving::{AdminRequest, Link};
 use std::alloc::{AllocError, Global};
 
 /// The lines of what was asked: if a response went out, and if none did.
@@ -54,7 +54,7 @@ impl Administrators {
     }
 
     /// Takes what was asked over a link.
-    pub fn ask(&mut self, alloc: Global, link: Link, asked: &Asked<'_>) {
+    pub fn ask(&mut self, alloc: Global, link: Link, asked: &AdminRequest<'_>) {
         if let Some(administrator) = self.at(link) {
             let who = administrator.who.as_str();
             let heard = Heard {

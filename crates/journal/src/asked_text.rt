@@ -5,7 +5,7 @@ ghost use Rattle.journal.specs.AdminLines.{request_text as request_words, status
 ghost use Rattle.journal.specs.AdminLines.{answer_text as answer_words, asked_text, unasked_text};
 
 use adminhttp::{Content, RequestLine};
-use serving::Asked;
+use serving::AdminRequest;
 use std::alloc::{AllocError, Global};
 
 /// The values of a request's line, if it has one.
@@ -54,7 +54,7 @@ fn told_text(alloc: Global, line: &str) -> Result<String, AllocError>
 pub fn asked_line(
     alloc: Global,
     who: &str,
-    asked: &Asked<'_>,
+    asked: &AdminRequest<'_>,
     is_sent: bool,
 ) -> Result<String, AllocError>
     ensures { IfOk result (λ text. string_bytes text ≡ asked_text who.now asked.now is_sent) }

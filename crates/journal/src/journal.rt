@@ -8,7 +8,7 @@ use creds::Name;
 use jiff::Timestamp;
 use office::{Account, Removal};
 use proxy::Refusal;
-use serving::{Asked, Link, Listener};
+use serving::{AdminRequest, Link, Listener};
 use std::alloc::{AllocError, Global};
 use std::cell::{Cell, RefCell};
 use std::io::Write;
@@ -254,7 +254,7 @@ impl Listener for Journal<'_> {
         self.note_some(text);
     }
 
-    fn asked(&mut self, link: Link, asked: &Asked<'_>) {
+    fn asked(&mut self, link: Link, asked: &AdminRequest<'_>) {
         if self.is_on
             && let Ok(mut administrators) = self.shared.administrators.try_borrow_mut()
         {

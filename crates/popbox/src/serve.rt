@@ -10,8 +10,8 @@ use office::{AdminAccess, Limits, Office};
 use proxy::ProxiedWire;
 use recent::Recent;
 use serving::{
-    Clock, FolderSpool, NotedClock, NotedListener, NotedSpool, NotedWire, SocketWire, Wire, begin,
-    serve_while,
+    Clock, FolderSpool, Listener, NotedClock, NotedListener, NotedSpool, NotedWire, Server,
+    SocketWire, Spool, Wire,
 };
 use std::io;
 use std::io::Write;
@@ -58,10 +58,10 @@ pub fn serve_over<V: Vault, E: Write>(
     });
     match Office::open(rt.alloc(), vault, options.host, boot, limits) {
         Err((fault, vault)) => (Err(Fault::from(fault)), vault.into_vault().into_vault()),
-        Ok(mut office) => {
-            let served = serve(
+        Ok(office) => {
+            let (served, office) = serve(
                 rt,
-                &mut office,
+                office,
                 at,
                 spool.as_str(),
                 options,
@@ -113,22 +113,19 @@ fn tell_slow<E: Write>(err: &mut E) {
     }
 }
 
-/// Listens, says so, and serves the clients and administrators that come.
-fn serve<'a, V: Vault, E: Write>(
-    rt: &'a HostRuntime,
-    office: &mut Office<V>,
+/// Says at which ports the server listens, on standard output and in the log.
+fn say_start<E: Write>(
+    rt: &HostRuntime,
     at: SocketAddr,
-    spool: &'a str,
+    ports: (u16, u16),
+    spool: &str,
     options: &ServeOptions<'_>,
-    journal: Journal<'a>,
-    watch: &'a StoreWatch<'a>,
+    journal: &Journal<'_>,
+    watch: &StoreWatch<'_>,
     totals: &Option<Vec<Total>>,
     err: &mut E,
-) -> Result<u8, Fault> {
-    let (wire, port, admin_port) = match listen(rt, at, options.admin_port) {
-        Ok(listening) => listening,
-        Err((at, error)) => return Ok(tell_refused(err, options.is_verbose, at, &error)),
-    };
+) -> Result<(), Fault> {
+    let (port, admin_port) = ports;
     let mut out = io::writer(rt);
     writeln!(out, "pop on {}:{}", at.ip(), port).map_err(|_| Fault::CannotWrite)?;
     writeln!(out, "admin on 127.0.0.1:{admin_port}").map_err(|_| Fault::CannotWrite)?;
@@ -136,7 +133,7 @@ fn serve<'a, V: Vault, E: Write>(
     let pop = SocketAddr::from((at.ip(), port));
     let settings = options.settings()?;
     note_start(
-        &journal,
+        journal,
         rt,
         pop,
         admin_port,
@@ -147,7 +144,34 @@ fn serve<'a, V: Vault, E: Write>(
     if options.is_verbose && !journal.is_on() {
         Folder::new(rt, spool).tell_left(err);
     }
-    let served = if options.proxy_protocol {
+    Ok(())
+}
+
+/// Listens, says so, and serves the clients and administrators that come. Gives the office back.
+fn serve<'a, V: Vault, E: Write>(
+    rt: &'a HostRuntime,
+    office: Office<V>,
+    at: SocketAddr,
+    spool: &'a str,
+    options: &ServeOptions<'_>,
+    journal: Journal<'a>,
+    watch: &'a StoreWatch<'a>,
+    totals: &Option<Vec<Total>>,
+    err: &mut E,
+) -> (Result<u8, Fault>, Office<V>) {
+    let (wire, port, admin_port) = match listen(rt, at, options.admin_port) {
+        Ok(listening) => listening,
+        Err((at, error)) => {
+            let status = tell_refused(err, options.is_verbose, at, &error);
+            return (Ok(status), office);
+        }
+    };
+    let ports = (port, admin_port);
+    let said = say_start(rt, at, ports, spool, options, &journal, watch, totals, err);
+    if let Err(fault) = said {
+        return (Err(fault), office);
+    }
+    let (served, office) = if options.proxy_protocol {
         let wire = ProxiedWire::new(rt.alloc(), wire, rt);
         serve_turns(rt, office, wire, spool, options, journal, watch)
     } else {
@@ -158,7 +182,7 @@ fn serve<'a, V: Vault, E: Write>(
         (served, _) => served,
     };
     note_end(&journal);
-    status
+    (status, office)
 }
 
 /// Prints that the store's files aren't those any more that the server has open. Gives the exit
@@ -218,40 +242,48 @@ impl Clock for ServerClock<'_> {
 }
 
 /// Serves a wire, and the spool that is named, until so many turns are over, or the store is lost.
+/// Gives the office back.
 fn serve_turns<'a, V: Vault, W: Wire + Peers + Drop>(
     rt: &'a HostRuntime,
-    office: &mut Office<V>,
+    office: Office<V>,
     wire: W,
     spool: &'a str,
     options: &ServeOptions<'_>,
     journal: Journal<'a>,
     watch: &'a StoreWatch<'a>,
-) -> Result<u8, Fault> {
-    let mut wire = Guarded::new(LoggedWire::new(wire, journal), NotedWatch::new(watch));
+) -> (Result<u8, Fault>, Office<V>) {
+    let mut server = Server {
+        office,
+        wire: Guarded::new(LoggedWire::new(wire, journal), NotedWatch::new(watch)),
+        listener: NotedListener::new(journal.with_reads(options.reads)),
+    };
     let files = NotedSpool::new(FolderSpool::new(rt, rt.alloc(), spool));
     let folder = Folder::new(rt, spool);
     let mut spool = Guarded::new(
         LoggedSpool::new(files, journal, folder),
         NotedWatch::new(watch),
     );
-    let mut links = begin(rt.alloc(), office, &wire, &spool);
+    let served = serve_until(rt, &mut server, &mut spool, options, watch);
+    (served, server.office)
+}
+
+/// Serves a spool, until so many turns are over, or the store is lost.
+fn serve_until<V: Vault, W: Wire, S: Spool, L: Listener>(
+    rt: &HostRuntime,
+    server: &mut Server<V, W, L>,
+    spool: &mut S,
+    options: &ServeOptions<'_>,
+    watch: &StoreWatch<'_>,
+) -> Result<u8, Fault> {
+    let mut links = server.begin(rt.alloc(), spool);
     links.set_wait(u64::from(options.wait));
     links.set_login_seconds(u64::from(options.login_seconds));
     links.set_full_house_seconds(u64::from(options.full_house_seconds));
     links.set_slow_guesses(options.slow_guesses);
     links.set_site(options.site()?);
     let mut clock = NotedClock::new(ServerClock::start(rt, watch)?);
-    let journal = journal.with_reads(options.reads);
-    let mut listener = NotedListener::new(journal);
-    serve_while(
-        &mut links,
-        &mut wire,
-        office,
-        &mut spool,
-        &mut listener,
-        &mut clock,
-        options.turns.unwrap_or(u64::MAX),
-    );
+    let turns = options.turns.unwrap_or(u64::MAX);
+    server.serve_while(&mut links, spool, &mut clock, turns);
     if clock.clock.is_broken {
         return Err(Fault::NoClock);
     }

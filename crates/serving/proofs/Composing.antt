@@ -1,9 +1,24 @@
--- What parts of a turn keep of what serving holds, one after the other.
-use Rattle.std.proofs.Common.{◌≡◌, ℕ, Bool, refl, ◌∙◌}
+-- What parts of a turn keep of what serving holds, one after the other; and what they do to a server.
+use Rattle.std.proofs.Common.{◌≡◌, ◌≤◌, ℕ, Bool, List, [], ◌∷◌, ◌++◌, refl, ◌∙◌}
+use Rattle.vault.specs.declared.vault.Vault.{Ghosts}
+use Rattle.office.specs.Accounts.{account_of}
+use Rattle.office.specs.Events.{Event, Log, Trace}
+use Rattle.office.specs.Outcomes.{Outcome, HasCause, event_tag_of}
+use Rattle.office.specs.Stands.{StandsFor, vault_of}
+use Rattle.office.specs.Taken.{trace_of, IsAdmitted}
+use Rattle.office.specs.declared.account.Account.{Account}
+use Rattle.office.specs.declared.office.Office.{Office}
+use Rattle.serving.specs.Calls.{Call}
+use Rattle.serving.specs.Hearing.{Hearing, heard_of}
+use Rattle.serving.specs.declared.server.Server.{Server}
+use Rattle.serving.specs.declared.wire.Wire as the_wire
+use Rattle.serving.specs.declared.listener.Listener as the_listener
 use Rattle.serving.specs.declared.links.Clients.{Clients}
 use Rattle.serving.specs.Settings.{Settings}
-use Rattle.serving.specs.Parts.{Keeps, KeepsSeats, Ends, Closes}
+use Rattle.serving.specs.Parts.{Keeps, KeepsSeats, Ends, Closes, Does, WasGiven}
+use Rattle.serving.proofs.Hearing.{unheard, heard_then, heard_one}
 use Rattle.serving.proofs.Late.{late_same, late_then}
+use Rattle.serving.proofs.Working.{asked_one, given_none, given_one, part_none, part_so, part_then}
 
 -- the settings stay where these do
 abbrev made : (wait seconds full : ℕ) (slow : Bool) → Settings
@@ -42,3 +57,55 @@ shut_none a = record { keeps = keeps_none a; seated = λ h. h }
 
 pub shut_then : (a b c : Clients) → Closes a b → Closes b c → Closes a c
 shut_then a b c x y = record { keeps = keeps_then a b c x.keeps y.keeps; seated = λ h. y.seated (x.seated h) }
+
+-- ---- what parts of a turn do to a server
+
+module _ {V W L : Type 0} (vault : Ghosts V) (wire : the_wire.Ghosts W) (listener : the_listener.Ghosts L) where
+  -- nothing
+  pub does_none : (s : Server V W L) (F : Log → List Call → Type 0) → F [] [] → Does vault wire listener s s F
+  does_none s F f = part_none vault.holds vault.is_clean vault.faults wire.asked s.office s.wire _ (unheard vault.holds vault.is_clean listener.heard s.office s.listener, f)
+
+  -- one after the other
+  pub does_then : (s s1 s2 : Server V W L) (F G H : Log → List Call → Type 0)
+      → ((g1 g2 : Log) (c1 c2 : List Call) → WasGiven vault.holds vault.is_clean vault.faults s.office s1.office g1 → WasGiven vault.holds vault.is_clean vault.faults s1.office s2.office g2 → F g1 c1 → G g2 c2 → H (g2 ++ g1) (c1 ++ c2))
+      → Does vault wire listener s s1 F → Does vault wire listener s1 s2 G → Does vault wire listener s s2 H
+  does_then s s1 s2 F G H join a b =
+      part_then vault.holds vault.is_clean vault.faults wire.asked s.office s1.office s2.office s.wire s1.wire s2.wire _ _ _
+      (λ g1 g2 c1 c2 wa wb x y. (heard_then vault.holds vault.is_clean listener.heard vault.faults s.office s1.office s2.office s.listener s1.listener s2.listener g1 g2 wa wb x.0 y.0, join g1 g2 c1 c2 wa wb x.1 y.1)) a b
+
+  -- the same, of which something else holds
+  pub does_so : (s s1 : Server V W L) (F G : Log → List Call → Type 0) → ((g : Log) (c : List Call) → WasGiven vault.holds vault.is_clean vault.faults s.office s1.office g → F g c → G g c)
+      → Does vault wire listener s s1 F → Does vault wire listener s s1 G
+  does_so s s1 F G so a = part_so vault.holds vault.is_clean vault.faults wire.asked s.office s1.office s.wire s1.wire _ _ (λ g c wa x. (x.0, so g c wa x.1)) a
+
+  -- one call of the wire
+  pub does_call : (o : Office V) (l : L) (w w1 : W) (call : Call) (F : Log → List Call → Type 0) → ((before : List Call) → wire.asked w before → wire.asked w1 (before ++ call ∷ [])) → F [] (call ∷ [])
+      → Does vault wire listener (record { office = o; wire = w; listener = l }) (record { office = o; wire = w1; listener = l }) F
+  does_call o l w w1 call F called f = record {
+    given = [];
+    calls = call ∷ [];
+    was_given = given_none vault.holds vault.is_clean vault.faults o;
+    was_asked = asked_one wire.asked w w1 call called;
+    facts = (unheard vault.holds vault.is_clean listener.heard o l, f);
+  }
+
+  -- one call, and the event of a connection that it gave, which the listener hears of
+  pub does_event : (o o1 : Office V) (l l1 : L) (w w1 : W) (call : Call) (e : Event) (out : Outcome) (c : ℕ) (told : Account) (F : Log → List Call → Type 0)
+      → ((T : Trace) → heard_of T e (event_tag_of out) ≡ (c, account_of T e (event_tag_of out)) ∷ [])
+      → (vault.is_clean (vault_of o1) → vault.is_clean (vault_of o))
+      → ((T : Trace) → StandsFor vault.holds o T → vault.is_clean (vault_of o1) → StandsFor vault.holds o1 (trace_of T.base ((e, event_tag_of out) ∷ T.log)))
+      → ((T : Trace) → StandsFor vault.holds o T → vault.is_clean (vault_of o1) → IsAdmitted T e (event_tag_of out))
+      → vault.faults (vault_of o) ≤ vault.faults (vault_of o1)
+      → ((T : Trace) → StandsFor vault.holds o T → vault.is_clean (vault_of o1) → HasCause (vault.faults (vault_of o)) (vault.faults (vault_of o1)) out)
+      → ((T : Trace) → StandsFor vault.holds o T → vault.is_clean (vault_of o1) → told ≡ account_of T e (event_tag_of out))
+      → ((before : List Call) → wire.asked w before → wire.asked w1 (before ++ call ∷ []))
+      → ((h : List Hearing) → listener.heard l h → listener.heard l1 (h ++ (c, told) ∷ []))
+      → F ((e, event_tag_of out) ∷ []) (call ∷ [])
+      → Does vault wire listener (record { office = o; wire = w; listener = l }) (record { office = o1; wire = w1; listener = l1 }) F
+  does_event o o1 l l1 w w1 call e out c told F one clean stands admitted counted cause is called heard f = record {
+    given = (e, event_tag_of out) ∷ [];
+    calls = call ∷ [];
+    was_given = given_one vault.holds vault.is_clean vault.faults o o1 e out clean stands admitted counted cause;
+    was_asked = asked_one wire.asked w w1 call called;
+    facts = (heard_one vault.holds vault.is_clean listener.heard o o1 l l1 e (event_tag_of out) c told one is heard, f);
+  }

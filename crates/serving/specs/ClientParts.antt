@@ -81,12 +81,12 @@ pub record HaveCome {V : Type 0} (Holds : V → Contents → Type 0) (IsClean : 
   pub only : All IsOpening given
   pub caused : AreCaused [] calls given
 
-pub record AreAccepted {V : Type 0} (Holds : V → Contents → Type 0) (IsClean : V → Type 0) (office office_then : Office V) (seats seats_then : List Seat) (most : ℕ) (goes : Bool)
+pub record AreAccepted {V : Type 0} (Holds : V → Contents → Type 0) (IsClean : V → Type 0) (office office_then : Office V) (seats seats_then : List Seat) (most : ℕ) (has_more : Bool)
     (given : Log) (calls : List Call) : Type 0 where
   pub came : List Came
   pub come : HaveCome Holds IsClean office office_then seats seats_then came given calls
-  pub enough : goes ≡ true → most ≤ length came
-  pub all : goes ≡ false → HasAccepted (length seats_then) calls
+  pub enough : has_more ≡ true → most ≤ length came
+  pub all : has_more ≡ false → HasAccepted (length seats_then) calls
 
 -- nothing is owed to a connection by then
 abbrev pub OwesNothing : {V : Type 0} (Holds : V → Contents → Type 0) (IsClean : V → Type 0) (office office_then : Office V) (c : ℕ) (given : Log) → Type 0
@@ -94,21 +94,21 @@ OwesNothing Holds IsClean office office_then c given =
     (B : Records) (L : Log) → StandsFor Holds office (trace_of B L) → IsClean (vault_of office_then) → rest (trace_of B (given ++ L)) c ≡ []
 
 -- A link was written on so many times, so many octets; and it takes no more for now, or nothing more is owed, if that is over.
-pub record IsWritten {V : Type 0} (Holds : V → Contents → Type 0) (IsClean : V → Type 0) (office office_then : Office V) (seat : Seat) (times octets : ℕ) (goes : Bool)
+pub record IsWritten {V : Type 0} (Holds : V → Contents → Type 0) (IsClean : V → Type 0) (office office_then : Office V) (seat : Seat) (times octets : ℕ) (has_more : Bool)
     (given : Log) (calls : List Call) : Type 0 where
   pub of_seat : IsQuietFor (seat ∷ []) given calls
   pub taken : times ≤ length (filter (is_taking_of seat.link) calls)
   pub octets_are : octets ≤ octets_taken seat.link calls
   pub offered : AreOffered Holds IsClean office office_then (seat ∷ []) given calls
-  pub ends : goes ≡ false → (list_any (is_later_of seat.link) calls ≡ true) ⊎ OwesNothing Holds IsClean office office_then seat.connection given
+  pub ends : has_more ≡ false → (list_any (is_later_of seat.link) calls ≡ true) ⊎ OwesNothing Holds IsClean office office_then seat.connection given
 
 -- A link was written its share, or as often as it may be, if it goes on; or it takes no more for now, or nothing more is owed.
-pub record IsWrittenOut {V : Type 0} (Holds : V → Contents → Type 0) (IsClean : V → Type 0) (office office_then : Office V) (seat : Seat) (share : ℕ) (goes : Bool)
+pub record IsWrittenOut {V : Type 0} (Holds : V → Contents → Type 0) (IsClean : V → Type 0) (office office_then : Office V) (seat : Seat) (share : ℕ) (has_more : Bool)
     (given : Log) (calls : List Call) : Type 0 where
   pub of_seat : IsQuietFor (seat ∷ []) given calls
   pub offered : AreOffered Holds IsClean office office_then (seat ∷ []) given calls
-  pub goes_on : goes ≡ true → (most_writes ≤ length (filter (is_taking_of seat.link) calls)) ⊎ (share ≤ octets_taken seat.link calls)
-  pub ends : goes ≡ false → (list_any (is_later_of seat.link) calls ≡ true) ⊎ OwesNothing Holds IsClean office office_then seat.connection given
+  pub goes_on : has_more ≡ true → (most_writes ≤ length (filter (is_taking_of seat.link) calls)) ⊎ (share ≤ octets_taken seat.link calls)
+  pub ends : has_more ≡ false → (list_any (is_later_of seat.link) calls ≡ true) ⊎ OwesNothing Holds IsClean office office_then seat.connection given
 
 -- no octets may come on a connection
 abbrev pub IsNotReady : {V : Type 0} (Holds : V → Contents → Type 0) (office : Office V) (c : ℕ) → Type 0

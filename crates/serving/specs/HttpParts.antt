@@ -4,15 +4,20 @@ use Rattle.std.specs.Prelude.{◌≡◌, ℕ, ◌+◌, Bool, true, false, if◌t
 use Rattle.std.specs.Prelude.{take, drop, Option}
 use Rattle.vault.specs.Records.{Records}
 use Rattle.vault.specs.Changes.{Contents}
+use Rattle.vault.specs.declared.vault.Vault.{Ghosts}
 use Rattle.office.specs.Events.{Log}
 use Rattle.adminhttp.specs.Sites.{Site}
 use Rattle.office.specs.Taken.{trace_of}
 use Rattle.office.specs.Stands.{StandsFor, vault_of}
 use Rattle.office.specs.declared.office.Office.{Office}
 use Rattle.serving.specs.Calls.{Call}
+use Rattle.serving.specs.declared.server.Server.{Server}
+use Rattle.serving.specs.declared.wire.Wire as the_wire
+use Rattle.serving.specs.declared.listener.Listener as the_listener
 use Rattle.serving.specs.declared.requests.Exchange.{Exchange}
-use Rattle.serving.specs.Parts.{Part, Asking, Giving, IsQuiet}
+use Rattle.serving.specs.Parts.{Part, Also, Asking, Giving, IsQuiet}
 use Rattle.serving.specs.Works.{AreCaused}
+use Rattle.serving.specs.Hearing.{HeardApart}
 use Rattle.serving.specs.HttpTurns.{GoesOnAt}
 use Rattle.serving.specs.HttpWorks.{ComesTo, IsToldOf, HasToldAll, HadHttpTurns}
 
@@ -35,14 +40,24 @@ ComeTo site read response B L given calls = ComesTo site B L read given response
 abbrev pub AskedApart : (List Call → Type 0) → List Call → Type 0
 AskedApart Facts calls = IsQuiet [] calls × Facts calls
 
--- A part of a turn that does this, and nothing for the clients' links.
-abbrev pub DoesApart : {V W : Type 0} (Holds : V → Contents → Type 0) (IsClean : V → Type 0)
-    (Faults : V → ℕ) (Asked : W → List Call → Type 0) (office : Office V) (wire : W)
-    (office_then : Office V) (wire_then : W) (Did : Records → Log → Log → List Call → Type 0)
-    → Type 0
-DoesApart Holds IsClean Faults Asked office wire office_then wire_then Did =
-    Part Holds IsClean Faults Asked office wire office_then wire_then
-    (DidApart Holds IsClean office office_then Did)
+-- A part of a server's turn that does this, and nothing for the clients' links. The listener hears
+-- what is heard of its events and nothing else.
+abbrev pub DoesApart : {V W L : Type 0} (vault : Ghosts V) (wire : the_wire.Ghosts W)
+    (listener : the_listener.Ghosts L) (old new : Server V W L)
+    (Did : Records → Log → Log → List Call → Type 0) → Type 0
+DoesApart vault wire listener old new Did =
+    Part vault.holds vault.is_clean vault.faults wire.asked old.office old.wire new.office new.wire
+    (DidApart vault.holds vault.is_clean old.office new.office
+    (HeardApart listener.heard old.listener new.listener Did))
+
+-- the same, if this holds of its calls too
+abbrev pub ServesApart : {V W L : Type 0} (vault : Ghosts V) (wire : the_wire.Ghosts W)
+    (listener : the_listener.Ghosts L) (old new : Server V W L) (Facts : List Call → Type 0)
+    (Did : Records → Log → Log → List Call → Type 0) → Type 0
+ServesApart vault wire listener old new Facts Did =
+    Part vault.holds vault.is_clean vault.faults wire.asked old.office old.wire new.office new.wire
+    (Also (DidApart vault.holds vault.is_clean old.office new.office
+    (HeardApart listener.heard old.listener new.listener Did)) Facts)
 
 -- One that asks the wire nothing.
 abbrev pub GivesApart : {V : Type 0} (Holds : V → Contents → Type 0) (IsClean : V → Type 0)
@@ -66,10 +81,10 @@ HadTurnAt site now place stays held held_then B L given calls =
 
 -- What follows of a response was written once or more, and if that doesn't go on nothing more
 -- can be written for now.
-pub record Tells (e e_then : Exchange) (times octets : ℕ) (goes : Bool) (calls : List Call)
+pub record Tells (e e_then : Exchange) (times octets : ℕ) (has_more : Bool) (calls : List Call)
     : Type 0 where
   pub is : IsToldOf e e_then times octets calls
-  pub ends : goes ≡ false → HasToldAll e_then calls
+  pub ends : has_more ≡ false → HasToldAll e_then calls
 
 -- the exchange is still that of its link, which was accepted when it was
 pub record KeepsLink (e e_then : Exchange) : Type 0 where

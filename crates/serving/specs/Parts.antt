@@ -1,16 +1,17 @@
 -- What a part of a turn does, and what it keeps, in one word each. `Does`: the events that it gave,
--- the calls that it made, and what the listener heard of them. `Keeps`: what every part leaves as
--- it was; with the seats it is `KeepsSeats`. Then what one kind of part does to what serving holds
+-- the calls that it made, and what the listener heard of them. `KeepsServing`: that the server still
+-- serves. `Keeps`: what every part leaves as it was; with the seats it is `KeepsSeats`. Then what one kind of part does to what serving holds
 -- between turns: it notes refused logins (`NotesGuesses`), serves a client (`Frees`), ends late
 -- clients (`Ends`, `IsEnded`), closes links (`Closes`, `ClosesSeat`), or gives seats to those that
 -- came (`AreNoted`). Two parts compose: `part_then` of proofs/Working, `keeps_then` of
 -- proofs/Composing, and the others there.
 use Rattle.std.specs.Prelude.{◌≡◌, ◌⊎◌, ◌≤◌, ℕ, Bool, true, false, ◌||◌, ◌==◌, List, [], ◌++◌}
 use Rattle.std.specs.Prelude.{Some, if◌then◌else◌, slice_index_or}
-use Rattle.std.specs.List.{All, list_any}
+use Rattle.std.specs.List.{All, Contains, list_any}
 use Rattle.vault.specs.Records.{Records}
 use Rattle.vault.specs.Calls.{has_grown}
 use Rattle.vault.specs.Changes.{Contents}
+use Rattle.vault.specs.declared.vault.Vault.{Ghosts}
 use Rattle.office.specs.Events.{Log, Trace}
 use Rattle.office.specs.Trace.{history}
 use Rattle.office.specs.Sessions.{live}
@@ -18,6 +19,9 @@ use Rattle.office.specs.Taken.{trace_of}
 use Rattle.office.specs.Stands.{StandsFor, vault_of}
 use Rattle.office.specs.declared.office.Office.{Office}
 use Rattle.serving.specs.Calls.{Call}
+use Rattle.serving.specs.declared.server.Server.{Server}
+use Rattle.serving.specs.declared.wire.Wire as the_wire
+use Rattle.serving.specs.declared.listener.Listener as the_listener
 use Rattle.serving.specs.declared.links.Seat.{Seat}
 use Rattle.serving.specs.declared.links.Clients.{Clients}
 use Rattle.serving.specs.declared.newcomers.Newcomer.{Newcomer}
@@ -28,7 +32,8 @@ use Rattle.serving.specs.Paces.{has_freed}
 use Rattle.serving.specs.Works.{is_late, AreLateGone, waits, arrivals, closings, is_admin}
 use Rattle.serving.specs.Works.{has_moved, moments, openings, refusals, is_failed, AreNewlyAdmitted}
 use Rattle.serving.specs.Works.{AreCaused, WasAsked}
-use Rattle.serving.specs.Hearing.{Hearing, WithHeard}
+use Rattle.serving.specs.Hearing.{WithHeard}
+use Rattle.serving.specs.Served.{Precedes, StillServes}
 use Rattle.serving.specs.Late.{IsShutBy}
 
 -- ---- what it gives and asks
@@ -98,16 +103,35 @@ pub record IsQuietFor (seats : List Seat) (given : Log) (calls : List Call) : Ty
   pub apart : list_any is_admin calls ≡ false
   pub caused : AreCaused seats calls given
 
--- It gave these events and made these calls and no others, of which `Facts` holds, and the listener
--- heard the accounts of these events and nothing else.
-abbrev pub Does : {V W H : Type 0} (Holds : V → Contents → Type 0) (IsClean : V → Type 0)
-    (Faults : V → ℕ) (Asked : W → List Call → Type 0) (Heard : H → List Hearing → Type 0)
-    (office : Office V) (wire : W) (listener : H)
-    (office_then : Office V) (wire_then : W) (listener_then : H)
-    (Facts : Log → List Call → Type 0) → Type 0
-Does Holds IsClean Faults Asked Heard office wire listener office_then wire_then listener_then Facts =
-    Part Holds IsClean Faults Asked office wire office_then wire_then
-    (WithHeard Holds IsClean Heard office listener office_then listener_then Facts)
+-- A part of a server's turn. It gave these events and made these calls and no others, of which
+-- `Facts` holds, and the listener heard the accounts of these events and nothing else.
+abbrev pub Does : {V W L : Type 0} (vault : Ghosts V) (wire : the_wire.Ghosts W)
+    (listener : the_listener.Ghosts L) (old new : Server V W L) (Facts : Log → List Call → Type 0)
+    → Type 0
+Does vault wire listener old new Facts =
+    Part vault.holds vault.is_clean vault.faults wire.asked old.office old.wire new.office new.wire
+    (WithHeard vault.holds vault.is_clean listener.heard old.office old.listener
+    new.office new.listener Facts)
+
+-- One that gives events to the office, and asks the wire nothing.
+pub record Gives {V W L : Type 0} (vault : Ghosts V) (old new : Server V W L)
+    (Facts : Log → Type 0) : Type 0 where
+  pub wire : new.wire ≡ old.wire
+  pub part : Giving vault.holds vault.is_clean vault.faults old.office new.office Facts
+
+-- A server still serves these seats, if the store is clean.
+abbrev pub KeepsServing : {V W L : Type 0} (vault : Ghosts V) (wire : the_wire.Ghosts W)
+    (old new : Server V W L) (seats these seats_then these_then : List Seat) → Type 0
+KeepsServing vault wire old new seats these seats_then these_then =
+    StillServes vault.holds vault.is_clean wire.tells old.office old.wire seats these
+    new.office new.wire seats_then these_then
+
+-- So it does while one seat's link is served: its connection may end, and those before it stay open.
+abbrev pub KeepsServingOne : {V W L : Type 0} (vault : Ghosts V) (wire : the_wire.Ghosts W)
+    (seat : Seat) (old new : Server V W L) → Type 0
+KeepsServingOne vault wire seat old new =
+    (seats these : List Seat) → Contains seats seat → All (λ s. Precedes s seat) these
+    → KeepsServing vault wire old new seats these seats these
 
 -- a late client's connection was ended, or wasn't open
 pub record IsEnded {V : Type 0} (Holds : V → Contents → Type 0) (IsClean : V → Type 0)

@@ -1,6 +1,6 @@
 -- That links are served: what is read and written on each is what its own connection gives and takes.
 use Rattle.std.specs.Prelude.{◌≡◌, ◌≤◌, ◌<◌, ⊤, ℕ, Bool, true, false, ◌||◌, ◌+◌, ◌==◌, List, [], ◌∷◌, ◌++◌, Option, Some, None, if◌then◌else◌, ◌⊎◌, length}
-use Rattle.std.specs.List.{All, AllPairs, Contains}
+use Rattle.std.specs.List.{All, AllPairs}
 use Rattle.vault.specs.Records.{Records}
 use Rattle.vault.specs.Changes.{Contents}
 use Rattle.office.specs.History.{Done}
@@ -153,12 +153,6 @@ abbrev pub StillServes : {V W : Type 0} (Holds : V → Contents → Type 0) (IsC
 StillServes Holds IsClean Tells office wire seats these office_then wire_then seats_then these_then =
     (T : Trace) (beside : Beside) → IsServing Holds Tells T beside office wire seats these → IsClean (vault_of office_then)
     → IsServing Holds Tells T beside office_then wire_then seats_then these_then
-
--- so it does while one seat's link is served: its connection may end, and those before it stay open
-abbrev pub StillServesOne : {V W : Type 0} (Holds : V → Contents → Type 0) (IsClean : V → Type 0) (Tells : W → ToldOfPorts → Type 0)
-    (seat : Seat) (office : Office V) (wire : W) (office_then : Office V) (wire_then : W) → Type 0
-StillServesOne Holds IsClean Tells seat office wire office_then wire_then =
-    (seats these : List Seat) → Contains seats seat → All (λ s. Precedes s seat) these → StillServes Holds IsClean Tells office wire seats these office_then wire_then seats these
 
 -- Between turns each seat's connection is open; what the spool tells is filed; each connection was sent exactly what the history sends it; and
 -- each link of the administration that is open is held with its exchange, all of this site.

@@ -2,16 +2,15 @@
 ghost use Rattle.std.specs.Prelude.{◌≡◌, Bool, List, []};
 ghost use Rattle.office.specs.Seen.{outcome_seen};
 ghost use Rattle.serving.specs.Wires.{opened_by};
-ghost use Rattle.serving.specs.Served.{StillServes};
 ghost use Rattle.serving.specs.Hearing.{Hearing};
-ghost use Rattle.serving.specs.Parts.{AreNoted};
-ghost use Rattle.serving.specs.Parts.{Part};
+ghost use Rattle.serving.specs.Parts.{AreNoted, Does, KeepsServing};
 ghost use Rattle.serving.specs.ClientParts.{AreAccepted};
 
 use crate::links::{Clients, MOST_LINKS, Seat};
 use crate::listener::Listener;
+use crate::server::Server;
 use crate::wire::{Port, Wire};
-use office::{Event, Office, Outcome};
+use office::{Event, Outcome};
 use vault::Vault;
 
 /// The number of the connection that a Connect opened; `None` if it opened none.
@@ -24,60 +23,52 @@ fn opened(outcome: Outcome) -> Option<u64>
     }
 }
 
-/// Accepts the next client's link. It gets a seat with its connection, or is closed if the
-/// office opens none. Returns whether one came. While all 128 seats are taken none is accepted.
-fn accept_link<V: Vault, W: Wire, L: Listener>(
-    office: &mut Office<V>,
-    wire: &mut W,
-    listener: &mut L,
-    links: &mut Clients,
-    now: u64,
-) -> bool
-    ensures serves { StillServes V.holds V.is_clean W.tells office.old wire.old
-        links.old.seats.items [] office.new wire.new links.new.seats.items [] }
-    ensures comers { AreNoted links.old links.new now }
-    ensures heard { (h : List Hearing) → L.heard listener.old h → L.heard listener.new h }
-    ensures works { Part V.holds V.is_clean V.faults W.asked office.old wire.old office.new wire.new
-        (AreAccepted V.holds V.is_clean office.old office.new links.old.seats.items
-        links.new.seats.items 1 result) }
-{
-    if links.seats.is_full() {
-        return false;
-    }
-    let Some(link) = wire.accept(Port::Pop) else {
-        return false;
-    };
-    let number = opened(office.step(Event::Connect));
-    match number {
-        Some(connection) => {
-            links.seats.push(Seat { link, connection });
-            let _ = links.newcomers.note(connection, now);
-            listener.open(link, connection);
+impl<V: Vault, W: Wire, L: Listener> Server<V, W, L> {
+    /// Accepts the next client's link. It gets a seat with its connection, or is closed if the
+    /// office opens none. Returns whether one came. While all 128 seats are taken none is accepted.
+    fn accept_link(&mut self, clients: &mut Clients, now: u64) -> bool
+        ensures serves { KeepsServing V.Vault W.Wire self.old self.new
+            clients.old.seats.items [] clients.new.seats.items [] }
+        ensures comers { AreNoted clients.old clients.new now }
+        ensures heard { (h : List Hearing) → L.heard self.old.listener h
+            → L.heard self.new.listener h }
+        ensures works { Does V.Vault W.Wire L.Listener self.old self.new
+            (AreAccepted V.holds V.is_clean self.old.office self.new.office
+            clients.old.seats.items clients.new.seats.items 1 result) }
+    {
+        if clients.seats.is_full() {
+            return false;
         }
-        None => wire.close(Port::Pop, link),
+        let Some(link) = self.wire.accept(Port::Pop) else {
+            return false;
+        };
+        let number = opened(self.office.step(Event::Connect));
+        match number {
+            Some(connection) => {
+                clients.seats.push(Seat { link, connection });
+                let _ = clients.newcomers.note(connection, now);
+                self.listener.open(link, connection);
+            }
+            None => self.wire.close(Port::Pop, link),
+        }
+        true
     }
-    true
-}
 
-/// Accepts the links that came.
-pub(crate) fn accept_links<V: Vault, W: Wire, L: Listener>(
-    office: &mut Office<V>,
-    wire: &mut W,
-    listener: &mut L,
-    links: &mut Clients,
-    now: u64,
-)
-    ensures serves { StillServes V.holds V.is_clean W.tells office.old wire.old
-        links.old.seats.items [] office.new wire.new links.new.seats.items [] }
-    ensures comers { AreNoted links.old links.new now }
-    ensures heard { (h : List Hearing) → L.heard listener.old h → L.heard listener.new h }
-    ensures works { (goes : Bool) × Part V.holds V.is_clean V.faults W.asked office.old wire.old
-        office.new wire.new (AreAccepted V.holds V.is_clean office.old office.new
-        links.old.seats.items links.new.seats.items 64 goes) }
-{
-    for _times in 0..MOST_LINKS {
-        if !accept_link(office, wire, listener, links, now) {
-            return;
+    /// Accepts the links that came, at most 64.
+    pub(crate) fn accept_links(&mut self, clients: &mut Clients, now: u64)
+        ensures serves { KeepsServing V.Vault W.Wire self.old self.new
+            clients.old.seats.items [] clients.new.seats.items [] }
+        ensures comers { AreNoted clients.old clients.new now }
+        ensures heard { (h : List Hearing) → L.heard self.old.listener h
+            → L.heard self.new.listener h }
+        ensures works { (has_more : Bool) × Does V.Vault W.Wire L.Listener self.old self.new
+            (AreAccepted V.holds V.is_clean self.old.office self.new.office
+            clients.old.seats.items clients.new.seats.items 64 has_more) }
+    {
+        for _times in 0..MOST_LINKS {
+            if !self.accept_link(clients, now) {
+                return;
+            }
         }
     }
 }

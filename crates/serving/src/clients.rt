@@ -6,10 +6,10 @@ ghost use Rattle.office.specs.Events.{Trace};
 ghost use Rattle.office.specs.Trace.{history};
 ghost use Rattle.office.specs.Sessions.{live};
 ghost use Rattle.office.specs.Stands.{StandsFor};
-ghost use Rattle.serving.specs.Served.{StillServes, StillServesOne};
 ghost use Rattle.serving.specs.Newcomers.{newcomer, lies_unread, AreSettled, Settles};
 ghost use Rattle.serving.specs.Paces.{has_freed};
-ghost use Rattle.serving.specs.Parts.{Does, KeepsSeats, FreesMore, Frees};
+ghost use Rattle.serving.specs.Parts.{Does, KeepsServing, KeepsServingOne};
+ghost use Rattle.serving.specs.Parts.{KeepsSeats, FreesMore, Frees};
 ghost use Rattle.serving.specs.Settings.{settings_of};
 ghost use Rattle.serving.specs.Parts.{Also, PollsBy};
 ghost use Rattle.serving.specs.ClientParts.{IsWritten, IsWrittenOut, IsReadOnce};
@@ -21,6 +21,7 @@ ghost use Rattle.arrayvec.specs.ArrayVec.{array_vec_len};
 use crate::links::{Clients, Seat};
 use crate::listener::Listener;
 use crate::pace::{MOST_AT_ONCE, next_part, note_guess, pace_at};
+use crate::server::Server;
 use crate::wire::{Io, Port, Wire};
 use office::{Event, Office};
 use vault::Vault;
@@ -33,183 +34,6 @@ const SHARE_ALONE: usize = 1_048_576;
 
 /// How many if others are open, so that none of them waits long: one full write.
 const SHARE_BESIDE: usize = 16_384;
-
-/// Writes once what the office lends of a connection's output. Ends the connection if its link
-/// is broken or at its end. Returns how many octets the link took.
-fn write_once<V: Vault, W: Wire, L: Listener>(
-    office: &mut Office<V>,
-    wire: &mut W,
-    listener: &mut L,
-    seat: Seat,
-) -> usize
-    ensures serves { StillServesOne V.holds V.is_clean W.tells seat office.old wire.old office.new
-        wire.new }
-    ensures works { Does V.holds V.is_clean V.faults W.asked L.heard office.old wire.old
-        listener.old office.new wire.new listener.new
-        (IsWritten V.holds V.is_clean office.old office.new seat (if result == 0 then 0 else 1)
-        result (not (result == 0))) }
-{
-    let lent = office.owed(seat.connection);
-    if lent.is_empty() {
-        return 0;
-    }
-    match wire.write(Port::Pop, seat.link, lent) {
-        Io::Count(count) => {
-            let report = office.step_with_account(Event::Took(seat.connection, count));
-            listener.hear(seat.connection, &report.account);
-            count
-        }
-        Io::Later => 0,
-        Io::End | Io::Broken => {
-            let report = office.step_with_account(Event::Gone(seat.connection));
-            listener.hear(seat.connection, &report.account);
-            0
-        }
-    }
-}
-
-/// Writes what a connection is owed until the link takes no more, nothing is owed, or its share is
-/// written. Returns whether the link may take more at once.
-fn write_owed<V: Vault, W: Wire, L: Listener>(
-    office: &mut Office<V>,
-    wire: &mut W,
-    listener: &mut L,
-    seat: Seat,
-    share: usize,
-) -> bool
-    ensures serves { StillServesOne V.holds V.is_clean W.tells seat office.old wire.old office.new
-        wire.new }
-    ensures works { Does V.holds V.is_clean V.faults W.asked L.heard office.old wire.old
-        listener.old office.new wire.new listener.new
-        (IsWrittenOut V.holds V.is_clean office.old office.new seat share result) }
-{
-    let mut written: usize = 0;
-    for _times in 0..MOST_WRITES {
-        let count = write_once(office, wire, listener, seat);
-        if count == 0 {
-            return false;
-        }
-        written = written.saturating_add(count);
-        if written >= share {
-            return true;
-        }
-    }
-    true
-}
-
-/// Reads once from a link whose connection waits for octets, at most as many as a buffer has, and
-/// ends the connection if the link is broken or at its end. Whether octets came.
-fn read_once<V: Vault, W: Wire, L: Listener>(
-    office: &mut Office<V>,
-    wire: &mut W,
-    listener: &mut L,
-    seat: Seat,
-    buffer: &mut [u8],
-) -> bool
-    requires { length buffer.old ≤ 4096 }
-    ensures serves { StillServesOne V.holds V.is_clean W.tells seat office.old wire.old office.new
-        wire.new }
-    ensures works { Does V.holds V.is_clean V.faults W.asked L.heard office.old wire.old
-        listener.old office.new wire.new listener.new
-        (Also (IsReadOnce V.holds office.old seat (length buffer.old)) (PollsBy false result)) }
-{
-    let connection = seat.connection;
-    if !office.ready(connection) {
-        return false;
-    }
-    match wire.read(Port::Pop, seat.link, buffer) {
-        Io::Count(count) => {
-            let piece = Event::Bytes(connection, &buffer[..count]);
-            let report = office.step_with_account(piece);
-            listener.hear(connection, &report.account);
-            true
-        }
-        Io::Later => false,
-        Io::End | Io::Broken => {
-            let report = office.step_with_account(Event::Gone(connection));
-            listener.hear(connection, &report.account);
-            false
-        }
-    }
-}
-
-/// Reads a piece from a link whose connection waits for octets, but no login that is kept back, and
-/// notes whether one is. Whether octets came. Behind a line that was read by itself the next turn
-/// doesn't wait.
-fn read_piece<V: Vault, W: Wire, L: Listener>(
-    office: &mut Office<V>,
-    wire: &mut W,
-    listener: &mut L,
-    links: &mut Clients,
-    seat: Seat,
-    now: u64,
-) -> bool
-    ensures serves { StillServesOne V.holds V.is_clean W.tells seat office.old wire.old office.new
-        wire.new }
-    ensures keeps { KeepsSeats links.old links.new }
-    ensures freed { links.new.lock_released ≡ links.old.lock_released }
-    ensures settles { Settles now seat.connection links.old links.new }
-    ensures works { Does V.holds V.is_clean V.faults W.asked L.heard office.old wire.old
-        listener.old office.new wire.new listener.new
-        (Also (IsHeard V.holds office.old seat links.old.wait
-        (reads_by_line links.old.wait (may_keep links.old)) (may_at now links.old seat.connection)
-        (lies_unread (newcomer seat.connection links.new.newcomers.newcomers.items)))
-        (PollsBy links.old.poll_now (links.new.poll_now || result))) }
-{
-    if !office.ready(seat.connection) {
-        links.newcomers.settle(seat.connection, false, now);
-        return false;
-    }
-    let pace = pace_at(office, wire, links, seat, now);
-    let part = next_part(office, wire, &links.guesses, seat, pace);
-    links
-        .newcomers
-        .settle(seat.connection, part.count == 0, now);
-    if part.count == 0 {
-        return false;
-    }
-    let before = office.refusals(seat.connection);
-    let mut room = [0; MOST_AT_ONCE];
-    if !read_once(office, wire, listener, seat, &mut room[..part.count]) {
-        return false;
-    }
-    links.poll_now |= pace.by_line;
-    note_guess(office, links, seat.connection, pace, &part.login, before);
-    true
-}
-
-/// Writes on a link up to its share, and if all is written reads from it and writes what that
-/// gave. Whether more can be written at once.
-fn serve_link<V: Vault, W: Wire, L: Listener>(
-    office: &mut Office<V>,
-    wire: &mut W,
-    listener: &mut L,
-    links: &mut Clients,
-    seat: Seat,
-    now: u64,
-) -> bool
-    ensures serves { StillServesOne V.holds V.is_clean W.tells seat office.old wire.old office.new
-        wire.new }
-    ensures keeps { KeepsSeats links.old links.new }
-    ensures freed { links.new.lock_released ≡ links.old.lock_released }
-    ensures settles { Settles now seat.connection links.old links.new }
-    ensures works { Does V.holds V.is_clean V.faults W.asked L.heard office.old wire.old
-        listener.old office.new wire.new listener.new
-        (Also (HadTurns V.holds V.is_clean office.old office.new
-        (way_at now links.old (links.new.poll_now || result))
-        links.new.newcomers.newcomers.items (seat ∷ []) (seat ∷ []))
-        (PollsBy links.old.poll_now (links.new.poll_now || result))) }
-{
-    let share = share_of(links);
-    if write_owed(office, wire, listener, seat, share) {
-        links.newcomers.settle(seat.connection, false, now);
-        return true;
-    }
-    if !read_piece(office, wire, listener, links, seat, now) {
-        return false;
-    }
-    write_owed(office, wire, listener, seat, share)
-}
 
 /// The share of each link.
 fn share_of(links: &Clients) -> usize
@@ -252,59 +76,193 @@ fn note_freed<V: Vault>(
     links.poll_now = true;
 }
 
-/// Serves a client's link, and notes whether its session ended.
-fn serve_client<V: Vault, W: Wire, L: Listener>(
-    office: &mut Office<V>,
-    wire: &mut W,
-    listener: &mut L,
-    links: &mut Clients,
-    seat: Seat,
-    now: u64,
-)
-    ensures serves { StillServesOne V.holds V.is_clean W.tells seat office.old wire.old office.new
-        wire.new }
-    ensures keeps { KeepsSeats links.old links.new }
-    ensures frees { Frees V.holds office.old office.new links.old links.new seat.connection }
-    ensures settles { Settles now seat.connection links.old links.new }
-    ensures works { Does V.holds V.is_clean V.faults W.asked L.heard office.old wire.old
-        listener.old office.new wire.new listener.new
-        (Also (HadTurns V.holds V.is_clean office.old office.new
-        (way_at now links.old links.new.poll_now) links.new.newcomers.newcomers.items
-        (seat ∷ []) (seat ∷ []))
-        (PollsBy (links.old.poll_now || links.new.lock_released) links.new.poll_now)) }
-{
-    let was_logged_in = office.is_logged_in(seat.connection);
-    let more = serve_link(office, wire, listener, links, seat, now);
-    links.poll_now |= more;
-    note_freed(office, links, seat.connection, was_logged_in);
-}
+impl<V: Vault, W: Wire, L: Listener> Server<V, W, L> {
+    /// Writes once what the office lends of a connection's output. Ends the connection if its link
+    /// is broken or at its end. Returns how many octets the link took.
+    fn write_once(&mut self, seat: Seat) -> usize
+        ensures serves { KeepsServingOne V.Vault W.Wire seat self.old self.new }
+        ensures works { Does V.Vault W.Wire L.Listener self.old self.new
+            (IsWritten V.holds V.is_clean self.old.office self.new.office seat
+            (if result == 0 then 0 else 1) result (not (result == 0))) }
+    {
+        let lent = self.office.owed(seat.connection);
+        if lent.is_empty() {
+            return 0;
+        }
+        match self.wire.write(Port::Pop, seat.link, lent) {
+            Io::Count(count) => {
+                let took = Event::Took(seat.connection, count);
+                let report = self.office.step_with_account(took);
+                self.listener.hear(seat.connection, &report.account);
+                count
+            }
+            Io::Later => 0,
+            Io::End | Io::Broken => {
+                let report = self.office.step_with_account(Event::Gone(seat.connection));
+                self.listener.hear(seat.connection, &report.account);
+                0
+            }
+        }
+    }
 
-/// Serves each link, by ascending number of the connections.
-pub(crate) fn serve_links<V: Vault, W: Wire, L: Listener>(
-    office: &mut Office<V>,
-    wire: &mut W,
-    listener: &mut L,
-    links: &mut Clients,
-    now: u64,
-)
-    ensures serves { StillServes V.holds V.is_clean W.tells office.old wire.old
-        links.old.seats.items [] office.new wire.new links.new.seats.items [] }
-    ensures keeps { KeepsSeats links.old links.new }
-    ensures settled { AreSettled now links.old.newcomers.newcomers.items
-        links.new.newcomers.newcomers.items }
-    ensures frees { links.new.lock_released ≡ true → links.new.poll_now ≡ true }
-    ensures works { Does V.holds V.is_clean V.faults W.asked L.heard office.old wire.old
-        listener.old office.new wire.new listener.new
-        (Also (WereServed V.holds V.is_clean office.old office.new (settings_of links.old) now
-        links.old.newcomers.newcomers.items links.new.lock_released links.new.poll_now
-        links.new.newcomers.newcomers.items links.old.seats.items links.old.seats.items)
-        (PollsBy (links.old.poll_now || links.new.lock_released) links.new.poll_now)) }
-{
-    links.lock_released = false;
-    let mut place = 0;
-    while place < links.seats.len() {
-        let seat = links.seats[place];
-        serve_client(office, wire, listener, links, seat, now);
-        place += 1;
+    /// Writes what a connection is owed until the link takes no more, nothing is owed, or its share
+    /// is written. Returns whether the link may take more at once.
+    fn write_owed(&mut self, seat: Seat, share: usize) -> bool
+        ensures serves { KeepsServingOne V.Vault W.Wire seat self.old self.new }
+        ensures works { Does V.Vault W.Wire L.Listener self.old self.new
+            (IsWrittenOut V.holds V.is_clean self.old.office self.new.office seat share result) }
+    {
+        let mut written: usize = 0;
+        for _times in 0..MOST_WRITES {
+            let count = self.write_once(seat);
+            if count == 0 {
+                return false;
+            }
+            written = written.saturating_add(count);
+            if written >= share {
+                return true;
+            }
+        }
+        true
+    }
+
+    /// Reads once from a link whose connection waits for octets, at most as many as a buffer has,
+    /// and ends the connection if the link is broken or at its end. Whether octets came.
+    fn read_once(&mut self, seat: Seat, buffer: &mut [u8]) -> bool
+        requires { length buffer.old ≤ 4096 }
+        ensures serves { KeepsServingOne V.Vault W.Wire seat self.old self.new }
+        ensures works { Does V.Vault W.Wire L.Listener self.old self.new
+            (Also (IsReadOnce V.holds self.old.office seat (length buffer.old))
+            (PollsBy false result)) }
+    {
+        let connection = seat.connection;
+        if !self.office.ready(connection) {
+            return false;
+        }
+        match self.wire.read(Port::Pop, seat.link, buffer) {
+            Io::Count(count) => {
+                let piece = Event::Bytes(connection, &buffer[..count]);
+                let report = self.office.step_with_account(piece);
+                self.listener.hear(connection, &report.account);
+                true
+            }
+            Io::Later => false,
+            Io::End | Io::Broken => {
+                let report = self.office.step_with_account(Event::Gone(connection));
+                self.listener.hear(connection, &report.account);
+                false
+            }
+        }
+    }
+
+    /// Reads a piece from a link whose connection waits for octets, but no login that is kept back,
+    /// and notes whether one is. Whether octets came. After a line that was read by itself the next
+    /// turn doesn't wait.
+    fn read_piece(&mut self, clients: &mut Clients, seat: Seat, now: u64) -> bool
+        ensures serves { KeepsServingOne V.Vault W.Wire seat self.old self.new }
+        ensures keeps { KeepsSeats clients.old clients.new }
+        ensures freed { clients.new.lock_released ≡ clients.old.lock_released }
+        ensures settles { Settles now seat.connection clients.old clients.new }
+        ensures works { Does V.Vault W.Wire L.Listener self.old self.new
+            (Also (IsHeard V.holds self.old.office seat clients.old.wait
+            (reads_by_line clients.old.wait (may_keep clients.old))
+            (may_at now clients.old seat.connection)
+            (lies_unread (newcomer seat.connection clients.new.newcomers.newcomers.items)))
+            (PollsBy clients.old.poll_now (clients.new.poll_now || result))) }
+    {
+        if !self.office.ready(seat.connection) {
+            clients.newcomers.settle(seat.connection, false, now);
+            return false;
+        }
+        let pace = pace_at(&self.office, &self.wire, clients, seat, now);
+        let part = next_part(&self.office, &mut self.wire, &clients.guesses, seat, pace);
+        clients
+            .newcomers
+            .settle(seat.connection, part.count == 0, now);
+        if part.count == 0 {
+            return false;
+        }
+        let before = self.office.refusals(seat.connection);
+        let mut room = [0; MOST_AT_ONCE];
+        if !self.read_once(seat, &mut room[..part.count]) {
+            return false;
+        }
+        clients.poll_now |= pace.by_line;
+        note_guess(
+            &self.office,
+            clients,
+            seat.connection,
+            pace,
+            &part.login,
+            before,
+        );
+        true
+    }
+
+    /// Writes on a link up to its share, and if all is written reads from it and writes what that
+    /// gave. Whether more can be written at once.
+    fn serve_link(&mut self, clients: &mut Clients, seat: Seat, now: u64) -> bool
+        ensures serves { KeepsServingOne V.Vault W.Wire seat self.old self.new }
+        ensures keeps { KeepsSeats clients.old clients.new }
+        ensures freed { clients.new.lock_released ≡ clients.old.lock_released }
+        ensures settles { Settles now seat.connection clients.old clients.new }
+        ensures works { Does V.Vault W.Wire L.Listener self.old self.new
+            (Also (HadTurns V.holds V.is_clean self.old.office self.new.office
+            (way_at now clients.old (clients.new.poll_now || result))
+            clients.new.newcomers.newcomers.items (seat ∷ []) (seat ∷ []))
+            (PollsBy clients.old.poll_now (clients.new.poll_now || result))) }
+    {
+        let share = share_of(clients);
+        if self.write_owed(seat, share) {
+            clients.newcomers.settle(seat.connection, false, now);
+            return true;
+        }
+        if !self.read_piece(clients, seat, now) {
+            return false;
+        }
+        self.write_owed(seat, share)
+    }
+
+    /// Serves a client's link, and notes whether its session ended.
+    fn serve_client(&mut self, clients: &mut Clients, seat: Seat, now: u64)
+        ensures serves { KeepsServingOne V.Vault W.Wire seat self.old self.new }
+        ensures keeps { KeepsSeats clients.old clients.new }
+        ensures frees { Frees V.holds self.old.office self.new.office clients.old clients.new
+            seat.connection }
+        ensures settles { Settles now seat.connection clients.old clients.new }
+        ensures works { Does V.Vault W.Wire L.Listener self.old self.new
+            (Also (HadTurns V.holds V.is_clean self.old.office self.new.office
+            (way_at now clients.old clients.new.poll_now) clients.new.newcomers.newcomers.items
+            (seat ∷ []) (seat ∷ []))
+            (PollsBy (clients.old.poll_now || clients.new.lock_released) clients.new.poll_now)) }
+    {
+        let was_logged_in = self.office.is_logged_in(seat.connection);
+        let more = self.serve_link(clients, seat, now);
+        clients.poll_now |= more;
+        note_freed(&self.office, clients, seat.connection, was_logged_in);
+    }
+
+    /// Serves each link, by ascending number of the connections.
+    pub(crate) fn serve_links(&mut self, clients: &mut Clients, now: u64)
+        ensures serves { KeepsServing V.Vault W.Wire self.old self.new
+            clients.old.seats.items [] clients.new.seats.items [] }
+        ensures keeps { KeepsSeats clients.old clients.new }
+        ensures settled { AreSettled now clients.old.newcomers.newcomers.items
+            clients.new.newcomers.newcomers.items }
+        ensures frees { clients.new.lock_released ≡ true → clients.new.poll_now ≡ true }
+        ensures works { Does V.Vault W.Wire L.Listener self.old self.new
+            (Also (WereServed V.holds V.is_clean self.old.office self.new.office
+            (settings_of clients.old) now clients.old.newcomers.newcomers.items
+            clients.new.lock_released clients.new.poll_now clients.new.newcomers.newcomers.items
+            clients.old.seats.items clients.old.seats.items)
+            (PollsBy (clients.old.poll_now || clients.new.lock_released) clients.new.poll_now)) }
+    {
+        clients.lock_released = false;
+        let mut place = 0;
+        while place < clients.seats.len() {
+            let seat = clients.seats[place];
+            self.serve_client(clients, seat, now);
+            place += 1;
+        }
     }
 }

@@ -5,18 +5,20 @@ ghost use Rattle.std.specs.Prelude.{slice_index_or, take, if◌then◌else◌};
 ghost use Rattle.office.specs.Events.{Trace};
 ghost use Rattle.office.specs.Trace.{is_open};
 ghost use Rattle.office.specs.Stands.{StandsFor};
-ghost use Rattle.serving.specs.Served.{StillServes, StillServesOne};
+ghost use Rattle.serving.specs.Served.{StillServes};
 ghost use Rattle.serving.specs.Hearing.{WasTold, idle_ends, late_ends};
 ghost use Rattle.serving.specs.Late.{HasEndedLate};
 ghost use Rattle.serving.specs.Newcomers.{newcomer, lies_unread};
 ghost use Rattle.serving.specs.Parts.{KeepsSeats, IsEnded, Ends, Closes, ClosesSeat};
-ghost use Rattle.serving.specs.Parts.{Asking, Giving, PollsBy, Releases};
+ghost use Rattle.serving.specs.Parts.{Gives, KeepsServing, KeepsServingOne};
+ghost use Rattle.serving.specs.Parts.{Asking, PollsBy, Releases};
 ghost use Rattle.serving.specs.ClientParts.{AreClosed, IsClosed};
 ghost use Rattle.serving.specs.declared.links.Seat as declared;
 ghost use Rattle.arrayvec.specs.ArrayVec.{array_vec_len};
 
 use crate::links::{Clients, Seat};
 use crate::listener::Listener;
+use crate::server::Server;
 use crate::wire::{Port, Wire};
 use office::{Account, End, Event, Office};
 use vault::Vault;
@@ -54,99 +56,6 @@ pub(crate) fn tell_idle_ones<V: Vault, L: Listener>(
     let mut place = 0;
     while place < links.seats.len() {
         tell_idle(office, listener, links, place);
-        place += 1;
-    }
-}
-
-/// Ends the connection of a seat, if it is open, whose client is late at a moment. The listener
-/// hears whether its login seconds are over, or only those of a full house.
-fn end_seat<V: Vault, W: Wire, L: Listener>(
-    office: &mut Office<V>,
-    _wire: &W,
-    listener: &mut L,
-    links: &Clients,
-    seat: Seat,
-    now: u64,
-)
-    ensures serves { StillServesOne V.holds V.is_clean W.tells seat office.old _wire.now office.new
-        _wire.now }
-    ensures works { Giving V.holds V.is_clean V.faults office.old office.new (λ given.
-        IsEnded V.holds V.is_clean office.old office.new seat.connection given
-        × WasTold L.heard listener.old listener.new (late_ends now links.now.newcomers.seconds
-        links.now.newcomers.newcomers.items given)) }
-{
-    if office.ended(seat.connection) {
-        return;
-    }
-    let _ = office.step(Event::Gone(seat.connection));
-    let why = links.newcomers.why_late(seat.connection, now);
-    listener.hear(seat.connection, &Account::Ended(why));
-}
-
-/// Ends the connection of one seat, where its client took too long to log in. Whoever has a login
-/// that lies unread isn't late.
-fn end_late<V: Vault, W: Wire, L: Listener>(
-    office: &mut Office<V>,
-    wire: &W,
-    listener: &mut L,
-    links: &mut Clients,
-    seat: Seat,
-    now: u64,
-    seconds: u64,
-)
-    ensures serves { StillServesOne V.holds V.is_clean W.tells seat office.old wire.now office.new
-        wire.now }
-    ensures keeps { KeepsSeats links.old links.new }
-    ensures ends { Ends links.old links.new now seconds }
-    ensures unread { lies_unread (newcomer seat.connection links.old.newcomers.newcomers.items)
-        ≡ true → office.new ≡ office.old }
-    ensures works { Giving V.holds V.is_clean V.faults office.old office.new (λ given.
-        ((seconds == 0) ≡ false → HasEndedLate V.holds V.is_clean office.old office.new now seconds
-        links.old.newcomers.newcomers.items links.new.newcomers.newcomers.items (seat ∷ []) given)
-        × WasTold L.heard listener.old listener.new (late_ends now links.old.newcomers.seconds
-        links.old.newcomers.newcomers.items given)) }
-{
-    if office.is_logged_in(seat.connection) {
-        links.newcomers.forget(seat.connection);
-        return;
-    }
-    if links.newcomers.lies_unread(seat.connection) {
-        return;
-    }
-    if !links.newcomers.is_late(seat.connection, now, seconds) {
-        return;
-    }
-    end_seat(office, wire, listener, links, seat, now);
-}
-
-/// Ends the connection of each client that took so many seconds or more and hasn't logged in; of
-/// none if there is no limit, which is 0.
-pub(crate) fn end_late_ones<V: Vault, W: Wire, L: Listener>(
-    office: &mut Office<V>,
-    wire: &W,
-    listener: &mut L,
-    links: &mut Clients,
-    now: u64,
-    seconds: u64,
-)
-    ensures serves { StillServes V.holds V.is_clean W.tells office.old wire.now
-        links.old.seats.items [] office.new wire.now links.new.seats.items [] }
-    ensures keeps { KeepsSeats links.old links.new }
-    ensures ends { Ends links.old links.new now seconds }
-    ensures off { seconds ≡ 0 → office.new ≡ office.old }
-    ensures works { Giving V.holds V.is_clean V.faults office.old office.new (λ given. HasEndedLate
-        V.holds V.is_clean office.old office.new now seconds
-        links.old.newcomers.newcomers.items links.new.newcomers.newcomers.items
-        links.old.seats.items given × WasTold L.heard listener.old listener.new
-        (late_ends now links.old.newcomers.seconds links.old.newcomers.newcomers.items given)) }
-{
-    if seconds == 0 {
-        return;
-    }
-    let mut place = 0;
-    while place < links.seats.len() {
-        let seat = links.seats[place];
-        end_late(office, wire, listener, links, seat, now, seconds);
         place += 1;
     }
 }
@@ -203,6 +112,79 @@ pub(crate) fn close_links<V: Vault, W: Wire>(office: &Office<V>, wire: &mut W, l
     let mut place = 0;
     while place < links.seats.len() {
         if close_seat(office, wire, links, place) {
+            place += 1;
+        }
+    }
+}
+
+impl<V: Vault, W: Wire, L: Listener> Server<V, W, L> {
+    /// Ends the connection of a seat, if it is open, whose client is late at a moment. The listener
+    /// hears whether its login seconds are over, or only those of a full house.
+    fn end_seat(&mut self, clients: &Clients, seat: Seat, now: u64)
+        ensures serves { KeepsServingOne V.Vault W.Wire seat self.old self.new }
+        ensures works { Gives V.Vault self.old self.new (λ given.
+            IsEnded V.holds V.is_clean self.old.office self.new.office seat.connection given
+            × WasTold L.heard self.old.listener self.new.listener (late_ends now
+            clients.now.newcomers.seconds clients.now.newcomers.newcomers.items given)) }
+    {
+        if self.office.ended(seat.connection) {
+            return;
+        }
+        let _ = self.office.step(Event::Gone(seat.connection));
+        let why = clients.newcomers.why_late(seat.connection, now);
+        self.listener.hear(seat.connection, &Account::Ended(why));
+    }
+
+    /// Ends the connection of one seat, if its client took too long to log in. Whoever has a login
+    /// that lies unread isn't late.
+    fn end_late(&mut self, clients: &mut Clients, seat: Seat, now: u64, seconds: u64)
+        ensures serves { KeepsServingOne V.Vault W.Wire seat self.old self.new }
+        ensures keeps { KeepsSeats clients.old clients.new }
+        ensures ends { Ends clients.old clients.new now seconds }
+        ensures unread { lies_unread (newcomer seat.connection
+            clients.old.newcomers.newcomers.items) ≡ true → self.new.office ≡ self.old.office }
+        ensures works { Gives V.Vault self.old self.new (λ given.
+            ((seconds == 0) ≡ false → HasEndedLate V.holds V.is_clean self.old.office
+            self.new.office now seconds clients.old.newcomers.newcomers.items
+            clients.new.newcomers.newcomers.items (seat ∷ []) given)
+            × WasTold L.heard self.old.listener self.new.listener (late_ends now
+            clients.old.newcomers.seconds clients.old.newcomers.newcomers.items given)) }
+    {
+        if self.office.is_logged_in(seat.connection) {
+            clients.newcomers.forget(seat.connection);
+            return;
+        }
+        if clients.newcomers.lies_unread(seat.connection) {
+            return;
+        }
+        if !clients.newcomers.is_late(seat.connection, now, seconds) {
+            return;
+        }
+        self.end_seat(clients, seat, now);
+    }
+
+    /// Ends the connection of each client that took so many seconds or more and hasn't logged in;
+    /// of none if there is no limit, which is 0.
+    pub(crate) fn end_late_ones(&mut self, clients: &mut Clients, now: u64, seconds: u64)
+        ensures serves { KeepsServing V.Vault W.Wire self.old self.new
+            clients.old.seats.items [] clients.new.seats.items [] }
+        ensures keeps { KeepsSeats clients.old clients.new }
+        ensures ends { Ends clients.old clients.new now seconds }
+        ensures off { seconds ≡ 0 → self.new.office ≡ self.old.office }
+        ensures works { Gives V.Vault self.old self.new (λ given.
+            HasEndedLate V.holds V.is_clean self.old.office self.new.office now seconds
+            clients.old.newcomers.newcomers.items clients.new.newcomers.newcomers.items
+            clients.old.seats.items given
+            × WasTold L.heard self.old.listener self.new.listener (late_ends now
+            clients.old.newcomers.seconds clients.old.newcomers.newcomers.items given)) }
+    {
+        if seconds == 0 {
+            return;
+        }
+        let mut place = 0;
+        while place < clients.seats.len() {
+            let seat = clients.seats[place];
+            self.end_late(clients, seat, now, seconds);
             place += 1;
         }
     }

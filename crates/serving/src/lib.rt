@@ -1,8 +1,8 @@
 //! Serving the links of a wire over an office, and the files of a spool.
 //!
-//! A [`Wire`] brings links, a [`Spool`] files, and [`serve_turn`] does one turn of the loop over
-//! both. [`SocketWire`] and [`FolderSpool`] are those of a running server, inside a [`NotedWire`]
-//! and a [`NotedSpool`]; [`ScriptWire`] and [`ScriptSpool`] are in memory, for tests.
+//! A [`Wire`] brings links, a [`Spool`] files, and [`Server::serve_turn`] does one turn of the loop
+//! over both. [`SocketWire`] and [`FolderSpool`] are those of a running server, inside a
+//! [`NotedWire`] and a [`NotedSpool`]; [`ScriptWire`] and [`ScriptSpool`] are in memory, for tests.
 #![tactic(auto)]
 
 mod ahead;
@@ -47,19 +47,18 @@ pub use folder_spool::FolderSpool;
 pub use guesses::{Guesses, origin_of};
 pub use hearings::Hearings;
 pub use links::{Links, MOST_LINKS, Seat};
-pub use listener::{Asked, Listener, NoListener};
+pub use listener::{AdminRequest, Listener, NoListener};
 pub use noted_clock::NotedClock;
 pub use noted_listener::NotedListener;
 pub use noted_spool::NotedSpool;
 pub use noted_wire::NotedWire;
 pub use requests::MOST_REQUESTS;
-pub use running::{Clock, serve_while};
+pub use running::Clock;
 pub use script_links::{ScriptLink, Stop};
 pub use script_spool::{ScriptAct, ScriptFile, ScriptSpool};
 pub use script_wire::ScriptWire;
 pub use server::{Server, begin_noted};
 pub use sockets::SocketWire;
 pub use spool::{MOST_OCTETS, Spool};
-pub use turn::{begin, serve_turn};
 pub use wire::{Io, Link, Port, Wire};
 pub use wire_notes::WireNotes;

@@ -9,7 +9,7 @@ use office::Account;
 /// What was asked over a link of the administration, and what its response tells. It has nothing of
 /// a request's body, and so no password and no secret.
 #[derive(Clone, Copy)]
-pub struct Asked<'a> {
+pub struct AdminRequest<'a> {
     /// The request's line; `None` if it is of no route.
     pub line: Option<RequestLine>,
     /// What the response tells.
@@ -35,7 +35,7 @@ pub trait Listener {
             → heard self.new (h ++ (connection, account.now) ∷ []) };
 
     /// What was asked over a link of the administration, once its request is whole or refused.
-    fn asked(&mut self, link: Link, asked: &Asked<'_>)
+    fn asked(&mut self, link: Link, asked: &AdminRequest<'_>)
         ensures told { (h : List Hearing) → heard self.old h → heard self.new h };
 }
 
@@ -50,5 +50,5 @@ impl Listener for NoListener {
 
     fn hear(&mut self, _connection: u64, _account: &Account) {}
 
-    fn asked(&mut self, _link: Link, _asked: &Asked<'_>) {}
+    fn asked(&mut self, _link: Link, _asked: &AdminRequest<'_>) {}
 }

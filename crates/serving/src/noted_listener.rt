@@ -3,7 +3,7 @@ ghost use Rattle.std.specs.Prelude.{◌≡◌, List, [], ◌∷◌, ◌++◌};
 ghost use Rattle.serving.specs.Hearing.{Hearing};
 
 use crate::hearings::Hearings;
-use crate::listener::{Asked, Listener};
+use crate::listener::{AdminRequest, Listener};
 use crate::wire::Link;
 use office::Account;
 
@@ -51,7 +51,7 @@ impl<L: Listener> Listener for NotedListener<L> {
         self.notes.note(connection, account);
     }
 
-    fn asked(&mut self, link: Link, asked: &Asked<'_>)
+    fn asked(&mut self, link: Link, asked: &AdminRequest<'_>)
         ensures told { (h : List Hearing) → h ≡ self.old.notes.heard → h ≡ self.new.notes.heard }
         ensures inside { (h : List Hearing) → L.heard self.old.listener h
             → L.heard self.new.listener h }

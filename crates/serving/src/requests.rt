@@ -15,17 +15,19 @@ ghost use Rattle.adminhttp.specs.Contents.{response_of as response_of_content};
 ghost use Rattle.adminhttp.specs.declared.refusal.Refusal.TheVariants.{OutOfMemory};
 ghost use Rattle.serving.specs.HttpTurns.{is_late_at, most_exchanges, TheseGoOn};
 ghost use Rattle.serving.specs.HttpParts.{ComeTo, GivesApart, DoesApart, AsksApart, HadTurnAt};
+ghost use Rattle.serving.specs.HttpParts.{ServesApart};
 ghost use Rattle.serving.specs.HttpWorks.{HasAcceptedForAdmin, HasHeard, HasTold, HasHttpTurn};
 ghost use Rattle.serving.specs.HttpParts.{Tells, KeepsLink, KeepsWritten};
 ghost use Rattle.serving.specs.HttpWorks.{HadHttpTurns, response_of};
-ghost use Rattle.serving.specs.HttpParts.{DidApart, ServesPlace};
-ghost use Rattle.serving.specs.Parts.{Part, Also, PollsBy};
+ghost use Rattle.serving.specs.HttpParts.{ServesPlace};
+ghost use Rattle.serving.specs.Parts.{PollsBy};
 ghost use Rattle.serving.specs.Hearing.{Hearing, WasTold, HeardApart, heard_by};
 ghost use Rattle.serving.specs.Requests.{octets_of, IsToldBy, HasAsked, HasOneMore, StillAnswers};
 ghost use Rattle.serving.specs.Requests.{StillAsked, AllStillAnswer, AllStillAsked};
 
-use crate::listener::{Asked, Listener};
+use crate::listener::{AdminRequest, Listener};
 use crate::octets::part_of;
+use crate::server::Server;
 use crate::wire::{Io, Link, Port, Wire};
 use adminhttp::{
     Content, Got, Method, Refusal, Request, RequestLine, Target, policy_response, response,
@@ -222,7 +224,7 @@ fn command<V: Vault, L: Listener>(
     tell_end(listener, command, &report.account);
     let (response, content) = response_to(alloc, &report.outcome);
     let line = Some(RequestLine::of(command));
-    listener.asked(link, &Asked { line, content });
+    listener.asked(link, &AdminRequest { line, content });
     response
 }
 
@@ -239,7 +241,7 @@ fn refuse<L: Listener>(
 {
     let line = RequestLine::read(alloc, read).unwrap_or(None);
     let content = Content::Refusal(refusal);
-    listener.asked(link, &Asked { line, content });
+    listener.asked(link, &AdminRequest { line, content });
     Response::Fixed(refusal)
 }
 
@@ -271,7 +273,7 @@ fn refuse_policy<L: Listener>(
         method: Method::Put,
         target: Target::Policy,
     });
-    listener.asked(link, &Asked { line, content });
+    listener.asked(link, &AdminRequest { line, content });
     response
 }
 
@@ -338,37 +340,6 @@ fn take_piece<V: Vault, L: Listener>(
     );
 }
 
-/// Reads a piece of a request that isn't whole. The exchange is over if the link is at its end
-/// or broken.
-fn read_request<V: Vault, W: Wire, L: Listener>(
-    alloc: Global,
-    office: &mut Office<V>,
-    wire: &mut W,
-    listener: &mut L,
-    site: &Option<HostName>,
-    exchange: &mut Exchange,
-)
-    ensures works { DoesApart V.holds V.is_clean V.faults W.asked office.old wire.old office.new
-        wire.new (HeardApart L.heard listener.old listener.new
-        (λ B L. HasHeard site.now B L exchange.old exchange.new)) }
-    ensures asked { StillAsked V.holds V.is_clean W.tells site.now office.old wire.old exchange.old
-        office.new wire.new exchange.new }
-    ensures keeps { KeepsLink exchange.old exchange.new }
-{
-    if exchange.is_over {
-        return;
-    }
-    if exchange.response.is_some() {
-        return;
-    }
-    let mut room = [0; MOST_AT_ONCE];
-    match wire.read(Port::Admin, exchange.link, &mut room) {
-        Io::Count(count) => take_piece(alloc, office, listener, site, exchange, &room[..count]),
-        Io::Later => {}
-        Io::End | Io::Broken => exchange.is_over = true,
-    }
-}
-
 /// Writes once of a response. How many octets were taken. The exchange is over if nothing is
 /// left, or the link is broken.
 fn write_some<W: Wire>(wire: &mut W, exchange: &mut Exchange) -> usize
@@ -427,102 +398,6 @@ fn write_response<W: Wire>(wire: &mut W, exchange: &mut Exchange) -> bool
     true
 }
 
-/// Reads of a request, and writes of its response. Whether more can be written at once. The
-/// exchange is over if its link was accepted 60 seconds ago or more.
-fn serve_exchange<V: Vault, W: Wire, L: Listener>(
-    alloc: Global,
-    office: &mut Office<V>,
-    wire: &mut W,
-    listener: &mut L,
-    site: &Option<HostName>,
-    exchange: &mut Exchange,
-    now: u64,
-) -> bool
-    ensures works { Part V.holds V.is_clean V.faults W.asked
-        office.old wire.old office.new wire.new
-        (Also (DidApart V.holds V.is_clean office.old office.new
-        (HeardApart L.heard listener.old listener.new
-        (λ B L. HasHttpTurn site.now now B L exchange.old exchange.new))) (PollsBy false result)) }
-    ensures asked { StillAsked V.holds V.is_clean W.tells site.now office.old wire.old exchange.old
-        office.new wire.new exchange.new }
-    ensures keeps { KeepsLink exchange.old exchange.new }
-    ensures timely { exchange.new.is_over ≡ false → is_late_at now exchange.new ≡ false }
-{
-    if exchange.is_late(now) {
-        exchange.is_over = true;
-        return false;
-    }
-    read_request(alloc, office, wire, listener, site, exchange);
-    write_response(wire, exchange)
-}
-
-/// Serves the link at one place, and closes it if its exchange is over. Whether it stays.
-fn serve_place<V: Vault, W: Wire, L: Listener>(
-    office: &mut Office<V>,
-    wire: &mut W,
-    listener: &mut L,
-    requests: &mut Requests,
-    site: &Option<HostName>,
-    place: usize,
-    now: u64,
-) -> bool
-    requires { place < length requests.old.exchanges.items }
-    ensures works { Part V.holds V.is_clean V.faults W.asked
-        office.old wire.old office.new wire.new
-        (Also (DidApart V.holds V.is_clean office.old office.new
-        (HeardApart L.heard listener.old listener.new
-        (HadTurnAt site.now now place result requests.old.exchanges.items
-        requests.new.exchanges.items)))
-        (PollsBy requests.old.poll_now requests.new.poll_now)) }
-    ensures asked { AllStillAsked V.holds V.is_clean W.tells site.now office.old wire.old
-        requests.old.exchanges.items office.new wire.new requests.new.exchanges.items }
-    ensures left { length requests.new.exchanges.items + (if result then 0 else 1)
-        ≡ length requests.old.exchanges.items }
-    ensures held { ServesPlace now place result requests.old.exchanges.items
-        requests.new.exchanges.items }
-{
-    let alloc = requests.alloc;
-    let exchange = &mut requests.exchanges[place];
-    requests.poll_now |= serve_exchange(alloc, office, wire, listener, site, exchange, now);
-    if !exchange.is_over {
-        return true;
-    }
-    wire.close(Port::Admin, exchange.link);
-    requests.exchanges.remove(place);
-    false
-}
-
-/// Serves each link of the administration, in the order in which they were accepted, and closes
-/// those that are over.
-pub(crate) fn serve_requests<V: Vault, W: Wire, L: Listener>(
-    office: &mut Office<V>,
-    wire: &mut W,
-    listener: &mut L,
-    requests: &mut Requests,
-    site: &Option<HostName>,
-    now: u64,
-)
-    ensures works { Part V.holds V.is_clean V.faults W.asked
-        office.old wire.old office.new wire.new
-        (Also (DidApart V.holds V.is_clean office.old office.new
-        (HeardApart L.heard listener.old listener.new
-        (λ B L. HadHttpTurns site.now now B L requests.old.exchanges.items
-        requests.new.exchanges.items)))
-        (PollsBy false requests.new.poll_now)) }
-    ensures asked { AllStillAsked V.holds V.is_clean W.tells site.now office.old wire.old
-        requests.old.exchanges.items office.new wire.new requests.new.exchanges.items }
-    ensures stay { TheseGoOn now requests.new.exchanges.items }
-    ensures no_more { length requests.new.exchanges.items ≤ length requests.old.exchanges.items }
-{
-    requests.poll_now = false;
-    let mut place = 0;
-    while place < requests.exchanges.len() {
-        if serve_place(office, wire, listener, requests, site, place, now) {
-            place += 1;
-        }
-    }
-}
-
 /// Accepts a link of the administration; or closes it, if eight are open or memory for it was
 /// refused.
 /// Whether one came.
@@ -550,8 +425,8 @@ fn accept_request<W: Wire>(wire: &mut W, requests: &mut Requests, now: u64) -> b
 pub(crate) fn accept_requests<W: Wire>(wire: &mut W, requests: &mut Requests, most: usize, now: u64)
     ensures few { length requests.old.exchanges.items ≤ most_exchanges
         → length requests.new.exchanges.items ≤ most_exchanges }
-    ensures works { (goes : Bool) × AsksApart W.asked wire.old wire.new
-        (HasAcceptedForAdmin now most goes requests.old.exchanges.items
+    ensures works { (has_more : Bool) × AsksApart W.asked wire.old wire.new
+        (HasAcceptedForAdmin now most has_more requests.old.exchanges.items
         requests.new.exchanges.items) }
     ensures answers { AllStillAnswer W.tells wire.old requests.old.exchanges.items wire.new
         requests.new.exchanges.items }
@@ -559,6 +434,128 @@ pub(crate) fn accept_requests<W: Wire>(wire: &mut W, requests: &mut Requests, mo
     for _times in 0..most {
         if !accept_request(wire, requests, now) {
             return;
+        }
+    }
+}
+
+impl<V: Vault, W: Wire, L: Listener> Server<V, W, L> {
+    /// Reads a piece of a request that isn't whole. The exchange is over if the link is at its end
+    /// or broken.
+    fn read_request(&mut self, alloc: Global, site: &Option<HostName>, exchange: &mut Exchange)
+        ensures works { DoesApart V.Vault W.Wire L.Listener self.old self.new
+            (λ B L. HasHeard site.now B L exchange.old exchange.new) }
+        ensures asked { StillAsked V.holds V.is_clean W.tells site.now
+            self.old.office self.old.wire exchange.old
+            self.new.office self.new.wire exchange.new }
+        ensures keeps { KeepsLink exchange.old exchange.new }
+    {
+        if exchange.is_over {
+            return;
+        }
+        if exchange.response.is_some() {
+            return;
+        }
+        let mut room = [0; MOST_AT_ONCE];
+        match self.wire.read(Port::Admin, exchange.link, &mut room) {
+            Io::Count(count) => {
+                let piece = &room[..count];
+                take_piece(
+                    alloc,
+                    &mut self.office,
+                    &mut self.listener,
+                    site,
+                    exchange,
+                    piece,
+                );
+            }
+            Io::Later => {}
+            Io::End | Io::Broken => exchange.is_over = true,
+        }
+    }
+
+    /// Reads of a request, and writes of its response. Whether more can be written at once. The
+    /// exchange is over if its link was accepted 60 seconds ago or more.
+    fn serve_exchange(
+        &mut self,
+        alloc: Global,
+        site: &Option<HostName>,
+        exchange: &mut Exchange,
+        now: u64,
+    ) -> bool
+        ensures works { ServesApart V.Vault W.Wire L.Listener self.old self.new
+            (PollsBy false result)
+            (λ B L. HasHttpTurn site.now now B L exchange.old exchange.new) }
+        ensures asked { StillAsked V.holds V.is_clean W.tells site.now
+            self.old.office self.old.wire exchange.old
+            self.new.office self.new.wire exchange.new }
+        ensures keeps { KeepsLink exchange.old exchange.new }
+        ensures timely { exchange.new.is_over ≡ false → is_late_at now exchange.new ≡ false }
+    {
+        if exchange.is_late(now) {
+            exchange.is_over = true;
+            return false;
+        }
+        self.read_request(alloc, site, exchange);
+        write_response(&mut self.wire, exchange)
+    }
+
+    /// Serves the link at one place, and closes it if its exchange is over. Whether it stays.
+    fn serve_place(
+        &mut self,
+        requests: &mut Requests,
+        site: &Option<HostName>,
+        place: usize,
+        now: u64,
+    ) -> bool
+        requires { place < length requests.old.exchanges.items }
+        ensures works { ServesApart V.Vault W.Wire L.Listener self.old self.new
+            (PollsBy requests.old.poll_now requests.new.poll_now)
+            (HadTurnAt site.now now place result requests.old.exchanges.items
+            requests.new.exchanges.items) }
+        ensures asked { AllStillAsked V.holds V.is_clean W.tells site.now
+            self.old.office self.old.wire requests.old.exchanges.items
+            self.new.office self.new.wire requests.new.exchanges.items }
+        ensures left { length requests.new.exchanges.items + (if result then 0 else 1)
+            ≡ length requests.old.exchanges.items }
+        ensures held { ServesPlace now place result requests.old.exchanges.items
+            requests.new.exchanges.items }
+    {
+        let alloc = requests.alloc;
+        let exchange = &mut requests.exchanges[place];
+        requests.poll_now |= self.serve_exchange(alloc, site, exchange, now);
+        if !exchange.is_over {
+            return true;
+        }
+        self.wire.close(Port::Admin, exchange.link);
+        requests.exchanges.remove(place);
+        false
+    }
+
+    /// Serves each link of the administration, in the order in which they were accepted, and closes
+    /// those that are over.
+    pub(crate) fn serve_requests(
+        &mut self,
+        requests: &mut Requests,
+        site: &Option<HostName>,
+        now: u64,
+    )
+        ensures works { ServesApart V.Vault W.Wire L.Listener self.old self.new
+            (PollsBy false requests.new.poll_now)
+            (λ B L. HadHttpTurns site.now now B L requests.old.exchanges.items
+            requests.new.exchanges.items) }
+        ensures asked { AllStillAsked V.holds V.is_clean W.tells site.now
+            self.old.office self.old.wire requests.old.exchanges.items
+            self.new.office self.new.wire requests.new.exchanges.items }
+        ensures stay { TheseGoOn now requests.new.exchanges.items }
+        ensures no_more { length requests.new.exchanges.items
+            ≤ length requests.old.exchanges.items }
+    {
+        requests.poll_now = false;
+        let mut place = 0;
+        while place < requests.exchanges.len() {
+            if self.serve_place(requests, site, place, now) {
+                place += 1;
+            }
         }
     }
 }

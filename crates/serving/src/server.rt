@@ -1,4 +1,4 @@
-//! Serving a wire and a spool, whatever they are.
+//! What serves: an office, its wire and its listener.
 ghost use Rattle.std.specs.Prelude.{◌≡◌, ℕ, false};
 ghost use Rattle.office.specs.Events.{Trace};
 ghost use Rattle.office.specs.Trace.{is_open};
@@ -13,44 +13,52 @@ ghost use Rattle.serving.specs.Settings.{settings, none_set};
 ghost use Rattle.adminhttp.specs.Sites.{Site};
 
 use crate::links::Links;
+use crate::listener::Listener;
 use crate::noted_spool::NotedSpool;
 use crate::noted_wire::NotedWire;
 use crate::spool::Spool;
-use crate::turn::begin;
 use crate::wire::Wire;
 use office::Office;
 use std::alloc::Global;
 use vault::Vault;
 
-/// A wire and a spool that are served, and the wire's open links.
+/// An office, the wire by which its clients and its administration come, and who hears what the
+/// office judged. What a turn does with them is in `turn`, `arrivals`, `clients`, `ends` and
+/// `requests`.
 #[derive(Drop)]
-pub struct Server<W: Wire, S: Spool> {
-    pub links: Links,
-    pub wire: NotedWire<W>,
-    pub spool: NotedSpool<S>,
+pub struct Server<V: Vault, W: Wire, L: Listener> {
+    pub office: Office<V>,
+    pub wire: W,
+    pub listener: L,
 }
 
 /// Begins to serve any wire and any spool, with no link open. What the calls of both are answered
 /// from now on is noted, in the proofs alone, and it is that by which they are served. The office
 /// must have no open connection.
-pub fn begin_noted<V: Vault, W: Wire, S: Spool>(
+pub fn begin_noted<V: Vault, W: Wire, S: Spool, L: Listener>(
     alloc: Global,
-    office: &Office<V>,
+    office: Office<V>,
     wire: W,
     spool: S,
-) -> Server<W, S>
-    ensures serves { (T : Trace) (site : Site) → StandsFor V.holds office.now T → AreAdmitted T
+    listener: L,
+) -> (Server<V, NotedWire<W>, L>, NotedSpool<S>, Links)
+    ensures serves { (T : Trace) (site : Site) → StandsFor V.holds office T → AreAdmitted T
         → ((c : ℕ) → is_open T c ≡ false) → Serves V.holds ⟦<NotedWire<W> as Wire>⟧.tells
-        ⟦<NotedSpool<S> as Spool>⟧.tells T office.now result.wire result.spool
-        result.links.clients.seats.items result.links.requests.exchanges.items site }
-    ensures few { AreFew result.links }
-    ensures seated { AllHaveSeats result.links }
-    ensures pacing { AllArePacing result.links }
-    ensures short { AreShort result.links }
-    ensures settings { settings result.links ≡ none_set }
+        ⟦<NotedSpool<S> as Spool>⟧.tells T result.0.office result.0.wire result.1
+        result.2.clients.seats.items result.2.requests.exchanges.items site }
+    ensures few { AreFew result.2 }
+    ensures seated { AllHaveSeats result.2 }
+    ensures pacing { AllArePacing result.2 }
+    ensures short { AreShort result.2 }
+    ensures settings { settings result.2 ≡ none_set }
 {
     let wire = NotedWire::new(wire);
     let spool = NotedSpool::new(spool);
-    let links = begin(alloc, office, &wire, &spool);
-    Server { links, wire, spool }
+    let server = Server {
+        office,
+        wire,
+        listener,
+    };
+    let links = server.begin(alloc, &spool);
+    (server, spool, links)
 }

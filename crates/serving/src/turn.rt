@@ -5,11 +5,11 @@ ghost use Rattle.office.specs.Trace.{is_open};
 ghost use Rattle.office.specs.Taken.{AreAdmitted};
 ghost use Rattle.office.specs.Stands.{StandsFor, vault_of};
 ghost use Rattle.serving.specs.Wires.{ToldOfPorts, AreFresh};
-ghost use Rattle.serving.specs.Served.{StillServes, Serves};
+ghost use Rattle.serving.specs.Served.{Serves};
 ghost use Rattle.serving.specs.Newcomers.{AllHaveSeats};
 ghost use Rattle.serving.specs.Guesses.{AllArePacing};
 ghost use Rattle.serving.specs.Settings.{settings, none_set};
-ghost use Rattle.serving.specs.Parts.{Part};
+ghost use Rattle.serving.specs.Parts.{Does, KeepsServing};
 ghost use Rattle.serving.specs.ClientParts.{IsPassed};
 ghost use Rattle.serving.specs.Turns.{Works, millis_of};
 ghost use Rattle.serving.specs.HttpTurns.{AllGoOn, AreFew};
@@ -17,33 +17,20 @@ ghost use Rattle.serving.specs.HttpWorks.{AreShort};
 ghost use Rattle.serving.specs.declared.links.Seat as declared;
 ghost use Rattle.adminhttp.specs.Sites.{Site};
 
-use crate::arrivals::accept_links;
-use crate::clients::serve_links;
-use crate::ends::{close_links, end_late_ones, tell_idle_ones};
+use crate::ends::{close_links, tell_idle_ones};
 use crate::files::serve_spool;
 use crate::links::{Links, MOST_LINKS};
 use crate::listener::Listener;
-use crate::requests::{accept_requests, serve_requests};
+use crate::requests::accept_requests;
+use crate::server::Server;
 use crate::spool::Spool;
 use crate::wire::Wire;
-use office::{Event, Office, taken_is_sent};
+use office::{Event, taken_is_sent};
 use std::alloc::Global;
 use vault::Vault;
 
 /// How many milliseconds a turn waits at most.
 const MOST_MILLIS: u32 = 1000;
-
-/// Waits, and tells the office the moment.
-fn pass_time<V: Vault, W: Wire>(office: &mut Office<V>, wire: &mut W, millis: u32, now: u64)
-    ensures serves { (seats these : List declared.Seat)
-        → StillServes V.holds V.is_clean W.tells office.old wire.old seats these office.new wire.new
-        seats [] }
-    ensures works { Part V.holds V.is_clean V.faults W.asked office.old wire.old office.new wire.new
-        (IsPassed millis now) }
-{
-    wire.wait(millis);
-    let _ = office.step(Event::Tick(now));
-}
 
 /// How many milliseconds a turn waits at most: none if more can be done at once.
 fn millis_for(links: &Links) -> u32
@@ -52,74 +39,80 @@ fn millis_for(links: &Links) -> u32
     if links.poll_now() { 0 } else { MOST_MILLIS }
 }
 
-/// One turn: waits for at most a second, and not at all if more can be done at once; tells the
-/// office the moment, in seconds; accepts the links that came, at most 64 at each port; serves each
-/// client's link, and then each link of the administration; ends the clients that took too long to
-/// log in; closes the links whose connections ended; and tries one file of the spool. The listener
-/// hears of each connection that is opened, what was judged of what came on it, that it was idle or
-/// late, and what the administration was asked.
-pub fn serve_turn<V: Vault, W: Wire, S: Spool, L: Listener>(
-    links: &mut Links,
-    wire: &mut W,
-    office: &mut Office<V>,
-    spool: &mut S,
-    listener: &mut L,
-    now: u64,
-)
-    ensures serves { (T : Trace) → Serves V.holds W.tells S.tells T office.old wire.old spool.old
-        links.old.clients.seats.items links.old.requests.exchanges.items links.old.site
-        → V.is_clean (vault_of office.new) → Serves V.holds W.tells S.tells T office.new wire.new
-        spool.new links.new.clients.seats.items links.new.requests.exchanges.items links.new.site }
-    ensures clean { V.is_clean (vault_of office.new) → V.is_clean (vault_of office.old) }
-    ensures works { (T : Trace) → StandsFor V.holds office.old T → V.is_clean (vault_of office.new)
-        → Works V.holds V.faults W.asked S.asked L.heard T now
-        links.old office.old wire.old spool.old listener.old
-        office.new links.new wire.new spool.new listener.new }
-    ensures ongoing { AllGoOn now links.new }
-    ensures few { AreFew links.old → AreFew links.new }
-    ensures seated { AllHaveSeats links.old → AllHaveSeats links.new }
-    ensures pacing { AllArePacing links.old → AllArePacing links.new }
-    ensures short { (T : Trace) → StandsFor V.holds office.old T → V.is_clean (vault_of office.new)
-        → AreShort links.old → AreShort links.new }
-    ensures settings { settings links.new ≡ settings links.old }
-    ensures site { links.new.site ≡ links.old.site }
-{
-    let millis = millis_for(links);
-    links.clients.poll_now = false;
-    pass_time(office, wire, millis, now);
-    tell_idle_ones(office, listener, &links.clients);
-    accept_links(office, wire, listener, &mut links.clients, now);
-    accept_requests(wire, &mut links.requests, MOST_LINKS, now);
-    serve_links(office, wire, listener, &mut links.clients, now);
-    let site = &links.site;
-    serve_requests(office, wire, listener, &mut links.requests, site, now);
-    let seconds = links.clients.newcomers.limit(links.clients.seats.len());
-    end_late_ones(office, wire, listener, &mut links.clients, now, seconds);
-    close_links(office, wire, &mut links.clients);
-    serve_spool(office, spool, &mut links.clients);
-    // For the proof: what each connection took was sent to it.
-    taken_is_sent();
-}
+impl<V: Vault, W: Wire, L: Listener> Server<V, W, L> {
+    /// Waits, and tells the office the moment.
+    fn pass_time(&mut self, millis: u32, now: u64)
+        ensures serves { (seats these : List declared.Seat)
+            → KeepsServing V.Vault W.Wire self.old self.new seats these seats [] }
+        ensures works { Does V.Vault W.Wire L.Listener self.old self.new (IsPassed millis now) }
+    {
+        self.wire.wait(millis);
+        let _ = self.office.step(Event::Tick(now));
+    }
 
-/// Begins to serve a wire and a spool, with no link open. The office must have no open connection.
-pub fn begin<V: Vault, W: Wire, S: Spool>(
-    alloc: Global,
-    _office: &Office<V>,
-    _wire: &W,
-    _spool: &S,
-) -> Links
-    ensures serves { (T : Trace) (t : ToldOfPorts) (site : Site) → StandsFor V.holds _office.now T
-        → AreAdmitted T → ((c : ℕ) → is_open T c ≡ false) → W.tells _wire.now t → AreFresh t
-        → S.tells _spool.now []
-        → Serves V.holds W.tells S.tells T _office.now _wire.now _spool.now
-        result.clients.seats.items result.requests.exchanges.items site }
-    ensures few { AreFew result }
-    ensures seated { AllHaveSeats result }
-    ensures pacing { AllArePacing result }
-    ensures short { AreShort result }
-    ensures settings { settings result ≡ none_set }
-{
-    // For the proof: what each connection took was sent to it.
-    taken_is_sent();
-    Links::new(alloc)
+    /// One turn: waits for at most a second, and not at all if more can be done at once; tells the
+    /// office the moment, in seconds; accepts the links that came, at most 64 at each port; serves
+    /// each client's link, and then each link of the administration; ends the clients that took too
+    /// long to log in; closes the links whose connections ended; and tries one file of the spool.
+    /// The listener hears of each connection that is opened, what was judged of what came on it,
+    /// that it was idle or late, and what the administration was asked.
+    pub fn serve_turn<S: Spool>(&mut self, links: &mut Links, spool: &mut S, now: u64)
+        ensures serves { (T : Trace)
+            → Serves V.holds W.tells S.tells T self.old.office self.old.wire spool.old
+            links.old.clients.seats.items links.old.requests.exchanges.items links.old.site
+            → V.is_clean (vault_of self.new.office)
+            → Serves V.holds W.tells S.tells T self.new.office self.new.wire spool.new
+            links.new.clients.seats.items links.new.requests.exchanges.items links.new.site }
+        ensures clean { V.is_clean (vault_of self.new.office)
+            → V.is_clean (vault_of self.old.office) }
+        ensures works { (T : Trace) → StandsFor V.holds self.old.office T
+            → V.is_clean (vault_of self.new.office)
+            → Works V.holds V.faults W.asked S.asked L.heard T now
+            links.old self.old.office self.old.wire spool.old self.old.listener
+            self.new.office links.new self.new.wire spool.new self.new.listener }
+        ensures ongoing { AllGoOn now links.new }
+        ensures few { AreFew links.old → AreFew links.new }
+        ensures seated { AllHaveSeats links.old → AllHaveSeats links.new }
+        ensures pacing { AllArePacing links.old → AllArePacing links.new }
+        ensures short { (T : Trace) → StandsFor V.holds self.old.office T
+            → V.is_clean (vault_of self.new.office) → AreShort links.old → AreShort links.new }
+        ensures settings { settings links.new ≡ settings links.old }
+        ensures site { links.new.site ≡ links.old.site }
+    {
+        let millis = millis_for(links);
+        links.clients.poll_now = false;
+        self.pass_time(millis, now);
+        tell_idle_ones(&self.office, &mut self.listener, &links.clients);
+        self.accept_links(&mut links.clients, now);
+        accept_requests(&mut self.wire, &mut links.requests, MOST_LINKS, now);
+        self.serve_links(&mut links.clients, now);
+        let site = &links.site;
+        self.serve_requests(&mut links.requests, site, now);
+        let seconds = links.clients.newcomers.limit(links.clients.seats.len());
+        self.end_late_ones(&mut links.clients, now, seconds);
+        close_links(&self.office, &mut self.wire, &mut links.clients);
+        serve_spool(&mut self.office, spool, &mut links.clients);
+        // For the proof: what each connection took was sent to it.
+        taken_is_sent();
+    }
+
+    /// Begins to serve the wire and a spool, with no link open. The office must have no open
+    /// connection.
+    pub fn begin<S: Spool>(&self, alloc: Global, _spool: &S) -> Links
+        ensures serves { (T : Trace) (t : ToldOfPorts) (site : Site)
+            → StandsFor V.holds self.now.office T → AreAdmitted T
+            → ((c : ℕ) → is_open T c ≡ false) → W.tells self.now.wire t → AreFresh t
+            → S.tells _spool.now []
+            → Serves V.holds W.tells S.tells T self.now.office self.now.wire _spool.now
+            result.clients.seats.items result.requests.exchanges.items site }
+        ensures few { AreFew result }
+        ensures seated { AllHaveSeats result }
+        ensures pacing { AllArePacing result }
+        ensures short { AreShort result }
+        ensures settings { settings result ≡ none_set }
+    {
+        // For the proof: what each connection took was sent to it.
+        taken_is_sent();
+        Links::new(alloc)
+    }
 }

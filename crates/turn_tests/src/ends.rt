@@ -1,8 +1,8 @@
 //! Why a connection ended, as a server's listener hears it: of one that was idle, of one that took
 //! too long to log in, and of one that hadn't logged in while all places were taken.
-use crate::scenes::staged;
+use crate::two_clerks::office_of_two;
 use office::{Account, End};
-use serving::{Asked, Link, Listener, ScriptSpool, ScriptWire, Stop, serve_turn};
+use serving::{AdminRequest, Link, Listener, ScriptSpool, ScriptWire, Server};
 use std::alloc::{AllocError, Global};
 use std::test::Fail;
 
@@ -48,7 +48,7 @@ impl Listener for Ends {
         }
     }
 
-    fn asked(&mut self, _link: Link, _asked: &Asked<'_>) {}
+    fn asked(&mut self, _link: Link, _asked: &AdminRequest<'_>) {}
 }
 
 /// What is heard of silent clients, of whom so many come before the turn at each of these moments,
@@ -60,29 +60,26 @@ fn ends_by(
     turns: &[(usize, u64)],
 ) -> Result<String, Fail> {
     let mut spool = ScriptSpool::new(alloc);
-    let mut stage = staged(alloc, &spool, 4096, u64::MAX, Stop::End)?;
-    stage.links.set_login_seconds(login_seconds);
-    stage.links.set_full_house_seconds(full_house_seconds);
-    let mut listener = Ends {
-        alloc,
-        text: String::new(alloc),
-        is_short: false,
+    let mut server = Server {
+        office: office_of_two(alloc, &[])?,
+        wire: ScriptWire::new(alloc, Vec::new(alloc), 4096),
+        listener: Ends {
+            alloc,
+            text: String::new(alloc),
+            is_short: false,
+        },
     };
+    let mut links = server.begin(alloc, &spool);
+    links.set_login_seconds(login_seconds);
+    links.set_full_house_seconds(full_house_seconds);
     for (coming, now) in turns {
-        connect_all(alloc, &mut stage.wire, *coming)?;
-        serve_turn(
-            &mut stage.links,
-            &mut stage.wire,
-            &mut stage.office,
-            &mut spool,
-            &mut listener,
-            *now,
-        );
+        connect_all(alloc, &mut server.wire, *coming)?;
+        server.serve_turn(&mut links, &mut spool, *now);
     }
-    if listener.is_short {
+    if server.listener.is_short {
         return Err(Fail::new("no memory"));
     }
-    Ok(listener.text)
+    Ok(server.listener.text)
 }
 
 /// So many clients come, and say nothing.

@@ -2,7 +2,7 @@
 //! gave it.
 use creds::{LoginName, Name, Uid};
 use office::{Account, MessageCommand, MessageRow, Removal, Verdict, Way};
-use serving::{Asked, Link, Listener};
+use serving::{AdminRequest, Link, Listener};
 use session::Removed;
 use std::alloc::{AllocError, Global};
 
@@ -160,5 +160,5 @@ impl Listener for Heard {
         self.is_short |= self.keep(connection, account).is_err();
     }
 
-    fn asked(&mut self, _link: Link, _asked: &Asked<'_>) {}
+    fn asked(&mut self, _link: Link, _asked: &AdminRequest<'_>) {}
 }

@@ -2,7 +2,7 @@
 
 use crate::two_clerks::office_of_two;
 use office::Account;
-use serving::{Asked, Link, Listener, ScriptSpool, ScriptWire, begin, serve_turn};
+use serving::{AdminRequest, Link, Listener, ScriptSpool, ScriptWire, Server};
 use std::test::Fail;
 
 /// The last link that was opened, its connection, and how many there were.
@@ -24,34 +24,29 @@ impl Listener for Doorman {
 
     fn hear(&mut self, _connection: u64, _account: &Account) {}
 
-    fn asked(&mut self, _link: Link, _asked: &Asked<'_>) {}
+    fn asked(&mut self, _link: Link, _asked: &AdminRequest<'_>) {}
 }
 
 #[test]
 fn each_with_its_connection(rt: HostRuntime) -> Result<(), Fail> {
     let alloc = rt.alloc();
-    let mut office = office_of_two(alloc, &[])?;
-    let mut wire = ScriptWire::new(alloc, Vec::new(alloc), 4096);
-    let mut spool = ScriptSpool::new(alloc);
-    let mut links = begin(alloc, &office, &wire, &spool);
-    let mut doorman = Doorman {
-        link: 0,
-        connection: 0,
-        count: 0,
+    let mut server = Server {
+        office: office_of_two(alloc, &[])?,
+        wire: ScriptWire::new(alloc, Vec::new(alloc), 4096),
+        listener: Doorman {
+            link: 0,
+            connection: 0,
+            count: 0,
+        },
     };
+    let mut spool = ScriptSpool::new(alloc);
+    let mut links = server.begin(alloc, &spool);
     for number in 0..3u64 {
-        wire.connect(Vec::new(alloc))?;
-        serve_turn(
-            &mut links,
-            &mut wire,
-            &mut office,
-            &mut spool,
-            &mut doorman,
-            0,
-        );
-        assert_eq!(rt; doorman.link, number);
-        assert_eq!(rt; doorman.connection, number.saturating_add(1));
+        server.wire.connect(Vec::new(alloc))?;
+        server.serve_turn(&mut links, &mut spool, 0);
+        assert_eq!(rt; server.listener.link, number);
+        assert_eq!(rt; server.listener.connection, number.saturating_add(1));
     }
-    assert_eq!(rt; doorman.count, 3);
+    assert_eq!(rt; server.listener.count, 3);
     Ok(())
 }

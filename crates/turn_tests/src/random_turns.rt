@@ -8,7 +8,7 @@ use crate::sent::{MAILDROPS, some_line, some_maildrop};
 use crate::two_clerks::{name, office_of_two};
 use creds::DepositId;
 use office::{Answer, Event, Office, Outcome, read_number};
-use serving::{Links, ScriptSpool, begin, serve_turn};
+use serving::{Links, ScriptSpool, Server};
 use std::alloc::{AllocError, Global};
 use std::fs;
 use std::test::Fail;
@@ -22,16 +22,14 @@ const TURNS: u64 = 2500;
 /// A file with another seed and another number of turns, which tools/check-turns writes.
 const FILE: &str = "random-turns";
 
-/// A server, its wire and its spool.
+/// A server and its spool.
 #[derive(Drop)]
 struct Game {
     alloc: Global,
-    office: Office<PlainVault>,
+    /// Its listener has what the server judged in a turn.
+    server: Server<PlainVault, RandomWire, Heard>,
     links: Links,
-    wire: RandomWire,
     spool: ScriptSpool,
-    /// What the server judged in a turn, as it heard it.
-    heard: Heard,
     /// How many files were put.
     files: u64,
 }
@@ -51,14 +49,17 @@ fn new_game(
         is_calm: false,
     };
     let spool = ScriptSpool::new(alloc);
-    let links = begin(alloc, &office, &wire, &spool);
+    let server = Server {
+        office,
+        wire,
+        listener: Heard::new(alloc),
+    };
+    let links = server.begin(alloc, &spool);
     Game {
         alloc,
-        office,
+        server,
         links,
-        wire,
         spool,
-        heard: Heard::new(alloc),
         files: 0,
     }
 }
@@ -122,15 +123,9 @@ fn come_some(wire: &mut RandomWire) -> Result<(), AllocError> {
 
 /// Serves a turn.
 fn serve(game: &mut Game) {
-    let now = game.wire.reckoning.now;
-    serve_turn(
-        &mut game.links,
-        &mut game.wire,
-        &mut game.office,
-        &mut game.spool,
-        &mut game.heard,
-        now,
-    );
+    let now = game.server.wire.reckoning.now;
+    game.server
+        .serve_turn(&mut game.links, &mut game.spool, now);
 }
 
 /// The office that reckons is given a deposit. Whether it took it.
@@ -151,17 +146,17 @@ fn deposit(
 
 /// Serves a turn with a file in the spool, which is then deposited.
 fn serve_with_file(game: &mut Game) -> Result<(), Fail> {
-    let text = some_message(game.alloc, &mut game.wire.chance)?;
+    let text = some_message(game.alloc, &mut game.server.wire.chance)?;
     let id = format!(in game.alloc; "f{}", game.files)?;
     game.files = game.files.saturating_add(1);
-    let maildrop = some_maildrop(&mut game.wire.chance);
+    let maildrop = some_maildrop(&mut game.server.wire.chance);
     let file = format!(in game.alloc; "{maildrop}.note.{id}.eml")?;
     game.spool.put(file.as_str(), text.as_slice())?;
     serve(game);
-    let office = &mut game.wire.reckoning.office;
+    let office = &mut game.server.wire.reckoning.office;
     let is_new = deposit(office, maildrop, id.as_bytes(), text.as_slice())?;
     if game.spool.has(file.as_str()) || !is_new {
-        game.wire.reckoning.note("not deposited");
+        game.server.wire.reckoning.note("not deposited");
     }
     Ok(())
 }
@@ -189,21 +184,21 @@ fn look_at_accounts(heard: &mut Heard, reckoning: &mut Reckoning) {
 
 /// A turn.
 fn turn(game: &mut Game) -> Result<(), Fail> {
-    come_some(&mut game.wire)?;
-    if game.wire.chance.once_in(24) {
+    come_some(&mut game.server.wire)?;
+    if game.server.wire.chance.once_in(24) {
         serve_with_file(game)?;
     } else {
         serve(game);
     }
-    look_at_links(&game.links, &mut game.wire.reckoning);
-    look_at_accounts(&mut game.heard, &mut game.wire.reckoning);
+    look_at_links(&game.links, &mut game.server.wire.reckoning);
+    look_at_accounts(&mut game.server.listener, &mut game.server.wire.reckoning);
     Ok(())
 }
 
 /// So many turns, until something goes wrong. How many there were.
 fn play(game: &mut Game, turns: u64) -> Result<u64, Fail> {
     for done in 0..turns {
-        if game.wire.reckoning.fault.is_some() {
+        if game.server.wire.reckoning.fault.is_some() {
             return Ok(done);
         }
         turn(game)?;
@@ -213,16 +208,16 @@ fn play(game: &mut Game, turns: u64) -> Result<u64, Fail> {
 
 /// Turns in which nothing comes, waits, ends or breaks: all that came is then answered.
 fn calm_down(game: &mut Game) {
-    game.wire.is_calm = true;
+    game.server.wire.is_calm = true;
     for _ in 0..1000u32 {
-        if game.wire.reckoning.is_done() {
+        if game.server.wire.reckoning.is_done() {
             return;
         }
         serve(game);
-        look_at_links(&game.links, &mut game.wire.reckoning);
-        look_at_accounts(&mut game.heard, &mut game.wire.reckoning);
+        look_at_links(&game.links, &mut game.server.wire.reckoning);
+        look_at_accounts(&mut game.server.listener, &mut game.server.wire.reckoning);
     }
-    game.wire.reckoning.note("not all was told");
+    game.server.wire.reckoning.note("not all was told");
 }
 
 /// Plays so many turns by a seed: how many there were, what went wrong, and how often what
@@ -232,8 +227,8 @@ fn played(alloc: Global, seed: u64, turns: u64) -> Result<(u64, &'static str, Co
     let mut game = new_game(alloc, seed, office_of_two(alloc, &MAILDROPS)?, other);
     let done = play(&mut game, turns)?;
     calm_down(&mut game);
-    let counts = game.wire.reckoning.counts;
-    Ok((done, game.wire.reckoning.fault.unwrap_or(""), counts))
+    let counts = game.server.wire.reckoning.counts;
+    Ok((done, game.server.wire.reckoning.fault.unwrap_or(""), counts))
 }
 
 /// The seed and the number of turns that a file says.

@@ -4,7 +4,7 @@
 use crate::two_clerks::{name, office_of_two};
 use creds::DepositId;
 use office::{Event, Office};
-use serving::{Links, NoListener, Port, ScriptWire, Spool, Stop, begin, serve_turn};
+use serving::{Links, NoListener, Port, ScriptWire, Server, Spool, Stop};
 use std::alloc::{AllocError, Global};
 use std::net::IpAddr;
 use std::test::Fail;
@@ -52,12 +52,11 @@ struct Guest {
     is_lost: bool,
 }
 
-/// An office, its wire, its links and who came.
+/// A server, its links and who came.
 #[derive(Drop)]
 pub struct Stage {
     pub alloc: Global,
-    pub office: Office<PlainVault>,
-    pub wire: ScriptWire,
+    pub server: Server<PlainVault, ScriptWire, NoListener>,
     pub links: Links,
     guests: Vec<Guest>,
 }
@@ -83,11 +82,15 @@ pub fn staged<S: Spool>(
     let office = office_with_a_message(alloc)?;
     let mut wire = ScriptWire::new(alloc, Vec::new(alloc), piece);
     wire.stop_at(call, stop);
-    let links = begin(alloc, &office, &wire, spool);
-    Ok(Stage {
-        alloc,
+    let server = Server {
         office,
         wire,
+        listener: NoListener,
+    };
+    let links = server.begin(alloc, spool);
+    Ok(Stage {
+        alloc,
+        server,
         links,
         guests: Vec::new(alloc),
     })
@@ -96,14 +99,7 @@ pub fn staged<S: Spool>(
 /// Serves so many turns at a moment.
 pub fn turns<S: Spool>(stage: &mut Stage, spool: &mut S, count: u64, now: u64) {
     for _ in 0..count {
-        serve_turn(
-            &mut stage.links,
-            &mut stage.wire,
-            &mut stage.office,
-            spool,
-            &mut NoListener,
-            now,
-        );
+        stage.server.serve_turn(&mut stage.links, spool, now);
     }
 }
 
@@ -117,8 +113,8 @@ fn comes(stage: &mut Stage, port: Port, place: usize) -> Result<(), AllocError> 
         is_lost: false,
     })?;
     match port {
-        Port::Pop => stage.wire.connect(Vec::new(alloc)),
-        Port::Admin => stage.wire.request(Vec::new(alloc)),
+        Port::Pop => stage.server.wire.connect(Vec::new(alloc)),
+        Port::Admin => stage.server.wire.request(Vec::new(alloc)),
     }
 }
 
@@ -198,7 +194,7 @@ fn guest_does(stage: &mut Stage, number: usize, act: Act) -> Result<(), Fail> {
     let Some(guest) = stage.guests.get_mut(number) else {
         return Err(Fail::new("no guest"));
     };
-    if does(&mut stage.wire, guest, act)? {
+    if does(&mut stage.server.wire, guest, act)? {
         Ok(())
     } else {
         Err(Fail::new("told otherwise, or open"))
@@ -215,7 +211,7 @@ fn play_act<S: Spool>(stage: &mut Stage, spool: &mut S, act: Act) -> Result<(), 
             Ok(())
         }
         Act::Stalls(place) => {
-            stage.wire.stall(place);
+            stage.server.wire.stall(place);
             Ok(())
         }
         Act::Sends(k, _, _) | Act::Told(k, _, _) | Act::Open(k) | Act::Closed(k) => {
@@ -251,10 +247,10 @@ fn play_on<S: Spool>(
 ) -> Result<(u64, u64), Fail> {
     play_acts(stage, spool, scene.first)?;
     play_acts(stage, spool, scene.then)?;
-    if stage.wire.strayed() {
+    if stage.server.wire.strayed() {
         return Err(Fail::new("a link that was over was read or written"));
     }
-    Ok((lost(stage.guests.as_slice()), stage.wire.calls()))
+    Ok((lost(stage.guests.as_slice()), stage.server.wire.calls()))
 }
 
 /// The same, with a fault in place of a call.
@@ -291,7 +287,7 @@ pub fn play_set<S: Spool>(
     stage.links.set_slow_guesses(settings.slow_guesses);
     let mut addresses = Vec::new(alloc);
     addresses.extend_from_slice(settings.from)?;
-    stage.wire.set_addresses(addresses);
+    stage.server.wire.set_addresses(addresses);
     play_acts(&mut stage, spool, acts)?;
     if lost(stage.guests.as_slice()) > 0 {
         return Err(Fail::new("a guest is lost"));

@@ -4,19 +4,30 @@
 use crate::two_clerks::{name, office_of_two};
 use creds::DepositId;
 use office::{AdminCommand, Event, Office};
-use serving::{Links, NoListener, ScriptSpool, ScriptWire, begin, serve_turn};
+use serving::{Links, NoListener, ScriptSpool, ScriptWire, Server};
 use std::alloc::Global;
 use std::test::Fail;
 use vault::PlainVault;
 
 /// Serves a turn.
 fn serve(
+    server: &mut Server<PlainVault, ScriptWire, NoListener>,
     links: &mut Links,
-    wire: &mut ScriptWire,
-    office: &mut Office<PlainVault>,
     spool: &mut ScriptSpool,
 ) {
-    serve_turn(links, wire, office, spool, &mut NoListener, 0);
+    server.serve_turn(links, spool, 0);
+}
+
+/// A server of this office, on this wire.
+fn server_of(
+    office: Office<PlainVault>,
+    wire: ScriptWire,
+) -> Server<PlainVault, ScriptWire, NoListener> {
+    Server {
+        office,
+        wire,
+        listener: NoListener,
+    }
 }
 
 /// An office with a message of so many lines of forty octets in the maildrop `orders`.
@@ -39,7 +50,7 @@ const ANN: &[u8] = b"USER ann/orders\r\nPASS s3 cret\r\nRETR 1\r\n";
 /// How many octets ann got after each of three turns, by a link that takes so many at once, of
 /// so many lines, with so many silent links beside hers.
 fn told_by(alloc: Global, most: usize, lines: u32, silent: u32) -> Result<[usize; 3], Fail> {
-    let mut office = office_with_a_long_message(alloc, lines)?;
+    let office = office_with_a_long_message(alloc, lines)?;
     let mut wire = ScriptWire::new(alloc, Vec::new(alloc), most);
     // The wire gives the link that came last first.
     for _ in 0..silent {
@@ -47,11 +58,12 @@ fn told_by(alloc: Global, most: usize, lines: u32, silent: u32) -> Result<[usize
     }
     wire.connect(Vec::from_slice(alloc, ANN)?)?;
     let mut spool = ScriptSpool::new(alloc);
-    let mut links = begin(alloc, &office, &wire, &spool);
+    let mut server = server_of(office, wire);
+    let mut links = server.begin(alloc, &spool);
     let mut behind = [0; 3];
     for turn in 0..3usize {
-        serve(&mut links, &mut wire, &mut office, &mut spool);
-        behind[turn] = wire.written(0).len();
+        serve(&mut server, &mut links, &mut spool);
+        behind[turn] = server.wire.written(0).len();
     }
     Ok(behind)
 }
@@ -108,19 +120,20 @@ fn office_with_many_maildrops(alloc: Global) -> Result<Office<PlainVault>, Fail>
 #[test]
 fn of_a_response(rt: HostRuntime) -> Result<(), Fail> {
     let alloc = rt.alloc();
-    let mut office = office_with_many_maildrops(alloc)?;
+    let office = office_with_many_maildrops(alloc)?;
     let mut wire = ScriptWire::new(alloc, Vec::new(alloc), 20_000);
     wire.request(Vec::from_slice(alloc, b"GET /maildrops HTTP/1.1\r\n\r\n")?)?;
     let mut spool = ScriptSpool::new(alloc);
-    let mut links = begin(alloc, &office, &wire, &spool);
-    serve(&mut links, &mut wire, &mut office, &mut spool);
-    assert_eq!(rt; wire.response(0).len(), 16_384);
-    serve(&mut links, &mut wire, &mut office, &mut spool);
-    assert!(rt; wire.response(0).len() > 18_500);
-    assert!(rt; wire.is_request_closed(0));
+    let mut server = server_of(office, wire);
+    let mut links = server.begin(alloc, &spool);
+    serve(&mut server, &mut links, &mut spool);
+    assert_eq!(rt; server.wire.response(0).len(), 16_384);
+    serve(&mut server, &mut links, &mut spool);
+    assert!(rt; server.wire.response(0).len() > 18_500);
+    assert!(rt; server.wire.is_request_closed(0));
     // Nothing is left to do: the turn after one that does nothing waits.
-    serve(&mut links, &mut wire, &mut office, &mut spool);
-    serve(&mut links, &mut wire, &mut office, &mut spool);
-    assert_eq!(rt; wire.waited(), 1000);
+    serve(&mut server, &mut links, &mut spool);
+    serve(&mut server, &mut links, &mut spool);
+    assert_eq!(rt; server.wire.waited(), 1000);
     Ok(())
 }

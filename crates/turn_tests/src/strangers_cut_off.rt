@@ -408,8 +408,8 @@ fn folder_in_the_spool(rt: HostRuntime) -> Result<(), Fail> {
 /// Whether a client's link was closed, and it got this or a beginning of it. Fails if its
 /// link is open, and it got anything else.
 fn is_lost(stage: &Stage, place: usize, greeting: &[u8]) -> Result<bool, Fail> {
-    let told = stage.wire.written(place);
-    let is_closed = stage.wire.is_closed(place);
+    let told = stage.server.wire.written(place);
+    let is_closed = stage.server.wire.is_closed(place);
     if greeting.starts_with(told) && (is_closed || told == greeting) {
         Ok(is_closed)
     } else {
@@ -433,17 +433,17 @@ fn lost_of_first(stage: &Stage) -> Result<u64, Fail> {
 /// One client more comes, at this place among them: whether it has the next number, and wasn't
 /// closed without an octet.
 fn is_seated(stage: &mut Stage, spool: &mut ScriptSpool, place: usize) -> Result<bool, Fail> {
-    stage.wire.connect(Vec::new(stage.alloc))?;
+    stage.server.wire.connect(Vec::new(stage.alloc))?;
     turns(stage, spool, 1, 0);
     let is_gone = is_lost(stage, place, b"+OK POP3 server ready <65.7@h.test>\r\n")?;
-    Ok(!is_gone || !stage.wire.written(place).is_empty())
+    Ok(!is_gone || !stage.server.wire.written(place).is_empty())
 }
 
 /// 64 clients come, and in the next two turns one more each. Whether one of the 64 is lost, and the
 /// next that comes has its place and the next number, while no other has.
 fn is_one_replaced(stage: &mut Stage, spool: &mut ScriptSpool) -> Result<bool, Fail> {
     for _ in 0..64u32 {
-        stage.wire.connect(Vec::new(stage.alloc))?;
+        stage.server.wire.connect(Vec::new(stage.alloc))?;
     }
     turns(stage, spool, 1, 0);
     let early = lost_of_first(stage)?;
@@ -458,7 +458,7 @@ fn is_one_replaced(stage: &mut Stage, spool: &mut ScriptSpool) -> Result<bool, F
 fn is_one_replaced_at(alloc: Global, call: u64, stop: Stop) -> Result<bool, Fail> {
     let mut spool = ScriptSpool::new(alloc);
     let mut stage = staged(alloc, &spool, 4096, call, stop)?;
-    Ok(is_one_replaced(&mut stage, &mut spool)? && !stage.wire.strayed())
+    Ok(is_one_replaced(&mut stage, &mut spool)? && !stage.server.wire.strayed())
 }
 
 /// The calls of two turns: 64 greetings and 64 reads, and 64 reads.

@@ -1,6 +1,6 @@
 //! A wire over sockets.
-use crate::turns::new_office;
-use serving::{NoListener, NotedWire, ScriptSpool, SocketWire, begin, serve_turn};
+use crate::turns::server_on;
+use serving::{NotedWire, ScriptSpool, SocketWire};
 use std::io::{Read, Write};
 use std::net::{Ipv4Addr, Shutdown, SocketAddr, TcpStream};
 use std::test::Fail;
@@ -13,22 +13,14 @@ fn greeting_row_over_loopback(rt: HostRuntime) -> Result<(), Fail> {
     let alloc = rt.alloc();
     let any = SocketAddr::from((Ipv4Addr::LOCALHOST, 0));
     let (wire, port) = SocketWire::bind(&rt, alloc, any)?;
-    let mut wire = NotedWire::new(wire);
-    let mut office = new_office(alloc)?;
+    let mut server = server_on(alloc, NotedWire::new(wire))?;
     let mut spool = ScriptSpool::new(alloc);
-    let mut links = begin(alloc, &office, &wire, &spool);
+    let mut links = server.begin(alloc, &spool);
     let mut client = TcpStream::connect(&rt, SocketAddr::from((Ipv4Addr::LOCALHOST, port)))?;
     client.write_all(b"CAPA\r\nQUIT\r\n")?;
     client.shutdown(Shutdown::Write)?;
     for _ in 0..6u32 {
-        serve_turn(
-            &mut links,
-            &mut wire,
-            &mut office,
-            &mut spool,
-            &mut NoListener,
-            0,
-        );
+        server.serve_turn(&mut links, &mut spool, 0);
     }
     let mut read = Vec::new(alloc);
     client.read_to_end(&mut read)?;

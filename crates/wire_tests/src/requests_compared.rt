@@ -133,7 +133,7 @@ fn ask_all(
         let asked = request_text(bench.alloc, row)?;
         request(bench, asked.as_bytes())?;
         turns(bench, 2, 0);
-        let told = str::from_utf8(bench.wire.response(place))?;
+        let told = str::from_utf8(bench.server.wire.response(place))?;
         let (_, body) = told.split_once("\r\n\r\n").ok_or("no response")?;
         put_answer(text, body)?;
         place = place.saturating_add(1);
@@ -146,7 +146,7 @@ fn told_over_http(alloc: Global) -> Result<String, Fail> {
     let mut bench = bench_over(alloc, PlainVault::new(alloc), 4096)?;
     let mut text = String::new(alloc);
     ask_all(&mut bench, FIRST.as_slice(), 0, &mut text)?;
-    deposit(&mut bench.office, "orders", b"hi")?;
+    deposit(&mut bench.server.office, "orders", b"hi")?;
     text.push_str("answer new note.1\n")?;
     bench
         .wire

@@ -84,7 +84,7 @@ fn told<V: Vault>(asked: &mut Asked<V>, text: &str) -> Result<Vec<u8>, Fail> {
     request(&mut asked.bench, text.as_bytes())?;
     asked.came = place.saturating_add(1);
     turns(&mut asked.bench, 4, 0);
-    let wire = &asked.bench.wire;
+    let wire = &asked.bench.server.wire;
     if !wire.is_request_closed(place) || wire.strayed() {
         return Err(Fail::new("not closed"));
     }
@@ -114,8 +114,8 @@ fn keep_the_same<V: Vault>(
     free: &mut Asked<PlainVault>,
 ) -> Result<bool, Fail> {
     let alloc = tested.bench.alloc;
-    let kept = look(alloc, &mut tested.bench.office)?;
-    Ok(kept == look(alloc, &mut free.bench.office)?)
+    let kept = look(alloc, &mut tested.bench.server.office)?;
+    Ok(kept == look(alloc, &mut free.bench.server.office)?)
 }
 
 /// Gives the other office a request that was refused. Fails unless the tested office had done it
@@ -215,9 +215,9 @@ fn ask_empty<V: Vault + Drop>(alloc: Global, vault: V, refusal: &[u8]) -> Result
 /// An office over this filled vault, with ann logged in.
 fn with_ann<V: Vault + Drop>(alloc: Global, vault: V) -> Result<Asked<V>, Fail> {
     let mut asked = asked_over(alloc, vault)?;
-    asked.bench.wire.connect(octets(alloc, ANN)?)?;
+    asked.bench.server.wire.connect(octets(alloc, ANN)?)?;
     turns(&mut asked.bench, 4, 0);
-    let said = asked.bench.wire.written(0);
+    let said = asked.bench.server.wire.written(0);
     if said.ends_with(ANN_IS_IN) {
         Ok(asked)
     } else if said.ends_with(REFUSED) {

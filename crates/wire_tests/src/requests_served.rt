@@ -117,14 +117,14 @@ fn rows_in_pieces(alloc: Global, piece: usize, count: u32) -> Result<bool, Fail>
     for (asked, begins, ends) in &ROWS {
         request(&mut bench, asked.as_bytes())?;
         turns(&mut bench, count, 0);
-        let told = bench.wire.response(place);
+        let told = bench.server.wire.response(place);
         let is_told = told.starts_with(begins.as_bytes()) && told.ends_with(ends.as_bytes());
-        if !is_told || !bench.wire.is_request_closed(place) {
+        if !is_told || !bench.server.wire.is_request_closed(place) {
             return Ok(false);
         }
         place = place.saturating_add(1);
     }
-    Ok(bench.links.requests() == 0 && !bench.wire.strayed())
+    Ok(bench.links.requests() == 0 && !bench.server.wire.strayed())
 }
 
 #[test]
@@ -146,14 +146,18 @@ fn ninth_link(rt: HostRuntime) -> Result<(), Fail> {
     }
     turns(&mut bench, 2, 0);
     assert_eq!(rt; bench.links.requests(), 8);
-    assert!(rt; bench.wire.is_request_closed(8) && bench.wire.response(8).is_empty());
-    bench.wire.send_request(3, b"\r\n")?;
+    assert!(rt; bench.server.wire.is_request_closed(8) && bench.server.wire.response(8).is_empty());
+    bench.server.wire.send_request(3, b"\r\n")?;
     turns(&mut bench, 1, 0);
-    assert!(rt; bench.wire.response(3) == NO_SESSIONS && bench.wire.is_request_closed(3));
+    assert!(rt;
+        bench.server.wire.response(3) == NO_SESSIONS && bench.server.wire.is_request_closed(3)
+    );
     request(&mut bench, SESSIONS)?;
     turns(&mut bench, 1, 0);
-    assert!(rt; bench.wire.response(9) == NO_SESSIONS);
-    assert!(rt; bench.wire.response(2).is_empty() && !bench.wire.is_request_closed(2));
+    assert!(rt; bench.server.wire.response(9) == NO_SESSIONS);
+    assert!(rt;
+        bench.server.wire.response(2).is_empty() && !bench.server.wire.is_request_closed(2)
+    );
     Ok(())
 }
 
@@ -170,16 +174,17 @@ fn is_closed_by_time(alloc: Global, first: u64) -> Result<bool, Fail> {
     request(&mut bench, BEGUN)?;
     turn_behind(&mut bench, first, 2);
     turn_behind(&mut bench, first, 61);
-    let first_stays = !bench.wire.is_request_closed(0);
+    let first_stays = !bench.server.wire.is_request_closed(0);
     request(&mut bench, SESSIONS)?;
     turn_behind(&mut bench, first, 61);
-    bench.wire.stall_response(1);
+    bench.server.wire.stall_response(1);
     turn_behind(&mut bench, first, 62);
-    let first_ends = bench.wire.is_request_closed(0) && bench.wire.response(0).is_empty();
+    let first_ends = bench.server.wire.is_request_closed(0)
+        && bench.server.wire.response(0).is_empty();
     turn_behind(&mut bench, first, 120);
-    let second_stays = !bench.wire.is_request_closed(1);
+    let second_stays = !bench.server.wire.is_request_closed(1);
     turn_behind(&mut bench, first, 121);
-    let second_ends = bench.wire.is_request_closed(1) && bench.links.requests() == 0;
+    let second_ends = bench.server.wire.is_request_closed(1) && bench.links.requests() == 0;
     Ok(first_stays && first_ends && second_stays && second_ends)
 }
 
@@ -220,9 +225,15 @@ fn a_large_policy_is_set(rt: HostRuntime) -> Result<(), Fail> {
     )?;
     request(&mut bench, front.as_bytes())?;
     turns(&mut bench, 1, 0);
-    bench.wire.send_request(0, policy.as_bytes())?;
+    bench.server.wire.send_request(0, policy.as_bytes())?;
     turns(&mut bench, 60, 0);
-    assert!(rt; bench.wire.response(0).ends_with(b"\r\n\r\n1000 rules\n"));
+    assert!(rt;
+        bench
+            .server
+            .wire
+            .response(0)
+            .ends_with(b"\r\n\r\n1000 rules\n")
+    );
     Ok(())
 }
 
@@ -233,12 +244,13 @@ fn a_large_policy_is_read(rt: HostRuntime) -> Result<(), Fail> {
     let mut bench = new_bench(alloc, 65_536)?;
     let policy = Policy::read(alloc, text.as_str())?;
     let _ = bench
+        .server
         .office
         .step(Event::Admin(&AdminCommand::SetPolicy(policy)));
     request(&mut bench, b"GET /policy HTTP/1.1\r\n\r\n")?;
     turns(&mut bench, 20, 0);
-    assert!(rt; bench.wire.response(0).ends_with(text.as_bytes()));
-    assert!(rt; bench.wire.is_request_closed(0));
+    assert!(rt; bench.server.wire.response(0).ends_with(text.as_bytes()));
+    assert!(rt; bench.server.wire.is_request_closed(0));
     Ok(())
 }
 
@@ -248,12 +260,14 @@ fn a_large_policy_is_read(rt: HostRuntime) -> Result<(), Fail> {
 fn end_before_the_request_is_whole(rt: HostRuntime) -> Result<(), Fail> {
     let alloc = rt.alloc();
     let mut bench = new_bench(alloc, 4096)?;
-    bench.wire.end_links();
+    bench.server.wire.end_links();
     request(&mut bench, SESSIONS)?;
     request(&mut bench, BEGUN)?;
     turns(&mut bench, 3, 0);
-    assert!(rt; bench.wire.is_request_closed(0) && bench.wire.response(0).is_empty());
-    assert!(rt; bench.wire.is_request_closed(1) && bench.wire.response(1) == NO_SESSIONS);
+    assert!(rt; bench.server.wire.is_request_closed(0) && bench.server.wire.response(0).is_empty());
+    assert!(rt;
+        bench.server.wire.is_request_closed(1) && bench.server.wire.response(1) == NO_SESSIONS
+    );
     Ok(())
 }
 
@@ -262,15 +276,15 @@ fn end_before_the_request_is_whole(rt: HostRuntime) -> Result<(), Fail> {
 /// closed.
 fn with_stop(alloc: Global, call: u64, stop: Stop) -> Result<bool, Fail> {
     let mut bench = new_bench(alloc, 7)?;
-    bench.wire.connect(octets(alloc, b"QUIT\r\n")?)?;
+    bench.server.wire.connect(octets(alloc, b"QUIT\r\n")?)?;
     request(&mut bench, SESSIONS)?;
     request(&mut bench, ADD)?;
-    bench.wire.stop_at(call, stop);
+    bench.server.wire.stop_at(call, stop);
     turns(&mut bench, 40, 0);
-    let added = bench.wire.response(0);
-    let none = bench.wire.response(1);
+    let added = bench.server.wire.response(0);
+    let none = bench.server.wire.response(1);
     let client: &[u8] = b"+OK POP3 server ready <1.7@h.test>\r\n+OK bye\r\n";
-    let said = bench.wire.written(0);
+    let said = bench.server.wire.written(0);
     if !ADDED.starts_with(added) || !NO_SESSIONS.starts_with(none) || !client.starts_with(said) {
         return Ok(false);
     }
@@ -279,7 +293,7 @@ fn with_stop(alloc: Global, call: u64, stop: Stop) -> Result<bool, Fail> {
     let is_said = said == client;
     let two_are_whole = (is_added && is_told) || (is_said && (is_added || is_told));
     let is_over = bench.links.requests() == 0 && bench.links.count() == 0;
-    Ok(is_over && two_are_whole && !bench.wire.strayed())
+    Ok(is_over && two_are_whole && !bench.server.wire.strayed())
 }
 
 #[test]

@@ -168,14 +168,21 @@ fn a_request_of_another_site_does_nothing(rt: HostRuntime) -> Result<(), Fail> {
         b"GET /maildrops HTTP/1.1\r\nHost: localhost\r\n\r\n",
     )?;
     turns(&mut bench, 20, 0);
-    assert!(rt; bench.wire.response(0) == Refusal::ForeignSite.bytes());
-    assert!(rt; bench.wire.response(1).starts_with(b"HTTP/1.1 200 OK\r\n"));
+    assert!(rt; bench.server.wire.response(0) == Refusal::ForeignSite.bytes());
     assert!(rt;
         bench
+            .server
+            .wire
+            .response(1)
+            .starts_with(b"HTTP/1.1 200 OK\r\n")
+    );
+    assert!(rt;
+        bench
+            .server
             .wire
             .response(1)
             .ends_with(b"Connection: close\r\n\r\n")
     );
-    assert!(rt; bench.wire.is_request_closed(0) && bench.wire.is_request_closed(1));
+    assert!(rt; bench.server.wire.is_request_closed(0) && bench.server.wire.is_request_closed(1));
     Ok(())
 }

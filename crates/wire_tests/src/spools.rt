@@ -1,41 +1,38 @@
 //! The spool, one file a turn.
-use crate::turns::new_office;
-use office::Office;
-use serving::{FileName, Links, NoListener, ScriptSpool, ScriptWire, begin, serve_turn};
+use crate::turns::server_on;
+use serving::{FileName, Links, NoListener, ScriptSpool, ScriptWire, Server};
 use std::test::Fail;
 use vault::PlainVault;
 
 /// Serves a turn.
 fn turn(
+    server: &mut Server<PlainVault, ScriptWire, NoListener>,
     links: &mut Links,
-    wire: &mut ScriptWire,
-    office: &mut Office<PlainVault>,
     spool: &mut ScriptSpool,
 ) {
-    serve_turn(links, wire, office, spool, &mut NoListener, 0);
+    server.serve_turn(links, spool, 0);
 }
 
 #[test]
 fn four_turns_over_four_names(rt: HostRuntime) -> Result<(), Fail> {
     let alloc = rt.alloc();
-    let mut office = new_office(alloc)?;
-    let mut wire = ScriptWire::new(alloc, Vec::new(alloc), 4096);
+    let mut server = server_on(alloc, ScriptWire::new(alloc, Vec::new(alloc), 4096))?;
     let mut spool = ScriptSpool::new(alloc);
     spool.put("orders.note.b2.eml", b"")?;
     spool.put("readme.txt", b"x")?;
     spool.put("orders.note.a1.eml", b"x\n")?;
     spool.put("nowhere.note.c3.eml", b"x")?;
-    let mut links = begin(alloc, &office, &wire, &spool);
-    turn(&mut links, &mut wire, &mut office, &mut spool);
+    let mut links = server.begin(alloc, &spool);
+    turn(&mut server, &mut links, &mut spool);
     assert!(rt; spool.has("nowhere.note.c3.eml") && spool.acts().len() == 1);
-    assert_eq!(rt; wire.waited(), 1000);
-    turn(&mut links, &mut wire, &mut office, &mut spool);
+    assert_eq!(rt; server.wire.waited(), 1000);
+    turn(&mut server, &mut links, &mut spool);
     assert!(rt; !spool.has("orders.note.a1.eml") && spool.acts().len() == 3);
-    assert_eq!(rt; wire.waited(), 1000);
-    turn(&mut links, &mut wire, &mut office, &mut spool);
+    assert_eq!(rt; server.wire.waited(), 1000);
+    turn(&mut server, &mut links, &mut spool);
     assert!(rt; spool.has("orders.note.b2.eml.bad") && spool.acts().len() == 5);
-    assert_eq!(rt; wire.waited(), 0);
-    turn(&mut links, &mut wire, &mut office, &mut spool);
+    assert_eq!(rt; server.wire.waited(), 0);
+    turn(&mut server, &mut links, &mut spool);
     assert!(rt; spool.has("nowhere.note.c3.eml") && spool.acts().len() == 6);
     assert!(rt; spool.has("readme.txt") && !spool.has("orders.note.b2.eml"));
     Ok(())
@@ -45,15 +42,14 @@ fn four_turns_over_four_names(rt: HostRuntime) -> Result<(), Fail> {
 #[test]
 fn a_file_that_stays(rt: HostRuntime) -> Result<(), Fail> {
     let alloc = rt.alloc();
-    let mut office = new_office(alloc)?;
-    let mut wire = ScriptWire::new(alloc, Vec::new(alloc), 4096);
+    let mut server = server_on(alloc, ScriptWire::new(alloc, Vec::new(alloc), 4096))?;
     let mut spool = ScriptSpool::new(alloc);
     spool.put("orders.note.a1.eml", b"x\n")?;
     spool.refuse();
-    let mut links = begin(alloc, &office, &wire, &spool);
+    let mut links = server.begin(alloc, &spool);
     for _ in 0..3u32 {
-        turn(&mut links, &mut wire, &mut office, &mut spool);
-        assert_eq!(rt; wire.waited(), 1000);
+        turn(&mut server, &mut links, &mut spool);
+        assert_eq!(rt; server.wire.waited(), 1000);
     }
     assert!(rt; spool.has("orders.note.a1.eml") && spool.acts().len() == 3);
     Ok(())

@@ -1,19 +1,18 @@
 //! Clients that break off, send too much, take nothing or do nothing, over a wire in memory.
-use crate::turns::{new_office, octets, one_link, turns};
-use serving::{NoListener, ScriptSpool, ScriptWire, Stop, begin, serve_turn};
+use crate::turns::{octets, one_link, server_on, turns};
+use serving::{ScriptSpool, ScriptWire, Stop};
 use std::alloc::Global;
 use std::test::Fail;
 
 /// Serves two links with a fault in place of one call of the wire. Answers the wire, with what both
 /// were sent, and whether both are closed.
 fn with_stop(alloc: Global, call: u64, stop: Stop) -> Result<(ScriptWire, bool), Fail> {
-    let mut office = new_office(alloc)?;
-    let mut wire = one_link(alloc, b"CAPA\r\nQUIT\r\n", 7)?;
-    wire.connect(octets(alloc, b"NOOP\r\nQUIT\r\n")?)?;
-    wire.stop_at(call, stop);
-    let mut links = begin(alloc, &office, &wire, &ScriptSpool::new(alloc));
-    turns(alloc, &mut links, &mut wire, &mut office, 60);
-    Ok((wire, links.count() == 0))
+    let mut server = server_on(alloc, one_link(alloc, b"CAPA\r\nQUIT\r\n", 7)?)?;
+    server.wire.connect(octets(alloc, b"NOOP\r\nQUIT\r\n")?)?;
+    server.wire.stop_at(call, stop);
+    let mut links = server.begin(alloc, &ScriptSpool::new(alloc));
+    turns(alloc, &mut server, &mut links, 60);
+    Ok((server.wire, links.count() == 0))
 }
 
 #[test]
@@ -36,21 +35,20 @@ fn a_fault_ends_its_own_link(rt: HostRuntime) -> Result<(), Fail> {
 #[test]
 fn sixty_four_links_and_one_more(rt: HostRuntime) -> Result<(), Fail> {
     let alloc = rt.alloc();
-    let mut office = new_office(alloc)?;
-    let mut wire = ScriptWire::new(alloc, Vec::new(alloc), 4096);
+    let mut server = server_on(alloc, ScriptWire::new(alloc, Vec::new(alloc), 4096))?;
     for _ in 0..65u32 {
-        wire.connect(Vec::new(alloc))?;
+        server.wire.connect(Vec::new(alloc))?;
     }
-    let mut links = begin(alloc, &office, &wire, &ScriptSpool::new(alloc));
-    turns(alloc, &mut links, &mut wire, &mut office, 3);
+    let mut links = server.begin(alloc, &ScriptSpool::new(alloc));
+    turns(alloc, &mut server, &mut links, 3);
     assert_eq!(rt; links.count(), 64);
-    assert!(rt; wire.is_closed(64) && wire.written(64).is_empty());
-    assert!(rt; wire.written(63) == b"+OK POP3 server ready <64.7@h.test>\r\n".as_slice());
-    wire.send(63, b"QUIT\r\n")?;
-    turns(alloc, &mut links, &mut wire, &mut office, 3);
-    wire.connect(Vec::new(alloc))?;
-    turns(alloc, &mut links, &mut wire, &mut office, 2);
-    assert!(rt; wire.written(65) == b"+OK POP3 server ready <65.7@h.test>\r\n".as_slice());
+    assert!(rt; server.wire.is_closed(64) && server.wire.written(64).is_empty());
+    assert!(rt; server.wire.written(63) == b"+OK POP3 server ready <64.7@h.test>\r\n".as_slice());
+    server.wire.send(63, b"QUIT\r\n")?;
+    turns(alloc, &mut server, &mut links, 3);
+    server.wire.connect(Vec::new(alloc))?;
+    turns(alloc, &mut server, &mut links, 2);
+    assert!(rt; server.wire.written(65) == b"+OK POP3 server ready <65.7@h.test>\r\n".as_slice());
     Ok(())
 }
 
@@ -59,18 +57,17 @@ fn sixty_four_links_and_one_more(rt: HostRuntime) -> Result<(), Fail> {
 #[test]
 fn a_link_that_never_takes(rt: HostRuntime) -> Result<(), Fail> {
     let alloc = rt.alloc();
-    let mut office = new_office(alloc)?;
-    let mut wire = one_link(alloc, b"", 4096)?;
-    let mut links = begin(alloc, &office, &wire, &ScriptSpool::new(alloc));
-    turns(alloc, &mut links, &mut wire, &mut office, 2);
-    wire.stall(0);
-    wire.send(0, b"NOOP\r\n")?;
+    let mut server = server_on(alloc, one_link(alloc, b"", 4096)?)?;
+    let mut links = server.begin(alloc, &ScriptSpool::new(alloc));
+    turns(alloc, &mut server, &mut links, 2);
+    server.wire.stall(0);
+    server.wire.send(0, b"NOOP\r\n")?;
     for _ in 0..10u32 {
-        wire.send(0, b"NOOP\r\n")?;
-        turns(alloc, &mut links, &mut wire, &mut office, 1);
-        assert_eq!(rt; wire.waited(), 1000);
+        server.wire.send(0, b"NOOP\r\n")?;
+        turns(alloc, &mut server, &mut links, 1);
+        assert_eq!(rt; server.wire.waited(), 1000);
     }
-    assert!(rt; wire.written(0) == b"+OK POP3 server ready <1.7@h.test>\r\n".as_slice());
+    assert!(rt; server.wire.written(0) == b"+OK POP3 server ready <1.7@h.test>\r\n".as_slice());
     Ok(())
 }
 
@@ -79,17 +76,16 @@ fn a_link_that_never_takes(rt: HostRuntime) -> Result<(), Fail> {
 #[test]
 fn more_than_64_writes(rt: HostRuntime) -> Result<(), Fail> {
     let alloc = rt.alloc();
-    let mut office = new_office(alloc)?;
-    let mut wire = one_link(alloc, b"CAPA\r\n", 1)?;
-    let mut links = begin(alloc, &office, &wire, &ScriptSpool::new(alloc));
-    turns(alloc, &mut links, &mut wire, &mut office, 5);
-    let before = wire.written(0).len();
-    turns(alloc, &mut links, &mut wire, &mut office, 1);
-    assert_eq!(rt; wire.written(0).len(), before + 64);
-    turns(alloc, &mut links, &mut wire, &mut office, 1);
-    assert_eq!(rt; wire.waited(), 0);
-    turns(alloc, &mut links, &mut wire, &mut office, 2);
-    assert_eq!(rt; wire.waited(), 1000);
+    let mut server = server_on(alloc, one_link(alloc, b"CAPA\r\n", 1)?)?;
+    let mut links = server.begin(alloc, &ScriptSpool::new(alloc));
+    turns(alloc, &mut server, &mut links, 5);
+    let before = server.wire.written(0).len();
+    turns(alloc, &mut server, &mut links, 1);
+    assert_eq!(rt; server.wire.written(0).len(), before + 64);
+    turns(alloc, &mut server, &mut links, 1);
+    assert_eq!(rt; server.wire.waited(), 0);
+    turns(alloc, &mut server, &mut links, 2);
+    assert_eq!(rt; server.wire.waited(), 1000);
     Ok(())
 }
 
@@ -97,35 +93,13 @@ fn more_than_64_writes(rt: HostRuntime) -> Result<(), Fail> {
 #[test]
 fn idle_link(rt: HostRuntime) -> Result<(), Fail> {
     let alloc = rt.alloc();
-    let mut office = new_office(alloc)?;
-    let mut wire = one_link(alloc, b"", 4096)?;
+    let mut server = server_on(alloc, one_link(alloc, b"", 4096)?)?;
     let mut spool = ScriptSpool::new(alloc);
-    let mut links = begin(alloc, &office, &wire, &spool);
-    serve_turn(
-        &mut links,
-        &mut wire,
-        &mut office,
-        &mut spool,
-        &mut NoListener,
-        0,
-    );
-    serve_turn(
-        &mut links,
-        &mut wire,
-        &mut office,
-        &mut spool,
-        &mut NoListener,
-        599,
-    );
-    assert!(rt; !wire.is_closed(0));
-    serve_turn(
-        &mut links,
-        &mut wire,
-        &mut office,
-        &mut spool,
-        &mut NoListener,
-        600,
-    );
-    assert!(rt; wire.is_closed(0) && links.count() == 0);
+    let mut links = server.begin(alloc, &spool);
+    server.serve_turn(&mut links, &mut spool, 0);
+    server.serve_turn(&mut links, &mut spool, 599);
+    assert!(rt; !server.wire.is_closed(0));
+    server.serve_turn(&mut links, &mut spool, 600);
+    assert!(rt; server.wire.is_closed(0) && links.count() == 0);
     Ok(())
 }

@@ -1,6 +1,6 @@
 //! Turns over a wire in memory.
 use office::Office;
-use serving::{Links, NoListener, ScriptSpool, ScriptWire, begin, serve_turn};
+use serving::{Links, NoListener, ScriptSpool, ScriptWire, Server, Wire};
 use std::alloc::Global;
 use std::test::Fail;
 use transcripts::offices::{deposit, prepared};
@@ -39,28 +39,38 @@ pub(super) fn one_link(alloc: Global, comes: &[u8], piece: usize) -> Result<Scri
     Ok(ScriptWire::new(alloc, waiting, piece))
 }
 
+/// A server of `new_office`, on this wire.
+pub(super) fn server_on<W: Wire>(
+    alloc: Global,
+    wire: W,
+) -> Result<Server<PlainVault, W, NoListener>, Fail> {
+    Ok(Server {
+        office: new_office(alloc)?,
+        wire,
+        listener: NoListener,
+    })
+}
+
 /// Serves `count` turns, without a spool file.
 pub(super) fn turns(
     alloc: Global,
+    server: &mut Server<PlainVault, ScriptWire, NoListener>,
     links: &mut Links,
-    wire: &mut ScriptWire,
-    office: &mut Office<PlainVault>,
     count: u64,
 ) {
     let mut spool = ScriptSpool::new(alloc);
     for turn in 0..count {
-        serve_turn(links, wire, office, &mut spool, &mut NoListener, turn / 100);
+        server.serve_turn(links, &mut spool, turn / 100);
     }
 }
 
 /// The wire after `count` turns with one link, which brings the octets `comes`. Each read and each
 /// write moves `piece` octets at most.
 fn served(alloc: Global, comes: &[u8], piece: usize, count: u64) -> Result<ScriptWire, Fail> {
-    let mut office = new_office(alloc)?;
-    let mut wire = one_link(alloc, comes, piece)?;
-    let mut links = begin(alloc, &office, &wire, &ScriptSpool::new(alloc));
-    turns(alloc, &mut links, &mut wire, &mut office, count);
-    Ok(wire)
+    let mut server = server_on(alloc, one_link(alloc, comes, piece)?)?;
+    let mut links = server.begin(alloc, &ScriptSpool::new(alloc));
+    turns(alloc, &mut server, &mut links, count);
+    Ok(server.wire)
 }
 
 #[test]
@@ -87,15 +97,14 @@ fn pipelined_row(rt: HostRuntime) -> Result<(), Fail> {
 #[test]
 fn half_closed(rt: HostRuntime) -> Result<(), Fail> {
     let alloc = rt.alloc();
-    let mut office = new_office(alloc)?;
-    let mut wire = one_link(alloc, b"NOOP\r\nNOOP\r\n", 4096)?;
-    wire.end_links();
-    let mut links = begin(alloc, &office, &wire, &ScriptSpool::new(alloc));
-    turns(alloc, &mut links, &mut wire, &mut office, 10);
+    let mut server = server_on(alloc, one_link(alloc, b"NOOP\r\nNOOP\r\n", 4096)?)?;
+    server.wire.end_links();
+    let mut links = server.begin(alloc, &ScriptSpool::new(alloc));
+    turns(alloc, &mut server, &mut links, 10);
     assert!(rt;
-        wire.written(0)
+        server.wire.written(0)
             == b"+OK POP3 server ready <1.7@h.test>\r\n-ERR wrong state\r\n-ERR wrong state\r\n".as_slice()
     );
-    assert!(rt; wire.is_closed(0) && links.count() == 0);
+    assert!(rt; server.wire.is_closed(0) && links.count() == 0);
     Ok(())
 }

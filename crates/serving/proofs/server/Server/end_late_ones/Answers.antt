@@ -1,0 +1,97 @@
+use Rattle.std.proofs.Common.{rules, arith, ◌≡◌, ◌==◌, ◌<◌, ◌≤◌, ◌∷◌, [], true, false, length, refl, sym, ◌∙◌, ap, subst}
+use Rattle.serving.specs.declared.links.Seat.{Seat}
+use Rattle.serving.specs.Late.{HasEndedLate}
+use Rattle.serving.proofs.Timely.{late_none, late_off, late_step, late_whole}
+use Rattle.serving.specs.Served.{IsServing}
+use Rattle.serving.specs.Hearing.{WasTold, late_ends}
+use Rattle.serving.proofs.Hearing.{told_none, late_told, late_heard}
+use Rattle.serving.specs.Settings.{Settings}
+use Rattle.serving.proofs.Working.{given_none}
+use Rattle.serving.proofs.Composing.{seats_none, seats_then, ends_none, ends_then}
+use Rattle.serving.proofs.Freeing.{at_place}
+use Rattle.serving.proofs.Seating.{contained}
+use Rattle.serving.proofs.server.Server.end_late_ones.Goals as goal
+
+-- any seat
+no_seat : Seat
+no_seat = record { link = record { number = 0 }; connection = 0 }
+
+pub returns-then-seconds-eq0-clause-works : goal.returns-then-seconds-eq0-clause-works
+returns-then-seconds-eq0-clause-works g c =
+    let n = c.args.clients.now.newcomers in
+    let off : (c.args.seconds == 0) ≡ true = search rules in
+    record {
+      wire = refl;
+      part = record {
+        given = [];
+        was_given = given_none g.V.Vault.holds g.V.Vault.is_clean g.V.Vault.faults c.args.self.now.office;
+        facts = (late_off g.V.Vault.holds g.V.Vault.is_clean g.V.Vault.faults c.args.now c.args.seconds c.args.self.now.office n.newcomers.items c.args.clients.now.seats.items off, told_none g.L.Listener.heard c.args.self.now.listener);
+      };
+    }
+
+pub returns-then-seconds-eq0-clause-ends : goal.returns-then-seconds-eq0-clause-ends
+returns-then-seconds-eq0-clause-ends g c = ends_none c.args.now c.args.seconds c.args.clients.now
+
+pub loop-place-init : goal.loop-place-init
+loop-place-init g c = record {
+  serves = λ T beside s clean. s;
+  keeps = seats_none c.args.clients.now;
+  ends = ends_none c.args.now c.args.seconds c.args.clients.now;
+  works = record { wire = refl; part = record { given = []; was_given = given_none g.V.Vault.holds g.V.Vault.is_clean g.V.Vault.faults c.args.self.now.office; facts = (late_none g.V.Vault.holds g.V.Vault.is_clean g.V.Vault.faults c.args.now c.args.seconds c.args.self.now.office c.args.clients.now.newcomers.newcomers.items, told_none g.L.Listener.heard c.args.self.now.listener) } };
+}
+
+pub loop-place-preserved : goal.loop-place-preserved
+loop-place-preserved g c =
+    let k = c.loop-place in
+    let x = c.end_late in
+    let n = c.args.clients.now.newcomers in
+    let now = c.args.now in
+    let Heard = g.L.Listener.heard in
+    let l = c.args.self.now.listener in
+    let some : (c.args.seconds == 0) ≡ false = search rules in
+    let seats = k.clients.seats.items in
+    let ys = c.deref.result.now in
+    let within : k.place < length seats = search rules in
+    let w = x.ensures.works.part in
+    let same : k.clients.newcomers.seconds ≡ n.seconds = ap (λ (s : Settings). s.login_seconds) k.invariant.keeps.keeps.set in
+    record {
+      serves = λ T beside s clean.
+          (let served = x.ensures.serves seats [] (contained seats ys k.place _ c.deref.ensures.0 within) (λ j d inside. absurd (omega (arith, inside))) T beside
+          (k.invariant.serves T beside s (w.was_given.clean clean)) clean in
+          subst (λ kept. IsServing g.V.Vault.holds g.W.Wire.tells T beside x.new.self.office x.new.self.wire kept.items []) (sym x.ensures.keeps.seats) served);
+      keeps = seats_then c.args.clients.now k.clients x.new.clients k.invariant.keeps x.ensures.keeps;
+      ends = ends_then now c.args.seconds c.args.clients.now k.clients x.new.clients k.invariant.ends x.ensures.ends;
+      works = record {
+        wire = x.ensures.works.wire ∙ k.invariant.works.wire;
+        part = late_step g.V.Vault.holds g.V.Vault.is_clean g.V.Vault.faults now c.args.seconds c.args.self.now.office k.self.office x.new.self.office n.newcomers.items k.clients.newcomers.newcomers.items x.new.clients.newcomers.newcomers.items c.args.clients.now.seats.items k.clients.seats.items k.place no_seat
+            (λ given. WasTold Heard l k.self.listener (late_ends now n.seconds n.newcomers.items given))
+            (λ given. WasTold Heard k.self.listener x.new.self.listener (late_ends now k.clients.newcomers.seconds k.clients.newcomers.newcomers.items given))
+            (λ given. WasTold Heard l x.new.self.listener (late_ends now n.seconds n.newcomers.items given)) (ap (λ v. v.items) k.invariant.keeps.seats) within k.invariant.ends.late
+            (λ g1 g2 gone a b.
+            late_told Heard now n.seconds n.newcomers.items l k.self.listener x.new.self.listener g1 g2 a
+            (late_heard Heard now c.args.seconds n.seconds k.clients.newcomers.seconds n.newcomers.items k.clients.newcomers.newcomers.items k.invariant.ends.late same k.self.listener x.new.self.listener g2 gone b))
+            k.invariant.works.part
+            (record {
+              given = w.given;
+              was_given = w.was_given;
+              facts = (
+                λ d. at_place seats ys k.place _
+                    (λ q. HasEndedLate g.V.Vault.holds g.V.Vault.is_clean k.self.office x.new.self.office now c.args.seconds k.clients.newcomers.newcomers.items x.new.clients.newcomers.newcomers.items (q ∷ []) w.given) c.deref.ensures.0 within (w.facts.0 some) d,
+                w.facts.1,
+              );
+            });
+      };
+    }
+
+pub returns-clause-works : goal.returns-clause-works
+returns-clause-works g c =
+    let k = c.loop-place in
+    let n = c.args.clients.now.newcomers in
+    let done : length k.clients.seats.items ≤ k.place = search rules in
+    record {
+      wire = k.invariant.works.wire;
+      part = late_whole g.V.Vault.holds g.V.Vault.is_clean g.V.Vault.faults c.args.now c.args.seconds c.args.self.now.office k.self.office n.newcomers.items
+          k.clients.newcomers.newcomers.items c.args.clients.now.seats.items k.clients.seats.items k.place
+          (λ given. WasTold g.L.Listener.heard c.args.self.now.listener k.self.listener (late_ends c.args.now n.seconds n.newcomers.items given))
+          (ap (λ v. v.items) k.invariant.keeps.seats) done k.invariant.works.part;
+    }
