@@ -1,5 +1,5 @@
 -- How a conversation begins, and how it comes out once its connection is gone.
-use Rattle.std.proofs.Common.{◌≡◌, ℕ, zero, suc, ◌-◌, ◌<◌, ◌≤◌, Bool, true, false, not, ◌&&◌, ◌||◌, cond, List, [], ◌∷◌, ◌++◌, length, take, drop, refl, sym, ◌∙◌, ap, arith, length-append, subst, eq-eqb, ◌⊎◌, inl, inr, ⊎_elim, MatchResult}
+use Rattle.std.proofs.Common.{◌≡◌, ℕ, zero, suc, ◌-◌, ◌<◌, ◌≤◌, Bool, true, false, not, ◌&&◌, ◌||◌, cond, List, [], ◌∷◌, ◌++◌, length, take, drop, refl, sym, ◌∙◌, ap, arith, length-append, subst, eq-eqb, inl, inr, ⊎_elim, MatchResult}
 use Rattle.std.proofs.lemmas.List.{length-take}
 use Rattle.std.proofs.lemmas.List.Folds.{list_any-append}
 use Rattle.std.specs.List.{list_any, zip}
@@ -10,7 +10,7 @@ use Rattle.office.specs.History.{Act, Line, Gone, Tag, Done, Failed, NoMemory, i
 use Rattle.office.specs.Connections.{connected, closing, sent}
 use Rattle.office.specs.Replying.{is_empty}
 use Rattle.office.specs.Told.{told}
-use Rattle.office.specs.Events.{Event, EventTag, Tagged, Log, Trace, given}
+use Rattle.office.specs.Events.{Tagged, Log, Trace}
 use Rattle.office.specs.Events as event
 use Rattle.office.specs.Log.{taken, next_number}
 use Rattle.office.specs.Trace.{acts, history, rest, rest_if, is_open, is_open_by, untaken, IsLent}
@@ -30,10 +30,6 @@ use Rattle.converse.proofs.Events.{ready_so}
 opened_if : (b : Bool) (s : Outcome) (c : ℕ) → or_ignored (reason_if b TooManyConnections) s ≡ Opened c → s ≡ Opened c
 opened_if true s c e = cc
 opened_if false s c e = e
-
-ignored_if : (b : Bool) (s : Outcome) (r : Reason) → or_ignored (reason_if b TooManyConnections) s ≡ outcome.Ignored r → (b ≡ true) ⊎ (s ≡ outcome.Ignored r)
-ignored_if true s r e = inl refl
-ignored_if false s r e = inr e
 
 -- what Connect is never answered
 is_odd : Outcome → Bool

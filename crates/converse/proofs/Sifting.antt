@@ -138,15 +138,6 @@ judged (Some rs) marks d c h digest text found are e f g =
     g ∙ ap (λ (t : List ℕ). contains mark_cmp marks (d, h.class, h.k, t)) (e ∙ ap text_digest f)
     ∙ are (d, h.class, h.k, text_digest (text_under h.key c.messages)) ∙ among (message_under d c h) rs
 
--- or for nothing
-pub unjudged : (rs : Option (List Receipt)) (marks : Option (BTreeSet Mark)) (d : List ℕ) (c : Contents) (h : Head) → AreMarks rs marks → marks ≡ None → true ≡ has_intact rs d c h
-unjudged None marks d c h are none = refl
-unjudged (Some rs) None d c h are none = absurd are
-unjudged (Some rs) (Some marks) d c h are none = absurd (some_none none)
-  where
-    some_none : {A : Type 0} {x : A} → (let n : Option A = None in Some x ≡ n) → ⊥
-    some_none e = cc
-
 -- ---- heads that are sifted
 
 filter_step : {A : Type 0} (b : Bool) (y : A) (xs ys zs : List A) → xs ≡ ys ++ zs → cond b (y ∷ xs) xs ≡ cond b (y ∷ ys) ys ++ zs

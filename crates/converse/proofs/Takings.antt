@@ -8,12 +8,12 @@ use Rattle.office.specs.History.{Act, Line, Gone, Tag, Done, Failed, NoMemory, E
 use Rattle.office.specs.Connections.{connected, closing, acted, serving, sent}
 use Rattle.office.specs.Replying.{is_empty}
 use Rattle.office.specs.Told.{told}
-use Rattle.office.specs.Events.{Event, EventTag, Tagged, Log, Trace, given}
+use Rattle.office.specs.Events.{Tagged, Log}
 use Rattle.office.specs.Events as event
 use Rattle.office.specs.Log.{stream, taken}
 use Rattle.office.specs.Trace.{acts, history, rest, rest_if, is_open, is_open_by, is_left, untaken, rest_at, next_line, act_of_part, acts_of_took, most_lent, IsLent}
 use Rattle.office.specs.Expected.{IsOutcome, ignored, shown_at, reason_if, may_show, took_may, next_may_fail}
-use Rattle.office.specs.Outcomes.{Outcome, Reason, NoSuchConnection, NotReady, event_tag_of}
+use Rattle.office.specs.Outcomes.{Outcome, NoSuchConnection, NotReady, event_tag_of}
 use Rattle.office.specs.Outcomes as outcome
 use Rattle.converse.specs.Talk.{may_be, AreInTurn, TalksInPart}
 use Rattle.converse.specs.Talked.{trace_of}

@@ -1,7 +1,7 @@
 //! `popbox check`: prints what is in a store.
 
-ghost use Rattle.std.specs.Prelude.{◌≡◌, ◌≤◌, ◌++◌, ◌⊎◌, [], true, false, length, sum_by, is_some};
-ghost use Rattle.std.specs.Prelude.{IfOk, IfErr, OnOk, List, Option};
+ghost use Rattle.std.specs.Prelude.{◌≡◌, ◌≤◌, ◌++◌, true, false, sum_by, is_some};
+ghost use Rattle.std.specs.Prelude.{IfOk, IfErr, IsOk, OnOk, List, Option};
 ghost use Rattle.std.specs.List.{All, flat_map};
 ghost use Rattle.std.specs.Io.KnownBytes.{Appends};
 ghost use Rattle.vault.specs.declared.answer.Total.{Total as Sum};
@@ -11,9 +11,9 @@ ghost use Rattle.vault.specs.Changes.{Contents};
 ghost use Rattle.converse.specs.Checked.{kind_text, counted, file_lines, maildrop_line, clerk_line};
 ghost use Rattle.converse.specs.Checked.{counts_front, counts_rest, counts_line, last_line};
 ghost use Rattle.converse.specs.Checked.{store_text, AreKnown};
-ghost use Rattle.converse.specs.Causes.{IsCheckEnd, IsExportFault, IsRefusedCheck, IsRefusedRead};
-ghost use Rattle.converse.specs.Causes.{IsRefusedExport, Tells};
-ghost use Rattle.converse.specs.Streams.{Writes, WritesPart, writes_failed};
+ghost use Rattle.converse.specs.Causes.{IsExportFault, IsRefusedCheck, IsRefusedRead};
+ghost use Rattle.converse.specs.Causes.{IsRefusedExport, Reports};
+ghost use Rattle.converse.specs.Exports.{Checks, StillHeld, WhyNotIntact};
 ghost use Rattle.converse.specs.Texts.{AreMarks, HasNone, against};
 ghost use Rattle.converse.specs.Texts.{differing, differing_in, differs_line};
 
@@ -58,29 +58,13 @@ pub fn check_store<V: Vault, W: Sink, E: Write>(
     out: &mut W,
     err: &mut E,
 ) -> u8
-    ensures status { result ≤ 1 }
-    ensures silent { result ≡ 0 → err.new ≡ err.old }
-    ensures told { result ≡ 0 → (c : Contents) → V.holds vault.old c → V.is_clean vault.new
-        → Writes (W.seen out.old) (W.seen out.new)
-        (store_text file.now c clerks.now (against texts.now)) }
-    ensures flushed { result ≡ 0 → (W.seen out.new).flushed ≡ true }
-    ensures intact { result ≡ 0 → (c : Contents) → V.holds vault.old c → V.is_clean vault.new
-        → differing (against texts.now) c ≡ [] }
-    ensures why { result ≡ 1 → Tells (E.contents err.old) (E.contents err.new) (IsCheckEnd
-        ((c : Contents) → V.holds vault.old c → V.is_clean vault.new
-        → ¬ (differing (against texts.now) c ≡ []) × Writes (W.seen out.old) (W.seen out.new)
-        (store_text file.now c clerks.now (against texts.now)))
-        (writes_failed (W.seen out.old) (W.seen out.new))
+    ensures checks { Checks V.Vault W.Sink vault.old vault.new out.old out.new file.now
+        (λ _. clerks.now) (λ _. against texts.now) (result ≡ 0) }
+    ensures reports { Reports E.contents err.old err.new result
+        (WhyNotIntact V.Vault W.Sink vault.old vault.new out.old out.new file.now
+        (λ _. clerks.now) (λ _. against texts.now)
         (IsRefusedCheck V.holds V.is_clean V.faults vault.old vault.new (AreKnown clerks.now))) }
-    ensures part { (out.new ≡ out.old)
-        ⊎ ((c : Contents) → V.holds vault.old c → V.is_clean vault.new
-        → WritesPart (W.seen out.old) (W.seen out.new)
-        (store_text file.now c clerks.now (against texts.now))) }
-    ensures known { result ≡ 0 → (c : Contents) → V.holds vault.old c → V.is_clean vault.new
-        → AreKnown clerks.now c }
-    ensures held { (c : Contents) → V.holds vault.old c → V.is_clean vault.new
-        → V.holds vault.new c }
-    ensures clean { V.is_clean vault.new → V.is_clean vault.old }
+    ensures still { StillHeld V.Vault vault.old vault.new }
 {
     match tell_store(alloc, vault, clerks, texts, file, out) {
         Ok(()) => 0,
@@ -97,27 +81,12 @@ fn tell_store<V: Vault, W: Sink>(
     file: &StoreFile,
     out: &mut W,
 ) -> Result<(), Fault>
-    ensures told { OnOk result ((c : Contents) → V.holds vault.old c → V.is_clean vault.new
-        → Writes (W.seen out.old) (W.seen out.new)
-        (store_text file.now c clerks.now (against texts.now))) }
-    ensures flushed { OnOk result ((W.seen out.new).flushed ≡ true) }
-    ensures intact { OnOk result ((c : Contents) → V.holds vault.old c → V.is_clean vault.new
-        → differing (against texts.now) c ≡ []) }
-    ensures why { IfErr result (IsCheckEnd ((c : Contents) → V.holds vault.old c
-        → V.is_clean vault.new → ¬ (differing (against texts.now) c ≡ [])
-        × Writes (W.seen out.old) (W.seen out.new)
-        (store_text file.now c clerks.now (against texts.now)))
-        (writes_failed (W.seen out.old) (W.seen out.new))
+    ensures checks { Checks V.Vault W.Sink vault.old vault.new out.old out.new file.now
+        (λ _. clerks.now) (λ _. against texts.now) (IsOk result) }
+    ensures why { IfErr result (WhyNotIntact V.Vault W.Sink vault.old vault.new out.old out.new
+        file.now (λ _. clerks.now) (λ _. against texts.now)
         (IsRefusedCheck V.holds V.is_clean V.faults vault.old vault.new (AreKnown clerks.now))) }
-    ensures part { (out.new ≡ out.old)
-        ⊎ ((c : Contents) → V.holds vault.old c → V.is_clean vault.new
-        → WritesPart (W.seen out.old) (W.seen out.new)
-        (store_text file.now c clerks.now (against texts.now))) }
-    ensures known { OnOk result ((c : Contents) → V.holds vault.old c → V.is_clean vault.new
-        → AreKnown clerks.now c) }
-    ensures held { (c : Contents) → V.holds vault.old c → V.is_clean vault.new
-        → V.holds vault.new c }
-    ensures clean { V.is_clean vault.new → V.is_clean vault.old }
+    ensures still { StillHeld V.Vault vault.old vault.new }
 {
     let mut text = Vec::new(alloc);
     let marks = marks_of(alloc, texts)?;

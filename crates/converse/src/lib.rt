@@ -12,6 +12,7 @@ pub mod check_store;
 pub mod export;
 mod fault;
 mod fields;
+mod folder;
 pub mod form;
 mod noted;
 mod noted_folder;

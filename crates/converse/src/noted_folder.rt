@@ -1,7 +1,7 @@
 //! Any folder as one that tells which files it took.
 ghost use Rattle.std.specs.Prelude.{◌≡◌, [], Some};
 
-use crate::export::Folder;
+use crate::folder::Folder;
 use crate::record::FileRecord;
 use std::io;
 

@@ -1,4 +1,4 @@
-use Rattle.std.proofs.Common.{rules, arith, ◌≡◌, ◌++◌, [], length}
+use Rattle.std.proofs.Common.{arith, ◌≡◌, ◌++◌, [], length}
 use Rattle.std.proofs.KnownBytes.{Appends-nil, Appends-trans}
 use Rattle.office.specs.Events.{Took}
 use Rattle.office.specs.Seen.{outcome_seen, followed_by}
@@ -69,30 +69,3 @@ returns-clause-broken g c =
     let n = c.args.number in
     let o = outcome_seen c.loop.outcome in λ T st clean.
     reaches_so g.V.Vault.holds c.loop.office (g.V.Vault.faults (vault_of c.args.office.now)) (g.V.Vault.faults (vault_of c.loop.office)) T (Begun T (Drains n)) (TakesSoFar T n o) _ _ (begun_taking T n o) (c.loop.invariant.taken T st clean)
-
-pub returns-then-is_empty-clause-counted : goal.returns-then-is_empty-clause-counted
-returns-then-is_empty-clause-counted g c = search rules
-
-pub returns-then-is_empty-clause-clean : goal.returns-then-is_empty-clause-clean
-returns-then-is_empty-clause-clean g c = search rules
-
-pub returns-then-is_empty-clause-broken : goal.returns-then-is_empty-clause-broken
-returns-then-is_empty-clause-broken g c = search rules
-
-pub returns-in_default-clause-counted : goal.returns-in_default-clause-counted
-returns-in_default-clause-counted g c = search rules
-
-pub returns-in_default-clause-clean : goal.returns-in_default-clause-clean
-returns-in_default-clause-clean g c = search rules
-
-pub returns-in_default-clause-taken : goal.returns-in_default-clause-taken
-returns-in_default-clause-taken g c = search rules
-
-pub returns-clause-counted : goal.returns-clause-counted
-returns-clause-counted g c = search rules
-
-pub returns-clause-clean : goal.returns-clause-clean
-returns-clause-clean g c = search rules
-
-pub returns-clause-taken : goal.returns-clause-taken
-returns-clause-taken g c = search rules

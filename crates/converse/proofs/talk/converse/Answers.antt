@@ -1,4 +1,4 @@
-use Rattle.std.proofs.Common.{rules, ◌≡◌, ◌++◌, ◌<◌, length, length-append, cond, MatchResult, Err, Ok, sym, ap, subst, arith, true, false, ◌⊎◌, inl, inr}
+use Rattle.std.proofs.Common.{◌≡◌, ◌++◌, ◌<◌, length, length-append, cond, MatchResult, Err, Ok, sym, ap, subst, arith, true, false, ◌⊎◌, inl, inr}
 use Rattle.std.specs.Io.KnownBytes.{IsAtEnd}
 use Rattle.office.specs.Trace.{acts}
 use Rattle.office.specs.Stands.{vault_of}
@@ -141,36 +141,6 @@ returns-clause-talked g c =
 
 pub loop-init : goal.loop-init
 loop-init g c = talked_none g.V.Vault.holds g.V.Vault.faults g.V.Vault.is_clean c.args.office.now c.args.c (g.R.Source.seen c.args.reader.now) (g.W.Sink.seen c.args.writer.now)
-
-pub returns-in_err-write_owed-clause-counted : goal.returns-in_err-write_owed-clause-counted
-returns-in_err-write_owed-clause-counted g c = search rules
-
-pub returns-in_err-write_owed-clause-clean : goal.returns-in_err-write_owed-clause-clean
-returns-in_err-write_owed-clause-clean g c = search rules
-
-pub returns-then-ended-clause-counted : goal.returns-then-ended-clause-counted
-returns-then-ended-clause-counted g c = search rules
-
-pub returns-then-ended-clause-clean : goal.returns-then-ended-clause-clean
-returns-then-ended-clause-clean g c = search rules
-
-pub returns-in_err-listen-clause-counted : goal.returns-in_err-listen-clause-counted
-returns-in_err-listen-clause-counted g c = search rules
-
-pub returns-in_err-listen-clause-clean : goal.returns-in_err-listen-clause-clean
-returns-in_err-listen-clause-clean g c = search rules
-
-pub returns-then-not-branch-clause-counted : goal.returns-then-not-branch-clause-counted
-returns-then-not-branch-clause-counted g c = search rules
-
-pub returns-then-not-branch-clause-clean : goal.returns-then-not-branch-clause-clean
-returns-then-not-branch-clause-clean g c = search rules
-
-pub returns-clause-counted : goal.returns-clause-counted
-returns-clause-counted g c = search rules
-
-pub returns-clause-clean : goal.returns-clause-clean
-returns-clause-clean g c = search rules
 
 pub returns-in_err-write_owed-clause-failed : goal.returns-in_err-write_owed-clause-failed
 returns-in_err-write_owed-clause-failed g c =

@@ -1,4 +1,4 @@
-use Rattle.std.proofs.Common.{rules, ◌≡◌, [], ◌++◌, ℕ, List, take, cond, MatchResult, Err, sym, subst, append-nil, true, false}
+use Rattle.std.proofs.Common.{◌≡◌, [], ◌++◌, ℕ, List, take, cond, MatchResult, Err, sym, subst, append-nil, true, false}
 use Rattle.office.specs.Trace.{acts}
 use Rattle.converse.specs.Conversing.{GoesOn, Waits, IsCut}
 use Rattle.converse.proofs.Clauses.{refused_as, not_ok}
@@ -34,36 +34,6 @@ returns-in_err-hear-clause-read g c =
             so = subst (λ r. MatchResult r (λ more. cond more (GoesOn T.base c.args.c (acts T) (octets ++ piece) written k.log) (Waits T.base c.args.c (acts T) (octets ++ piece) written k.log)) (λ x. IsCut x T.base c.args.c (acts T) (octets ++ piece) written k.log)) (sym e) k.so;
           }),
     )
-
-pub returns-in_default-clause-counted : goal.returns-in_default-clause-counted
-returns-in_default-clause-counted g c = search rules
-
-pub returns-in_default-clause-clean : goal.returns-in_default-clause-clean
-returns-in_default-clause-clean g c = search rules
-
-pub returns-then-count-eq0-clause-counted : goal.returns-then-count-eq0-clause-counted
-returns-then-count-eq0-clause-counted g c = search rules
-
-pub returns-then-count-eq0-clause-clean : goal.returns-then-count-eq0-clause-clean
-returns-then-count-eq0-clause-clean g c = search rules
-
-pub returns-then-count-eq0-clause-read : goal.returns-then-count-eq0-clause-read
-returns-then-count-eq0-clause-read g c = search rules
-
-pub returns-in_err-hear-clause-counted : goal.returns-in_err-hear-clause-counted
-returns-in_err-hear-clause-counted g c = search rules
-
-pub returns-in_err-hear-clause-clean : goal.returns-in_err-hear-clause-clean
-returns-in_err-hear-clause-clean g c = search rules
-
-pub returns-clause-counted : goal.returns-clause-counted
-returns-clause-counted g c = search rules
-
-pub returns-clause-clean : goal.returns-clause-clean
-returns-clause-clean g c = search rules
-
-pub returns-clause-read : goal.returns-clause-read
-returns-clause-read g c = search rules
 
 pub returns-in_default-clause-failed : goal.returns-in_default-clause-failed
 returns-in_default-clause-failed g c = c.in_default.ensures.given.1

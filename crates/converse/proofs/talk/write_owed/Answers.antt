@@ -1,4 +1,4 @@
-use Rattle.std.proofs.Common.{rules, false, ◌≡◌, ◌++◌, ◌<◌, length, length-append, cond, MatchResult, Err, Ok, sym, ◌∙◌, ap, subst, arith, true, inr}
+use Rattle.std.proofs.Common.{false, ◌≡◌, ◌++◌, ◌<◌, length, length-append, cond, MatchResult, Err, Ok, sym, ◌∙◌, ap, subst, arith, true, inr}
 use Rattle.office.specs.Trace.{acts}
 use Rattle.office.specs.Stands.{vault_of}
 use Rattle.converse.specs.Streams.{writes_failed}
@@ -114,30 +114,6 @@ returns-clause-wrote g c =
 
 pub loop-init : goal.loop-init
 loop-init g c = wrote_none g.V.Vault.holds g.V.Vault.faults g.V.Vault.is_clean c.args.office.now c.args.c (g.W.Sink.seen c.args.writer.now)
-
-pub returns-in_err-write_some-clause-counted : goal.returns-in_err-write_some-clause-counted
-returns-in_err-write_some-clause-counted g c = search rules
-
-pub returns-in_err-write_some-clause-clean : goal.returns-in_err-write_some-clause-clean
-returns-in_err-write_some-clause-clean g c = search rules
-
-pub returns-in_err-flush-clause-counted : goal.returns-in_err-flush-clause-counted
-returns-in_err-flush-clause-counted g c = search rules
-
-pub returns-in_err-flush-clause-clean : goal.returns-in_err-flush-clause-clean
-returns-in_err-flush-clause-clean g c = search rules
-
-pub returns-then-not-branch-clause-counted : goal.returns-then-not-branch-clause-counted
-returns-then-not-branch-clause-counted g c = search rules
-
-pub returns-then-not-branch-clause-clean : goal.returns-then-not-branch-clause-clean
-returns-then-not-branch-clause-clean g c = search rules
-
-pub returns-clause-counted : goal.returns-clause-counted
-returns-clause-counted g c = search rules
-
-pub returns-clause-clean : goal.returns-clause-clean
-returns-clause-clean g c = search rules
 
 pub returns-in_err-write_some-clause-failed : goal.returns-in_err-write_some-clause-failed
 returns-in_err-write_some-clause-failed g c =
