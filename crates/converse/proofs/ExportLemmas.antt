@@ -1,6 +1,6 @@
 -- What an export did, by what it did before its status; and over a vault that was read before.
 use Rattle.std.proofs.Common.{◌≡◌, ◌++◌, inl, inr, ℕ, Bool, true, false, List, [], Option, Result, Ok, Err, refl, subst, arith, map, length}
-use Rattle.std.specs.Prelude.{IfErr, IsErr}
+use Rattle.std.specs.Prelude.{IfErr, IsErr, IsOk}
 use Rattle.std.proofs.lemmas.Bool.{false≢true}
 use Rattle.vault.specs.declared.answer.Head.{Head}
 use Rattle.vault.specs.declared.record.Receipt.{Receipt}
@@ -14,6 +14,7 @@ use Rattle.converse.specs.declared.fault.Fault.{Fault}
 use Rattle.converse.specs.declared.fault.Fault.TheVariants.{Differs}
 use Rattle.converse.specs.declared.streams.Sink as sinks
 use Rattle.converse.specs.Causes.{IsRefusedExport}
+use Rattle.converse.specs.Checked.{store_text}
 use Rattle.converse.specs.Exported.{files_of, export_line, report_text, Takes, TakesFirst}
 use Rattle.converse.specs.Exports.{Checks, Exports, Over, OverHeld, PrintedPart, PutsMaildrop, TookAll, TookFirst, WhyBroken, WhyNotWhole}
 use Rattle.converse.specs.Streams.{Writes, WritesPart, writes_failed}
@@ -143,13 +144,19 @@ module _ {V F W : Type 0} (vault : vaults.Ghosts V) (folder : folders.Ghosts F) 
     settled_first = inl refl;
   }
 
-module _ {V W : Type 0} (vault : vaults.Ghosts V) (sink : sinks.Ghosts W) (v v' : V) (o : W) (file : StoreFile) (names : Contents → List (List ℕ)) (rs : Contents → Option (List Receipt)) where
-  -- a check that wasn't begun did nothing
-  pub checks_none : (Well : Type 0) → (Well → ⊥) → Checks vault sink v v' o o file names rs Well
-  checks_none Well not_well = record {
-    told = λ well. absurd (not_well well);
-    flushed = λ well. absurd (not_well well);
-    intact = λ well. absurd (not_well well);
-    known = λ well. absurd (not_well well);
-    part = inl refl;
+-- a fault is no good answer
+pub err_not_ok : {A E : Type 0} (r : Result A E) → IsErr r → IsOk r → ⊥
+err_not_ok (Ok x) ill well = false≢true ill
+err_not_ok (Err e) ill well = false≢true well
+
+module _ {V W : Type 0} (vault : vaults.Ghosts V) (sink : sinks.Ghosts W) (v v' : V) (o o' : W) (file : StoreFile) (names : Contents → List (List ℕ)) (rs : Contents → Option (List Receipt)) where
+  -- a check that ended otherwise printed a beginning at most
+  pub checks_ill : (Well : Type 0) → (Well → ⊥) → (o' ≡ o) ⊎ OverHeld vault v v' (λ c. WritesPart (sink.seen o) (sink.seen o') (store_text file c (names c) (rs c)))
+      → Checks vault sink v v' o o' file names rs Well
+  checks_ill Well ill part = record {
+    told = λ well. absurd (ill well);
+    flushed = λ well. absurd (ill well);
+    intact = λ well. absurd (ill well);
+    known = λ well. absurd (ill well);
+    part = part;
   }

@@ -11,7 +11,7 @@ use Rattle.converse.specs.Causes.{IsExportEnd, IsRefused, IsRefusedOf}
 use Rattle.converse.specs.Checked.{store_text, AreKnown}
 use Rattle.converse.specs.Streams.{Writes, WritesPart, writes_failed}
 use Rattle.converse.specs.Texts.{against, differing}
-use Rattle.converse.proofs.ExportLemmas.{checks_none}
+use Rattle.converse.proofs.ExportLemmas.{checks_ill}
 use Rattle.converse.proofs.Exporting.{counts_on, look_refused, refused_since}
 use Rattle.converse.proofs.Refusals.{clerks_known, refused_all}
 use Rattle.jobs.specs.Checks.{held_against}
@@ -66,10 +66,10 @@ returns-clause-still g c = record {
 }
 
 pub returns-in-Err-clause-checks : goal.returns-in-Err-clause-checks
-returns-in-Err-clause-checks g c = checks_none _ _ _ _ _ _ _ _ _ (λ well. let one = c.tell_fault.ensures.status in absurd (omega (arith, one, well)))
+returns-in-Err-clause-checks g c = checks_ill _ _ _ _ _ _ _ _ _ _ (λ well. let one = c.tell_fault.ensures.status in absurd (omega (arith, one, well))) (inl refl)
 
 pub returns-clause-checks : goal.returns-clause-checks
-returns-clause-checks g c = checks_none _ _ _ _ _ _ _ _ _ (λ well. let one = c.tell_fault-in-Err-clerk_names.ensures.status in absurd (omega (arith, one, well)))
+returns-clause-checks g c = checks_ill _ _ _ _ _ _ _ _ _ _ (λ well. let one = c.tell_fault-in-Err-clerk_names.ensures.status in absurd (omega (arith, one, well))) (inl refl)
 
 pub returns-in-Ok-clerk_names-clause-reports : goal.returns-in-Ok-clerk_names-clause-reports
 returns-in-Ok-clerk_names-clause-reports g c =
