@@ -102,22 +102,22 @@ module _ {V F W : Type 0} (vault : vaults.Ghosts V) (folder : folders.Ghosts F)
 -- of the store in this file, whose clerks have these names; texts are compared with `rs`
 module _ {V W : Type 0} (vault : vaults.Ghosts V) (sink : sinks.Ghosts W) (v v' : V) (o o' : W)
     (file : StoreFile) (names : Contents → List (List ℕ)) (rs : Contents → Option (List Receipt))
-    where
-  abbrev Text : Contents → List ℕ
-  Text c = store_text file c (names c) (rs c)
+  where
+    abbrev Text : Contents → List ℕ
+    Text c = store_text file c (names c) (rs c)
 
-  -- What a check did. `Well` says that it ended with status 0.
-  pub record Checks (Well : Type 0) : Type 0 where
-    pub told : Well → OverHeld vault v v' (λ c. Writes (sink.seen o) (sink.seen o') (Text c))
-    pub flushed : Well → (sink.seen o').flushed ≡ true
-    pub intact : Well → OverHeld vault v v' (λ c. differing (rs c) c ≡ [])
-    pub known : Well → OverHeld vault v v' (λ c. AreKnown (names c) c)
-    pub part : (o' ≡ o)
-        ⊎ OverHeld vault v v' (λ c. WritesPart (sink.seen o) (sink.seen o') (Text c))
+    -- What a check did. `Well` says that it ended with status 0.
+    pub record Checks (Well : Type 0) : Type 0 where
+      pub told : Well → OverHeld vault v v' (λ c. Writes (sink.seen o) (sink.seen o') (Text c))
+      pub flushed : Well → (sink.seen o').flushed ≡ true
+      pub intact : Well → OverHeld vault v v' (λ c. differing (rs c) c ≡ [])
+      pub known : Well → OverHeld vault v v' (λ c. AreKnown (names c) c)
+      pub part : (o' ≡ o)
+          ⊎ OverHeld vault v v' (λ c. WritesPart (sink.seen o) (sink.seen o') (Text c))
 
-  -- why it ends with status 1: some texts differ, and all was printed; or a fault
-  abbrev pub WhyNotIntact : (Refuses : VaultFault → Type 0) → Fault → Type 0
-  WhyNotIntact Refuses =
-      IsCheckEnd (OverHeld vault v v'
-      (λ c. ¬ (differing (rs c) c ≡ []) × Writes (sink.seen o) (sink.seen o') (Text c)))
-      (writes_failed (sink.seen o) (sink.seen o')) Refuses
+    -- why it ends with status 1: some texts differ, and all was printed; or a fault
+    abbrev pub WhyNotIntact : (Refuses : VaultFault → Type 0) → Fault → Type 0
+    WhyNotIntact Refuses =
+        IsCheckEnd (OverHeld vault v v'
+        (λ c. ¬ (differing (rs c) c ≡ []) × Writes (sink.seen o) (sink.seen o') (Text c)))
+        (writes_failed (sink.seen o) (sink.seen o')) Refuses

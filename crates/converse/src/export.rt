@@ -13,9 +13,8 @@ ghost use Rattle.converse.specs.Exports.{Exports, PutsMaildrop, StillHeld, WhyNo
 ghost use Rattle.converse.specs.Texts.{against};
 ghost use Rattle.converse.specs.declared.fault.Fault.TheVariants as faults;
 
-pub use crate::folder::Folder;
-
 use crate::fault::{Fault, put_fault, tell_fault};
+pub use crate::folder::Folder;
 use crate::streams::Sink;
 use crate::texts::{Texts, marks_of, print_differing, sift};
 use crate::writing::write_text;

@@ -24,14 +24,14 @@ returns-in_err-are_intact-clause-checks g c = checks_ill _ _ _ _ _ _ _ _ _ _ (er
 pub returns-in_err-write_text-clause-checks : goal.returns-in_err-write_text-clause-checks
 returns-in_err-write_text-clause-checks g c =
     let put = λ (d : Contents) (h : g.V.Vault.holds c.args.vault.now d) (k : g.V.Vault.is_clean c.put_store.new.vault).
-        put_alone c.as_slice.result.now _ _ (store_text c.args.file.now d c.args.clerks.now (against c.args.texts.now)) c.as_slice.ensures.value (c.in_ok-are_intact.ensures.told (against c.args.texts.now) c.in_ok-marks.ensures d h k) c.new-text.ensures.items in
+    put_alone c.as_slice.result.now _ _ (store_text c.args.file.now d c.args.clerks.now (against c.args.texts.now)) c.as_slice.ensures.value (c.in_ok-are_intact.ensures.told (against c.args.texts.now) c.in_ok-marks.ensures d h k) c.new-text.ensures.items in
     checks_ill _ _ _ _ _ _ _ _ _ _ (err_not_ok c.from_residual-in_err-write_text.result (search rules))
     (inr (λ d h k. subst (λ (text : List ℕ). WritesPart (g.W.Sink.seen c.args.out.now) (g.W.Sink.seen c.write_text.new.out) text) (put d h k) c.in_err-write_text.ensures.part))
 
 pub returns-then-are_intact-clause-checks : goal.returns-then-are_intact-clause-checks
 returns-then-are_intact-clause-checks g c =
     let put = λ (d : Contents) (h : g.V.Vault.holds c.args.vault.now d) (k : g.V.Vault.is_clean c.put_store.new.vault).
-        put_alone c.as_slice.result.now _ _ (store_text c.args.file.now d c.args.clerks.now (against c.args.texts.now)) c.as_slice.ensures.value (c.in_ok-are_intact.ensures.told (against c.args.texts.now) c.in_ok-marks.ensures d h k) c.new-text.ensures.items in
+    put_alone c.as_slice.result.now _ _ (store_text c.args.file.now d c.args.clerks.now (against c.args.texts.now)) c.as_slice.ensures.value (c.in_ok-are_intact.ensures.told (against c.args.texts.now) c.in_ok-marks.ensures d h k) c.new-text.ensures.items in
     let is : c.in_ok-are_intact.are_intact ≡ true = search rules in
     record {
       told = λ _ d h k. subst (λ (text : List ℕ). Writes (g.W.Sink.seen c.args.out.now) (g.W.Sink.seen c.write_text.new.out) text) (put d h k) c.in_ok-write_text.ensures.ok;
@@ -44,7 +44,7 @@ returns-then-are_intact-clause-checks g c =
 pub returns-clause-checks : goal.returns-clause-checks
 returns-clause-checks g c =
     let put = λ (d : Contents) (h : g.V.Vault.holds c.args.vault.now d) (k : g.V.Vault.is_clean c.put_store.new.vault).
-        put_alone c.as_slice.result.now _ _ (store_text c.args.file.now d c.args.clerks.now (against c.args.texts.now)) c.as_slice.ensures.value (c.in_ok-are_intact.ensures.told (against c.args.texts.now) c.in_ok-marks.ensures d h k) c.new-text.ensures.items in
+    put_alone c.as_slice.result.now _ _ (store_text c.args.file.now d c.args.clerks.now (against c.args.texts.now)) c.as_slice.ensures.value (c.in_ok-are_intact.ensures.told (against c.args.texts.now) c.in_ok-marks.ensures d h k) c.new-text.ensures.items in
     checks_ill _ _ _ _ _ _ _ _ _ _ false≢true
     (inr (λ d h k. subst (λ (text : List ℕ). WritesPart (g.W.Sink.seen c.args.out.now) (g.W.Sink.seen c.write_text.new.out) text) (put d h k) c.in_ok-write_text.ensures.part))
 

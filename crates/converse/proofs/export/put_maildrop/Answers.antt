@@ -52,8 +52,8 @@ returns-in_err-put_messages-clause-puts g c =
     let t = c.in_err-put_messages.ensures in
     let held = λ (d : Contents) (h : g.V.Vault.holds first d) (k : g.V.Vault.is_clean now). c.in_ok-sift.ensures.held d h (t.clean k) in
     let sifted : (d : Contents) → g.V.Vault.holds first d → g.V.Vault.is_clean now → SiftedAs rs m d c.as_slice-2.result.now c.as_slice.result.now =
-        λ d h k. sifted_as rs m d _ _ _ _ _ _ (g.met.V.Vault.sound _ d (held d h k) (t.clean k)) (c.in_ok-sift.ensures.sifted rs c.in_ok-marks.ensures d h (t.clean k))
-        c.as_slice-2.ensures.value c.as_slice.ensures.value c.new-intact.ensures.items c.new-differing.ensures.items in
+    λ d h k. sifted_as rs m d _ _ _ _ _ _ (g.met.V.Vault.sound _ d (held d h k) (t.clean k)) (c.in_ok-sift.ensures.sifted rs c.in_ok-marks.ensures d h (t.clean k))
+    c.as_slice-2.ensures.value c.as_slice.ensures.value c.new-intact.ensures.items c.new-differing.ensures.items in
     let r = c.from_residual-in_err-put_messages in
     puts_ill _ _ _ _ _ _ _ _ _ _ _ r.result (search rules)
     (handed_as r.result _ (IsExportFault put written Export) r.ensures.1
@@ -77,13 +77,13 @@ returns-in_err-write_text-clause-puts g c =
     let Clean : Type 0 = g.V.Vault.is_clean c.put_messages.new.vault in
     let held = λ (d : Contents) (h : g.V.Vault.holds c.args.vault.now d) (k : Clean). c.in_ok-sift.ensures.held d h (t.clean k) in
     let sifted : (d : Contents) → g.V.Vault.holds c.args.vault.now d → Clean → SiftedAs rs m d is hs =
-        λ d h k. sifted_as rs m d _ _ _ _ _ _ (g.met.V.Vault.sound _ d (held d h k) (t.clean k)) (c.in_ok-sift.ensures.sifted rs c.in_ok-marks.ensures d h (t.clean k))
-        c.as_slice-2.ensures.value c.as_slice.ensures.value c.new-intact.ensures.items c.new-differing.ensures.items in
+    λ d h k. sifted_as rs m d _ _ _ _ _ _ (g.met.V.Vault.sound _ d (held d h k) (t.clean k)) (c.in_ok-sift.ensures.sifted rs c.in_ok-marks.ensures d h (t.clean k))
+    c.as_slice-2.ensures.value c.as_slice.ensures.value c.new-intact.ensures.items c.new-differing.ensures.items in
     let count : c.len.result ≡ length c.sift.new.intact.items = search rules in
     let taken = λ (d : Contents) (h : g.V.Vault.holds c.args.vault.now d) (k : Clean). let s = sifted d h k in
-        files_taken rs m d is (g.F.Folder.files c.args.folder.now) (g.F.Folder.files c.put_messages.new.folder) s.sound s.same (t.whole d (held d h k) k (intact_measured rs m d is s.sound s.same)) in
+    files_taken rs m d is (g.F.Folder.files c.args.folder.now) (g.F.Folder.files c.put_messages.new.folder) s.sound s.same (t.whole d (held d h k) k (intact_measured rs m d is s.sound s.same)) in
     let report = λ (d : Contents) (h : g.V.Vault.holds c.args.vault.now d) (k : Clean). let s = sifted d h k in
-        c.as_slice-3.ensures.value ∙ report_is rs m d c.len.result is hs _ (count ∙ ap (λ (l : List Head). length l) (sym c.as_slice-2.ensures.value)) s.same s.other c.in_ok-report.ensures.told in
+    c.as_slice-3.ensures.value ∙ report_is rs m d c.len.result is hs _ (count ∙ ap (λ (l : List Head). length l) (sym c.as_slice-2.ensures.value)) s.same s.other c.in_ok-report.ensures.told in
     puts_ill _ _ _ _ _ _ _ _ _ _ _ c.from_residual-in_err-write_text.result (search rules) (search rules)
     (λ d h k. takes_whole _ _ (files_of rs m d) (taken d h k))
     (inr (λ d h k. (
@@ -102,14 +102,14 @@ returns-clause-puts g c =
     let Clean : Type 0 = g.V.Vault.is_clean c.put_messages.new.vault in
     let held = λ (d : Contents) (h : g.V.Vault.holds c.args.vault.now d) (k : Clean). c.in_ok-sift.ensures.held d h (t.clean k) in
     let sifted : (d : Contents) → g.V.Vault.holds c.args.vault.now d → Clean → SiftedAs rs m d is hs =
-        λ d h k. sifted_as rs m d _ _ _ _ _ _ (g.met.V.Vault.sound _ d (held d h k) (t.clean k)) (c.in_ok-sift.ensures.sifted rs c.in_ok-marks.ensures d h (t.clean k))
-        c.as_slice-2.ensures.value c.as_slice.ensures.value c.new-intact.ensures.items c.new-differing.ensures.items in
+    λ d h k. sifted_as rs m d _ _ _ _ _ _ (g.met.V.Vault.sound _ d (held d h k) (t.clean k)) (c.in_ok-sift.ensures.sifted rs c.in_ok-marks.ensures d h (t.clean k))
+    c.as_slice-2.ensures.value c.as_slice.ensures.value c.new-intact.ensures.items c.new-differing.ensures.items in
     let count : c.len.result ≡ length c.sift.new.intact.items = search rules in
     let empty : c.is_empty.result ≡ (length c.sift.new.differing.items == 0) = search rules in
     let taken = λ (d : Contents) (h : g.V.Vault.holds c.args.vault.now d) (k : Clean). let s = sifted d h k in
-        files_taken rs m d is (g.F.Folder.files c.args.folder.now) (g.F.Folder.files c.put_messages.new.folder) s.sound s.same (t.whole d (held d h k) k (intact_measured rs m d is s.sound s.same)) in
+    files_taken rs m d is (g.F.Folder.files c.args.folder.now) (g.F.Folder.files c.put_messages.new.folder) s.sound s.same (t.whole d (held d h k) k (intact_measured rs m d is s.sound s.same)) in
     let report = λ (d : Contents) (h : g.V.Vault.holds c.args.vault.now d) (k : Clean). let s = sifted d h k in
-        c.as_slice-3.ensures.value ∙ report_is rs m d c.len.result is hs _ (count ∙ ap (λ (l : List Head). length l) (sym c.as_slice-2.ensures.value)) s.same s.other c.in_ok-report.ensures.told in
+    c.as_slice-3.ensures.value ∙ report_is rs m d c.len.result is hs _ (count ∙ ap (λ (l : List Head). length l) (sym c.as_slice-2.ensures.value)) s.same s.other c.in_ok-report.ensures.told in
     record {
       whole = taken;
       told = λ d h k. subst (λ (text : List ℕ). Writes (g.W.Sink.seen c.args.out.now) (g.W.Sink.seen c.write_text.new.out) text) (report d h k) c.in_ok-write_text.ensures.ok;

@@ -31,7 +31,7 @@ returns-in-Ok-clerk_names-clause-checks g c =
     let Clean : Type 0 = HasCleanDisk (state g.S.Store c.check_store.new.vault.conn) in
     let found = λ (d : Contents) (h : Old d) (k : Clean). n.done d (c.in-Ok.ensures.held d h (n.looks.clean (t.still.clean k))) (t.still.clean k) in
     let same : (d : Contents) → Old d → Clean → c.as_slice.result.now ≡ clerk_names d.clerks =
-        λ d h k. c.as_slice.ensures.value ∙ sym (ap (names_or []) (found d h k).answer) in
+    λ d h k. c.as_slice.ensures.value ∙ sym (ap (names_or []) (found d h k).answer) in
     let is : (d : Contents) → Old d → Clean → rs ≡ held_against c.args.compared d = λ d h k. c.in-Ok.ensures.told d h (n.looks.clean (t.still.clean k)) in
     record {
       told = λ well d h k.
