@@ -13,14 +13,27 @@ use Rattle.converse.specs.declared.folder.Folder as folders
 use Rattle.converse.specs.declared.fault.Fault.{Fault}
 use Rattle.converse.specs.declared.fault.Fault.TheVariants.{Differs}
 use Rattle.converse.specs.declared.streams.Sink as sinks
-use Rattle.converse.specs.Causes.{IsRefusedExport}
+use Rattle.converse.specs.Causes.{IsRefusedExport, Reports}
 use Rattle.converse.specs.Checked.{store_text}
 use Rattle.converse.specs.Exported.{files_of, export_line, report_text, Takes, TakesFirst}
 use Rattle.converse.specs.Exports.{Checks, Exports, Over, OverHeld, PrintedPart, PutsMaildrop, TookAll, TookFirst, WhyBroken, WhyNotWhole}
+use Rattle.converse.specs.Printed.{PrintsPart}
+use Rattle.converse.specs.Told.{fault_line}
 use Rattle.converse.specs.Streams.{Writes, WritesPart, writes_failed}
 use Rattle.converse.specs.Texts.{HasNone, differing_in, intact_in}
 use Rattle.converse.proofs.Exporting.{Against, report_whole, end_of, takes_none}
 use Rattle.converse.proofs.Sifting.{put_alone}
+
+-- ---- what is printed on standard error
+
+-- a fault was printed
+pub reports_fault : {E : Type 0} (contents : E → Option (List ℕ)) (e e' : E) (status : ℕ) (Why : Fault → Type 0) (fault : Fault) → status ≡ 1 → Why fault
+    → PrintsPart (contents e) (contents e') (fault_line fault) → Reports contents e e' status Why
+reports_fault contents e e' status Why fault one why printed = record {
+  bound = omega (arith, one);
+  silent = λ (well : status ≡ 0). absurd (omega (arith, one, well));
+  why = λ _. (fault, why, printed);
+}
 
 -- ---- the heads that were sifted
 

@@ -1,6 +1,5 @@
-use Rattle.std.proofs.Common.{arith}
 use Rattle.converse.specs.declared.fault.Fault.TheVariants.{Differs}
-use Rattle.converse.proofs.ExportLemmas.{exports_well, exports_ill, why_differing, why_broken}
+use Rattle.converse.proofs.ExportLemmas.{exports_well, exports_ill, reports_fault, why_differing, why_broken}
 use Rattle.converse.proofs.export.export.Goals as goal
 
 pub returns-in-Ok-true-clause-exports : goal.returns-in-Ok-true-clause-exports
@@ -13,15 +12,9 @@ pub returns-in-Err-clause-exports : goal.returns-in-Err-clause-exports
 returns-in-Err-clause-exports g c = exports_ill _ _ _ _ _ _ _ _ _ _ _ _ _ c.in-Err.ensures.puts c.tell_fault-in-Err.ensures.status
 
 pub returns-in-Ok-false-clause-reports : goal.returns-in-Ok-false-clause-reports
-returns-in-Ok-false-clause-reports g c = record {
-  bound = (let one = c.tell_fault.ensures.status in omega (arith, one));
-  silent = λ well. absurd (let one = c.tell_fault.ensures.status in omega (arith, one, well));
-  why = λ _. (Differs, why_differing _ _ _ _ _ _ _ _ _ _ _ _ c.in-Ok-false.ensures.puts c.in-Ok-false.field-0-test, c.tell_fault.ensures.line);
-}
+returns-in-Ok-false-clause-reports g c =
+    reports_fault _ _ _ _ _ Differs c.tell_fault.ensures.status (why_differing _ _ _ _ _ _ _ _ _ _ _ _ c.in-Ok-false.ensures.puts c.in-Ok-false.field-0-test) c.tell_fault.ensures.line
 
 pub returns-in-Err-clause-reports : goal.returns-in-Err-clause-reports
-returns-in-Err-clause-reports g c = record {
-  bound = (let one = c.tell_fault-in-Err.ensures.status in omega (arith, one));
-  silent = λ well. absurd (let one = c.tell_fault-in-Err.ensures.status in omega (arith, one, well));
-  why = λ _. (c.in-Err.fault, why_broken _ _ _ _ _ _ _ _ _ _ _ c.in-Err.fault c.in-Err.ensures.puts, c.tell_fault-in-Err.ensures.line);
-}
+returns-in-Err-clause-reports g c =
+    reports_fault _ _ _ _ _ c.in-Err.fault c.tell_fault-in-Err.ensures.status (why_broken _ _ _ _ _ _ _ _ _ _ _ c.in-Err.fault c.in-Err.ensures.puts) c.tell_fault-in-Err.ensures.line

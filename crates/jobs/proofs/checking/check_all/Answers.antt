@@ -11,7 +11,7 @@ use Rattle.converse.specs.Causes.{IsExportEnd, IsRefused, IsRefusedOf}
 use Rattle.converse.specs.Checked.{store_text, AreKnown}
 use Rattle.converse.specs.Streams.{Writes, WritesPart, writes_failed}
 use Rattle.converse.specs.Texts.{against, differing}
-use Rattle.converse.proofs.ExportLemmas.{checks_ill}
+use Rattle.converse.proofs.ExportLemmas.{checks_ill, reports_fault}
 use Rattle.converse.proofs.Exporting.{counts_on, look_refused, refused_since}
 use Rattle.converse.proofs.Refusals.{clerks_known, refused_all}
 use Rattle.jobs.specs.Checks.{held_against}
@@ -126,16 +126,7 @@ returns-in-Err-clause-reports g c =
     let Q : VaultFault → Type 0 = λ e. (d : Contents) → Holds (state g.S.Store c.args.vault.now.conn) d → HasCleanDisk (state g.S.Store c.texts_of.new.vault.conn)
     → IsRefused true (has_grown f0 f1) e in
     let written = writes_failed (g.W.Sink.seen c.args.out.now) (g.W.Sink.seen c.args.out.now) in
-    let one = c.tell_fault.ensures.status in
-    record {
-      bound = omega (arith, one);
-      silent = λ well. absurd (omega (arith, one, well));
-      why = λ _. (
-        c.from.result,
-        subst (IsExportEnd E false written Q) (sym c.from.ensures) c.in-Err.ensures.cause,
-        c.tell_fault.ensures.line,
-      );
-    }
+    reports_fault _ _ _ _ _ c.from.result c.tell_fault.ensures.status (subst (IsExportEnd E false written Q) (sym c.from.ensures) c.in-Err.ensures.cause) c.tell_fault.ensures.line
 
 pub returns-clause-reports : goal.returns-clause-reports
 returns-clause-reports g c =
@@ -148,18 +139,11 @@ returns-clause-reports g c =
     let Q : VaultFault → Type 0 = λ e. (d : Contents) → Holds (state g.S.Store c.args.vault.now.conn) d → HasCleanDisk (state g.S.Store c.clerk_names.new.self.conn)
     → IsRefused true (has_grown f0 f2) e in
     let written = writes_failed (g.W.Sink.seen c.args.out.now) (g.W.Sink.seen c.args.out.now) in
-    let one = c.tell_fault-in-Err-clerk_names.ensures.status in
-    record {
-      bound = omega (arith, one);
-      silent = λ well. absurd (omega (arith, one, well));
-      why = λ _. (
-        c.from-in-Err-clerk_names.result,
-        subst (IsExportEnd E false written Q) (sym c.from-in-Err-clerk_names.ensures) (λ d h clean.
-            let k1 = c.in-Err-clerk_names.ensures.looks.clean clean in
-            refused_since true f0 f1 f2 c.in-Ok.ensures.counted c.in-Err-clerk_names.fault
-            (look_refused true (has_grown f1 f2) (clerk_names d.clerks) c.in-Err-clerk_names.fault
-            (c.in-Err-clerk_names.ensures.done d (c.in-Ok.ensures.held d h k1) clean).answer
-            (λ e. c.in-Err-clerk_names.ensures.counted.cause (ap Err e)))),
-        c.tell_fault-in-Err-clerk_names.ensures.line,
-      );
-    }
+    reports_fault _ _ _ _ _ c.from-in-Err-clerk_names.result c.tell_fault-in-Err-clerk_names.ensures.status
+    (subst (IsExportEnd E false written Q) (sym c.from-in-Err-clerk_names.ensures) (λ d h clean.
+    let k1 = c.in-Err-clerk_names.ensures.looks.clean clean in
+    refused_since true f0 f1 f2 c.in-Ok.ensures.counted c.in-Err-clerk_names.fault
+    (look_refused true (has_grown f1 f2) (clerk_names d.clerks) c.in-Err-clerk_names.fault
+    (c.in-Err-clerk_names.ensures.done d (c.in-Ok.ensures.held d h k1) clean).answer
+    (λ e. c.in-Err-clerk_names.ensures.counted.cause (ap Err e)))))
+    c.tell_fault-in-Err-clerk_names.ensures.line

@@ -1,4 +1,4 @@
-use Rattle.std.proofs.Common.{◌≡◌, sym, subst, List, [], Option, arith}
+use Rattle.std.proofs.Common.{◌≡◌, sym, subst, List, [], Option}
 use Rattle.sqlite.specs.Held.{state}
 use Rattle.sqlite.specs.State.{HasCleanDisk}
 use Rattle.vault.specs.declared.fault.VaultFault.{VaultFault}
@@ -11,7 +11,7 @@ use Rattle.converse.specs.Causes.{IsExportEnd, IsRefused}
 use Rattle.converse.specs.Exported.{files_of, report_text, Takes}
 use Rattle.converse.specs.Streams.{Writes, writes_failed}
 use Rattle.converse.specs.Texts.{against, differing_in}
-use Rattle.converse.proofs.ExportLemmas.{exports_since, exports_none}
+use Rattle.converse.proofs.ExportLemmas.{exports_since, exports_none, reports_fault}
 use Rattle.converse.proofs.Exporting.{refused_since, refused_there}
 use Rattle.jobs.specs.Checks.{held_against}
 use Rattle.jobs.proofs.CheckLemmas.{exports_still}
@@ -69,17 +69,9 @@ returns-in-Err-clause-reports g c =
     → IsRefused (is_one_of m d.maildrops) (has_grown f0 f1) e in
     let put = has_grown (g.F.Folder.faults c.args.folder.now) (g.F.Folder.faults c.args.folder.now) in
     let written = writes_failed (g.W.Sink.seen c.args.out.now) (g.W.Sink.seen c.args.out.now) in
-    let one = c.tell_fault.ensures.status in
-    record {
-      bound = omega (arith, one);
-      silent = λ well. absurd (omega (arith, one, well));
-      why = λ _. (
-        c.from.result,
-        subst (IsExportEnd E put written Q) (sym c.from.ensures)
-            (λ d h clean. refused_there (is_one_of m d.maildrops) (has_grown f0 f1) c.in-Err.fault (c.in-Err.ensures.cause d h clean)),
-        c.tell_fault.ensures.line,
-      );
-    }
+    reports_fault _ _ _ _ _ c.from.result c.tell_fault.ensures.status
+    (subst (IsExportEnd E put written Q) (sym c.from.ensures) (λ d h clean. refused_there (is_one_of m d.maildrops) (has_grown f0 f1) c.in-Err.fault (c.in-Err.ensures.cause d h clean)))
+    c.tell_fault.ensures.line
 
 pub returns-in-Ok-clause-still : goal.returns-in-Ok-clause-still
 returns-in-Ok-clause-still g c = record {
