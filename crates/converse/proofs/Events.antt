@@ -58,7 +58,7 @@ not_closing true true false h e = cc
 not_closing true false e h f = refl
 not_closing false cl e h f = cc
 
-empty_past : (n : ℕ) (xs : List ℕ) → is_empty (drop n xs) ≡ true → length xs ≤ n
+pub empty_past : (n : ℕ) (xs : List ℕ) → is_empty (drop n xs) ≡ true → length xs ≤ n
 empty_past zero [] e = omega arith
 empty_past zero (x ∷ xs) e = cc
 empty_past (suc n) [] e = omega arith

@@ -8,7 +8,8 @@ use Rattle.converse.proofs.Clauses.{found_empty, nothing_lent}
 use Rattle.converse.specs.Played.{lent_at, Begun, TakesAll}
 use Rattle.converse.specs.Script.{Drains}
 use Rattle.converse.proofs.Stopping.{begun_taken, reaches_so}
-use Rattle.converse.proofs.Playing.{caused_none, owed_whole, drains_all, some_owed, appends_three}
+use Rattle.converse.proofs.Playing.{caused_none, owed_whole, drains_all, appends_three}
+use Rattle.converse.proofs.Streaming.{some_lent}
 use Rattle.converse.proofs.replay.drain.Goals as goal
 
 pub returns-then-is_empty-clause-drained : goal.returns-then-is_empty-clause-drained
@@ -36,7 +37,7 @@ returns-in-Ok-writeln-clause-drained g c =
     let lent = c.owed.result.now in λ T st clean.
     (let s = c.in_ok-outcome.ensures.taken T st clean in
     let whole : lent ≡ lent_at T n = owed_whole g.V.Vault.holds c.args.office.now T st n lent (c.owed.ensures.lent T st) c.owed.ensures.count in
-    let some : 0 < length lent = some_owed c.is_empty.result lent c.if-is_empty.false c.is_empty.ensures in
+    let some : 0 < length lent = some_lent c.is_empty.result lent c.if-is_empty.false c.is_empty.ensures in
     record {
       printed = codes "sent " ++ decimal n ++ codes " " ++ s.printed ++ codes "\n";
       trace = s.trace;

@@ -5,11 +5,11 @@ use Rattle.office.specs.Stands.{vault_of}
 use Rattle.converse.specs.Played.{Acts, Begun, ComesTo, WithCause, PlaysLine, point, told_text, still_known}
 use Rattle.converse.specs.Script.{line_seen}
 use Rattle.converse.proofs.Playing.{by_told, comes_kept, line_none, line_some}
-use Rattle.converse.proofs.Stopping.{at_faults, at_ok, begun_acted, on_any, reaches_so}
+use Rattle.converse.proofs.Stopping.{at_faults, at_ok, begun_acted, on_ok, reaches_so}
 use Rattle.converse.proofs.replay.play_line.Goals as goal
 
 pub returns-in-None-clause-played : goal.returns-in-None-clause-played
-returns-in-None-clause-played g c = on_any c.flush.result (λ T st clean.
+returns-in-None-clause-played g c = on_ok c.flush.result (λ T st clean.
     comes_kept g.V.Vault.holds c.act.new.office (g.W.Write.contents c.args.out.now) (g.W.Write.contents c.act.new.out) (g.W.Write.contents c.flush.new.out) _ c.flush.ensures.kept
     (line_none g.V.Vault.holds c.act.new.office T (g.V.Vault.faults (vault_of c.args.office.now)) (g.V.Vault.faults (vault_of c.act.new.office)) (line_seen c.args.line.now) _ _ c.args.known.now.items
     (by_told g.V.Vault.holds c.act.new.office T (g.V.Vault.faults (vault_of c.args.office.now)) (g.V.Vault.faults (vault_of c.act.new.office)) (line_seen c.args.line.now) _ _ _ _ c.in-None.is (c.in_ok-outcome.ensures.acted T st clean))))

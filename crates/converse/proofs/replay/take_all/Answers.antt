@@ -8,7 +8,8 @@ use Rattle.converse.specs.Escapes.{escaped}
 use Rattle.converse.proofs.Clauses.{found_empty, nothing_lent}
 use Rattle.converse.specs.Played.{lent_at, Begun}
 use Rattle.converse.specs.Script.{Drains}
-use Rattle.converse.proofs.Playing.{TakesSoFar, by_owed, caused_none, caused_one, caused_more, owed_whole, takes_none, takes_lent, some_owed}
+use Rattle.converse.proofs.Playing.{TakesSoFar, by_owed, caused_none, caused_one, caused_more, owed_whole, takes_none, takes_lent}
+use Rattle.converse.proofs.Streaming.{some_lent}
 use Rattle.converse.proofs.Stopping.{begun_taking, reaches_so}
 use Rattle.converse.proofs.replay.take_all.Goals as goal
 
@@ -35,7 +36,7 @@ loop-preserved g c =
             stands = x.ensures.stands s.trace s.stands clean;
             is = (
               takes_lent T n (outcome_seen c.loop.outcome) (outcome_seen x.result) s.printed s.trace lent whole s.is.0
-                  (some_owed c.is_empty.result lent c.if-is_empty.false c.is_empty.ensures)
+                  (some_lent c.is_empty.result lent c.if-is_empty.false c.is_empty.ensures)
                   (by_owed g.V.Vault.holds c.loop.office s.trace s.stands e (outcome_seen x.result) (x.ensures.outcome s.trace s.stands clean)),
               caused_more (g.V.Vault.faults (vault_of c.args.office.now)) (g.V.Vault.faults (vault_of c.loop.office)) (g.V.Vault.faults (vault_of x.new.self)) T s.trace (followed_by s.trace e x.result) c.loop.invariant.counted x.ensures.counted s.is.1
                   (caused_one (g.V.Vault.faults (vault_of c.loop.office)) (g.V.Vault.faults (vault_of x.new.self)) s.trace e (outcome_seen x.result) (x.ensures.cause s.trace s.stands clean)),
