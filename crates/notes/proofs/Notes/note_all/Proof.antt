@@ -1,0 +1,125 @@
+-- An empty body. The borrow is opened and closed at another ghost value.
+use Rattle.std.proofs.Common.{ℕ, List, [], ◌∷◌, ◌++◌, refl, MutBor, ◌<◌, ◌^◌, length}
+use seplogic.Ra.Ura.{Ura}
+use mir.Syntax.{Fn, Args, a_type, named}
+use mir.MapTy.{inst_fn}
+use mir.Val.{Val, vunit, vptr}
+use base.Logic.{SProp, ent, sep, emp, via, fst∗, id⊢}
+use base.Fml.{GName, Lft, Share, ftrue, flft, fobs, fbor}
+use prog.Memory.{Memory}
+use prog.Routine.{Routine}
+use prog.Wp.{Calls, Loops, WpFn, Tables}
+use types.Logic.{Logic}
+use contract.Lifetimes.{AllOutlive}
+use contract.Monad.{Fun}
+use contract.Running.{tables, tables_of}
+use types.Kit.{‵, ◌⊛◌, ◌$◌, ◌∵◌, !, qed, by, move, keep, drop, use1, split, join, fsplit, fsplit3, fjoin, fjoin3, feq_i, suffices, frame, done}
+use types.Run.{unit_lit, of_opd, returns, enter}
+use types.SemTy.{Body}
+use types.ByLocal.{alloc_all, pass_all, free_all, look_at, sets}
+use sound.WpLaws.{WpFn-mono}
+use denote.RattleType.{RattleType, owns}
+use denote.Param.{param, layouts}
+use denote.Memory.{mem}
+use denote.Ref.{Bor, MutRef, mut_vals, mut_Tells}
+use denote.Slice.{ShrSlice, slice_val, shr_slice_vals, shr_slice_Tells}
+use denote.Exit.{yes}
+use denote.Signature.{plain}
+use denote.Steps.{opens, closes}
+use denote.Triple.Clauses.{Clauses, Ended, closing}
+use denote.Triple.Entry.{on_entry}
+use denote.Triple.Spec.{Meets, triple_of}
+use denote.Triple.Table.{entered}
+use denote.Triple.Walked.{says, Stays, stay_ref, stay_none_slice, walk_of, AllGo, Goes-ref, Goes-none_slice, Walks, ends_at, walked, walk_Meets}
+use Rattle.notes.specs.contracts.Notes as T
+use Rattle.notes.specs.contracts.Notes.note_all.Key.{name as #it}
+use Rattle.notes.specs.contracts.Notes.note_all as it
+use Rattle.notes.proofs.Notes.note_all.Statement as stated
+use Rattle.notes.proofs.Notes.note_all.Code as code
+
+module _ (R : RattleType) where
+  abbrev P : RattleType
+  P = param 0 R
+
+  abbrev N : RattleType
+  N = T.the_row P
+
+  abbrev args : Args
+  args = layouts (a_type ∷ []) (R, tt)
+
+  abbrev function : Fn
+  function = inst_fn args code.function
+
+  abbrev ended : Ended
+  ended = it.ended R
+
+  abbrev stayed : Stays ended.signature.params ended.kept
+  stayed = (stay_ref (0 ∷ []) tt (plain (λ _. N)), (stay_none_slice (1 ∷ []) tt (plain (λ _. P)) yes, tt))
+
+  module _ {M : Type 1} {𝓤 : Ura M} (𝓛 : Logic 𝓤) (at_mem : Memory → SProp 𝓤) (run : Routine → Fun 𝓤) where
+    open 𝓛 use {H, A}
+
+    abbrev held : Clauses 𝓤 ended
+    held = it.clauses R 𝓛 at_mem run
+
+    module _ (κ κ' κ'' : Lft) (q q' q'' : Share) (live : AllOutlive ended.signature.lifetimes ended.signature.outlives (κ, (κ', (κ'', tt))))
+        (b o : ℕ) (γ : GName) (h : N.Denot) (s : Bor (List P.Denot)) where
+      abbrev x : MutBor N.Denot × (Bor (List P.Denot) × Unit {0})
+      x = (record { ref_ptr = (b, o); ghost_name = γ; now = h }, (s, tt))
+
+      abbrev h' : N.Denot
+      h' = record { marker = h.marker; items = h.items ++ s.now }
+
+      abbrev given : Val
+      given = slice_val s.ref_ptr (length s.now)
+
+      abbrev at : List Val × (List Val × Unit {0})
+      at = (vptr b o ∷ [], (given ∷ [], tt))
+
+      abbrev rest : base.Fml.Fml
+      rest = owns (ShrSlice (named 1) κ' P ∷ []) x.1 at.1
+
+      abbrev Post : Val → SProp 𝓤
+      Post = (walk_of 𝓛 ended stayed held).post (((κ, (κ', (κ'', tt))), (q, (q', (q'', tt))), live, x, at), tt)
+
+      abbrev left : SProp 𝓤
+      left = sep 𝓤 (A.lft κ q) (sep 𝓤 (types.Logic.sem 𝓛 rest) (sep 𝓤 (A.lft κ' q') (sep 𝓤 (A.lft κ'' q'') (emp 𝓤))))
+
+      exits : ent 𝓤 (sep 𝓤 (A.obs γ (N.coded.code h')) (sep 𝓤 (A.bor κ (Body (mem N) b o γ)) left)) (Post vunit)
+      exits =
+          qed 𝓛 (‵ (fobs γ (N.coded.code h')) ∷ ‵ (fbor κ (Body (mem N) b o γ)) ∷ ‵ (flft κ q) ∷ ‵ rest ∷ (‵ (flft κ' q') ⊛ (‵ (flft κ'' q'') ⊛ ‵ ftrue)) ∷ []) ∵
+          suffices ! _ (ends_at 𝓛 ended stayed held (((κ, (κ', (κ'', tt))), (q, (q', (q'', tt))), live, x, at), tt) vunit tt (h', (tt, tt)) (tt, (tt, tt))) $
+          says ! refl $ move ! (2 ∷ 4 ∷ []) $ join ! $
+          frame ! $ feq_i ! (List Val) (vptr b o ∷ []) (vptr b o ∷ []) refl $ fjoin3 ! $ fjoin ! $
+          feq_i ! (List Val) (vunit ∷ []) (vunit ∷ []) refl $ move ! (1 ∷ 0 ∷ []) $ done !
+
+      walk : (C : Calls 𝓤 H) (Λ : Loops 𝓤 H) → length s.now < 2 ^ 64 → ent 𝓤 (on_entry 𝓛 ended.signature (κ, (κ', (κ'', tt))) (q, (q', (q'', tt))) x at)
+          (WpFn 𝓤 H C Λ function (vptr b o ∷ given ∷ []) Post)
+      walk C Λ fs =
+          qed 𝓛 ((‵ (flft κ q) ⊛ (‵ (flft κ' q') ⊛ (‵ (flft κ'' q'') ⊛ ‵ ftrue))) ∷ ‵ (owns (MutRef (named 0) κ N ∷ ShrSlice (named 1) κ' P ∷ []) x at) ∷ []) ∵
+          split ! $ move ! (2 ∷ []) $ fsplit ! $ fsplit3 ! $ drop ! $ move ! (0 ∷ 1 ∷ 3 ∷ []) $
+          enter ! C Λ function (vptr b o ∷ given ∷ []) _ $
+          alloc_all ! (λ l. pass_all ! refl ((tt, tt), ((tt, (tt, (record { fits = fs }, tt))), tt)) $
+          move ! (0 ∷ 1 ∷ 2 ∷ []) $ opens ! tt N {h = h} b o (λ vs.
+          sets ! (of_opd ! (unit_lit !)) refl (tt, tt) $
+          move ! (1 ∷ []) $ use1 𝓛 (‵ (N.own_val h' vs)) (id⊢ 𝓤 _) $ move ! (1 ∷ 0 ∷ []) $ closes ! tt N h' vs b o $
+          returns ! (look_at ! 0 refl) $ free_all ! refl $
+          keep ! (0 ∷ 1 ∷ 2 ∷ 3 ∷ 4 ∷ []) $ by ! exits))
+
+    walks : (C : Calls 𝓤 H) (Λ : Loops 𝓤 H) → Walks 𝓛 ended stayed (WpFn 𝓤 H C Λ function) held
+    walks C Λ = walked 𝓛 ended stayed held (WpFn 𝓤 H C Λ function) (λ κs. (mut_vals, (shr_slice_vals, tt))) (λ κs. (mut_Tells (named 0) κs.0 N, (shr_slice_Tells (named 1) κs.1.0 P, tt)))
+        (λ κs qs bounds a g are. via 𝓤 _ (fst∗ 𝓤 _ ((held κs a).requires g))
+        (walk κs.0 κs.1.0 κs.1.1.0 qs.0 qs.1.0 qs.1.1.0 bounds a.0.ref_ptr.0 a.0.ref_ptr.1 a.0.ghost_name a.0.now a.1.0 C Λ are.1.0.0.1.0))
+
+    goes : AllGo 𝓛 3 ended.signature.params ended.kept stayed
+    goes = (Goes-ref 𝓛 3 0 tt (plain (λ _. N)), (Goes-none_slice 𝓛 3 (1 ∷ []) tt (plain (λ _. P)) yes, tt))
+
+    meets : (𝓣 : Tables 𝓤 H) → Meets 𝓛 ended.signature (WpFn 𝓤 H 𝓣.C 𝓣.Λ function) (closing 𝓛 ended held)
+    meets 𝓣 = walk_Meets 𝓛 ended stayed goes held (WpFn 𝓤 H 𝓣.C 𝓣.Λ function) (WpFn-mono 𝓤 H 𝓛.laws 𝓣 function) (walks 𝓣.C 𝓣.Λ)
+
+pub note_all_spec : {M : Type 1} → stated.statement M
+unfolding tables_of
+note_all_spec 𝓤 𝓛 𝓜 𝓡 wired R LR =
+    let 𝓣 : Tables 𝓤 𝓛.H = tables_of 𝓤 𝓛.H 𝓜 (tables 𝓤 𝓛.H 𝓜 𝓡 𝓡.env) in
+    entered 𝓤 𝓛.H (triple_of 𝓛 (ended R).signature (closing 𝓛 (ended R) (held R 𝓛 𝓜.mem 𝓡.returns))) 𝓣.C 𝓣.Λ (#it (args R)) (function R)
+    (code.unfolded 𝓤 𝓛.H 𝓜 𝓡 wired (R, tt)) (meets R 𝓛 𝓜.mem 𝓡.returns 𝓣)
