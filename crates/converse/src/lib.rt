@@ -18,7 +18,6 @@ mod noted;
 mod noted_folder;
 mod printer;
 mod printing;
-mod record;
 pub mod replay;
 pub mod review_policy;
 pub mod script;
@@ -32,7 +31,6 @@ pub use fault::{Fault, fault_text, put_fault, read_fault, tell_fault};
 pub use noted::Noted;
 pub use noted_folder::NotedFolder;
 pub use printer::{Flushed, Printer};
-pub use record::{FileRecord, Record};
 pub use streams::{Sink, Source};
 pub use texts::Texts;
 
