@@ -13,7 +13,8 @@ ghost use Rattle.converse.specs.Checked.{counts_front, counts_rest, counts_line,
 ghost use Rattle.converse.specs.Checked.{store_text, AreKnown};
 ghost use Rattle.converse.specs.Causes.{IsExportFault, IsRefusedCheck, IsRefusedRead};
 ghost use Rattle.converse.specs.Causes.{IsRefusedExport, Reports};
-ghost use Rattle.converse.specs.Exports.{Checks, StillHeld, WhyNotIntact};
+ghost use Rattle.converse.specs.Exports.{Checks, WhyNotIntact};
+ghost use Rattle.converse.specs.Held.{StillHeld};
 ghost use Rattle.converse.specs.Texts.{AreMarks, HasNone, against};
 ghost use Rattle.converse.specs.Texts.{differing, differing_in, differs_line};
 

@@ -9,7 +9,8 @@ ghost use Rattle.converse.specs.Causes.{IsExportFault, IsRefusedRead, Reports};
 ghost use Rattle.std.specs.Io.KnownBytes.{Appends};
 ghost use Rattle.converse.specs.Exported.{Takes, TakesFirst, export_line, IsFront};
 ghost use Rattle.converse.specs.Exported.{IsMeasured, file_under, told_of};
-ghost use Rattle.converse.specs.Exports.{Exports, PutsMaildrop, StillHeld, WhyNotWhole};
+ghost use Rattle.converse.specs.Exports.{Exports, PutsMaildrop, WhyNotWhole};
+ghost use Rattle.converse.specs.Held.{StillHeld};
 ghost use Rattle.converse.specs.Texts.{against};
 ghost use Rattle.converse.specs.declared.fault.Fault.TheVariants as faults;
 
