@@ -16,7 +16,8 @@ use Rattle.converse.specs.declared.streams.Sink as sinks
 use Rattle.converse.specs.Causes.{IsRefusedExport, Reports}
 use Rattle.converse.specs.Checked.{store_text}
 use Rattle.converse.specs.Exported.{files_of, export_line, report_text, Takes, TakesFirst}
-use Rattle.converse.specs.Exports.{Checks, Exports, Over, OverHeld, PrintedPart, PutsMaildrop, TookAll, TookFirst, WhyBroken, WhyNotWhole}
+use Rattle.converse.specs.Exports.{Checks, Exports, Over, PrintedPart, PutsMaildrop, TookAll, TookFirst, WhyBroken, WhyNotWhole}
+use Rattle.converse.specs.Held.{OverHeld}
 use Rattle.converse.specs.Printed.{PrintsPart}
 use Rattle.converse.specs.Told.{fault_line}
 use Rattle.converse.specs.Streams.{Writes, WritesPart, writes_failed}

@@ -14,21 +14,10 @@ use Rattle.converse.specs.declared.fault.Fault.{Fault}
 use Rattle.converse.specs.declared.streams.Sink as sinks
 use Rattle.converse.specs.Causes.{IsCheckEnd, IsExportEnd, IsExportFault, IsRefusedExport}
 use Rattle.converse.specs.Checked.{AreKnown, store_text}
+use Rattle.converse.specs.Held.{OverHeld}
 use Rattle.converse.specs.Exported.{files_of, Takes, TakesFirst, export_line, report_text}
 use Rattle.converse.specs.Streams.{Writes, WritesPart, writes_failed}
 use Rattle.converse.specs.Texts.{HasNone, differing, differing_in}
-
--- ---- what is held
-
-module _ {V : Type 0} (vault : vaults.Ghosts V) (v v' : V) where
-  -- this holds of whatever the store held, if it is clean at the end
-  abbrev pub OverHeld : (Contents → Type 0) → Type 0
-  OverHeld Is = (c : Contents) → vault.holds v c → vault.is_clean v' → Is c
-
-  -- the store holds what it held, and was clean if it is
-  pub record StillHeld : Type 0 where
-    pub held : OverHeld (vault.holds v')
-    pub clean : vault.is_clean v' → vault.is_clean v
 
 -- ---- an export of the maildrop `d`
 

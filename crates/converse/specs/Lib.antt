@@ -14,6 +14,7 @@ pub mod Runs
 pub mod TalksOver
 pub mod Played
 pub mod Reviewed
+pub mod Held
 pub mod Exported
 pub mod Exports
 pub mod Checked

@@ -4,12 +4,12 @@ ghost use Rattle.std.specs.Prelude.{◌≡◌, ◌≤◌, ◌<◌, ◌∷◌, []
 ghost use Rattle.std.specs.Prelude.{IsOk, IfOk, IfErr, OnOk, OnErr};
 ghost use Rattle.std.specs.List.{All};
 ghost use Rattle.vault.specs.Calls.{text_under, has_grown};
-ghost use Rattle.vault.specs.Changes.{Contents};
 ghost use Rattle.converse.specs.Causes.{IsExportFault, IsRefusedRead, Reports};
 ghost use Rattle.std.specs.Io.KnownBytes.{Appends};
 ghost use Rattle.converse.specs.Exported.{Takes, TakesFirst, export_line, IsFront};
 ghost use Rattle.converse.specs.Exported.{IsMeasured, file_under, told_of};
-ghost use Rattle.converse.specs.Exports.{Exports, PutsMaildrop, StillHeld, WhyNotWhole};
+ghost use Rattle.converse.specs.Exports.{Exports, PutsMaildrop, WhyNotWhole};
+ghost use Rattle.converse.specs.Held.{OverHeld, StillHeld};
 ghost use Rattle.converse.specs.Texts.{against};
 ghost use Rattle.converse.specs.declared.fault.Fault.TheVariants as faults;
 
@@ -134,14 +134,13 @@ fn put_messages<V: Vault, F: Folder>(
     heads: &[Head],
     folder: &mut F,
 ) -> Result<(), Fault>
-    ensures whole { OnOk result ((c : Contents) → V.holds vault.old c → V.is_clean vault.new
-        → All (IsMeasured c) heads.now → Takes (F.files folder.old) (F.files folder.new) (map
-        (file_under c) heads.now)) }
-    ensures part { OnErr result ((c : Contents) → V.holds vault.old c → V.is_clean vault.new
-        → All (IsMeasured c) heads.now → TakesFirst (F.files folder.old) (F.files folder.new) (map
-        (file_under c) heads.now)) }
-    ensures held { (c : Contents) → V.holds vault.old c → V.is_clean vault.new
-        → V.holds vault.new c }
+    ensures whole { OnOk result (OverHeld V.Vault vault.old vault.new
+        (λ c. All (IsMeasured c) heads.now → Takes (F.files folder.old) (F.files folder.new)
+        (map (file_under c) heads.now))) }
+    ensures part { OnErr result (OverHeld V.Vault vault.old vault.new
+        (λ c. All (IsMeasured c) heads.now → TakesFirst (F.files folder.old) (F.files folder.new)
+        (map (file_under c) heads.now))) }
+    ensures held { OverHeld V.Vault vault.old vault.new (V.holds vault.new) }
     ensures clean { V.is_clean vault.new → V.is_clean vault.old }
     ensures settled { IsOk result → F.is_settled folder.new ≡ true }
     ensures cause { IfErr result
@@ -176,14 +175,13 @@ fn put_each<V: Vault, F: Folder>(
     heads: &[Head],
     folder: &mut F,
 ) -> Result<(), Fault>
-    ensures whole { OnOk result ((c : Contents) → V.holds vault.old c → V.is_clean vault.new
-        → All (IsMeasured c) heads.now → Takes (F.files folder.old) (F.files folder.new) (map
-        (file_under c) heads.now)) }
-    ensures part { OnErr result ((c : Contents) → V.holds vault.old c → V.is_clean vault.new
-        → All (IsMeasured c) heads.now → TakesFirst (F.files folder.old) (F.files folder.new) (map
-        (file_under c) heads.now)) }
-    ensures held { (c : Contents) → V.holds vault.old c → V.is_clean vault.new
-        → V.holds vault.new c }
+    ensures whole { OnOk result (OverHeld V.Vault vault.old vault.new
+        (λ c. All (IsMeasured c) heads.now → Takes (F.files folder.old) (F.files folder.new)
+        (map (file_under c) heads.now))) }
+    ensures part { OnErr result (OverHeld V.Vault vault.old vault.new
+        (λ c. All (IsMeasured c) heads.now → TakesFirst (F.files folder.old) (F.files folder.new)
+        (map (file_under c) heads.now))) }
+    ensures held { OverHeld V.Vault vault.old vault.new (V.holds vault.new) }
     ensures clean { V.is_clean vault.new → V.is_clean vault.old }
     ensures counted { F.faults folder.old ≤ F.faults folder.new }
     ensures counted_too { V.faults vault.old ≤ V.faults vault.new }
@@ -206,12 +204,11 @@ fn put_message<V: Vault, F: Folder>(
     head: &Head,
     folder: &mut F,
 ) -> Result<(), Fault>
-    ensures whole { OnOk result ((c : Contents) → V.holds vault.old c → V.is_clean vault.new
-        → IsMeasured c head.now → Takes (F.files folder.old) (F.files folder.new)
-        (file_under c head.now ∷ [])) }
+    ensures whole { OnOk result (OverHeld V.Vault vault.old vault.new
+        (λ c. IsMeasured c head.now → Takes (F.files folder.old) (F.files folder.new)
+        (file_under c head.now ∷ []))) }
     ensures refused { OnErr result (Takes (F.files folder.old) (F.files folder.new) []) }
-    ensures held { (c : Contents) → V.holds vault.old c → V.is_clean vault.new
-        → V.holds vault.new c }
+    ensures held { OverHeld V.Vault vault.old vault.new (V.holds vault.new) }
     ensures clean { V.is_clean vault.new → V.is_clean vault.old }
     ensures counted { F.faults folder.old ≤ F.faults folder.new }
     ensures counted_too { V.faults vault.old ≤ V.faults vault.new }
@@ -239,10 +236,9 @@ pub(crate) fn read_text<V: Vault>(
     vault: &mut V,
     head: &Head,
 ) -> Result<Vec<u8>, Fault>
-    ensures text { IfOk result (λ text. (c : Contents) → V.holds vault.old c → V.is_clean vault.new
-        → IsMeasured c head.now → text.items ≡ text_under head.now.key c.messages) }
-    ensures held { (c : Contents) → V.holds vault.old c → V.is_clean vault.new
-        → V.holds vault.new c }
+    ensures text { IfOk result (λ text. OverHeld V.Vault vault.old vault.new
+        (λ c. IsMeasured c head.now → text.items ≡ text_under head.now.key c.messages)) }
+    ensures held { OverHeld V.Vault vault.old vault.new (V.holds vault.new) }
     ensures clean { V.is_clean vault.new → V.is_clean vault.old }
     ensures counted { V.faults vault.old ≤ V.faults vault.new }
     ensures cause { IfErr result (IsExportFault false false
@@ -263,11 +259,10 @@ pub(crate) fn read_text<V: Vault>(
 /// refused, or gave a page that no clean store gives.
 fn read_more<V: Vault>(vault: &mut V, key: MessageKey, text: &mut Vec<u8>) -> Result<(), Fault>
     ensures grown { IsOk result → length text.old.items < length text.new.items }
-    ensures front { OnOk result ((c : Contents) → V.holds vault.old c → V.is_clean vault.new
-        → IsFront text.old.items (text_under key c.messages)
-        → IsFront text.new.items (text_under key c.messages)) }
-    ensures held { (c : Contents) → V.holds vault.old c → V.is_clean vault.new
-        → V.holds vault.new c }
+    ensures front { OnOk result (OverHeld V.Vault vault.old vault.new
+        (λ c. IsFront text.old.items (text_under key c.messages)
+        → IsFront text.new.items (text_under key c.messages))) }
+    ensures held { OverHeld V.Vault vault.old vault.new (V.holds vault.new) }
     ensures clean { V.is_clean vault.new → V.is_clean vault.old }
     ensures counted { V.faults vault.old ≤ V.faults vault.new }
     ensures cause { IfErr result (IsExportFault false false

@@ -7,7 +7,8 @@ ghost use Rattle.vault.specs.Changes.{Contents};
 ghost use Rattle.sqlvault.specs.Clerks.{clerk_names};
 ghost use Rattle.sqlvault.specs.Stands.{Holds};
 ghost use Rattle.converse.specs.Causes.{IsRefused, Reports};
-ghost use Rattle.converse.specs.Exports.{Checks, OverHeld, StillHeld, WhyNotIntact};
+ghost use Rattle.converse.specs.Exports.{Checks, WhyNotIntact};
+ghost use Rattle.converse.specs.Held.{OverHeld, StillHeld};
 ghost use Rattle.converse.specs.Texts.{against};
 ghost use Rattle.jobs.specs.Checks.{held_against};
 

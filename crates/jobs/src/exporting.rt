@@ -1,6 +1,7 @@
 //! A maildrop's messages as files, their texts compared with a store's deposits.
 ghost use Rattle.converse.specs.Causes.{Reports};
-ghost use Rattle.converse.specs.Exports.{Exports, StillHeld, WhyNotWhole};
+ghost use Rattle.converse.specs.Exports.{Exports, WhyNotWhole};
+ghost use Rattle.converse.specs.Held.{StillHeld};
 ghost use Rattle.jobs.specs.Checks.{held_against};
 
 use crate::checking::texts_of;
