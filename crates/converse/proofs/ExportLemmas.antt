@@ -1,5 +1,5 @@
 -- What an export did, by what it did before its status; and over a vault that was read before.
-use Rattle.std.proofs.Common.{◌≡◌, ◌++◌, inl, inr, ℕ, Bool, true, false, List, [], Option, Result, Ok, Err, refl, subst, arith, map, length}
+use Rattle.std.proofs.Common.{◌≡◌, ◌⊎◌, ◌++◌, inl, inr, ℕ, Bool, true, false, List, [], Option, Result, Ok, Err, refl, subst, arith, map, length}
 use Rattle.std.specs.Prelude.{IfErr, IsErr, IsOk}
 use Rattle.std.proofs.lemmas.Bool.{false≢true}
 use Rattle.vault.specs.declared.answer.Head.{Head}
