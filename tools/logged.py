@@ -66,9 +66,9 @@ def proved_of(program):
 class Server(clients.Server):
     """A server over a new store, in a folder of its own, which logs to a file."""
 
-    def __init__(self, program, folder, log, words=("--log",)):
+    def __init__(self, program, folder, log, words=("--log",), **how):
         self.log = log.name
-        how = {"cwd": folder, "stdin": subprocess.DEVNULL, "stderr": log}
+        how |= {"cwd": folder, "stdin": subprocess.DEVNULL, "stderr": log}
         super().__init__(program, folder, "--store", "office.db", *words, **how)
 
     def leave(self, name, text):
@@ -90,10 +90,10 @@ class Server(clients.Server):
 
 
 @contextlib.contextmanager
-def serving(program, folder, words=("--log",)):
+def serving(program, folder, words=("--log",), **how):
     """A server that logs to the file `log` of a folder, and is ended afterwards."""
     with open(f"{folder}/log", "wb") as log:
-        server = Server(program, folder, log, words)
+        server = Server(program, folder, log, words, **how)
         try:
             yield server
         finally:

@@ -106,11 +106,13 @@ def set_policy_goes_back_step_by_step(place):
             status, _, _, after = set_policy(place, server, new, said=b"y\n")
             wants((status, f'"{clerk}"' in after), (0, True))
             policies.append(after)
-        # One that was kept, and then not set, is no step.
+        # Two that were kept, and then not set, are no steps.
         place.stand_in("curl", 'case "$*" in *PUT*) exit 7 ;; esac\nexec REAL "$@"')
-        status, _, why, after = set_policy(place, server, "--yes", write(place, POLICY))
-        wants((status, why.splitlines()[-1][:38]), (1, "popbox-set-policy: the server didn't a"))
-        wants(after, policies.pop())
+        in_force = policies.pop()
+        for text in (POLICY, rule("dan", "*", ["open"])):
+            status, _, why, after = set_policy(place, server, "--yes", write(place, text))
+            wants((status, after), (1, in_force))
+            wants(why.splitlines()[-1][:38], "popbox-set-policy: the server didn't a")
         os.remove(f"{place.folder}/bin/curl")
         status, _, _, after = set_policy(place, server, "--back", said=b"n\n")
         wants((status, f'"cat"' in after), (1, True))
@@ -119,6 +121,21 @@ def set_policy_goes_back_step_by_step(place):
             wants((status, after), (0, policies.pop()))
         status, said, why, _ = set_policy(place, server, "--back", "--yes")
         wants((status, said, why), (1, "", nothing))
+
+
+@case
+def set_policy_sets_nothing_before_the_old_one_is_on_the_disk(place):
+    new, env = write(place, READ_ONLY), place.note_calls()
+    with office(place) as server:
+        before = server.administer("GET", "/policy")
+        failing = {**env, "FAILS": f"sync {place.folder}/kept/*"}
+        status, _, why, after = set_policy(place, server, "--yes", new, env=failing)
+        wants((status, after), (1, before))
+        wants(why.splitlines()[-1].endswith(" can't be written (nothing was changed)"), True)
+        status, said, _, _ = set_policy(place, server, "--yes", new, env=env)
+        kept = said.splitlines()[-1].partition("what was before: ")[2]
+        wants((status, f"sync {kept}" in place.calls()), (0, True))
+        wants(decision(server), "deny by rule default\n")
 
 
 @case

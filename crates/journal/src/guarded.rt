@@ -1,10 +1,14 @@
 //! A wire and a spool that give nothing more once the server's store is lost.
 ghost use Rattle.std.specs.Prelude.{◌≡◌, ℕ, List, []};
+ghost use Rattle.serving.specs.Calls.{Call};
+ghost use Rattle.serving.specs.Spools.{FileCall};
 ghost use Rattle.serving.specs.Wires.{IsWithin, counted};
-ghost use Rattle.journal.specs.Guards.{IsGuarded, AreGuarded};
+ghost use Rattle.journal.specs.Guards.{AreFilesHandedOn, AreGuarded, AreHandedOn, IsGuarded};
 
-use super::watch::Watch;
-use serving::{FileName, Io, Link, Port, Spool, Wire};
+use super::spool::LoggedSpool;
+use super::watch::{NotedWatch, Watch};
+use super::wire::{LoggedWire, Peers};
+use serving::{FileName, Io, Link, NotedSpool, NotedWire, Port, Spool, Wire};
 use std::net::IpAddr;
 
 /// A wire or a spool that does what the one inside does, until its watch says that the store is
@@ -120,3 +124,26 @@ impl<S: Spool, X: Watch> Spool for Guarded<S, X> {
         self.inner.rename(name)
     }
 }
+
+/// A law: of the calls of the wire that a server's loop uses, these reached the sockets, in this
+/// order, and were answered so: those that stand in the notes right around the sockets. Each call
+/// is handed on as it is, unless the watch answered that the store is lost (`AreHandedOn`).
+pub fn sockets_were_asked<'a, W: Wire + Peers, X: Watch>(
+    wire: &Guarded<LoggedWire<'a, NotedWire<W>>, NotedWatch<X>>,
+)
+    ensures { (calls : List Call)
+        → ⟦<Guarded<LoggedWire<'a, NotedWire<W>>, NotedWatch<X>> as Wire>⟧.asked wire.now calls
+        → AreHandedOn wire.now.inner.wire.notes.calls wire.now.watch.notes.items calls }
+{}
+
+/// A law: of the calls of the spool that a server's loop uses, these reached the folder, in this
+/// order, and were answered so: those that stand in the notes right around the folder. Each call is
+/// handed on as it is, but a file's name isn't handed back if the watch answered that the store is
+/// lost (`AreFilesHandedOn`).
+pub fn folder_was_asked<'a, S: Spool, X: Watch>(
+    spool: &Guarded<LoggedSpool<'a, NotedSpool<S>>, NotedWatch<X>>,
+)
+    ensures { (calls : List FileCall)
+        → ⟦<Guarded<LoggedSpool<'a, NotedSpool<S>>, NotedWatch<X>> as Spool>⟧.asked spool.now calls
+        → AreFilesHandedOn spool.now.inner.spool.notes.calls spool.now.watch.notes.items calls }
+{}

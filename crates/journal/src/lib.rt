@@ -27,12 +27,12 @@ mod store;
 mod watch;
 mod wire;
 
-pub use guarded::Guarded;
+pub use guarded::{Guarded, folder_was_asked, sockets_were_asked};
 pub use journal::{Journal, Shared};
 pub use left::Folder;
 pub use server::{note_end, note_loss, note_opening, note_start};
 pub use settings::Settings;
 pub use spool::LoggedSpool;
 pub use store::LoggedVault;
-pub use watch::{FileId, Loss, StoreWatch, Watch};
+pub use watch::{FileId, Loss, NotedWatch, StoreWatch, Watch};
 pub use wire::{LoggedWire, Peers};

@@ -1,6 +1,7 @@
 //! Whether the store's files are still those that a server has open.
-ghost use Rattle.std.specs.Prelude.{◌++◌, ◌∷◌, [], Bool, List, ⊤};
+ghost use Rattle.std.specs.Prelude.{◌≡◌, ◌++◌, ◌∷◌, [], Bool, List, ⊤};
 
+use notes::Notes;
 use std::cell::Cell;
 use std::fmt::{Display, Formatter, Write};
 use std::fs::Metadata;
@@ -183,8 +184,8 @@ impl<'a> StoreWatch<'a> {
 
 /// Says whether a server's store is lost.
 ///
-/// `answered w said`: `said` is a true record of what w answered. Of a watch over files nothing is
-/// known.
+/// `answered w said`: `said` is a true record of what w answered. Of a watch over files it is known
+/// by a [`NotedWatch`] around it.
 pub trait Watch {
     /// `answered w said`: w answered so, the newest last.
     ghost answered: { Self → List Bool → Type 0 };
@@ -216,5 +217,61 @@ impl Watch for &StoreWatch<'_> {
 
     fn is_lost(&mut self) -> bool {
         StoreWatch::is_lost(self)
+    }
+}
+
+/// A watch that does what the one inside does, and notes what it answers.
+///
+/// Of any watch inside, `answered` is known of this one: what it handed on. The notes are in the
+/// proofs alone and take no memory. What became of the files is no more known than before.
+#[derive(Drop)]
+pub struct NotedWatch<X: Watch> {
+    pub watch: X,
+    pub notes: Notes<bool>,
+}
+
+impl<X: Watch> NotedWatch<X> {
+    /// A watch around this one, that answered nothing yet.
+    pub fn new(watch: X) -> NotedWatch<X>
+        ensures watch { result.watch ≡ watch }
+        ensures fresh { result.notes.items ≡ [] }
+    {
+        NotedWatch {
+            watch,
+            notes: Notes::new(),
+        }
+    }
+}
+
+impl<X: Watch> Watch for NotedWatch<X> {
+    ghost answered = { λ noted said. said ≡ noted.notes.items };
+
+    fn look(&mut self)
+        ensures told { (said : List Bool) → said ≡ self.old.notes.items
+            → said ≡ self.new.notes.items }
+        ensures inside { (said : List Bool) → X.answered self.old.watch said
+            → X.answered self.new.watch said }
+    {
+        self.watch.look();
+    }
+
+    fn look_now(&mut self)
+        ensures told { (said : List Bool) → said ≡ self.old.notes.items
+            → said ≡ self.new.notes.items }
+        ensures inside { (said : List Bool) → X.answered self.old.watch said
+            → X.answered self.new.watch said }
+    {
+        self.watch.look_now();
+    }
+
+    fn is_lost(&mut self) -> bool
+        ensures told { (said : List Bool) → said ≡ self.old.notes.items
+            → said ++ result ∷ [] ≡ self.new.notes.items }
+        ensures inside { (said : List Bool) → X.answered self.old.watch said
+            → X.answered self.new.watch (said ++ result ∷ []) }
+    {
+        let is_lost = self.watch.is_lost();
+        self.notes.note(&is_lost);
+        is_lost
     }
 }

@@ -14,7 +14,7 @@ use Rattle.office.specs.Connections.{reading}
 use Rattle.office.specs.Output.{Output, OwesIf, nothing_owed}
 use Rattle.office.specs.Transaction.{Transaction}
 use Rattle.office.specs.Accounts.{state_account, account_if}
-use Rattle.office.specs.Kept.{Kept, LineContext, login_state_after, asks, clocked}
+use Rattle.office.specs.Kept.{Kept, login_state_after, asks, clocked}
 use Rattle.office.specs.Answered.{judged_at, BecomesIf, held_after, held_if}
 use Rattle.office.specs.Stopping.{ActsOnce}
 use Rattle.office.specs.AfterLine.{AfterLine, AfterNext, cut_through, line_of, replied, reply_next}
@@ -55,15 +55,6 @@ pub err_or_not : {A E P : Type 0} (r : Result A E) → P → OnErr r P
 err_or_not (Ok x) it = tt
 err_or_not (Err e) it = it
 
--- ---- the account before a line
-
--- a line that makes a new account, whatever it was before
-pub told_anew : (After : Contents → Type 0) (grown : Bool) (c : Contents) (d : LineContext) (x : Cut) (w : LineOutcome) (v : Option Transaction)
-    (old new : Option Session) (before now : LoginState) (output : Output)
-    (was told : Account) → AfterLine After grown c d x w v old new before now output account.Nothing told → AfterLine After grown c d x w v old new before now output was told
-told_anew After grown c d x w v old new before now output was told a =
-    record { owed = a.owed; state = a.state; session = a.session; held = a.held; may = a.may; cause = a.cause; account = λ fresh. a.account refl }
-
 -- ---- the line that is whole
 
 module _ (k : Kept) (x : Cut) (there : x ∷ [] ≡ whole_line k.held) where
@@ -84,12 +75,12 @@ module _ (k : Kept) (x : Cut) (there : x ∷ [] ≡ whole_line k.held) where
       (subst (λ (y : Cut). ActsOnce vault old new Own (held_after outcome.Done p k.session (reading y))) is_next acts)
 
   -- it was answered
-  pub next_answered : (After : Contents → Type 0) (grown : Bool) (c : Contents) (p : Policy) (locks : BTreeMap (List ℕ) ℕ) (v : Option Transaction) (w : LineOutcome) (was told : Account)
-      (session : Option Session) (state : LoginState) (output : Output) → AfterLine After grown c (judged_at c p k.stamp locks) x w v k.session session k.state state output was told
-      → AfterNext After grown c p locks v k (record k { output = output; state = state; session = session }) w was told
-  next_answered After grown c p locks v w was told session state output line =
-      let a : AfterLine After grown c (judged_at c p k.stamp locks) (line_of k) w v k.session session k.state state output was told =
-      subst (λ (y : Cut). AfterLine After grown c (judged_at c p k.stamp locks) y w v k.session session k.state state output was told) is_next line in
+  pub next_answered : (After : Contents → Type 0) (grown : Bool) (c : Contents) (p : Policy) (locks : BTreeMap (List ℕ) ℕ) (v : Option Transaction) (w : LineOutcome) (told : Account)
+      (session : Option Session) (state : LoginState) (output : Output) → AfterLine After grown c (judged_at c p k.stamp locks) x w v k.session session k.state state output told
+      → AfterNext After grown c p locks v k (record k { output = output; state = state; session = session }) w told
+  next_answered After grown c p locks v w told session state output line =
+      let a : AfterLine After grown c (judged_at c p k.stamp locks) (line_of k) w v k.session session k.state state output told =
+      subst (λ (y : Cut). AfterLine After grown c (judged_at c p k.stamp locks) y w v k.session session k.state state output told) is_next line in
       let reply = reply_next c p locks v w k in
       let next : state ≡ cond k.held.whole (login_state_after (line_of k) reply k.state) k.state = a.state ∙ ap (λ b. cond b (login_state_after (line_of k) reply k.state) k.state) (sym is_whole) in
       record {
@@ -99,7 +90,7 @@ module _ (k : Kept) (x : Cut) (there : x ∷ [] ≡ whole_line k.held) where
         held = subst (λ b. After (held_if b w p k.session (reading (line_of k)) c)) (sym is_whole) a.held;
         may = λ failed. (is_whole, a.may failed);
         cause = a.cause;
-        account = λ fresh. subst (λ b. told ≡ account_if b (state_account w p v (reading (line_of k)) (Says reply) k.state.user)) (sym is_whole) (a.account fresh);
+        account = subst (λ b. told ≡ account_if b (state_account w p v (reading (line_of k)) (Says reply) k.state.user)) (sym is_whole) a.account;
       }
 
 -- no line is whole
@@ -107,9 +98,9 @@ pub none_next : (k : Kept) → [] ≡ whole_line k.held → k.held.whole ≡ fal
 none_next k none = none_shown k.held.whole (line_of k) none
 
 pub next_none : (k : Kept) → [] ≡ whole_line k.held
-    → (After : Contents → Type 0) (grown : Bool) (c : Contents) (p : Policy) (locks : BTreeMap (List ℕ) ℕ) (v : Option Transaction) (was : Account) (output : Output)
-    → output ≡ nothing_owed → After c → AfterNext After grown c p locks v k (record k { output = output }) outcome.Done was was
-next_none k none After grown c p locks v was output taken held =
+    → (After : Contents → Type 0) (grown : Bool) (c : Contents) (p : Policy) (locks : BTreeMap (List ℕ) ℕ) (v : Option Transaction) (output : Output)
+    → output ≡ nothing_owed → After c → AfterNext After grown c p locks v k (record k { output = output }) outcome.Done account.Nothing
+next_none k none After grown c p locks v output taken held =
     let part = none_next k none in
     let reply = reply_next c p locks v outcome.Done k in
     record {
@@ -119,5 +110,5 @@ next_none k none After grown c p locks v was output taken held =
       held = subst (λ b. After (held_if b outcome.Done p k.session (reading (line_of k)) c)) (sym part) held;
       may = λ failed. cc;
       cause = λ failed. cc;
-      account = λ fresh. subst (λ b. was ≡ account_if b (state_account outcome.Done p v (reading (line_of k)) (Says reply) k.state.user)) (sym part) fresh;
+      account = subst (λ b. account.Nothing ≡ account_if b (state_account outcome.Done p v (reading (line_of k)) (Says reply) k.state.user)) (sym part) refl;
     }

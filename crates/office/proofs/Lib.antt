@@ -73,6 +73,7 @@ mod Texts
 mod ListedRows
 mod Owing
 mod Paging
+mod Reporting
 mod Restarting
 mod Ticking
 pub mod Stopping

@@ -21,7 +21,7 @@ use Rattle.session.specs.View.{at_number, is_marked, refer, referred, retrieval}
 use Rattle.office.specs.History.{Says}
 use Rattle.office.specs.Replying.{served_if}
 use Rattle.office.specs.Transaction.{LiesIn, transaction_of, transaction_answered}
-use Rattle.office.specs.Accounts.{row_of, row_at, row_of_head, row_kept, named, named_in, message_told, done_told, denial_told, sending_told, told_if_done}
+use Rattle.office.specs.Accounts.{row_of, row_at, row_of_head, row_kept, named, named_in, message_told, done_told, sending_told, told_if_done}
 use Rattle.office.specs.declared.account.Account.{Account}
 use Rattle.office.specs.declared.account.MessageCommand.{MessageCommand}
 use Rattle.office.specs.declared.account.MessageCommand.TheVariants as to

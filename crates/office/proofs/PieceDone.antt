@@ -47,8 +47,8 @@ module _ {Before : Contents → Type 0} (T : Trace) (n : ℕ) (p : List ℕ) (ke
   abbrev replied : LineOutcome → Reply
   replied w = reply_of w (judged_at keeps.contents policy k.stamp locks) k.state judged.transaction (line_after k p)
 
-  module _ {After : Contents → Type 0} {grown : Bool} {was told : Account} (w : LineOutcome) (k' : Kept)
-      (did : AfterNext After grown keeps.contents policy locks judged.transaction (cut_through p set) k' w was told) where
+  module _ {After : Contents → Type 0} {grown : Bool} {told : Account} (w : LineOutcome) (k' : Kept)
+      (did : AfterNext After grown keeps.contents policy locks judged.transaction (cut_through p set) k' w told) where
     law : (more : List ℕ) → coming k.held (p ++ more) ≡ whole_line k'.held ++ coming k'.held (k'.pending ++ more)
     law = lines_go set k' p (replied w) k'.session k'.output did.kept
 

@@ -42,6 +42,7 @@ use Rattle.office.specs.declared.login_state.LineOutcome.{LineOutcome}
 use Rattle.office.specs.declared.login_state.LineOutcome.TheVariants as outcome
 use Rattle.office.specs.declared.answer.MessageRow.{MessageRow}
 use Rattle.office.specs.declared.account.Account.{Account}
+use Rattle.office.specs.declared.account.LineReport.{LineReport}
 use Rattle.office.specs.declared.account.Removal.{Removal}
 use Rattle.office.specs.declared.account.Account.TheVariants as account
 use Rattle.office.specs.declared.account.End.{End}
@@ -332,6 +333,11 @@ sending_told command (Err pick.Deleted) message = account.Nothing
 abbrev pub told_if_done : LineOutcome → Account → Account
 told_if_done outcome.Done told = told
 told_if_done outcome.Failed told = account.Nothing
+
+-- the report of a session's line that was answered so, and tells this if it was done
+abbrev pub reported : {E : Type 0} → Result LineOutcome E → Account → Result LineReport E
+reported (Ok w) told = Ok (record { outcome = w; account = told_if_done w told })
+reported (Err e) told = Err e
 
 -- the message that a session's line names
 abbrev pub named_in : Transaction → Result Command LineFault → Option MessageRow

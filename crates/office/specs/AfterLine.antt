@@ -16,7 +16,6 @@ use Rattle.office.specs.Kept.{Kept, LineContext, login_state_after, asks}
 use Rattle.office.specs.Answered.{name_cmp, judged_at, reply_of, Becomes, BecomesIf}
 use Rattle.office.specs.Answered.{held_after, held_if}
 use Rattle.office.specs.declared.account.Account.{Account}
-use Rattle.office.specs.declared.account.Account.TheVariants as account
 use Rattle.office.specs.declared.login_state.LoginState.{LoginState}
 use Rattle.office.specs.declared.login_state.LineOutcome.{LineOutcome}
 use Rattle.office.specs.declared.login_state.LineOutcome.TheVariants as outcome
@@ -25,27 +24,26 @@ use Rattle.office.specs.declared.login_state.LineOutcome.TheVariants as outcome
 
 -- A line was answered, in a session with these messages or before one. Its reply is owed; it is
 -- remembered; the session is the one after it; the store holds what the line leaves. If the
--- store failed, the line is one that asks it, and the fault was counted. An account that was empty
--- says what was judged.
+-- store failed, the line is one that asks it, and the fault was counted. The account says what was
+-- judged.
 pub record AfterLine (After : Contents → Type 0) (grown : Bool) (c : Contents) (d : LineContext)
     (x : Cut) (w : LineOutcome) (v : Option Transaction) (old new : Option Session)
-    (before now : LoginState) (output : Output) (was told : Account) : Type 0 where
+    (before now : LoginState) (output : Output) (told : Account) : Type 0 where
   pub owed : OwesReply c new output (reply_of w d before v x)
   pub state : now ≡ login_state_after x (reply_of w d before v x) before
   pub session : Becomes c d.policy before x (reply_of w d before v x) old new
   pub held : After (held_after w d.policy old (reading x) c)
   pub may : w ≡ outcome.Failed → asks d.policy before v (reading x) ≡ true
   pub cause : w ≡ outcome.Failed → grown ≡ true
-  pub account : was ≡ account.Nothing → told ≡ state_account w d.policy v (reading x)
+  pub account : told ≡ state_account w d.policy v (reading x)
       (Says (reply_of w d before v x)) before.user
 
--- Memory was wanting for a line: the store holds what it held, each maildrop is locked as it was,
--- and the account is what it was.
+-- Memory was wanting for a line: the store holds what it held, and each maildrop is locked as it
+-- was.
 pub record NothingDone {V : Type 0} (vault : Ghosts V) (old new : V)
-    (before now : BTreeMap (List ℕ) ℕ) (was told : Account) : Type 0 where
+    (before now : BTreeMap (List ℕ) ℕ) : Type 0 where
   pub held : (c : Contents) → vault.holds old c → vault.is_clean new → vault.holds new c
   pub locks : (d : List ℕ) → get name_cmp now d ≡ get name_cmp before d
-  pub account : told ≡ was
 
 -- ---- the octets of a connection
 
@@ -77,7 +75,7 @@ reply_next c p locks v w k = reply_of w (judged_at c p k.stamp locks) k.state v 
 -- nothing else changed.
 pub record AfterNext (After : Contents → Type 0) (grown : Bool) (c : Contents) (p : Policy)
     (locks : BTreeMap (List ℕ) ℕ) (v : Option Transaction) (k new : Kept) (w : LineOutcome)
-    (was told : Account) : Type 0 where
+    (told : Account) : Type 0 where
   pub kept : new ≡ replied k (reply_next c p locks v w k) new.session new.output
   pub owes : OwesIf k.held.whole c new.session new.output (reply_next c p locks v w k)
   pub session : BecomesIf k.held.whole c p k.state (line_of k) (reply_next c p locks v w k)
@@ -86,5 +84,5 @@ pub record AfterNext (After : Contents → Type 0) (grown : Bool) (c : Contents)
   pub may : w ≡ outcome.Failed → (k.held.whole ≡ true)
       × (asks p k.state v (reading (line_of k)) ≡ true)
   pub cause : w ≡ outcome.Failed → grown ≡ true
-  pub account : was ≡ account.Nothing → told ≡ account_if k.held.whole (state_account w p v
+  pub account : told ≡ account_if k.held.whole (state_account w p v
       (reading (line_of k)) (Says (reply_next c p locks v w k)) k.state.user)

@@ -1,17 +1,18 @@
 //! The account of an event: what the office judged in it.
-ghost use Rattle.std.specs.Prelude.{◌≡◌, Option, None, IfOk, OnErr};
+ghost use Rattle.std.specs.Prelude.{◌≡◌, None};
 ghost use Rattle.popline.specs.Seen.{command_seen, reply_seen};
 ghost use Rattle.office.specs.History.{Says};
 ghost use Rattle.office.specs.Connections.{reading};
 ghost use Rattle.office.specs.Accounts.{verdict as verdict_of, login_told, reset_told};
 ghost use Rattle.office.specs.Accounts.{done_told, denial_told, message_told, sending_told};
-ghost use Rattle.office.specs.Accounts.{told_if_done, taken_told};
+ghost use Rattle.office.specs.Accounts.{told_if_done, reported, taken_told};
 ghost use Rattle.office.specs.Accounts.{command_account, fault_told, line_account};
 ghost use Rattle.office.specs.Accounts.{removal_told, was_done as was_done_so};
 
 use crate::answer::MessageRow;
 use crate::command_line::CommandLine;
 use crate::login_state::LineOutcome;
+use crate::{Outcome, Reason};
 use creds::{LoginName, Name, Uid};
 use policy::Policy;
 use popline::{Command, Keyword, LineFault, Reply};
@@ -119,6 +120,23 @@ pub enum Account {
     QuitBeforeLogin,
     /// The connection was ended, and no line ended it.
     Ended(End),
+}
+
+/// How a line was answered, and its account.
+#[derive(Drop)]
+pub struct LineReport {
+    pub outcome: LineOutcome,
+    /// What was judged of the line.
+    pub account: Account,
+}
+
+/// What came of an event: its outcome, and its account.
+#[derive(Drop)]
+pub struct EventReport {
+    /// What the event is answered.
+    pub outcome: Outcome,
+    /// What the office judged in the event.
+    pub account: Account,
 }
 
 /// How a login was judged that got this reply; `None` for a reply that judges no login.
@@ -280,30 +298,28 @@ impl Account {
         }
     }
 
-    /// Becomes the account of a command that was answered so. If the store failed, nothing is said;
-    /// at want of memory the account stays.
-    pub(crate) fn settle(&mut self, told: Account, answered: &Result<LineOutcome, AllocError>)
-        ensures ok { IfOk answered.now (λ outcome. self.new ≡ told_if_done outcome told) }
-        ensures err { OnErr answered.now (self.new ≡ self.old) }
+    /// The account of a command that was answered so, if this is what it tells when it is done: of
+    /// one at which the store failed nothing is told.
+    pub(crate) fn if_done(self, outcome: LineOutcome) -> Account
+        ensures { result ≡ told_if_done outcome self }
     {
-        match answered {
-            Ok(LineOutcome::Done) => *self = told,
-            Ok(LineOutcome::Failed) => *self = Account::Nothing,
-            Err(_) => {}
+        match outcome {
+            LineOutcome::Done => self,
+            LineOutcome::Failed => Account::Nothing,
         }
     }
 
-    /// Becomes the account of a taking of all that was owed, after which a line with this account
-    /// acted, or none.
-    pub(crate) fn add_taking(&mut self)
-        ensures { self.new ≡ taken_told self.old }
+    /// The account of a taking of all that was owed, after which a line with this account acted,
+    /// or none.
+    pub(crate) fn or_taken(self) -> Account
+        ensures { result ≡ taken_told self }
     {
-        match self {
-            Account::Nothing => *self = Account::Taken,
-            Account::Login(_, _, _) | Account::NoName | Account::Marked | Account::Unmarked => {}
-            Account::Retrieved(_) | Account::Topped(_) | Account::Denied(_, _, _) => {}
-            Account::Taken | Account::Quit(_) | Account::QuitBeforeLogin => {}
-            Account::Ended(_) => {}
+        match &self {
+            Account::Nothing => Account::Taken,
+            Account::Login(_, _, _) | Account::NoName | Account::Marked | Account::Unmarked => self,
+            Account::Retrieved(_) | Account::Topped(_) | Account::Denied(_, _, _) => self,
+            Account::Taken | Account::Quit(_) | Account::QuitBeforeLogin => self,
+            Account::Ended(_) => self,
         }
     }
 
@@ -325,5 +341,62 @@ impl Account {
             denied,
             is_done: was_done(outcome),
         })
+    }
+}
+
+/// The report of a session's line that was answered so. `told` is its account if the line was done;
+/// if the store failed, it has none. An error is want of memory.
+pub(crate) fn report(
+    answered: Result<LineOutcome, AllocError>,
+    told: Account,
+) -> Result<LineReport, AllocError>
+    ensures { result ≡ reported answered told }
+{
+    match answered {
+        Ok(outcome) => {
+            let account = told.if_done(outcome);
+            Ok(LineReport { outcome, account })
+        }
+        Err(fault) => Err(fault),
+    }
+}
+
+impl EventReport {
+    /// Of an event in which nothing was judged.
+    pub(crate) fn silent(outcome: Outcome) -> EventReport
+        ensures { result ≡ record { outcome = outcome; account = Account.Nothing } }
+    {
+        EventReport {
+            outcome,
+            account: Account::Nothing,
+        }
+    }
+
+    /// Of an event that is ignored.
+    pub(crate) fn ignored(reason: Reason) -> EventReport
+        ensures { result ≡ record
+            { outcome = Outcome.Ignored reason; account = Account.Nothing } }
+    {
+        EventReport::silent(Outcome::Ignored(reason))
+    }
+
+    /// Of a taking of all that was owed, after which no line acts.
+    pub(crate) fn all_taken() -> EventReport
+        ensures { result ≡ record { outcome = Outcome.Done; account = Account.Taken } }
+    {
+        EventReport {
+            outcome: Outcome::Done,
+            account: Account::Taken,
+        }
+    }
+
+    /// Of an event that ended a connection, as no line did.
+    pub(crate) fn ended(outcome: Outcome, end: End) -> EventReport
+        ensures { result ≡ record { outcome = outcome; account = Account.Ended end } }
+    {
+        EventReport {
+            outcome,
+            account: Account::Ended(end),
+        }
     }
 }

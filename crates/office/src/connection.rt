@@ -22,7 +22,7 @@ ghost use Rattle.office.specs.Answered.{is_locked_by, HasTransaction, LocksFollo
 ghost use Rattle.office.specs.AfterLine.{AfterNext, NothingDone, cut_through, line_of};
 ghost use Rattle.office.specs.Waiting.{is_held_for, coming_login, line_with};
 
-use crate::account::Account;
+use crate::account::{Account, LineReport};
 use crate::command_line::CommandLine;
 use crate::lines;
 use crate::locks::Locks;
@@ -274,8 +274,8 @@ impl Connection {
     }
 
     /// Takes the next piece at this moment, and answers the first line that is now whole; the lines
-    /// after it wait for [`Connection::resume`]. `account`, which is empty, becomes what
-    /// was judged.
+    /// after it wait for [`Connection::resume`]. The report has what was judged. An error is want
+    /// of memory.
     pub fn hear<V: Vault>(
         &mut self,
         alloc: Global,
@@ -285,19 +285,19 @@ impl Connection {
         number: u64,
         piece: &[u8],
         now: u64,
-        account: &mut Account,
-    ) -> Result<LineOutcome, AllocError>
+    ) -> Result<LineReport, AllocError>
         requires { length piece.now ≤ most_in_a_piece }
-        ensures answered { IfOk result (λ outcome. (c : Contents) (v : Option Transaction)
+        ensures answered { IfOk result (λ r. (c : Contents) (v : Option Transaction)
             → V.holds vault.old c → V.is_clean vault.new → HasTransaction c self.old.session v
             → AfterNext (V.holds vault.new) (has_grown (V.faults vault.old) (V.faults vault.new)) c
             policy.now locks.old v (cut_through piece.now (clocked now piece.now self.old)) self.new
-            outcome account.old account.new) }
+            r.outcome r.account) }
         ensures locks { OnOk result (LocksFollow number self.old.session self.new.session locks.old
             locks.new) }
         ensures err { OnErr result ((has_newline piece.now ≡ true) × NothingDone V.Vault vault.old
-            vault.new locks.old locks.new account.old account.new) }
-        ensures acts { ActsOnce V.Vault vault.old vault.new (IsOkAnd result WasDone)
+            vault.new locks.old locks.new) }
+        ensures acts { ActsOnce V.Vault vault.old vault.new
+            (IsOkAnd result (λ r. WasDone r.outcome))
             (held_if (has_newline piece.now) LineOutcome.Done policy.now self.old.session
             (reading (line_after self.old piece.now))) }
         ensures unasked { (c : Contents) (v : Option Transaction)
@@ -306,11 +306,11 @@ impl Connection {
             (reading (line_after self.old piece.now)) ≡ false) → vault.new ≡ vault.old }
     {
         self.cut_piece(piece, now)?;
-        self.answer_next(alloc, vault, policy, locks, number, account)
+        self.answer_next(alloc, vault, policy, locks, number)
     }
 
-    /// Answers the next whole line of the octets that were kept, if there is one. `account`, which
-    /// says nothing yet, becomes what was judged.
+    /// Answers the next whole line of the octets that were kept, if there is one. The report has
+    /// what was judged. An error is want of memory.
     pub fn resume<V: Vault>(
         &mut self,
         alloc: Global,
@@ -318,18 +318,18 @@ impl Connection {
         policy: &Policy,
         locks: &mut Locks,
         number: u64,
-        account: &mut Account,
-    ) -> Result<LineOutcome, AllocError>
-        ensures answered { IfOk result (λ outcome. (c : Contents) (v : Option Transaction)
+    ) -> Result<LineReport, AllocError>
+        ensures answered { IfOk result (λ r. (c : Contents) (v : Option Transaction)
             → V.holds vault.old c → V.is_clean vault.new → HasTransaction c self.old.session v
             → AfterNext (V.holds vault.new) (has_grown (V.faults vault.old) (V.faults vault.new)) c
-            policy.now locks.old v (cut_through self.old.pending self.old) self.new outcome
-            account.old account.new) }
+            policy.now locks.old v (cut_through self.old.pending self.old) self.new r.outcome
+            r.account) }
         ensures locks { OnOk result (LocksFollow number self.old.session self.new.session locks.old
             locks.new) }
         ensures err { OnErr result ((has_newline self.old.pending ≡ true) × NothingDone V.Vault
-            vault.old vault.new locks.old locks.new account.old account.new) }
-        ensures acts { ActsOnce V.Vault vault.old vault.new (IsOkAnd result WasDone)
+            vault.old vault.new locks.old locks.new) }
+        ensures acts { ActsOnce V.Vault vault.old vault.new
+            (IsOkAnd result (λ r. WasDone r.outcome))
             (held_if (has_newline self.old.pending) LineOutcome.Done policy.now self.old.session
             (reading (line_after self.old self.old.pending))) }
         ensures unasked { (c : Contents) (v : Option Transaction)
@@ -338,7 +338,7 @@ impl Connection {
             (reading (line_after self.old self.old.pending)) ≡ false) → vault.new ≡ vault.old }
     {
         self.cut += self.cutter.feed(&self.pending[self.cut..]);
-        self.answer_next(alloc, vault, policy, locks, number, account)
+        self.answer_next(alloc, vault, policy, locks, number)
     }
 
     /// Cuts a piece that came at this moment up to its first LF, and keeps what follows it. Only
@@ -360,8 +360,8 @@ impl Connection {
         Ok(())
     }
 
-    /// Answers the line that is whole, if one is; what was owed is taken. `account`, which says
-    /// nothing yet, becomes what was judged.
+    /// Answers the line that is whole, if one is; what was owed is taken. The report has what was
+    /// judged. An error is want of memory.
     fn answer_next<V: Vault>(
         &mut self,
         alloc: Global,
@@ -369,17 +369,17 @@ impl Connection {
         policy: &Policy,
         locks: &mut Locks,
         number: u64,
-        account: &mut Account,
-    ) -> Result<LineOutcome, AllocError>
-        ensures answered { IfOk result (λ outcome. (c : Contents) (v : Option Transaction)
+    ) -> Result<LineReport, AllocError>
+        ensures answered { IfOk result (λ r. (c : Contents) (v : Option Transaction)
             → V.holds vault.old c → V.is_clean vault.new → HasTransaction c self.old.session v
             → AfterNext (V.holds vault.new) (has_grown (V.faults vault.old) (V.faults vault.new)) c
-            policy.now locks.old v self.old self.new outcome account.old account.new) }
+            policy.now locks.old v self.old self.new r.outcome r.account) }
         ensures locks { OnOk result (LocksFollow number self.old.session self.new.session locks.old
             locks.new) }
         ensures err { OnErr result ((self.old.held.whole ≡ true) × NothingDone V.Vault vault.old
-            vault.new locks.old locks.new account.old account.new) }
-        ensures acts { ActsOnce V.Vault vault.old vault.new (IsOkAnd result WasDone)
+            vault.new locks.old locks.new) }
+        ensures acts { ActsOnce V.Vault vault.old vault.new
+            (IsOkAnd result (λ r. WasDone r.outcome))
             (held_if self.old.held.whole LineOutcome.Done policy.now self.old.session
             (reading (line_of self.old))) }
         ensures unasked { (c : Contents) (v : Option Transaction)
@@ -389,7 +389,10 @@ impl Connection {
     {
         self.output.clear();
         let Some(cut) = self.cutter.line() else {
-            return Ok(LineOutcome::Done);
+            return Ok(LineReport {
+                outcome: LineOutcome::Done,
+                account: Account::Nothing,
+            });
         };
         let context = LineContext {
             policy,
@@ -405,7 +408,6 @@ impl Connection {
             &mut self.output,
             &mut self.state,
             &mut self.session,
-            account,
         )
     }
 }

@@ -37,7 +37,7 @@ mod transaction;
 mod transcript;
 mod waiting;
 
-pub use account::{Account, End, MessageCommand, Removal, Verdict, Way};
+pub use account::{Account, End, EventReport, MessageCommand, Removal, Verdict, Way};
 pub use answer::{Answer, Clerks, MessageRow, Messages, SessionRow, Sessions, Totals};
 pub use bodies::answer_body;
 pub use command::AdminCommand;

@@ -20,7 +20,7 @@ ghost use Rattle.office.specs.Answered.{context_over, HasTransaction, SessionAft
 ghost use Rattle.office.specs.Answered.{Becomes, LocksFollow, held_after};
 ghost use Rattle.office.specs.AfterLine.{AfterLine, NothingDone};
 
-use crate::account::Account;
+use crate::account::{Account, LineReport};
 use crate::command_line::CommandLine;
 use crate::locks::{Locks, lock, release};
 use crate::login::judge;
@@ -158,8 +158,8 @@ fn next_login_state(line: &CommandLine<'_>, reply: &Reply<'_>, state: LoginState
 }
 
 /// Answers a line before a login: puts its reply, and remembers what it leaves. If a session
-/// begins, returns it and locks its maildrop. If the store fails, the reply says so. `account`
-/// becomes what was judged.
+/// begins, returns it and locks its maildrop. If the store fails, the reply says so. The account is
+/// that of the login that was judged, if one was.
 fn authorization_answer<V: Vault>(
     alloc: Global,
     vault: &mut V,
@@ -168,19 +168,18 @@ fn authorization_answer<V: Vault>(
     line: &CommandLine<'_>,
     output: &mut Output,
     state: &mut LoginState,
-    account: &mut Account,
-) -> Result<(LineOutcome, Option<Session>), AllocError>
+) -> Result<(LineReport, Option<Session>), AllocError>
     requires { output.old ≡ nothing_owed }
     ensures answered { IfOk result (λ r. (c : Contents) → V.holds vault.old c
         → V.is_clean vault.new
         → AfterLine (V.holds vault.new) (has_grown (V.faults vault.old) (V.faults vault.new)) c
-        (context_over c context.entry locks.old) line.now r.0 None None r.1 state.old state.new
-        output.new Account.Nothing account.new) }
+        (context_over c context.entry locks.old) line.now r.0.outcome None None r.1 state.old
+        state.new output.new r.0.account) }
     ensures locks { IfOk result (λ r. LocksFollow context.entry.number None r.1 locks.old
         locks.new) }
-    ensures err { OnErr result (NothingDone V.Vault vault.old vault.new locks.old locks.new
-        account.old account.new) }
-    ensures looks { OnlyLooks V.Vault vault.old vault.new (IsOkAnd result (λ r. WasDone r.0)) }
+    ensures err { OnErr result (NothingDone V.Vault vault.old vault.new locks.old locks.new) }
+    ensures looks { OnlyLooks V.Vault vault.old vault.new
+        (IsOkAnd result (λ r. WasDone r.0.outcome)) }
     ensures unasked { authorization_asks state.old (reading line.now) ≡ false
         → vault.new ≡ vault.old }
 {
@@ -191,14 +190,14 @@ fn authorization_answer<V: Vault>(
     };
     output.say(alloc, &reply)?;
     lock(locks, context.number, &begun)?;
-    *account = Account::of_line(line, &reply, state.user);
+    let account = Account::of_line(line, &reply, state.user);
     *state = next_login_state(line, &reply, *state);
-    Ok((outcome, begun))
+    Ok((LineReport { outcome, account }, begun))
 }
 
 /// Answers a line of a session, and returns the session. A QUIT ends it, and lets its maildrop's
-/// lock go. `account`, which tells nothing yet, becomes what the line did to the marks or to a
-/// message, or what the QUIT removed.
+/// lock go. The account is what the line did to the marks or to a message, or what the QUIT
+/// removed.
 fn transaction_answer<V: Vault>(
     alloc: Global,
     vault: &mut V,
@@ -208,19 +207,17 @@ fn transaction_answer<V: Vault>(
     output: &mut Output,
     state: &mut LoginState,
     session: Session,
-    account: &mut Account,
-) -> Result<(LineOutcome, Option<Session>), AllocError>
+) -> Result<(LineReport, Option<Session>), AllocError>
     requires { output.old ≡ nothing_owed }
     ensures answered { IfOk result (λ r. (c : Contents) (v : Transaction) → V.holds vault.old c
         → V.is_clean vault.new → HasTransaction c (Some session) (Some v)
         → AfterLine (V.holds vault.new) (has_grown (V.faults vault.old) (V.faults vault.new)) c
-        (context_over c context.entry locks.old) line.now r.0 (Some v) (Some session) r.1
-        state.old state.new output.new account.old account.new) }
+        (context_over c context.entry locks.old) line.now r.0.outcome (Some v) (Some session) r.1
+        state.old state.new output.new r.0.account) }
     ensures locks { IfOk result (λ r. LocksFollow context.entry.number (Some session) r.1 locks.old
         locks.new) }
-    ensures err { OnErr result (NothingDone V.Vault vault.old vault.new locks.old locks.new
-        account.old account.new) }
-    ensures acts { ActsOnce V.Vault vault.old vault.new (IsOkAnd result (λ r. WasDone r.0))
+    ensures err { OnErr result (NothingDone V.Vault vault.old vault.new locks.old locks.new) }
+    ensures acts { ActsOnce V.Vault vault.old vault.new (IsOkAnd result (λ r. WasDone r.0.outcome))
         (held_after LineOutcome.Done context.entry.policy.now (Some session) (reading line.now)) }
     ensures unasked { (c : Contents) (v : Transaction) → HasTransaction c (Some session) (Some v)
         → asks context.entry.policy.now state.old (Some v) (reading line.now) ≡ false
@@ -228,27 +225,20 @@ fn transaction_answer<V: Vault>(
 {
     let mut session = session;
     let maildrop = session.maildrop();
-    let outcome = transaction::answer(
-        alloc,
-        vault,
-        context.policy,
-        line,
-        output,
-        &mut session,
-        account,
-    )?;
+    let answered = transaction::answer(alloc, vault, context.policy, line, output, &mut session)?;
+    let outcome = answered.outcome;
     *state = transaction::next_login_state(line, outcome, *state);
     if line.is_quit() {
         release(locks, Some(maildrop));
-        *account = Account::of_quit(session, context.policy, outcome);
-        return Ok((outcome, None));
+        let account = Account::of_quit(session, context.policy, outcome);
+        return Ok((LineReport { outcome, account }, None));
     }
-    Ok((outcome, Some(session)))
+    Ok((answered, Some(session)))
 }
 
 /// Answers a line: puts its reply, and keeps what the line leaves: what is remembered, the session
-/// and its maildrop's lock. If the store fails, the reply says so. `account`, which tells
-/// nothing yet, becomes what was judged. An error is want of memory.
+/// and its maildrop's lock. If the store fails, the reply says so. The report has what was judged.
+/// An error is want of memory.
 pub fn answer<V: Vault>(
     alloc: Global,
     vault: &mut V,
@@ -258,19 +248,17 @@ pub fn answer<V: Vault>(
     output: &mut Output,
     state: &mut LoginState,
     session: &mut Option<Session>,
-    account: &mut Account,
-) -> Result<LineOutcome, AllocError>
+) -> Result<LineReport, AllocError>
     requires { output.old ≡ nothing_owed }
-    ensures answered { IfOk result (λ outcome. (c : Contents) (v : Option Transaction)
+    ensures answered { IfOk result (λ r. (c : Contents) (v : Option Transaction)
         → V.holds vault.old c → V.is_clean vault.new → HasTransaction c session.old v
         → AfterLine (V.holds vault.new) (has_grown (V.faults vault.old) (V.faults vault.new)) c
-        (context_over c context.entry locks.old) (cut_seen cut.entry) outcome v session.old
-        session.new state.old state.new output.new account.old account.new) }
+        (context_over c context.entry locks.old) (cut_seen cut.entry) r.outcome v session.old
+        session.new state.old state.new output.new r.account) }
     ensures locks { OnOk result (LocksFollow context.entry.number session.old session.new locks.old
         locks.new) }
-    ensures err { OnErr result (NothingDone V.Vault vault.old vault.new locks.old locks.new
-        account.old account.new) }
-    ensures acts { ActsOnce V.Vault vault.old vault.new (IsOkAnd result WasDone)
+    ensures err { OnErr result (NothingDone V.Vault vault.old vault.new locks.old locks.new) }
+    ensures acts { ActsOnce V.Vault vault.old vault.new (IsOkAnd result (λ r. WasDone r.outcome))
         (held_after LineOutcome.Done context.entry.policy.now session.old
         (reading (cut_seen cut.entry))) }
     ensures unasked { (c : Contents) (v : Option Transaction) → HasTransaction c session.old v
@@ -280,18 +268,18 @@ pub fn answer<V: Vault>(
     let line = CommandLine::read(cut);
     match session.take() {
         None => {
-            let (outcome, begun) = authorization_answer(
-                alloc, vault, context, locks, &line, output, state, account,
+            let (answered, begun) = authorization_answer(
+                alloc, vault, context, locks, &line, output, state,
             )?;
             *session = begun;
-            Ok(outcome)
+            Ok(answered)
         }
         Some(current) => {
-            let (outcome, after) = transaction_answer(
-                alloc, vault, context, locks, &line, output, state, current, account,
+            let (answered, after) = transaction_answer(
+                alloc, vault, context, locks, &line, output, state, current,
             )?;
             *session = after;
-            Ok(outcome)
+            Ok(answered)
         }
     }
 }

@@ -26,11 +26,13 @@ ghost use Rattle.office.specs.Runs.{Step as Shown, followed, Follows, Enters, Ra
 ghost use Rattle.office.specs.Runs.{HaveCauses, HaveMemory, AreAnswered, StopLeavesRun};
 ghost use Rattle.office.specs.Runs.{done_before};
 
+use crate::account::LineReport;
 use crate::connection::Connection;
 use crate::locks::{Locks, release};
 use crate::login_state::LineOutcome;
 use crate::{
-    Account, AdminCommand, Answer, End, Event, Limits, Outcome, Reason, RunFault, Step, Transcript,
+    Account, AdminCommand, Answer, End, Event, EventReport, Limits, Outcome, Reason, RunFault,
+    Step, Transcript,
 };
 use creds::{HostName, Name};
 use policy::Policy;
@@ -81,14 +83,26 @@ fn outcome_of(line_outcome: LineOutcome) -> Outcome
     }
 }
 
-/// The outcome of a taking of all that was owed, after which a line was answered so, or none was.
-/// `account` is that line's, and becomes the taking's.
-fn after_all(line_outcome: LineOutcome, account: &mut Account) -> Outcome
-    ensures outcome { outcome_seen result ≡ shown_of line_outcome }
-    ensures account { account.new ≡ taken_told account.old }
+/// The report of the event in which a line acted.
+fn after_line(line: LineReport) -> EventReport
+    ensures outcome { outcome_seen result.outcome ≡ shown_of line.outcome }
+    ensures account { result.account ≡ line.account }
 {
-    account.add_taking();
-    outcome_of(line_outcome)
+    EventReport {
+        outcome: outcome_of(line.outcome),
+        account: line.account,
+    }
+}
+
+/// The report of a taking of all that was owed, after which a line was answered so, or none was.
+fn after_all(line: LineReport) -> EventReport
+    ensures outcome { outcome_seen result.outcome ≡ shown_of line.outcome }
+    ensures account { result.account ≡ taken_told line.account }
+{
+    EventReport {
+        outcome: outcome_of(line.outcome),
+        account: line.account.or_taken(),
+    }
 }
 
 /// What the outcome of a command tells: that it ended a session, if it did.
@@ -115,22 +129,20 @@ fn cut_off(
     release(locks, held);
 }
 
-/// Ends a connection that lacked memory for a line, as `account` then says.
+/// Ends a connection that lacked memory for a line, and reports it.
 fn lack_memory(
     connections: &mut BTreeMap<u64, Connection>,
     locks: &mut Locks,
     c: u64,
     held: Option<Name>,
-    account: &mut Account,
-) -> Outcome
+) -> EventReport
     ensures connections { Updates nat_cmp connections.old connections.new c None }
     ensures locks { Released held locks.old locks.new }
-    ensures account { account.new ≡ Account.Ended End.NoMemoryForLine }
-    ensures outcome { result ≡ Outcome.NoMemory }
+    ensures account { result.account ≡ Account.Ended End.NoMemoryForLine }
+    ensures outcome { result.outcome ≡ Outcome.NoMemory }
 {
     cut_off(connections, locks, c, held);
-    *account = Account::Ended(End::NoMemoryForLine);
-    Outcome::NoMemory
+    EventReport::ended(Outcome::NoMemory, End::NoMemoryForLine)
 }
 
 impl<V: Vault> Office<V> {
@@ -228,24 +240,23 @@ impl<V: Vault> Office<V> {
         Outcome::Opened(c)
     }
 
-    fn bytes(&mut self, c: u64, piece: &[u8], account: &mut Account) -> Outcome
+    fn bytes(&mut self, c: u64, piece: &[u8]) -> EventReport
         ensures after { AfterEvent V.Vault self.old self.new (event.Bytes c piece.now)
-            (outcome_seen result) }
+            (outcome_seen result.outcome) }
         ensures unasked { (T : Trace) → StandsFor V.holds self.old T
             → V.is_clean (vault_of self.old) → may_show T (event.Bytes c piece.now) Failed ≡ false
             → vault_of self.new ≡ vault_of self.old }
-        ensures account { account.old ≡ Account.Nothing
-            → OfEachTrace V.Vault self.old self.new (λ T. IsAccount T (event.Bytes c piece.now)
-            (outcome_seen result) account.new) }
+        ensures account { OfEachTrace V.Vault self.old self.new (λ T.
+            IsAccount T (event.Bytes c piece.now) (outcome_seen result.outcome) result.account) }
     {
         let Some(connection) = self.connections.get_mut(&c) else {
-            return Outcome::Ignored(Reason::NoSuchConnection);
+            return EventReport::ignored(Reason::NoSuchConnection);
         };
         if !connection.owes_nothing() {
-            return Outcome::Ignored(Reason::NotReady);
+            return EventReport::ignored(Reason::NotReady);
         }
         if piece.len() > MOST_IN_A_PIECE {
-            return Outcome::Ignored(Reason::PieceTooLong);
+            return EventReport::ignored(Reason::PieceTooLong);
         }
         let held = connection.maildrop();
         match connection.hear(
@@ -256,50 +267,45 @@ impl<V: Vault> Office<V> {
             c,
             piece,
             self.moment,
-            account,
         ) {
-            Ok(line_outcome) => outcome_of(line_outcome),
-            Err(_) => lack_memory(&mut self.connections, &mut self.locks, c, held, account),
+            Ok(line) => after_line(line),
+            Err(_) => lack_memory(&mut self.connections, &mut self.locks, c, held),
         }
     }
 
-    fn took(&mut self, c: u64, octets: usize, account: &mut Account) -> Outcome
+    fn took(&mut self, c: u64, octets: usize) -> EventReport
         ensures after { AfterEvent V.Vault self.old self.new (event.Took c octets)
-            (outcome_seen result) }
+            (outcome_seen result.outcome) }
         ensures unasked { (T : Trace) → StandsFor V.holds self.old T
             → V.is_clean (vault_of self.old) → may_show T (event.Took c octets) Failed ≡ false
             → vault_of self.new ≡ vault_of self.old }
-        ensures account { account.old ≡ Account.Nothing
-            → OfEachTrace V.Vault self.old self.new (λ T. IsAccount T (event.Took c octets)
-            (outcome_seen result) account.new) }
+        ensures account { OfEachTrace V.Vault self.old self.new (λ T.
+            IsAccount T (event.Took c octets) (outcome_seen result.outcome) result.account) }
     {
         let Some(connection) = self.connections.get_mut(&c) else {
-            return Outcome::Ignored(Reason::NoSuchConnection);
+            return EventReport::ignored(Reason::NoSuchConnection);
         };
         if !connection.lends(octets) {
-            return Outcome::Ignored(Reason::NotReady);
+            return EventReport::ignored(Reason::NotReady);
         }
         let held = connection.maildrop();
         let taken = match connection.take(self.alloc, &mut self.vault, octets, self.moment) {
             Ok(taken) => taken,
             Err(_) => {
                 cut_off(&mut self.connections, &mut self.locks, c, held);
-                *account = Account::Ended(End::NoMemory);
-                return Outcome::NoMemory;
+                return EventReport::ended(Outcome::NoMemory, End::NoMemory);
             }
         };
         if !taken {
             cut_off(&mut self.connections, &mut self.locks, c, held);
-            *account = Account::Ended(End::StoreFailed);
-            return Outcome::Failed;
+            return EventReport::ended(Outcome::Failed, End::StoreFailed);
         }
         if !connection.owes_nothing() {
-            return Outcome::Done;
+            return EventReport::silent(Outcome::Done);
         }
         if connection.is_closing() {
             let _ = self.connections.remove(&c);
-            *account = Account::Taken;
-            return Outcome::Done;
+            return EventReport::all_taken();
         }
         match connection.resume(
             self.alloc,
@@ -307,66 +313,66 @@ impl<V: Vault> Office<V> {
             &self.policy,
             &mut self.locks,
             c,
-            account,
         ) {
-            Ok(line_outcome) => after_all(line_outcome, account),
-            Err(_) => lack_memory(&mut self.connections, &mut self.locks, c, held, account),
+            Ok(line) => after_all(line),
+            Err(_) => lack_memory(&mut self.connections, &mut self.locks, c, held),
         }
     }
 
-    fn gone(&mut self, c: u64, account: &mut Account) -> Outcome
-        ensures after { AfterEvent V.Vault self.old self.new (event.Gone c) (outcome_seen result) }
+    fn gone(&mut self, c: u64) -> EventReport
+        ensures after { AfterEvent V.Vault self.old self.new (event.Gone c)
+            (outcome_seen result.outcome) }
         ensures unasked { vault_of self.new ≡ vault_of self.old }
-        ensures done { (result ≡ Outcome.Done) ⊎ (result
+        ensures done { (result.outcome ≡ Outcome.Done) ⊎ (result.outcome
             ≡ Outcome.Ignored Reason.NoSuchConnection) }
-        ensures account { account.old ≡ Account.Nothing → (T : Trace)
-            → IsAccount T (event.Gone c) (outcome_seen result) account.new }
+        ensures account { (T : Trace)
+            → IsAccount T (event.Gone c) (outcome_seen result.outcome) result.account }
     {
         match self.connections.remove(&c) {
-            None => Outcome::Ignored(Reason::NoSuchConnection),
+            None => EventReport::ignored(Reason::NoSuchConnection),
             Some(connection) => {
                 release(&mut self.locks, connection.maildrop());
-                *account = Account::Ended(End::Gone);
-                Outcome::Done
+                EventReport::ended(Outcome::Done, End::Gone)
             }
         }
     }
 
-    /// Does a command. That it ended a session becomes the account.
-    fn command(&mut self, command: &AdminCommand, account: &mut Account) -> Outcome
+    /// Does a command. Its account says whether it ended a session.
+    fn command(&mut self, command: &AdminCommand) -> EventReport
         ensures after { AfterEvent V.Vault self.old self.new (event.Admin
-            (command_seen command.now)) (outcome_seen result) }
+            (command_seen command.now)) (outcome_seen result.outcome) }
         ensures account { OfEachTrace V.Vault self.old self.new (λ T. IsAccount T (event.Admin
-            (command_seen command.now)) (outcome_seen result) account.new) }
+            (command_seen command.now)) (outcome_seen result.outcome) result.account) }
     {
         let outcome = self.administer(command);
-        *account = ended_by(&outcome);
-        outcome
+        let account = ended_by(&outcome);
+        EventReport { outcome, account }
     }
 
-    /// Does one event. What it judged becomes the account, which says nothing before.
-    fn handle(&mut self, event: Event<'_>, account: &mut Account) -> Outcome
+    /// Does one event, and reports what it judged.
+    fn handle(&mut self, event: Event<'_>) -> EventReport
         ensures after { AfterEvent V.Vault self.old self.new (event_seen event.entry)
-            (outcome_seen result) }
+            (outcome_seen result.outcome) }
         ensures unasked { asks_no_store (event_seen event.entry) ≡ true
             → vault_of self.new ≡ vault_of self.old }
         ensures unasked_line { (T : Trace) → StandsFor V.holds self.old T
             → V.is_clean (vault_of self.old) → may_show T (event_seen event.entry) Failed ≡ false
             → vault_of self.new ≡ vault_of self.old }
-        ensures succeeds { Succeeds (event_seen event.entry) (outcome_seen result) }
-        ensures account { account.old ≡ Account.Nothing
-            → OfEachTrace V.Vault self.old self.new (λ T. IsAccount T (event_seen event.entry)
-            (outcome_seen result) account.new) }
+        ensures succeeds { Succeeds (event_seen event.entry) (outcome_seen result.outcome) }
+        ensures account { OfEachTrace V.Vault self.old self.new (λ T.
+            IsAccount T (event_seen event.entry) (outcome_seen result.outcome) result.account) }
     {
         match event {
-            Event::Connect => self.connect(),
-            Event::Bytes(c, piece) => self.bytes(c, piece, account),
-            Event::Took(c, octets) => self.took(c, octets, account),
-            Event::Gone(c) => self.gone(c, account),
-            Event::Tick(now) => self.tick(now),
-            Event::Deposit(maildrop, class, id, text) => self.deposit(maildrop, class, id, text),
-            Event::Admin(command) => self.command(command, account),
-            Event::Restart(boot) => self.restart(boot),
+            Event::Connect => EventReport::silent(self.connect()),
+            Event::Bytes(c, piece) => self.bytes(c, piece),
+            Event::Took(c, octets) => self.took(c, octets),
+            Event::Gone(c) => self.gone(c),
+            Event::Tick(now) => EventReport::silent(self.tick(now)),
+            Event::Deposit(maildrop, class, id, text) => {
+                EventReport::silent(self.deposit(maildrop, class, id, text))
+            }
+            Event::Admin(command) => self.command(command),
+            Event::Restart(boot) => EventReport::silent(self.restart(boot)),
         }
     }
 
@@ -409,53 +415,51 @@ impl<V: Vault> Office<V> {
             may_show T (event_seen event.entry) NoMemory ≡ false → HasMemory
             (outcome_seen result)) }
     {
-        let mut account = Account::Nothing;
-        self.step_with_account(event, &mut account)
+        self.step_with_account(event).outcome
     }
 
-    /// Does one event, as [`Office::step`] does, and says what it judged: `account` becomes the
-    /// account of this event, whatever it was before. It is that of the line that acted, also
-    /// if the store failed; or why the connection ended, if it is gone, memory was wanting, a
-    /// page was refused or a command ended its session; or that all that was owed is taken, if the
-    /// line that acts then tells nothing. Other events have none, nor has one that is ignored.
-    pub fn step_with_account(&mut self, event: Event<'_>, account: &mut Account) -> Outcome
+    /// Does one event, as [`Office::step`] does, and says what it judged: the report has its
+    /// outcome and its account. The account is that of the line that acted, also if the store
+    /// failed; or why the connection ended, if it is gone, memory was wanting, a page was refused
+    /// or a command ended its session; or that all that was owed is taken, if the line that acts
+    /// then tells nothing. Other events have none, nor has one that is ignored.
+    pub fn step_with_account(&mut self, event: Event<'_>) -> EventReport
         ensures stands { OfEachTrace V.Vault self.old self.new (λ T.
-            StandsFor V.holds self.new (followed_by T (event_seen event.entry) result)) }
+            StandsFor V.holds self.new (followed_by T (event_seen event.entry) result.outcome)) }
         ensures outcome { OfEachTrace V.Vault self.old self.new (λ T. IsOutcome T (lent_by self.old)
-            (event_seen event.entry) (outcome_seen result)) }
+            (event_seen event.entry) (outcome_seen result.outcome)) }
         ensures cause { OfEachTrace V.Vault self.old self.new (λ T.
             HasCause (V.faults (vault_of self.old)) (V.faults (vault_of self.new))
-            (outcome_seen result)) }
+            (outcome_seen result.outcome)) }
         ensures counted { V.faults (vault_of self.old) ≤ V.faults (vault_of self.new) }
         ensures clean { V.is_clean (vault_of self.new) → V.is_clean (vault_of self.old) }
         ensures up { OfEachTrace V.Vault self.old self.new (λ T.
             StaysUpUnless (V.is_up (vault_of self.old)) (V.is_up (vault_of self.new))
-            (outcome_seen result)) }
+            (outcome_seen result.outcome)) }
         ensures stop { OfEachTrace V.Vault self.old self.new (λ T.
             V.is_up (vault_of self.old) → StopLeaves (V.may_leave (vault_of self.new)) T
-            (event_seen event.entry) (outcome_seen result)) }
+            (event_seen event.entry) (outcome_seen result.outcome)) }
         ensures admitted { OfEachTrace V.Vault self.old self.new (λ T.
             IsAdmitted T (event_seen event.entry) (event_tag_of
-            (outcome_seen result))) }
+            (outcome_seen result.outcome))) }
         ensures sent { OfEachTrace V.Vault self.old self.new (λ T.
             AreAdmitted T → (c : ℕ) → IsSentExactly (followed_by T
-            (event_seen event.entry) result) c) }
+            (event_seen event.entry) result.outcome) c) }
         ensures unasked { asks_no_store (event_seen event.entry) ≡ true
             → vault_of self.new ≡ vault_of self.old }
         ensures unasked_line { (T : Trace) → StandsFor V.holds self.old T
             → V.is_clean (vault_of self.old) → may_show T (event_seen event.entry) Failed ≡ false
             → vault_of self.new ≡ vault_of self.old }
-        ensures succeeds { Succeeds (event_seen event.entry) (outcome_seen result) }
+        ensures succeeds { Succeeds (event_seen event.entry) (outcome_seen result.outcome) }
         ensures memory { OfEachTrace V.Vault self.old self.new (λ T.
             may_show T (event_seen event.entry) NoMemory ≡ false
-            → HasMemory (outcome_seen result)) }
+            → HasMemory (outcome_seen result.outcome)) }
         // What is reported is what the history says of the line that acted, if one did.
         ensures account { OfEachTrace V.Vault self.old self.new (λ T.
             IsAccount T (event_seen event.entry)
-            (outcome_seen result) account.new) }
+            (outcome_seen result.outcome) result.account) }
     {
-        *account = Account::Nothing;
-        self.handle(event, account)
+        self.handle(event)
     }
 
     /// Does events in order. The transcript has a step for each: its outcome, and the octets that

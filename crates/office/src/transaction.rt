@@ -25,7 +25,7 @@ ghost use Rattle.office.specs.Transaction.{held_after_line};
 ghost use Rattle.office.specs.Transaction.{transaction_user};
 ghost use Rattle.office.specs.Transaction.{transaction_answered};
 
-use crate::account::{Account, MessageCommand};
+use crate::account::{Account, LineReport, MessageCommand, report};
 use crate::answer::MessageRow;
 use crate::command_line::CommandLine;
 use crate::listing::{drop_listing, list, list_uids};
@@ -93,7 +93,7 @@ fn message_named(session: &Session, command: &Command<'_>) -> Option<MessageRow>
     }
 }
 
-/// Puts the reply to a command that asks no store. `account` becomes what it did to the marks, or
+/// Puts the reply to a command that asks no store. Its account is what it did to the marks, or
 /// which rule denied it for the message that it names.
 fn put(
     alloc: Global,
@@ -101,24 +101,22 @@ fn put(
     command: &Command<'_>,
     reply: &Reply<'_>,
     named: Option<MessageRow>,
-    account: &mut Account,
-) -> Result<LineOutcome, AllocError>
+) -> Result<LineReport, AllocError>
     requires { output.old ≡ nothing_owed }
-    ensures outcome { IfOk result (λ outcome. outcome ≡ LineOutcome.Done) }
+    ensures outcome { IfOk result (λ r. r.outcome ≡ LineOutcome.Done) }
     ensures owed { IfOk result (λ _. (c : Contents) (s : Option State)
         → OwesReply c s output.new (reply_seen reply.now)) }
-    ensures account { IfOk result (λ _. account.new ≡ command_account (command_seen command.now)
+    ensures account { IfOk result (λ r. r.account ≡ command_account (command_seen command.now)
         (Says (reply_seen reply.now)) None named) }
-    ensures account_err { OnErr result (account.new ≡ account.old) }
 {
     let outcome = say(alloc, output, reply)?;
-    *account = Account::of_command(command, reply, None, named);
-    Ok(outcome)
+    let account = Account::of_command(command, reply, None, named);
+    Ok(LineReport { outcome, account })
 }
 
-/// Does what a command says that may be given in a session, and puts the reply. `account`, which
-/// tells nothing yet, becomes what it did to the marks or to the message that it names. A QUIT
-/// leaves the session and `account` to the caller.
+/// Does what a command says that may be given in a session, and puts the reply. Its account is what
+/// it did to the marks or to the message that it names. A QUIT leaves the session and its account
+/// to the caller.
 fn answer_command<V: Vault>(
     alloc: Global,
     vault: &mut V,
@@ -126,29 +124,26 @@ fn answer_command<V: Vault>(
     command: &Command<'_>,
     output: &mut Output,
     session: &mut Session,
-    account: &mut Account,
-) -> Result<LineOutcome, AllocError>
+) -> Result<LineReport, AllocError>
     requires empty { output.old ≡ nothing_owed }
     requires allowed { is_allowed (keyword_of (command_seen command.now)) true false ≡ true }
-    ensures done { IfOk result (λ outcome. (c : Contents) (kept : List Keyed)
+    ensures done { IfOk result (λ r. (c : Contents) (kept : List Keyed)
         → V.holds vault.old c
         → V.is_clean vault.new → LiesIn c session.old kept
         → IsAnswered (V.holds vault.new) (has_grown (V.faults vault.old) (V.faults vault.new)) c
         policy.now session.old session.new kept output.new
-        (Ok (command_seen command.now)) outcome) }
+        (Ok (command_seen command.now)) r.outcome) }
     ensures err { OnErr result ((c : Contents) → V.holds vault.old c → V.is_clean vault.new
         → V.holds vault.new c) }
-    ensures acts { ActsOnce V.Vault vault.old vault.new (IsOkAnd result WasDone)
+    ensures acts { ActsOnce V.Vault vault.old vault.new (IsOkAnd result (λ r. WasDone r.outcome))
         (held_after_line LineOutcome.Done policy.now session.old (Ok (command_seen command.now))) }
     ensures account { is_quit (Ok (command_seen command.now)) ≡ false
-        → account.old ≡ Account.Nothing
-        → IfOk result (λ outcome. (c : Contents) (kept : List Keyed)
+        → IfOk result (λ r. (c : Contents) (kept : List Keyed)
         → LiesIn c session.old kept
-        → account.new ≡ command_account (command_seen command.now)
-        (Says (transaction_answered outcome policy.now (transaction_of session.old kept)
+        → r.account ≡ command_account (command_seen command.now)
+        (Says (transaction_answered r.outcome policy.now (transaction_of session.old kept)
         (Ok (command_seen command.now)))) None
         (named_in (transaction_of session.old kept) (Ok (command_seen command.now)))) }
-    ensures account_err { OnErr result (account.new ≡ account.old) }
     ensures quits { is_quit (Ok (command_seen command.now)) ≡ true → session.new ≡ session.old }
     ensures unasked { (c : Contents) (kept : List Keyed) → LiesIn c session.old kept
         → transaction_asks policy.now (transaction_of session.old kept)
@@ -157,33 +152,40 @@ fn answer_command<V: Vault>(
 {
     let named = message_named(session, command);
     match command {
-        Command::Quit => quit(alloc, vault, policy, output, session),
-        Command::List(None) => list(alloc, session, output),
-        Command::Uidl(None) => list_uids(alloc, session, output),
+        Command::Quit => {
+            let answered = quit(alloc, vault, policy, output, session);
+            report(answered, Account::Nothing)
+        }
+        Command::List(None) => {
+            let answered = list(alloc, session, output);
+            report(answered, Account::Nothing)
+        }
+        Command::Uidl(None) => {
+            let answered = list_uids(alloc, session, output);
+            report(answered, Account::Nothing)
+        }
         Command::Retr(n) => {
             let readable = session.pick_for(*n, policy);
             let told = Account::of_sending(MessageCommand::Retr, &readable, named);
             let answered = retrieve(alloc, vault, output, session, policy, *n);
-            account.settle(told, &answered);
-            answered
+            report(answered, told)
         }
         Command::Top(n, lines) => {
             let readable = session.pick_for(*n, policy);
             let told = Account::of_sending(MessageCommand::Top, &readable, named);
             let answered = top(alloc, vault, output, session, policy, *n, *lines);
-            account.settle(told, &answered);
-            answered
+            report(answered, told)
         }
         _ => {
             let reply = plain_reply(session, policy, command);
-            put(alloc, output, command, &reply, named, account)
+            put(alloc, output, command, &reply, named)
         }
     }
 }
 
-/// Answers a line of a session: puts its reply, and sets or takes away marks. `account`, which
-/// tells nothing yet, becomes what the line did to the marks or to a message. A QUIT removes the
-/// marked messages; the caller then ends the session, which stays as it is, and gives its account.
+/// Answers a line of a session: puts its reply, and sets or takes away marks. Its account is what
+/// the line did to the marks or to a message. A QUIT removes the marked messages; the caller then
+/// ends the session, which stays as it is, and gives its account.
 pub(crate) fn answer<V: Vault>(
     alloc: Global,
     vault: &mut V,
@@ -191,34 +193,35 @@ pub(crate) fn answer<V: Vault>(
     line: &CommandLine<'_>,
     output: &mut Output,
     session: &mut Session,
-    account: &mut Account,
-) -> Result<LineOutcome, AllocError>
+) -> Result<LineReport, AllocError>
     requires { output.old ≡ nothing_owed }
-    ensures answered { IfOk result (λ outcome. (c : Contents) (kept : List Keyed)
+    ensures answered { IfOk result (λ r. (c : Contents) (kept : List Keyed)
         → V.holds vault.old c
         → V.is_clean vault.new → LiesIn c session.old kept
         → IsAnsweredBy (V.holds vault.new) (has_grown (V.faults vault.old) (V.faults vault.new)) c
-        policy.now session.old session.new kept output.new (reading line.now) outcome
-        (transaction_reply outcome policy.now (transaction_of session.old kept) line.now)) }
+        policy.now session.old session.new kept output.new (reading line.now) r.outcome
+        (transaction_reply r.outcome policy.now (transaction_of session.old kept) line.now)) }
     ensures err { OnErr result ((c : Contents) → V.holds vault.old c → V.is_clean vault.new
         → V.holds vault.new c) }
-    ensures acts { ActsOnce V.Vault vault.old vault.new (IsOkAnd result WasDone)
+    ensures acts { ActsOnce V.Vault vault.old vault.new (IsOkAnd result (λ r. WasDone r.outcome))
         (held_after_line LineOutcome.Done policy.now session.old (reading line.now)) }
-    ensures account { is_quit (reading line.now) ≡ false → account.old ≡ Account.Nothing
-        → IfOk result (λ outcome. (c : Contents) (kept : List Keyed)
+    ensures account { is_quit (reading line.now) ≡ false
+        → IfOk result (λ r. (c : Contents) (kept : List Keyed)
         → LiesIn c session.old kept
-        → account.new ≡ line_account (reading line.now) (Says (transaction_reply outcome policy.now
+        → r.account ≡ line_account (reading line.now) (Says (transaction_reply r.outcome policy.now
         (transaction_of session.old kept) line.now)) None
         (named_in (transaction_of session.old kept) (reading line.now))) }
-    ensures account_err { OnErr result (account.new ≡ account.old) }
     ensures quits { is_quit (reading line.now) ≡ true → session.new ≡ session.old }
     ensures unasked { (c : Contents) (kept : List Keyed) → LiesIn c session.old kept
         → transaction_asks policy.now (transaction_of session.old kept) (reading line.now) ≡ false
         → vault.new ≡ vault.old }
 {
     match line.permitted(true, false) {
-        Ok(command) => answer_command(alloc, vault, policy, command, output, session, account),
-        Err(reply) => say(alloc, output, &reply),
+        Ok(command) => answer_command(alloc, vault, policy, command, output, session),
+        Err(reply) => {
+            let answered = say(alloc, output, &reply);
+            report(answered, Account::Nothing)
+        }
     }
 }
 

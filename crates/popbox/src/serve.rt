@@ -3,14 +3,15 @@ use crate::options::ServeOptions;
 use crate::version::{IS_PROVED, SLOW};
 use converse::{Fault, tell_fault};
 use journal::{
-    FileId, Folder, Guarded, Journal, LoggedSpool, LoggedVault, LoggedWire, Loss, Peers, Shared,
-    StoreWatch, note_end, note_loss, note_opening, note_start,
+    FileId, Folder, Guarded, Journal, LoggedSpool, LoggedVault, LoggedWire, Loss, NotedWatch,
+    Peers, Shared, StoreWatch, note_end, note_loss, note_opening, note_start,
 };
 use office::{AdminAccess, Limits, Office};
 use proxy::ProxiedWire;
 use recent::Recent;
 use serving::{
-    Clock, FolderSpool, NotedListener, NotedSpool, NotedWire, SocketWire, Wire, begin, serve_while,
+    Clock, FolderSpool, NotedClock, NotedListener, NotedSpool, NotedWire, SocketWire, Wire, begin,
+    serve_while,
 };
 use std::io;
 use std::io::Write;
@@ -177,7 +178,8 @@ fn tell_loss<E: Write>(
     status
 }
 
-/// The moments of a server's turns: the seconds since its start, until its store is lost.
+/// The moments of a server's turns: the seconds since its start, until its store is lost. What it
+/// gave is known by the `NotedClock` around it.
 #[derive(Drop)]
 struct ServerClock<'a> {
     rt: &'a HostRuntime,
@@ -225,17 +227,20 @@ fn serve_turns<'a, V: Vault, W: Wire + Peers + Drop>(
     journal: Journal<'a>,
     watch: &'a StoreWatch<'a>,
 ) -> Result<u8, Fault> {
-    let mut wire = Guarded::new(LoggedWire::new(wire, journal), watch);
+    let mut wire = Guarded::new(LoggedWire::new(wire, journal), NotedWatch::new(watch));
     let files = NotedSpool::new(FolderSpool::new(rt, rt.alloc(), spool));
     let folder = Folder::new(rt, spool);
-    let mut spool = Guarded::new(LoggedSpool::new(files, journal, folder), watch);
+    let mut spool = Guarded::new(
+        LoggedSpool::new(files, journal, folder),
+        NotedWatch::new(watch),
+    );
     let mut links = begin(rt.alloc(), office, &wire, &spool);
     links.set_wait(u64::from(options.wait));
     links.set_login_seconds(u64::from(options.login_seconds));
     links.set_full_house_seconds(u64::from(options.full_house_seconds));
     links.set_slow_guesses(options.slow_guesses);
     links.set_site(options.site()?);
-    let mut clock = ServerClock::start(rt, watch)?;
+    let mut clock = NotedClock::new(ServerClock::start(rt, watch)?);
     let journal = journal.with_reads(options.reads);
     let mut listener = NotedListener::new(journal);
     serve_while(
@@ -247,7 +252,7 @@ fn serve_turns<'a, V: Vault, W: Wire + Peers + Drop>(
         &mut clock,
         options.turns.unwrap_or(u64::MAX),
     );
-    if clock.is_broken {
+    if clock.clock.is_broken {
         return Err(Fault::NoClock);
     }
     Ok(0)

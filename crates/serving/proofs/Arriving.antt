@@ -19,7 +19,7 @@ use Rattle.serving.specs.declared.wire.Port.TheVariants.{Pop}
 use Rattle.serving.specs.Calls.{Call, Accepted, Closed}
 use Rattle.serving.specs.declared.links.Seat.{Seat}
 use Rattle.serving.specs.Wires.{opened_by}
-use Rattle.serving.specs.Works.{is_admin, wait_of, arrival_of, closing_of, none_waited, tells_none, moment_of, is_opening, refusals, is_refusal, HasCause, Came, seat_of, unseated_of, link_of, is_open_seat, is_shut_seat, has_moved}
+use Rattle.serving.specs.Works.{is_admin, wait_of, arrival_of, closing_of, none_waited, tells_none, moment_of, is_opening, refusals, is_refusal, HasCause, Came, Seated, TurnedAway, seat_of, unseated_of, link_of, is_open_seat, is_shut_seat, has_moved}
 use Rattle.serving.specs.ClientParts.{is_client_write, IsOpening, HaveCome, AreAccepted, closing, IsClosed, AreClosed}
 use Rattle.serving.specs.Parts.{WasGiven}
 use Rattle.serving.proofs.Accepting.{IsRefusal}
@@ -86,7 +86,7 @@ module _ {V : Type 0} (Holds : V → Contents → Type 0) (IsClean : V → Type 
   pub accepted_seated : (o o1 : Office V) (seats seats_then : List Seat) (link : Link) (c : ℕ) (m : EventTag) → m ≡ Tagged Done → seats_then ≡ seats ++ record { link = link; connection = c } ∷ []
       → AreAccepted Holds IsClean o o1 seats seats_then 1 true ((event.Connect, m) ∷ []) (Accepted Pop (Some link) ∷ [])
   accepted_seated o o1 seats seats_then link c m e is = record {
-    came = record { link = link; connection = Some c } ∷ [];
+    came = Seated (record { link = link; connection = c }) ∷ [];
     come = record {
       no_moments = refl;
       no_waits = refl;
@@ -107,7 +107,7 @@ module _ {V : Type 0} (Holds : V → Contents → Type 0) (IsClean : V → Type 
   pub accepted_unseated : (o o1 : Office V) (seats : List Seat) (link : Link) (m : EventTag) → ((T : Trace) → StandsFor Holds o T → IsClean (vault_of o1) → is_refusal (event.Connect, m) ≡ true)
       → AreAccepted Holds IsClean o o1 seats seats 1 true ((event.Connect, m) ∷ []) (Accepted Pop (Some link) ∷ Closed Pop link ∷ [])
   accepted_unseated o o1 seats link m r = record {
-    came = record { link = link; connection = None } ∷ [];
+    came = TurnedAway link ∷ [];
     come = record {
       no_moments = refl;
       no_waits = refl;

@@ -31,7 +31,9 @@ use Rattle.adminhttp.specs.Sites.{Site, is_own}
 use Rattle.serving.specs.declared.requests.Exchange.{Exchange}
 use Rattle.serving.specs.declared.links.Links.{Links}
 use Rattle.serving.specs.Requests.{octets_of, HasOneMore, IsGiven, NotYet, NoCommand, GivenOne}
-use Rattle.serving.specs.HttpWorks.{IsShort, AreShort, HaveComeForAdmin, NoMore, IsKept, IsTurnedAway, WantsMemory, ComesTo, HasHeard, IsOver, HasResponse, GaveNothing, GaveItsEnd, GaveAPiece, HasHttpTurn, IsLate, IsServed, HadHttpTurns, NoneHeld, IsHeldOn, IsClosed, HttpWorks}
+use Rattle.serving.specs.HttpWorks.{IsShort, AreShort, HaveComeForAdmin, NoMore, IsKept, IsTurnedAway, WantsMemory, ComesTo, HasHeard, IsOver, HasResponse, GaveNothing, GaveItsEnd, GaveAPiece, HasHttpTurn, IsLate, IsServed, HadHttpTurns, NoneHeld, IsHeldOn, IsClosed}
+use Rattle.serving.specs.Seen.{Seen, before_commands}
+use Rattle.serving.specs.Turns.{Accepts, ServesAdmin}
 use Rattle.adminhttp.specs.Head.{behind_head, head_text}
 use Rattle.adminhttp.specs.declared.target.Target.{Target}
 use Rattle.adminhttp.specs.declared.target.Target.TheVariants as target
@@ -322,7 +324,7 @@ module _ (site : Site) (now : ℕ) (B : Records) where
       All-cons IsShort e_then held_then (turn_short L e e_then g c turn live (All-head IsShort e held a)) (turns_short (g ++ L) held held_then given calls rest (All-tail IsShort e held a))
   turns_short _ _ _ _ _ (IsClosed L g given e e_then held held_then c calls turn over rest) a = turns_short (g ++ L) held held_then given calls rest (All-tail IsShort e held a)
 
-pub all_short : (T : Trace) (now : ℕ) (links links_then : Links) (given : Log) (calls : List Call) → HttpWorks T now links links_then given calls → AreShort links → AreShort links_then
-all_short T now links links_then given calls w a =
-    turns_short links.site now T.base (w.earlier ++ T.log) w.held links_then.requests.exchanges.items w.commands w.services w.served
-    (short_come links.site now T.base links.requests.exchanges.items w.held w.accepted.came w.accepted.arrivals w.accepted.come a)
+pub all_short : (T : Trace) (now : ℕ) (links links_then : Links) (t : Seen) → Accepts T now links links_then t → ServesAdmin T now links links_then t → AreShort links → AreShort links_then
+all_short T now links links_then t come w a =
+    turns_short links.site now T.base (before_commands t ++ T.log) t.held links_then.requests.exchanges.items t.commands t.admin_serves w.served
+    (short_come links.site now T.base links.requests.exchanges.items t.held come.admin.came come.admin.arrivals come.admin.come a)

@@ -5,7 +5,7 @@ use Rattle.std.proofs.lemmas.List.{append-nil}
 use Rattle.std.proofs.lemmas.List.Elements.{All-nil, All-cons, All-head, All-tail, All-append, All-weaker, filter_map-append, filter_agree}
 use Rattle.vault.specs.Records.{Records}
 use Rattle.vault.specs.Changes.{Contents}
-use Rattle.office.specs.Events.{Event, EventTag, Tagged, Ignored, Log, Trace}
+use Rattle.office.specs.Events.{EventTag, Tagged, Ignored, Log, Trace}
 use Rattle.office.specs.Events as event
 use Rattle.office.specs.Trace.{is_open}
 use Rattle.office.specs.Taken.{trace_of}
@@ -17,8 +17,10 @@ use Rattle.serving.specs.declared.links.Seat.{Seat}
 use Rattle.serving.specs.declared.links.Links.{Links}
 use Rattle.serving.specs.declared.newcomers.Newcomer.{Newcomer}
 use Rattle.serving.specs.Works.{IsOffered, is_admin, waits, wait_of, arrivals, arrival_of, closings, closing_of, none_waited, tells_none, is_cut_of, is_cut, moments, moment_of}
-use Rattle.serving.specs.Works.{openings, is_opening, refusals, is_refusal, HasCause, AreCaused, seat_of, unseated_of, HasAccepted, most_links, HadTurn, AreDeposits, is_open_seat}
-use Rattle.serving.specs.Works.{is_shut_seat, link_of_seat, IsLateGone, AreLateGone, way_by, has_moved, is_moving}
+use Rattle.serving.specs.Works.{openings, is_opening, refusals, is_refusal, HasCause, AreCaused, seat_of, unseated_of, HasAccepted, most_links, AreDeposits, is_open_seat}
+use Rattle.serving.specs.Ways.{way_by, HadTurn}
+use Rattle.serving.specs.Seen.{Seen}
+use Rattle.serving.specs.Works.{is_shut_seat, link_of_seat, IsLateGone, AreLateGone, has_moved, is_moving}
 use Rattle.serving.specs.Parts.{Part, Asking, Giving, IsQuiet, IsQuietFor, Also, PollsBy, Releases}
 use Rattle.serving.specs.ClientParts.{is_client_write, IsPassed, AreAccepted, IsNotedSo, WereServed, closing, AreClosed}
 use Rattle.serving.specs.Spools.{FileCall}
@@ -28,7 +30,7 @@ use Rattle.serving.specs.declared.requests.Exchange.{Exchange}
 use Rattle.serving.specs.Settings.{settings, last_tried}
 use Rattle.serving.specs.SpoolTurns.{IsSpoolTurn, has_dealt, SpoolPart}
 use Rattle.serving.specs.Hearing.{Hearing, WasTold, WithHeard, HeardApart, idle_ends, heard_of_all, late_ends}
-use Rattle.serving.specs.Turns.{way_of, millis_of, HasCauseInTurn, Works}
+use Rattle.serving.specs.Turns.{millis_of, HadItsTurn, Works}
 use Rattle.serving.proofs.Staying.{Fewer, deposit_same}
 use Rattle.serving.proofs.Resting.{rests_so, waits_then, not_true, is_left}
 use Rattle.serving.proofs.Arriving.{shut_moved}
@@ -38,7 +40,6 @@ use Rattle.serving.proofs.Offering.{none_offered, offered_left, offered_right, u
 use Rattle.serving.proofs.Freeing.{freed_left, freed_right}
 use Rattle.serving.specs.Newcomers.{newcomer, limit, lies_unread, waited_of, AllHaveSeats, IsSettled, CountsFrom, IsComer}
 use Rattle.serving.specs.Late.{HasLived, IsNotedSince, HasEndedLate}
-use Rattle.serving.proofs.Late.{timed_out}
 use Rattle.serving.proofs.Timely.{lived_left, lived_right}
 use Rattle.serving.proofs.Settling.{late_still, may_same}
 use Rattle.serving.proofs.Working.{or_true, given_then, asked_then, none_of, count_joined, any_left, any_right, lies_left, lies_right, quiet_none, caused_more, fewer_quiet, fewer_gone, none_joined, turned_left, turned_right}
@@ -183,7 +184,7 @@ module _ {V W S H : Type 0} (Holds : V → Contents → Type 0) (IsClean : V →
       let seconds = limit links (length seats2) in
       let newcomers = links.clients.newcomers.newcomers.items in
       let millis = millis_of links in
-      let way = way_of now links links_then seats2 freed in
+      let way = way_by (settings links) now newcomers seats2 freed (millis_of links_then == 0) in
       let gp = pass.given in
       let ga = acc.given in
       let gl = served.given in
@@ -231,8 +232,7 @@ module _ {V W S H : Type 0} (Holds : V → Contents → Type 0) (IsClean : V →
       (lies_left B L way.wait (way.may q.connection) seats2 q.connection G2 gr (((cp ++ ca) ++ cq) ++ cl) cr (lies_right B L way.wait (way.may q.connection) seats2 q.connection G1 gl ((cp ++ ca) ++ cq) cl (h e))))
       seats2 (had.noted_so B (G1 ++ L) s2 k3) in
       let come = acc.facts.come in
-      let moment : Event × EventTag = (event.Tick now, pass.facts.event_tag) in
-      let idle_heard = idle_ends (trace_of B (moment ∷ L)) links.clients.seats.items in
+      let idle_heard = idle_ends (trace_of B (gp ++ L)) links.clients.seats.items in
       let links_heard = heard_of_all B (G1 ++ L) gl in
       let reqs_heard = heard_of_all B (G2 ++ L) gr in
       let late_heard = late_ends now links.clients.newcomers.seconds newcomers gz in
@@ -250,16 +250,9 @@ module _ {V W S H : Type 0} (Holds : V → Contents → Type 0) (IsClean : V →
       subst (λ l. is_open (trace_of B l) c ≡ true) (append_assoc gl G1 L) h2) in
       let cut : (l : Link) → is_cut l cl ≡ true → is_cut l C5 ≡ true = λ l h. seen_fourth cp ca cq cl cr cx (is_cut_of l) h in
       let none : (q : Seat) → Contains [] q → Contains seats2 q = λ q h. absurd (none_contained q h) in
-      let caused_s : AreCaused seats2 C5 gs = caused_more [] seats2 [] C5 gs none (λ l h. cc) quiet.caused in
       let caused_r : AreCaused seats2 C5 gr = caused_more [] seats2 cr C5 gr none (λ l h. seen_fifth cp ca cq cl cr cx (is_cut_of l) h) reqs.facts.0.caused in
       let caused_l : AreCaused seats2 C5 gl = caused_more seats2 seats2 cl C5 gl (λ q h. h) cut served.facts.1.0.turns.of_seats.caused in
       let caused_a : AreCaused seats2 C5 ga = caused_more [] seats2 ca C5 ga none (λ l h. seen_second cp ca cq cl cr cx (is_cut_of l) h) come.caused in
-      let caused_p : AreCaused seats2 C5 gp = subst (AreCaused seats2 C5) (sym pass.facts.given_is) (All-cons (HasCause seats2 C5) (event.Tick now, pass.facts.event_tag) [] tt (All-nil (HasCause seats2 C5))) in
-      let P = HasCause seats2 C5 in
-      let Q = HasCauseInTurn now links seats2 C5 in
-      let by_cause : (g : Log) → All P g → All Q g = λ g h. All-weaker P Q (λ y p. inl p) g h in
-      let caused_z : All Q gz = All-weaker (IsLateGone now seconds newcomers) Q
-      (λ y p. inr (timed_out now (length seats2) links.clients.newcomers.seconds links.clients.newcomers.full_house_seconds newcomers y p)) gz late.facts.0 in
       let lq = served.facts.1.0.turns.of_seats.quiet in
       let rq = reqs.facts.0.quiet in
       let waits_x : waits cx ≡ [] = ap waits x.facts.0.calls_are ∙ waits_of (filter (is_shut_seat trace4) seats2) in
@@ -273,13 +266,29 @@ module _ {V W S H : Type 0} (Holds : V → Contents → Type 0) (IsClean : V →
       let refusals_p : refusals gp ≡ 0 = ap refusals pass.facts.given_is in
       let shut_same : filter (is_shut_seat trace4) seats2 ≡ filter (is_shut_seat after) seats2 = filter_agree (is_shut_seat trace4) (is_shut_seat after) (λ q. ap not (sym (same q.connection))) seats2 in
       let open_same : filter (is_open_seat trace4) seats2 ≡ filter (is_open_seat after) seats2 = filter_agree (is_open_seat trace4) (is_open_seat after) (λ q. sym (same q.connection)) seats2 in
-      record {
-        given = G4;
-        calls = C5;
-        file_calls = spool.calls;
+      let seen : Seen = record {
+        wait = cp;
+        tick = gp;
         came = came;
+        connects = ga;
+        accepts = ca;
         seats = seats2;
+        admin_accepts = cq;
+        held = held;
+        served = gl;
+        serves = cl;
+        freed = freed;
+        commands = gr;
+        admin_serves = cr;
+        late = gz;
+        closes = cx;
+        deposits = gs;
+        file_calls = spool.calls;
+      } in
+      record {
+        seen = seen;
         stands = u4.stands B L s k6;
+        admitted = u4.admitted B L s k6;
         counted = u4.counted;
         failed = u4.failed B L s k6;
         asked =
@@ -288,72 +297,24 @@ module _ {V W S H : Type 0} (Holds : V → Contents → Type 0) (IsClean : V →
             (asked_then Asked w w3 w4 ((cp ++ ca) ++ cq) cl
             (asked_then Asked w w2 w3 (cp ++ ca) cq (asked_then Asked w w1 w2 cp ca pass.was_asked acc.was_asked) asked.was_asked) served.was_asked) reqs.was_asked) x.was_asked;
         asked_files = spool.was_asked;
-        heard = idle_heard ++ ((links_heard ++ reqs_heard) ++ late_heard);
-        told =
-            told_then Heard l l1 l5 idle_heard ((links_heard ++ reqs_heard) ++ late_heard) (subst (λ p. WasTold Heard l l1 (idle_ends (trace_of B (p ++ L)) links.clients.seats.items)) pass.facts.given_is (idle (trace_of B (gp ++ L)) s1))
+        heard = subst (λ h. WasTold Heard l l5 (idle_heard ++ (h ++ late_heard))) (turn_heard B L gp ga gl gr come.only)
+            (told_then Heard l l1 l5 idle_heard ((links_heard ++ reqs_heard) ++ late_heard) (idle (trace_of B (gp ++ L)) s1)
             (told_then Heard l1 l2 l5 [] ((links_heard ++ reqs_heard) ++ late_heard) unheard
             (told_then Heard l2 l4 l5 (links_heard ++ reqs_heard) late_heard
-            (told_then Heard l2 l3 l4 links_heard reqs_heard (served.facts.0.is B (G1 ++ L) s2 k3) (reqs.facts.0.did B (G2 ++ L) s3 k4).0) late.facts.2));
-        is_heard = record {
-          event_tag = pass.facts.event_tag;
-          told = gr ++ (gl ++ ga);
-          late = gz;
-          deposits = gs;
-          given_are = append_assoc gs gz G3
-              ∙ ap (λ g. gs ++ (gz ++ g)) (ap (λ p. gr ++ (gl ++ (ga ++ p))) pass.facts.given_is
-              ∙ (ap (λ g. gr ++ g) (sym (append_assoc gl ga (moment ∷ []))) ∙ sym (append_assoc gr (gl ++ ga) (moment ∷ []))));
-          are_deposits = spool.deposits;
-          are_late = late.facts.0;
-          caused = All-append (HasCause seats2 C5) gr (gl ++ ga) caused_r (All-append (HasCause seats2 C5) gl ga caused_l caused_a);
-          heard_are = ap (λ h. idle_heard ++ (h ++ late_heard)) (turn_heard B L gp ga gl gr moment pass.facts.given_is come.only);
-        };
-        files = record {
-          deposits = gs;
-          earlier = gz ++ G3;
-          is = append_assoc gs gz G3;
-          tries = filed.0;
-        };
-        rests = λ m f d. waits_then links_then (filed.1 ∙ rests_so polling freed polled (has_dealt spool.calls) (has_moved cl) (has_moved cx) (has_moved C5) served.facts.1.1 x.facts.1
-            (λ q. seen_fourth cp ca cq cl cr cx is_moving q) (λ q. any_right is_moving ((((cp ++ ca) ++ cq) ++ cl) ++ cr) cx q) m f d)
-            (not_true links_then.requests.poll_now (λ e. true≢false (sym (seen_fifth cp ca cq cl cr cx is_moving (reqs.facts.1 e)) ∙ m)));
-        frees = λ e. sleeps_not (still (freeing e));
-        releases = λ on e. sleeps_not (x.facts.2 on (ap has_moved (x.facts.0.calls_are ∙ ap (map closing) shut_same) ∙ shut_moved after seats2 e));
-        dealt = λ e. no_wait links_then (filed.1 ∙ (ap (λ b. polled || b) e ∙ or_true polled));
-        http = record {
-          held = held;
-          before = cp ++ ca;
-          arrivals = cq;
-          between = cl;
-          services = cr;
-          behind = cx;
-          goes = more;
-          calls_are = append_assoc (((cp ++ ca) ++ cq) ++ cl) cr cx ∙ (append_assoc ((cp ++ ca) ++ cq) cl (cr ++ cx) ∙ append_assoc (cp ++ ca) cq (cl ++ (cr ++ cx)));
-          apart = none_of is_admin (cp ++ ca) (cl ++ cx) (none_of is_admin cp ca (ap (list_any is_admin) pass.facts.calls_are) come.apart)
-              (none_of is_admin cl cx served.facts.1.0.turns.of_seats.apart (ap (list_any is_admin) x.facts.0.calls_are ∙ apart_of (filter (is_shut_seat trace4) seats2)));
-          earlier = G2;
-          commands = gr;
-          later = gx;
-          given_are = refl;
-          accepted = asked.facts.1;
-          served = (reqs.facts.0.did B (G2 ++ L) s3 k4).1;
-        };
-        is = record {
-          seats_are = come.seated;
-          admitted = u4.admitted B L s k6;
-          waited = only_first _ ((((cp ++ ca) ++ cq) ++ cl) ++ cr) cx waits_x
+            (told_then Heard l2 l3 l4 links_heard reqs_heard (served.facts.0.is B (G1 ++ L) s2 k3) (reqs.facts.0.did B (G2 ++ L) s3 k4).0) late.facts.2)));
+        waits = record {
+          first = pass.facts.calls_are;
+          once = only_first _ ((((cp ++ ca) ++ cq) ++ cl) ++ cr) cx waits_x
               ∙ (seen_first cp ca cq cl cr cx wait_of asked.facts.0.no_waits lq.no_waits rq.no_waits ∙ (only_first wait_of cp ca come.no_waits ∙ waits_p));
-          waited_first = (((((ca ++ cq) ++ cl) ++ cr) ++ cx), ap (λ p. ((((p ++ ca) ++ cq) ++ cl) ++ cr) ++ cx) pass.facts.calls_are);
-          told_first = (
-            gx ++ (gr ++ (gl ++ ga)),
-            pass.facts.event_tag,
-            ap (λ p. gx ++ (gr ++ (gl ++ (ga ++ p)))) pass.facts.given_is
-                ∙ (ap (λ g. gx ++ (gr ++ g)) (sym (append_assoc gl ga ((event.Tick now, pass.facts.event_tag) ∷ [])))
-                ∙ (ap (λ g. gx ++ g) (sym (append_assoc gr (gl ++ ga) ((event.Tick now, pass.facts.event_tag) ∷ [])))
-                ∙ sym (append_assoc gx (gr ++ (gl ++ ga)) ((event.Tick now, pass.facts.event_tag) ∷ [])))),
-          );
-          told = only_last moment_of gx G3 (none_joined moment_of gs gz quiet.quiet.no_moments hush.no_moments)
+        };
+        ticks = record {
+          event_tag = pass.facts.event_tag;
+          first = pass.facts.given_is;
+          once = only_last moment_of gx G3 (none_joined moment_of gs gz quiet.quiet.no_moments hush.no_moments)
               ∙ (only_last moment_of gr G2 rq.no_moments ∙ (only_last moment_of gl G1 lq.no_moments ∙ (only_last moment_of ga gp come.no_moments ∙ moments_p)));
-          accepted = accepted_so Holds IsClean Faults o1 o2 links.clients.seats.items seats2 goes ga ca C5 (seen_second cp ca cq cl cr cx tells_none) acc.facts;
+        };
+        accepts = record {
+          enough = accepted_so Holds IsClean Faults o1 o2 links.clients.seats.items seats2 goes ga ca C5 (seen_second cp ca cq cl cr cx tells_none) acc.facts;
           arrived = only_first _ ((((cp ++ ca) ++ cq) ++ cl) ++ cr) cx arrivals_x
               ∙ (seen_first cp ca cq cl cr cx arrival_of asked.facts.0.no_arrivals lq.no_arrivals rq.no_arrivals ∙ (only_last arrival_of cp ca arrivals_p ∙ come.arrived));
           opened =
@@ -380,12 +341,12 @@ module _ {V W S H : Type 0} (Holds : V → Contents → Type 0) (IsClean : V →
               let d = rq.no_refusals in
               let f = lq.no_refusals in
               omega (arith, e5, e4, e3, e2, e1, a, b, z, d, f, refusals_p));
-          freed = freed;
-          ended = λ e. (
-            (served.facts.1.0.freed_by e).0,
-            freed_left B L G3 gx seats2 (freed_left B L G2 gr seats2 (freed_right B L G1 gl seats2 ((served.facts.1.0.freed_by e).1 B (G1 ++ L) s2 k3))),
-          );
-          turns = All-weaker (HadTurn way B (G1 ++ L) gl (trace_of B (gl ++ (G1 ++ L))) cl) (HadTurn way B L G4 after C5)
+          seated = come.seated;
+          goes = more;
+          admin = asked.facts.1;
+        };
+        clients = record {
+          turns = All-weaker (HadTurn way B (G1 ++ L) gl (trace_of B (gl ++ (G1 ++ L))) cl) (HadItsTurn T now links links_then seen)
               (λ q h here.
               turned_left way B L G3 gx ((((cp ++ ca) ++ cq) ++ cl) ++ cr) cx q
               (turned_left way B L G2 gr (((cp ++ ca) ++ cq) ++ cl) cr q (turned_right way B L G1 gl ((cp ++ ca) ++ cq) cl q (h (to_links q.connection here)))))
@@ -401,11 +362,19 @@ module _ {V W S H : Type 0} (Holds : V → Contents → Type 0) (IsClean : V →
               let of_first : All R (cp ++ ca) = All-append R cp ca (none cp (ap (list_any is_client_write) pass.facts.calls_are)) (none ca come.unwritten) in
               All-append R ((((cp ++ ca) ++ cq) ++ cl) ++ cr) cx
               (All-append R (((cp ++ ca) ++ cq) ++ cl) cr (All-append R ((cp ++ ca) ++ cq) cl (All-append R (cp ++ ca) cq of_first of_asked) of_links) of_reqs) of_close);
-          caused = All-append Q gx G3 (All-append Q gs gz (by_cause gs caused_s) caused_z)
-              (All-append Q gr G2 (by_cause gr caused_r) (All-append Q gl G1 (by_cause gl caused_l) (All-append Q ga gp (by_cause ga caused_a) (by_cause gp caused_p))));
-          closed = filter_map-append closing_of ((((cp ++ ca) ++ cq) ++ cl) ++ cr) cx
-              ∙ (ap (λ zs. zs ++ closings cx) (seen_first cp ca cq cl cr cx closing_of asked.facts.0.no_closings lq.no_closings rq.no_closings ∙ (only_last closing_of cp ca closings_p ∙ come.closed))
-              ∙ ap (λ zs. filter_map unseated_of came ++ zs) (closings_x ∙ ap (map link_of_seat) shut_same));
+          ended = λ e. (
+            (served.facts.1.0.freed_by e).0,
+            freed_left B L G3 gx seats2 (freed_left B L G2 gr seats2 (freed_right B L G1 gl seats2 ((served.facts.1.0.freed_by e).1 B (G1 ++ L) s2 k3))),
+          );
+          caused = All-append (HasCause seats2 C5) gr (gl ++ ga) caused_r (All-append (HasCause seats2 C5) gl ga caused_l caused_a);
+        };
+        admin = record {
+          served = (reqs.facts.0.did B (G2 ++ L) s3 k4).1;
+          apart = none_of is_admin (cp ++ ca) (cl ++ cx) (none_of is_admin cp ca (ap (list_any is_admin) pass.facts.calls_are) come.apart)
+              (none_of is_admin cl cx served.facts.1.0.turns.of_seats.apart (ap (list_any is_admin) x.facts.0.calls_are ∙ apart_of (filter (is_shut_seat trace4) seats2)));
+        };
+        late = record {
+          gone = late.facts.0;
           timely = λ i d within is_late_now here.
               (let q = get_or seats2 i d in
               ⊎_elim
@@ -418,7 +387,7 @@ module _ {V W S H : Type 0} (Holds : V → Contents → Type 0) (IsClean : V →
               (λ (u : HasLived B (G3 ++ L) gz c). inr (lived_right B L G3 gx c (lived_left B (G3 ++ L) gz gs c u)))
               (late.facts.1.noted B (G3 ++ L) s4 k5 c);
           newly = λ h.
-              All-weaker (IsComer now newcomers n1) (IsNotedSince now newcomers links_then.clients.newcomers.newcomers.items B L G4 after)
+              All-weaker (IsComer now newcomers n1) (IsNotedSince T now links links_then seen)
               (λ q k none_before here.
               (let c = q.connection in
               ⊎_elim
@@ -434,6 +403,20 @@ module _ {V W S H : Type 0} (Holds : V → Contents → Type 0) (IsClean : V →
               inr (unread i d within (ap lies_unread (sym (forgets trace4 s5 c (sym (same c) ∙ here) ∙ e)) ∙ is_unread)))
               (λ (u : HasLived B (G3 ++ L) gz c). inl (lived_right B L G3 gx c (lived_left B (G3 ++ L) gz gs c u)))
               (late.facts.1.noted B (G3 ++ L) s4 k5 c));
+        };
+        closes = record {
+          closed = filter_map-append closing_of ((((cp ++ ca) ++ cq) ++ cl) ++ cr) cx
+              ∙ (ap (λ zs. zs ++ closings cx) (seen_first cp ca cq cl cr cx closing_of asked.facts.0.no_closings lq.no_closings rq.no_closings ∙ (only_last closing_of cp ca closings_p ∙ come.closed))
+              ∙ ap (λ zs. filter_map unseated_of came ++ zs) (closings_x ∙ ap (map link_of_seat) shut_same));
           left = x.facts.0.left ∙ open_same;
+        };
+        file = record { deposits = spool.deposits; tries = filed.0 };
+        next = record {
+          dealt = λ e. no_wait links_then (filed.1 ∙ (ap (λ b. polled || b) e ∙ or_true polled));
+          frees = λ e. sleeps_not (still (freeing e));
+          releases = λ on e. sleeps_not (x.facts.2 on (ap has_moved (x.facts.0.calls_are ∙ ap (map closing) shut_same) ∙ shut_moved after seats2 e));
+          rests = λ m f d. waits_then links_then (filed.1 ∙ rests_so polling freed polled (has_dealt spool.calls) (has_moved cl) (has_moved cx) (has_moved C5) served.facts.1.1 x.facts.1
+              (λ q. seen_fourth cp ca cq cl cr cx is_moving q) (λ q. any_right is_moving ((((cp ++ ca) ++ cq) ++ cl) ++ cr) cx q) m f d)
+              (not_true links_then.requests.poll_now (λ e. true≢false (sym (seen_fifth cp ca cq cl cr cx is_moving (reqs.facts.1 e)) ∙ m)));
         };
       }

@@ -18,7 +18,8 @@ use Rattle.serving.specs.Paces.{has_freed}
 use Rattle.serving.specs.Settings.{Settings, settings_of}
 use Rattle.serving.specs.Parts.{WasGiven}
 use Rattle.serving.specs.ClientParts.{HadTurns, IsFreedBy, WereServed, may_at, way_at}
-use Rattle.serving.specs.Works.{HasEnded, HasFreed, share_by, way_by}
+use Rattle.serving.specs.Works.{HasEnded, HasFreed, share_by}
+use Rattle.serving.specs.Ways.{way_by}
 use Rattle.serving.specs.Newcomers.{newcomer, lies_unread}
 use Rattle.serving.specs.declared.newcomers.Newcomer.{Newcomer}
 use Rattle.serving.proofs.Seating.{any_default, contained}

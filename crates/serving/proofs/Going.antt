@@ -13,6 +13,7 @@ use Rattle.serving.specs.Calls.{Call}
 use Rattle.serving.specs.Spools.{FileCall}
 use Rattle.serving.specs.Hearing.{Hearing}
 use Rattle.serving.specs.Works.{is_failed}
+use Rattle.serving.specs.Seen.{given_in}
 use Rattle.serving.specs.Turns.{Works}
 use Rattle.serving.specs.Running.{NoTurn, OneMore, HasGoneOn, LeavesAsFound, answers, HasTurned}
 use Rattle.serving.specs.declared.links.Links.{Links}
@@ -44,18 +45,18 @@ module _ {V W S H : Type 0} (Holds : V → Contents → Type 0) (Faults : V → 
       → LeavesAsFound now l1 l2
       → HasGoneOn Holds Faults Asked AskedFiles Heard T (moments ++ now ∷ []) l o w s h l2 o2 w2 s2 h2
   gone_more moments l o w s h l1 o1 w1 s1 h1 now l2 o2 w2 s2 h2 a turn left = record {
-    given = turn.given ++ a.given;
+    given = given_in turn.seen ++ a.given;
     turns = OneMore moments a.given l1 o1 w1 s1 h1 now l2 o2 w2 s2 h2 a.turns turn left;
-    stands = subst (λ x. StandsFor Holds o2 (trace_of T.base x)) (sym (append_assoc turn.given a.given T.log)) turn.stands;
-    admitted = newly_then T.base T.log a.given turn.given a.admitted turn.is.admitted;
+    stands = subst (λ x. StandsFor Holds o2 (trace_of T.base x)) (sym (append_assoc (given_in turn.seen) a.given T.log)) turn.stands;
+    admitted = newly_then T.base T.log a.given (given_in turn.seen) a.admitted turn.admitted;
     counted = (let p = a.counted in let q = turn.counted in omega (arith, p, q));
     failed = λ e.
         ⊎_elim
-        (λ (later : list_any is_failed turn.given ≡ true).
+        (λ (later : list_any is_failed (given_in turn.seen) ≡ true).
         grown_more (Faults (vault_of o)) (Faults (vault_of o1)) (Faults (vault_of o2)) (Faults (vault_of o2)) a.counted (omega arith) (turn.failed later))
         (λ (first : list_any is_failed a.given ≡ true).
         grown_more (Faults (vault_of o)) (Faults (vault_of o)) (Faults (vault_of o1)) (Faults (vault_of o2)) (omega arith) turn.counted (a.failed first))
-        (or_cases (list_any is_failed turn.given) (list_any is_failed a.given) (sym (list_any-append is_failed turn.given a.given) ∙ e));
+        (or_cases (list_any is_failed (given_in turn.seen)) (list_any is_failed a.given) (sym (list_any-append is_failed (given_in turn.seen) a.given) ∙ e));
   }
 
 module _ {V W S H C : Type 0} (Holds : V → Contents → Type 0) (IsClean : V → Type 0) (Faults : V → ℕ) (Asked : W → List Call → Type 0) (AskedFiles : S → List FileCall → Type 0) (Heard : H → List Hearing → Type 0) (Gave : C → List (Option ℕ) → Type 0)

@@ -53,16 +53,15 @@ openings_unheard B L ((event.Admin command, m) ∷ given) a = absurd (All-head I
 openings_unheard B L ((event.Restart boot, m) ∷ given) a = absurd (All-head IsOpening (event.Restart boot, m) given a)
 
 -- what is heard of the clients and the commands of a turn
-pub turn_heard : (B : Records) (L gp ga gl gr : Log) (x : Event × EventTag) → gp ≡ x ∷ [] → All IsOpening ga
-    → heard_of_all B ((ga ++ gp) ++ L) gl ++ heard_of_all B ((gl ++ (ga ++ gp)) ++ L) gr ≡ heard_of_all B (x ∷ L) (gr ++ (gl ++ ga))
-turn_heard B L gp ga gl gr x is only =
+pub turn_heard : (B : Records) (L gp ga gl gr : Log) → All IsOpening ga
+    → heard_of_all B ((ga ++ gp) ++ L) gl ++ heard_of_all B ((gl ++ (ga ++ gp)) ++ L) gr ≡ heard_of_all B (gp ++ L) (gr ++ (gl ++ ga))
+turn_heard B L gp ga gl gr only =
     let K : Log = gp ++ L in
     let last = heard_of_all B ((gl ++ ga) ++ K) gr in
     let none = openings_unheard B K ga only in
-    subst (λ p. heard_of_all B ((ga ++ gp) ++ L) gl ++ heard_of_all B ((gl ++ (ga ++ gp)) ++ L) gr ≡ heard_of_all B (p ++ L) (gr ++ (gl ++ ga))) is
-    (ap (λ l. heard_of_all B l gl ++ heard_of_all B ((gl ++ (ga ++ gp)) ++ L) gr) (append_assoc ga gp L)
+    ap (λ l. heard_of_all B l gl ++ heard_of_all B ((gl ++ (ga ++ gp)) ++ L) gr) (append_assoc ga gp L)
     ∙ (ap (λ l. heard_of_all B (ga ++ K) gl ++ heard_of_all B l gr) (ap (λ l. l ++ L) (sym (append_assoc gl ga gp)) ∙ append_assoc (gl ++ ga) gp L)
-    ∙ (ap (λ h. (h ++ heard_of_all B (ga ++ K) gl) ++ last) (sym none) ∙ (ap (λ h. h ++ last) (sym (heard_joined B K ga gl)) ∙ sym (heard_joined B K (gl ++ ga) gr)))))
+    ∙ (ap (λ h. (h ++ heard_of_all B (ga ++ K) gl) ++ last) (sym none) ∙ (ap (λ h. h ++ last) (sym (heard_joined B K ga gl)) ∙ sym (heard_joined B K (gl ++ ga) gr))))
 
 -- ---- seats
 

@@ -19,6 +19,7 @@ pub mod Turns
 pub mod Arriving
 pub mod Hearing
 pub mod Finishing
+pub mod TurnLaws
 pub mod Quieting
 pub mod HttpWorking
 pub mod Bounds

@@ -26,7 +26,8 @@ use Rattle.serving.specs.Calls.{Call, Looked, Read}
 use Rattle.serving.specs.declared.wire.Port.TheVariants.{Pop}
 use Rattle.serving.specs.declared.links.Seat.{Seat}
 use Rattle.serving.specs.declared.newcomers.Newcomer.{Newcomer}
-use Rattle.serving.specs.Works.{is_admin, is_read_of, is_later_of, is_taking_of, is_cut_of, is_cut, most_writes, octets_taken, is_written_out, had_its_turn, openings, is_opening, AreNewlyAdmitted, is_failed, IsLateGone, AreLateGone, HasCause, AreCaused, WasAsked, IsKeptBack, StaysUnread, IsReadByLine, IsHeldBack, LiesUnread, Way, HadTurn}
+use Rattle.serving.specs.Works.{is_admin, is_read_of, is_later_of, is_taking_of, is_cut_of, is_cut, most_writes, octets_taken, is_written_out, had_its_turn, openings, is_opening, AreNewlyAdmitted, is_failed, IsLateGone, AreLateGone, HasCause, AreCaused, WasAsked, IsKeptBack, StaysUnread, IsReadByLine, IsHeldBack, LiesUnread}
+use Rattle.serving.specs.Ways.{Way, HadTurn}
 use Rattle.serving.specs.Parts.{WasGiven, Part, Asking, Giving, IsQuiet, IsQuietFor}
 use Rattle.serving.proofs.Staying.{Fewer, fewer_framed, frame_read, frame_took, frame_gone, fewer_tick, deposit_same, fewer_command}
 

@@ -30,7 +30,8 @@ use Rattle.serving.specs.Works.{waits, arrivals, closings, is_admin, is_read_of,
 use Rattle.serving.specs.Works.{is_taking_of, octets_taken, most_writes, share_by, moments}
 use Rattle.serving.specs.Works.{openings, refusals, AreCaused, IsKeptBack, reads_by_line}
 use Rattle.serving.specs.Works.{IsReadByLine, LiesUnread, Came, seat_of, unseated_of, link_of}
-use Rattle.serving.specs.Works.{HasAccepted, Way, way_by, HadTurn, HasFreed, is_open_seat}
+use Rattle.serving.specs.Works.{HasAccepted, HasFreed, is_open_seat}
+use Rattle.serving.specs.Ways.{Way, way_by, HadTurn}
 use Rattle.serving.specs.Works.{is_shut_seat, IsOffered}
 use Rattle.serving.specs.Parts.{IsQuietFor}
 

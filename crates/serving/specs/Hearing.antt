@@ -14,7 +14,11 @@ use Rattle.office.specs.declared.account.Account.TheVariants as account
 use Rattle.office.specs.declared.account.End.{End}
 use Rattle.office.specs.declared.account.End.TheVariants as end
 use Rattle.serving.specs.Calls.{Call}
+use Rattle.serving.specs.Late.{noted_by}
+use Rattle.serving.specs.Seen.{Seen}
+use Rattle.serving.specs.Settings.{settings}
 use Rattle.serving.specs.Works.{is_late, is_shut_seat}
+use Rattle.serving.specs.declared.links.Links.{Links}
 use Rattle.serving.specs.declared.links.Seat.{Seat}
 use Rattle.serving.specs.declared.newcomers.Newcomer.{Newcomer}
 
@@ -69,6 +73,14 @@ idle_end s = (s.connection, account.Ended end.Idle)
 -- of each seat whose connection isn't open after a moment
 abbrev pub idle_ends : (after : Trace) → List Seat → List Hearing
 idle_ends after seats = map idle_end (filter (is_shut_seat after) seats)
+
+-- Of a turn, in this order: of each seat whose connection the moment ended, that it was idle; the
+-- accounts of clients' events and of commands that end sessions; and of each client that is late,
+-- that its login seconds are over, or only those of a full house.
+abbrev pub hearings : Trace → (now : ℕ) → Links → Seen → List Hearing
+hearings T now links t = idle_ends (trace_of T.base (t.tick ++ T.log)) links.clients.seats.items
+    ++ (heard_of_all T.base (t.tick ++ T.log) (t.commands ++ (t.served ++ t.connects))
+    ++ late_ends now (settings links).login_seconds (noted_by links) t.late)
 
 -- ---- what a listener was told, and nothing else
 

@@ -1,5 +1,6 @@
 -- Which links of the administration stay when a turn has served them.
-use Rattle.std.specs.Prelude.{◌≡◌, ◌≤◌, ◌-◌, ◌<◌, ℕ, Bool, false, nat_le, List, length, slice_index_or}
+use Rattle.std.specs.Prelude.{◌≡◌, ◌≤◌, ◌-◌, ◌<◌, ℕ, Bool, false, nat_le, List, length}
+use Rattle.std.specs.Prelude.{slice_index_or, IfNone}
 use Rattle.std.specs.List.{All}
 use Rattle.serving.specs.declared.requests.Exchange.{Exchange}
 use Rattle.serving.specs.declared.links.Links.{Links}
@@ -19,7 +20,8 @@ pub record GoesOn (now : ℕ) (e : Exchange) : Type 0 where
 
 -- that of the one at a place
 abbrev pub GoesOnAt : (now : ℕ) → List Exchange → (place : ℕ) → Type 0
-GoesOnAt now held place = (place < length held) × ((d : Exchange) → GoesOn now (slice_index_or held place d))
+GoesOnAt now held place =
+    (place < length held) × ((d : Exchange) → GoesOn now (slice_index_or held place d))
 
 -- how many links of the administration are open at once at most
 abbrev pub most_exchanges : ℕ
@@ -36,3 +38,17 @@ TheseGoOn now held = All (GoesOn now) held
 -- so it is of all that stay
 abbrev pub AllGoOn : (now : ℕ) → Links → Type 0
 AllGoOn now links = TheseGoOn now links.requests.exchanges.items
+
+-- ---- requests that aren't whole
+
+-- Such a request has fewer octets: 8,192 of its head, and 1,048,576 of its body.
+abbrev pub most_asked : ℕ
+most_asked = 1056768
+
+-- so many were read, if there is no response yet
+abbrev pub IsShort : Exchange → Type 0
+IsShort e = IfNone e.response (length e.read.items < most_asked)
+
+-- of each link that is held
+abbrev pub AreShort : Links → Type 0
+AreShort links = All IsShort links.requests.exchanges.items

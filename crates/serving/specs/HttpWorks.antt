@@ -1,25 +1,24 @@
 -- What a turn does for the links of the administration: each that was open as the turn began, or
--- that came in it, has its turn, and is closed
--- exactly for a cause.
-use Rattle.std.specs.Prelude.{◌≡◌, ◌⊎◌, ◌≤◌, ◌<◌, ℕ, Bool, true, false, ◌+◌, ◌||◌, suc, nat_le}
+-- that came in it, has its turn, and is closed exactly for a cause.
+use Rattle.std.specs.Prelude.{◌≡◌, ◌⊎◌, ◌≤◌, ℕ, Bool, true, false, ◌+◌, ◌||◌, suc, nat_le}
 use Rattle.std.specs.Prelude.{if◌then◌else◌, List, [], ◌∷◌, ◌++◌, length, take, drop, Option, Some}
 use Rattle.std.specs.Prelude.{None, option_map, is_some, IfNone}
-use Rattle.std.specs.List.{All, list_any}
+use Rattle.std.specs.List.{list_any}
 use Rattle.vault.specs.Records.{Records}
-use Rattle.office.specs.Events.{Log, Trace}
+use Rattle.office.specs.Events.{Log}
 use Rattle.adminhttp.specs.Sites.{Site}
 use Rattle.serving.specs.Wires.{is_fault}
 use Rattle.serving.specs.Calls.{Call, Accepted, Read, Wrote, Closed}
 use Rattle.serving.specs.Requests.{octets_of, HasOneMore, IsGiven}
-use Rattle.serving.specs.Works.{is_admin, most_at_once}
+use Rattle.serving.specs.Works.{most_at_once, most_writes}
 use Rattle.serving.specs.HttpTurns.{is_late_at, most_exchanges}
+pub use Rattle.serving.specs.HttpTurns.{most_asked, IsShort, AreShort}
 use Rattle.serving.specs.declared.wire.Link.{Link}
 use Rattle.serving.specs.declared.wire.Port.TheVariants.{Admin}
 use Rattle.serving.specs.declared.wire.Io.{Io}
 use Rattle.serving.specs.declared.wire.Io.TheVariants.{Count, Later}
 use Rattle.serving.specs.declared.requests.Response.{Response}
 use Rattle.serving.specs.declared.requests.Exchange.{Exchange}
-use Rattle.serving.specs.declared.links.Links.{Links}
 
 -- ---- links that come
 
@@ -84,8 +83,8 @@ pub data HasHeard (site : Site) (B : Records) (L : Log) (e e_then : Exchange) : 
 abbrev pub admin_share : ℕ
 admin_share = 16384
 
--- writes on a link, from so many octets of its response on: each was offered all that follow, or the
--- first 16,384 of them, and each that took octets took the next ones
+-- writes on a link, from so many octets of its response on: each was offered all that follow, or
+-- the first 16,384 of them, and each that took octets took the next ones
 abbrev pub AreWrites : Link → (response : List ℕ) → (written : ℕ) → List Call → (written_then : ℕ)
     → Type 0
 AreWrites link response written [] written_then = written_then ≡ written
@@ -119,10 +118,6 @@ told_its_end _ = false
 abbrev pub is_whole : Option Response → (written : ℕ) → Bool
 is_whole None written = false
 is_whole (Some response) written = nat_le (length (octets_of response)) written
-
--- how many writes a response has in one turn at most
-abbrev pub most_writes : ℕ
-most_writes = 64
 
 -- What follows of a response was written, so many octets or more by so many writes or more.
 pub record IsToldOf (e e_then : Exchange) (times octets : ℕ) (calls : List Call) : Type 0 where
@@ -177,37 +172,3 @@ pub data HadHttpTurns (site : Site) (now : ℕ) (B : Records) : (L : Log)
       → HadHttpTurns site now B (g ++ L) held held_then given calls
       → HadHttpTurns site now B L (e ∷ held) held_then (given ++ g)
       (c ++ Closed Admin e.link ∷ calls)
-
--- So it is of a turn: those that were held, and those that came, among its calls and its events.
-pub record HttpWorks (T : Trace) (now : ℕ) (links links_then : Links) (given : Log)
-    (calls : List Call) : Type 0 where
-  pub held : List Exchange
-  pub before : List Call
-  pub arrivals : List Call
-  pub between : List Call
-  pub services : List Call
-  pub behind : List Call
-  pub goes : Bool
-  pub calls_are : calls ≡ before ++ (arrivals ++ (between ++ (services ++ behind)))
-  pub apart : list_any is_admin (before ++ (between ++ behind)) ≡ false
-  pub earlier : Log
-  pub commands : Log
-  pub later : Log
-  pub given_are : given ≡ later ++ (commands ++ earlier)
-  pub accepted : HasAcceptedForAdmin now 64 goes links.requests.exchanges.items held arrivals
-  pub served : HadHttpTurns links.site now T.base
-      (earlier ++ T.log) held links_then.requests.exchanges.items commands services
-
--- ---- requests that aren't whole
-
--- Such a request has fewer octets: 8,192 of its head, and 1,048,576 of its body.
-abbrev pub most_asked : ℕ
-most_asked = 1056768
-
--- so many were read, if there is no response yet
-abbrev pub IsShort : Exchange → Type 0
-IsShort e = IfNone e.response (length e.read.items < most_asked)
-
--- of each link that is held
-abbrev pub AreShort : Links → Type 0
-AreShort links = All IsShort links.requests.exchanges.items

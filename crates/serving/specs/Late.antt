@@ -1,6 +1,6 @@
--- Clients that took too long for their login: each is ended, and nobody is forgotten but who logged
+-- Clients that take too long for their login: each is ended, and nobody is forgotten but who logged
 -- in or is gone.
-use Rattle.std.specs.Prelude.{◌≡◌, ◌⊎◌, ℕ, Bool, true, false, List, ◌++◌, None}
+use Rattle.std.specs.Prelude.{◌≡◌, ◌⊎◌, ℕ, true, false, List, ◌++◌, length, None}
 use Rattle.std.specs.List.{All}
 use Rattle.vault.specs.Records.{Records}
 use Rattle.vault.specs.Changes.{Contents}
@@ -10,11 +10,13 @@ use Rattle.office.specs.Sessions.{live}
 use Rattle.office.specs.Taken.{trace_of}
 use Rattle.office.specs.Stands.{StandsFor, vault_of}
 use Rattle.office.specs.declared.office.Office.{Office}
+use Rattle.serving.specs.Given.{AreLateGone}
+use Rattle.serving.specs.Newcomers.{newcomer, is_late, limit, lies_unread, CountsFrom}
+use Rattle.serving.specs.Seen.{Seen, given_in, calls_in, trace_after, may_keep}
+use Rattle.serving.specs.KeptBack.{LiesUnread}
+use Rattle.serving.specs.declared.links.Links.{Links}
 use Rattle.serving.specs.declared.links.Seat.{Seat}
 use Rattle.serving.specs.declared.newcomers.Newcomer.{Newcomer}
-use Rattle.serving.specs.Newcomers.{newcomer, lies_unread, CountsFrom}
-use Rattle.serving.specs.Works.{is_late, AreLateGone, LiesUnread}
-use Rattle.serving.specs.Calls.{Call}
 
 -- a session lived on a connection after some of these events
 pub record HasLived (B : Records) (older given : Log) (c : ℕ) : Type 0 where
@@ -23,6 +25,43 @@ pub record HasLived (B : Records) (older given : Log) (c : ℕ) : Type 0 where
   pub is : given ≡ later ++ front
   pub lived : live (history (trace_of B (front ++ older))) c ≡ true
 
+-- ---- in a turn
+
+-- those who are noted as not yet logged in
+abbrev pub noted_by : Links → List Newcomer
+noted_by links = links.clients.newcomers.newcomers.items
+
+module _ (T : Trace) (now : ℕ) (links links_then : Links) (t : Seen) where
+  -- a client logged in in this turn
+  abbrev pub LoggedIn : (c : ℕ) → Type 0
+  LoggedIn c = HasLived T.base T.log (given_in t) c
+
+  -- its login stays unread for a cause
+  abbrev pub WasPutOff : (c : ℕ) → Type 0
+  WasPutOff c = LiesUnread T.base T.log (given_in t) (calls_in t) links.clients.wait
+      (may_keep now links t c) t.seats c
+
+  -- whoever is late logged in, or its login was put off, if its connection is open as the turn ends
+  abbrev pub IsInTime : Seat → Type 0
+  IsInTime s = is_late now (limit links (length t.seats)) (noted_by links) s.connection ≡ true
+      → is_open (trace_after T t) s.connection ≡ true
+      → LoggedIn s.connection ⊎ WasPutOff s.connection
+
+  -- A connection that wasn't noted before is, and its seconds count from this moment, unless it
+  -- logged in, if it is open as the turn ends.
+  abbrev pub IsNotedSince : Seat → Type 0
+  IsNotedSince s = newcomer s.connection (noted_by links) ≡ None
+      → is_open (trace_after T t) s.connection ≡ true
+      → CountsFrom now (newcomer s.connection (noted_by links_then)) ⊎ LoggedIn s.connection
+
+  -- Where its seconds stand still as the turn ends, its login was put off, or it logged in.
+  abbrev pub IsCountedOn : Seat → Type 0
+  IsCountedOn s = lies_unread (newcomer s.connection (noted_by links_then)) ≡ true
+      → is_open (trace_after T t) s.connection ≡ true
+      → LoggedIn s.connection ⊎ WasPutOff s.connection
+
+-- ---- what only a part of a turn promises
+
 -- whoever is late isn't open by then, or logged in meanwhile, or is noted as one whose login lies
 -- unread
 abbrev pub IsEndedInTime : (now seconds : ℕ) → List Newcomer → (B : Records) (older given : Log)
@@ -30,32 +69,6 @@ abbrev pub IsEndedInTime : (now seconds : ℕ) → List Newcomer → (B : Record
 IsEndedInTime now seconds newcomers B older given after s =
     is_late now seconds newcomers s.connection ≡ true → is_open after s.connection ≡ true
     → HasLived B older given s.connection ⊎ (lies_unread (newcomer s.connection newcomers) ≡ true)
-
--- whoever is late isn't open by then, or logged in meanwhile, or its login lies unread
-abbrev pub IsInTime : (now seconds : ℕ) → List Newcomer → (B : Records) (older given : Log)
-    → (after : Trace) → (calls : List Call) → (wait : ℕ) (may : ℕ → Bool) → (seats : List Seat)
-    → Seat → Type 0
-IsInTime now seconds newcomers B older given after calls wait may seats s =
-    is_late now seconds newcomers s.connection ≡ true → is_open after s.connection ≡ true
-    → HasLived B older given s.connection
-    ⊎ LiesUnread B older given calls wait (may s.connection) seats s.connection
-
--- a seat's connection is noted, and its seconds count from this moment, unless it was noted before,
--- isn't open by then, or logged in meanwhile
-abbrev pub IsNotedSince : (now : ℕ) → (newcomers newcomers_then : List Newcomer) → (B : Records)
-    (older given : Log) → (after : Trace) → Seat → Type 0
-IsNotedSince now newcomers newcomers_then B older given after s =
-    newcomer s.connection newcomers ≡ None → is_open after s.connection ≡ true
-    → CountsFrom now (newcomer s.connection newcomers_then) ⊎ HasLived B older given s.connection
-
--- where a seat's login is noted as lying unread by then, it does, or was read and was right
-abbrev pub IsCountedOn : (newcomers_then : List Newcomer) → (B : Records) (older given : Log)
-    → (after : Trace) → (calls : List Call) → (wait : ℕ) (may : ℕ → Bool) → (seats : List Seat)
-    → Seat → Type 0
-IsCountedOn newcomers_then B older given after calls wait may seats s =
-    lies_unread (newcomer s.connection newcomers_then) ≡ true → is_open after s.connection ≡ true
-    → HasLived B older given s.connection
-    ⊎ LiesUnread B older given calls wait (may s.connection) seats s.connection
 
 -- nothing is open on a connection after these events
 abbrev pub IsShutBy : {V : Type 0} (Holds : V → Contents → Type 0) (IsClean : V → Type 0)

@@ -8,9 +8,14 @@ pub mod NotedWires
 pub mod Requests
 pub mod Spools
 pub mod NotedFiles
+pub mod NotedHearings
 pub mod Served
 pub mod Settings
+pub mod Given
+pub mod KeptBack
 pub mod Works
+pub mod Ways
+pub mod Seen
 pub mod Late
 pub mod Hearing
 pub mod HttpTurns

@@ -1,6 +1,7 @@
 -- Clients that haven't logged in since they were accepted.
-use Rattle.std.specs.Prelude.{◌≡◌, ◌⊎◌, ℕ, Bool, true, false, not, ◌-◌, ◌==◌, min, nat_le, List}
-use Rattle.std.specs.Prelude.{[], ◌∷◌, ◌++◌, filter, find, map, Option, Some, None, is_some, if◌then◌else◌}
+use Rattle.std.specs.Prelude.{◌≡◌, ◌⊎◌, ℕ, Bool, true, false, not, ◌-◌, ◌==◌, ◌&&◌, min, nat_le}
+use Rattle.std.specs.Prelude.{List, [], ◌∷◌, ◌++◌, filter, find, map, Option, Some, None, is_some}
+use Rattle.std.specs.Prelude.{if◌then◌else◌}
 use Rattle.serving.specs.declared.newcomers.Newcomer.{Newcomer}
 use Rattle.serving.specs.declared.links.Seat.{Seat}
 use Rattle.serving.specs.declared.links.Clients.{Clients}
@@ -26,6 +27,12 @@ spent now n = until now n.held - n.since
 abbrev pub is_late_by : (now seconds : ℕ) → Option Newcomer → Bool
 is_late_by now seconds None = false
 is_late_by now seconds (Some n) = nat_le seconds (spent now n)
+
+-- a client took so many seconds or more, and hasn't logged in: of those who are noted with the
+-- moment at which they came
+abbrev pub is_late : (now seconds : ℕ) → List Newcomer → (c : ℕ) → Bool
+is_late now seconds newcomers c =
+    not (seconds == 0) && is_late_by now seconds (newcomer c newcomers)
 
 -- the smaller of two limits, of which 0 is none
 abbrev pub smaller_limit : (one other : ℕ) → ℕ

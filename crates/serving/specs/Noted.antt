@@ -1,9 +1,10 @@
 -- What the calls of a wire tell of its traffic.
-use Rattle.std.specs.Prelude.{ℕ, false, List, [], ◌∷◌, length, Some}
+use Rattle.std.specs.Prelude.{ℕ, false, List, [], ◌∷◌, length, map, Some}
 use Rattle.serving.specs.Wires.{Told, ToldOfPorts, at_port, counted, has_accepted, has_read, has_written, has_closed}
 use Rattle.serving.specs.Calls.{Call, Waited, Accepted, Looked, Read, Wrote, Closed}
-use Rattle.serving.specs.declared.notes.WireCall.{WireCall}
-use Rattle.serving.specs.declared.notes.WireCall.TheVariants as asked
+use Rattle.notes.specs.declared.Notes.{Notes}
+use Rattle.serving.specs.declared.wire_notes.WireCall.{WireCall}
+use Rattle.serving.specs.declared.wire_notes.WireCall.TheVariants as asked
 
 -- of a port, if nothing was asked
 abbrev pub nothing : Told
@@ -35,3 +36,11 @@ call_of (asked.Look port link io) octets = Looked port link io (counted io octet
 call_of (asked.Read port link room io) octets = Read port link room io (counted io octets)
 call_of (asked.Write port link io) octets = Wrote port link (length octets) io (counted io octets)
 call_of (asked.Close port link) octets = Closed port link
+
+-- what the notes of a wire say
+pub record NotedCalls : Type 0 where
+  pub calls : List Call
+
+-- the calls that were noted, each with its octets
+abbrev pub calls_of : List (WireCall × Notes ℕ) → List Call
+calls_of noted = map (λ n. call_of n.0 n.1.items) noted

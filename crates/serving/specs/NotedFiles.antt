@@ -1,7 +1,8 @@
 -- What the calls of a spool tell of its files.
-use Rattle.std.specs.Prelude.{◌≡◌, ℕ, true, List, [], ◌∷◌, ◌++◌, Some, None}
+use Rattle.std.specs.Prelude.{◌≡◌, ℕ, true, List, [], ◌∷◌, ◌++◌, map, Some, None}
 use Rattle.std.proofs.Common.{sym, ◌∙◌}
 use Rattle.serving.specs.Spools.{FileAct, WasRead, WasRemoved, WasRenamed, FileCall, Next, Read, Removed, Renamed}
+use Rattle.notes.specs.declared.Notes.{Notes}
 use Rattle.serving.specs.declared.file_notes.FileAsked.{FileAsked}
 use Rattle.serving.specs.declared.file_notes.FileAsked.TheVariants as asked
 
@@ -31,6 +32,14 @@ call_of (asked.Read name) text = Read name (Some text)
 call_of (asked.NotRead name) text = Read name None
 call_of (asked.Remove name is_done) text = Removed name is_done
 call_of (asked.Rename name is_done) text = Renamed name is_done
+
+-- what the notes of a spool say
+pub record NotedFileCalls : Type 0 where
+  pub calls : List FileCall
+
+-- the calls that were noted, each with its text
+abbrev pub calls_of : List (FileAsked × Notes ℕ) → List FileCall
+calls_of noted = map (λ n. call_of n.0 n.1.items) noted
 
 -- they tell one thing
 pub tells_once : (calls : List FileCall) (a b : List FileAct) → a ≡ acts_of calls → b ≡ acts_of calls → a ≡ b

@@ -11,7 +11,8 @@ use Rattle.office.specs.declared.office.Office.{Office}
 use Rattle.serving.specs.Calls.{Call}
 use Rattle.serving.specs.Spools.{FileCall}
 use Rattle.serving.specs.Hearing.{Hearing}
-use Rattle.serving.specs.Works.{AreNewlyAdmitted, is_failed}
+use Rattle.serving.specs.Given.{AreNewlyAdmitted, is_failed}
+use Rattle.serving.specs.Seen.{given_in}
 use Rattle.serving.specs.HttpTurns.{AllGoOn, AreFew}
 use Rattle.serving.specs.Newcomers.{AllHaveSeats}
 use Rattle.serving.specs.Guesses.{AllArePacing}
@@ -48,7 +49,7 @@ pub data AreTurns {V W S H : Type 0} (Holds : V → Contents → Type 0) (Faults
       links1 office1 wire1 spool1 listener1 office2 links2 wire2 spool2 listener2)
       → LeavesAsFound now links1 links2
       → AreTurns Holds Faults Asked AskedFiles Heard T links office wire spool listener
-      (moments ++ now ∷ []) (turn.given ++ given) links2 office2 wire2 spool2 listener2
+      (moments ++ now ∷ []) (given_in turn.seen ++ given) links2 office2 wire2 spool2 listener2
 
 -- So an office went on since a trace: it stands for that trace with the events of the turns.
 pub record HasGoneOn {V W S H : Type 0} (Holds : V → Contents → Type 0) (Faults : V → ℕ)

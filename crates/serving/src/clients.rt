@@ -22,7 +22,7 @@ use crate::links::{Clients, Seat};
 use crate::listener::Listener;
 use crate::pace::{MOST_AT_ONCE, next_part, note_guess, pace_at};
 use crate::wire::{Io, Port, Wire};
-use office::{Account, Event, Office};
+use office::{Event, Office};
 use vault::Vault;
 
 /// How many writes a link has in one turn at most.
@@ -55,16 +55,14 @@ fn write_once<V: Vault, W: Wire, L: Listener>(
     }
     match wire.write(Port::Pop, seat.link, lent) {
         Io::Count(count) => {
-            let mut account = Account::Nothing;
-            let _ = office.step_with_account(Event::Took(seat.connection, count), &mut account);
-            listener.hear(seat.connection, &account);
+            let report = office.step_with_account(Event::Took(seat.connection, count));
+            listener.hear(seat.connection, &report.account);
             count
         }
         Io::Later => 0,
         Io::End | Io::Broken => {
-            let mut account = Account::Nothing;
-            let _ = office.step_with_account(Event::Gone(seat.connection), &mut account);
-            listener.hear(seat.connection, &account);
+            let report = office.step_with_account(Event::Gone(seat.connection));
+            listener.hear(seat.connection, &report.account);
             0
         }
     }
@@ -121,17 +119,15 @@ fn read_once<V: Vault, W: Wire, L: Listener>(
     }
     match wire.read(Port::Pop, seat.link, buffer) {
         Io::Count(count) => {
-            let mut account = Account::Nothing;
             let piece = Event::Bytes(connection, &buffer[..count]);
-            let _ = office.step_with_account(piece, &mut account);
-            listener.hear(connection, &account);
+            let report = office.step_with_account(piece);
+            listener.hear(connection, &report.account);
             true
         }
         Io::Later => false,
         Io::End | Io::Broken => {
-            let mut account = Account::Nothing;
-            let _ = office.step_with_account(Event::Gone(connection), &mut account);
-            listener.hear(connection, &account);
+            let report = office.step_with_account(Event::Gone(connection));
+            listener.hear(connection, &report.account);
             false
         }
     }

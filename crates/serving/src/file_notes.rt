@@ -1,11 +1,10 @@
 //! Notes of what a spool was asked and answered, which only proofs read.
-ghost use Rattle.std.specs.Prelude.{◌≡◌, List, [], ◌∷◌, ◌++◌};
-ghost use Rattle.std.specs.Borrow.{ftrue};
-ghost use Rattle.serving.specs.Spools.{FileCall};
+ghost use Rattle.std.specs.Prelude.{◌≡◌, [], ◌∷◌, ◌++◌};
 ghost use Rattle.serving.specs.NotedFiles.{call_of};
 
 use crate::file_name::FileName;
-use std::marker::{Model, PhantomData};
+use notes::Notes;
+use std::marker::Model;
 
 /// What a spool was asked, and what it answered. A text that was read stands beside it.
 #[derive(Clone, Copy, PartialEq, Eq, Debug)]
@@ -26,12 +25,15 @@ pub(crate) enum FileAsked {
 /// and to note a call does nothing when the program runs.
 #[derive(Drop)]
 pub struct FileNotes {
-    marker: PhantomData<u8>,
-    pub ghost calls: { List FileCall },
+    list: Notes<(FileAsked, Notes<u8>)>,
 }
 
 impl Model for FileNotes {
-    ghost also_owns = { λ _. ftrue };
+    ghost use Rattle.serving.specs.NotedFiles.{NotedFileCalls, calls_of};
+
+    ghost Value = { NotedFileCalls };
+
+    ghost view = { λ n. record { calls = calls_of n.list.items } };
 }
 
 impl FileNotes {
@@ -39,14 +41,14 @@ impl FileNotes {
     pub(crate) fn new() -> FileNotes
         ensures { result.calls ≡ [] }
     {
-        FileNotes {
-            marker: PhantomData,
-        }
+        FileNotes { list: Notes::new() }
     }
 
     /// Notes a call, and the text that was read.
     #[inline(always)]
-    pub(crate) fn note(&mut self, _asked: &FileAsked, _text: &[u8])
-        ensures { self.new.calls ≡ self.old.calls ++ call_of _asked.now _text.now ∷ [] }
-    {}
+    pub(crate) fn note(&mut self, asked: &FileAsked, text: &[u8])
+        ensures { self.new.calls ≡ self.old.calls ++ call_of asked.now text.now ∷ [] }
+    {
+        self.list.note(&(*asked, Notes::of(text)));
+    }
 }

@@ -1,27 +1,23 @@
 //! Notes of what a listener heard, which only proofs read.
-ghost use Rattle.std.specs.Prelude.{◌≡◌, List, [], ◌∷◌, ◌++◌};
-ghost use Rattle.std.specs.Borrow.{ftrue};
-ghost use Rattle.serving.specs.Hearing.{Hearing};
+ghost use Rattle.std.specs.Prelude.{◌≡◌, [], ◌∷◌, ◌++◌};
 
+use notes::Notes;
 use office::Account;
-use std::marker::{Model, PhantomData};
-
-/// Of which connection something is heard.
-#[derive(Clone, Copy, PartialEq, Eq, Debug)]
-pub(crate) struct Of {
-    pub(crate) connection: u64,
-}
+use std::marker::Model;
 
 /// The accounts that a listener heard, the newest last. They are in the proofs alone: a value takes
 /// no memory, and to note an account does nothing when the program runs.
 #[derive(Drop)]
 pub struct Hearings {
-    marker: PhantomData<u8>,
-    pub ghost heard: { List Hearing },
+    list: Notes<(u64, Notes<Account>)>,
 }
 
 impl Model for Hearings {
-    ghost also_owns = { λ _. ftrue };
+    ghost use Rattle.serving.specs.NotedHearings.{NotedHearings, hearings_of};
+
+    ghost Value = { NotedHearings };
+
+    ghost view = { λ n. record { heard = hearings_of n.list.items } };
 }
 
 impl Hearings {
@@ -29,15 +25,16 @@ impl Hearings {
     pub(crate) fn new() -> Hearings
         ensures { result.heard ≡ [] }
     {
-        Hearings {
-            marker: PhantomData,
-        }
+        Hearings { list: Notes::new() }
     }
 
     /// Notes an account, and its connection.
     #[inline(always)]
-    pub(crate) fn note(&mut self, _of: &Of, _account: &Account)
-        ensures { self.new.heard
-            ≡ self.old.heard ++ (_of.now.connection, _account.now) ∷ [] }
-    {}
+    pub(crate) fn note(&mut self, connection: u64, account: &Account)
+        ensures { self.new.heard ≡ self.old.heard ++ (connection, account.now) ∷ [] }
+    {
+        let mut accounts = Notes::new();
+        accounts.note(account);
+        self.list.note(&(connection, accounts));
+    }
 }

@@ -2,7 +2,7 @@
 ghost use Rattle.std.specs.Prelude.{◌≡◌, List, [], ◌∷◌, ◌++◌};
 ghost use Rattle.serving.specs.Hearing.{Hearing};
 
-use crate::hearings::{Hearings, Of};
+use crate::hearings::Hearings;
 use crate::listener::{Asked, Listener};
 use crate::wire::Link;
 use office::Account;
@@ -48,7 +48,7 @@ impl<L: Listener> Listener for NotedListener<L> {
             → L.heard self.new.listener (h ++ (connection, account.now) ∷ []) }
     {
         self.listener.hear(connection, account);
-        self.notes.note(&Of { connection }, account);
+        self.notes.note(connection, account);
     }
 
     fn asked(&mut self, link: Link, asked: &Asked<'_>)

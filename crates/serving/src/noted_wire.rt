@@ -8,8 +8,8 @@ ghost use Rattle.serving.specs.Counting.{count_at, counted_with};
 ghost use Rattle.serving.specs.NotedWires.{tells_once, AreTold, TellNothing, WasAsked, WasAskedFor};
 
 use crate::counts::Counts;
-use crate::notes::{Notes, WireCall};
 use crate::wire::{Io, Link, Port, Wire};
+use crate::wire_notes::{WireCall, WireNotes};
 use std::net::IpAddr;
 
 /// A wire that does what the one inside does, and notes it.
@@ -23,7 +23,7 @@ use std::net::IpAddr;
 pub struct NotedWire<W: Wire> {
     pub wire: W,
     pub counts: Counts,
-    pub notes: Notes,
+    pub notes: WireNotes,
 }
 
 impl<W: Wire> NotedWire<W> {
@@ -36,7 +36,7 @@ impl<W: Wire> NotedWire<W> {
         NotedWire {
             wire,
             counts: Counts::new(),
-            notes: Notes::new(),
+            notes: WireNotes::new(),
         }
     }
 

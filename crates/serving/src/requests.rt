@@ -218,10 +218,9 @@ fn command<V: Vault, L: Listener>(
         → HasAsked V.holds site B L read office.new (Some (octets_of result)) }
     ensures clean { V.is_clean (vault_of office.new) → V.is_clean (vault_of office.old) }
 {
-    let mut account = Account::Nothing;
-    let outcome = office.step_with_account(Event::Admin(command), &mut account);
-    tell_end(listener, command, &account);
-    let (response, content) = response_to(alloc, &outcome);
+    let report = office.step_with_account(Event::Admin(command));
+    tell_end(listener, command, &report.account);
+    let (response, content) = response_to(alloc, &report.outcome);
     let line = Some(RequestLine::of(command));
     listener.asked(link, &Asked { line, content });
     response

@@ -20,8 +20,8 @@ use vault::Vault;
 
 /// What gives a server the moments of its turns, and ends it.
 ///
-/// `gave c answers`: c was asked so often and gave these answers. Of a clock of the machine's it
-/// isn't known.
+/// `gave c answers`: c was asked so often and gave these answers. Of a clock of the machine's it is
+/// known by a [`NotedClock`](crate::NotedClock) around it.
 pub trait Clock {
     /// `gave c answers`: c gave these answers, the newest last.
     ghost gave: { Self → List (Option ℕ) → Type 0 };

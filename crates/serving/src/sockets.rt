@@ -119,6 +119,9 @@ pub struct SocketWire {
     counts: Counts,
     /// Every turn at reading so far has a smaller number.
     turns: u64,
+    /// In the last wait the system told of a client's link that its other end has ended. Its place
+    /// is free once that is read, so whoever came meanwhile is accepted after the next wait.
+    has_ended: bool,
 }
 
 /// A read or write of so many octets: 0 is the end of the link.
@@ -208,6 +211,7 @@ impl SocketWire {
             places: free_places(alloc)?,
             counts: Counts::new(),
             turns: 0,
+            has_ended: false,
         };
         Ok((wire, port))
     }
@@ -244,8 +248,13 @@ impl SocketWire {
                     door.comes = true;
                 }
             } else if let Some(place) = self.places.get_mut(token.0) {
+                let is_ending = event.is_read_closed() || event.is_error();
+                // Each link counts once, so that who comes doesn't wait for long.
+                self.has_ended |= is_ending
+                    && !place.is_ending
+                    && is_same_port(place.port, Port::Pop);
                 place.unread = true;
-                place.is_ending |= event.is_read_closed() || event.is_error();
+                place.is_ending |= is_ending;
                 if event.is_writable() {
                     place.is_blocked = false;
                 }
@@ -447,6 +456,7 @@ impl Wire for SocketWire {
     fn wait(&mut self, millis: u32) {
         let millis = if self.is_pressing() { 0 } else { millis };
         let time = Duration::from_millis(u64::from(millis));
+        self.has_ended = false;
         if self.poll.poll(&mut self.events, Some(time)).is_ok() {
             self.note_events();
         }
@@ -459,6 +469,9 @@ impl Wire for SocketWire {
     }
 
     fn accept(&mut self, port: Port) -> Option<Link> {
+        if self.has_ended && is_same_port(port, Port::Pop) {
+            return None;
+        }
         let (stream, peer) = match port {
             Port::Pop => self.door.accept()?,
             Port::Admin => self.admin_door.as_mut()?.accept()?,

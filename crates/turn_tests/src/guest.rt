@@ -3,7 +3,7 @@
 use crate::heard::Heard;
 use crate::stream::{Stream, front, line_len};
 use adminhttp::{Got, Request, response};
-use office::{Account, Event, Office, Outcome};
+use office::{Event, Office, Outcome};
 use serving::{Listener, Port};
 use std::alloc::{AllocError, Global};
 use vault::PlainVault;
@@ -41,9 +41,8 @@ fn connect(office: &mut Office<PlainVault>) -> u64 {
 /// Gives an office a line. What it judged is heard.
 fn say(office: &mut Office<PlainVault>, heard: &mut Heard, connection: u64, line: &[u8]) {
     for piece in line.chunks(4096) {
-        let mut account = Account::Nothing;
-        let _ = office.step_with_account(Event::Bytes(connection, piece), &mut account);
-        heard.hear(connection, &account);
+        let report = office.step_with_account(Event::Bytes(connection, piece));
+        heard.hear(connection, &report.account);
     }
 }
 

@@ -2,7 +2,7 @@
 use serving::{Io, Link, Port, SocketWire, Wire};
 use std::io;
 use std::io::Write;
-use std::net::{Ipv4Addr, SocketAddr, TcpStream};
+use std::net::{Ipv4Addr, Shutdown, SocketAddr, TcpStream};
 use std::test::Fail;
 
 /// Waits, and tells of five links by a `1` which give octets.
@@ -56,5 +56,20 @@ fn longest_waiting_link_is_read_in_the_next_turn(rt: HostRuntime) -> Result<(), 
     assert!(rt; reads(&mut wire).as_slice() == b"11110".as_slice());
     send(clients.as_mut_slice(), b"b")?;
     assert!(rt; reads(&mut wire).as_slice() == b"11101".as_slice());
+    Ok(())
+}
+
+/// Who comes as another one ends isn't accepted until that one's place may be free.
+#[test]
+fn who_comes_behind_an_end_is_accepted_in_the_next_turn(rt: HostRuntime) -> Result<(), Fail> {
+    let any = SocketAddr::from((Ipv4Addr::LOCALHOST, 0));
+    let (mut wire, port) = SocketWire::bind(&rt, rt.alloc(), any)?;
+    let at = SocketAddr::from((Ipv4Addr::LOCALHOST, port));
+    let first = TcpStream::connect(&rt, at)?;
+    assert_eq!(rt; accepted(&mut wire), 1);
+    first.shutdown(Shutdown::Both)?;
+    let _second = TcpStream::connect(&rt, at)?;
+    assert_eq!(rt; accepted(&mut wire), 0);
+    assert_eq!(rt; accepted(&mut wire), 1);
     Ok(())
 }

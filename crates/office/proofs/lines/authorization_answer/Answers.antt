@@ -32,8 +32,8 @@ returns-clause-answered g c d held clean =
             held = c.reply_to.ensures.looks.held d clean held;
             may = search rules;
             cause = search rules;
-            account = λ fresh.
-                let told : c.of_line.result ≡ line_account (reading x) (Says (reply_of c.match-reply_to.reply.2 j t None x)) t.user None = search rules in
+            account =
+                let told : c.of_line-account.result ≡ line_account (reading x) (Says (reply_of c.match-reply_to.reply.2 j t None x)) t.user None = search rules in
                 told ∙ authorization_told c.match-reply_to.reply.2 p (reading x) (Says (reply_of c.match-reply_to.reply.2 j t None x)) t.user;
           }
       | in-Err w ↦
@@ -50,21 +50,21 @@ returns-clause-answered g c d held clean =
             held = c.reply_to.ensures.looks.held d clean held;
             may = λ f. asked;
             cause = search rules;
-            account = λ fresh.
-                let said : c.of_line.result ≡ line_account (reading x) (Says (reply_of c.match-reply_to.reply.2 j t None x)) t.user None = rw (failed, told) (search rules) in
+            account =
+                let said : c.of_line-account.result ≡ line_account (reading x) (Says (reply_of c.match-reply_to.reply.2 j t None x)) t.user None = rw (failed, told) (search rules) in
                 said ∙ authorization_told c.match-reply_to.reply.2 p (reading x) (Says (reply_of c.match-reply_to.reply.2 j t None x)) t.user;
           }
     ]
 
 pub returns-in-Err-NoMemory-clause-err : goal.returns-in-Err-NoMemory-clause-err
-returns-in-Err-NoMemory-clause-err g c = record { held = λ d held clean. c.reply_to.ensures.looks.held d clean held; locks = search rules; account = search rules }
+returns-in-Err-NoMemory-clause-err g c = record { held = λ d held clean. c.reply_to.ensures.looks.held d clean held; locks = search rules }
 
 pub returns-in_err-say-clause-err : goal.returns-in_err-say-clause-err
-returns-in_err-say-clause-err g c = err_or_not c.from_residual.result (record { held = λ d held clean. c.reply_to.ensures.looks.held d clean held; locks = λ d. refl; account = refl })
+returns-in_err-say-clause-err g c = err_or_not c.from_residual.result (record { held = λ d held clean. c.reply_to.ensures.looks.held d clean held; locks = λ d. refl })
 
 pub returns-in_err-lock-clause-err : goal.returns-in_err-lock-clause-err
 returns-in_err-lock-clause-err g c = err_or_not c.from_residual-in_err-lock.result
-    (record { held = λ d held clean. c.reply_to.ensures.looks.held d clean held; locks = c.in_err-lock.ensures.err; account = refl })
+    (record { held = λ d held clean. c.reply_to.ensures.looks.held d clean held; locks = c.in_err-lock.ensures.err })
 
 pub returns-in-Err-NoMemory-clause-looks : goal.returns-in-Err-NoMemory-clause-looks
 returns-in-Err-NoMemory-clause-looks g c =
@@ -72,11 +72,11 @@ returns-in-Err-NoMemory-clause-looks g c =
 
 pub returns-in_err-say-clause-looks : goal.returns-in_err-say-clause-looks
 returns-in_err-say-clause-looks g c = looks_once g.V.Vault c.reply_to.ensures.looks
-    (λ own. absurd (not_ok c.from_residual.result _ (λ r. WasDone r.0) c.from_residual.ensures.1 own))
+    (λ own. absurd (not_ok c.from_residual.result _ (λ r. WasDone r.0.outcome) c.from_residual.ensures.1 own))
 
 pub returns-in_err-lock-clause-looks : goal.returns-in_err-lock-clause-looks
 returns-in_err-lock-clause-looks g c = looks_once g.V.Vault c.reply_to.ensures.looks
-    (λ own. absurd (not_ok c.from_residual-in_err-lock.result _ (λ r. WasDone r.0)
+    (λ own. absurd (not_ok c.from_residual-in_err-lock.result _ (λ r. WasDone r.0.outcome)
     c.from_residual-in_err-lock.ensures.1 own))
 
 pub returns-clause-looks : goal.returns-clause-looks

@@ -19,8 +19,8 @@ same-session g c = search rules
 
 pub returns-then-is_quit-clause-answered : goal.returns-then-is_quit-clause-answered
 returns-then-is_quit-clause-answered g c d v held clean sits =
-    let w = c.in_ok-outcome.outcome in
-    let did = c.in_ok-outcome.ensures in
+    let w = c.in_ok-answered.answered.outcome in
+    let did = c.in_ok-answered.ensures in
     let p = c.args.context.policy.now in
     let x = c.args.line.now in
     let s = c.args.session in
@@ -37,14 +37,14 @@ returns-then-is_quit-clause-answered g c d v held clean sits =
       held = so.held;
       may = λ failed. subst (λ (v : Transaction). transaction_asks p v (reading x) ≡ true) (sym sits.2) (so.may failed);
       cause = so.cause;
-      account = λ fresh. state_told d p s v w c.args.state.now.user x _ sits
-          (λ failed. subst (λ (v : Transaction). transaction_asks p v (reading x) ≡ true) (sym sits.2) (so.may failed)) (c.of_quit.ensures ∙ told);
+      account = state_told d p s v w c.args.state.now.user x _ sits
+          (λ failed. subst (λ (v : Transaction). transaction_asks p v (reading x) ≡ true) (sym sits.2) (so.may failed)) (c.of_quit-account.ensures ∙ told);
     }
 
 pub returns-clause-answered : goal.returns-clause-answered
 returns-clause-answered g c d v held clean sits =
-    let w = c.in_ok-outcome.outcome in
-    let did = c.in_ok-outcome.ensures in
+    let w = c.in_ok-answered.answered.outcome in
+    let did = c.in_ok-answered.ensures in
     let p = c.args.context.policy.now in
     let x = c.args.line.now in
     let s = c.args.session in
@@ -61,19 +61,19 @@ returns-clause-answered g c d v held clean sits =
       held = so.held;
       may = λ failed. subst (λ (v : Transaction). transaction_asks p v (reading x) ≡ true) (sym sits.2) (so.may failed);
       cause = so.cause;
-      account = λ fresh. state_told d p s v w c.args.state.now.user x _ sits (λ failed. subst (λ (v : Transaction). transaction_asks p v (reading x) ≡ true) (sym sits.2) (so.may failed))
-          (subst (λ (v : Transaction). c.answer.new.account ≡ transaction_account w p s (reading x) (Says (transaction_reply w p v x)) (named_in v (reading x))) (sym sits.2)
-          (did.account q fresh d sits.0 sits.1 ∙ sym (not_quitting w p s (reading x) _ _ q)));
+      account = state_told d p s v w c.args.state.now.user x _ sits (λ failed. subst (λ (v : Transaction). transaction_asks p v (reading x) ≡ true) (sym sits.2) (so.may failed))
+          (subst (λ (v : Transaction). c.in_ok-answered.answered.account ≡ transaction_account w p s (reading x) (Says (transaction_reply w p v x)) (named_in v (reading x))) (sym sits.2)
+          (did.account q d sits.0 sits.1 ∙ sym (not_quitting w p s (reading x) _ _ q)));
     }
 
-pub returns-in_err-outcome-clause-err : goal.returns-in_err-outcome-clause-err
-returns-in_err-outcome-clause-err g c = err_or_not c.from_residual.result (record { held = c.in_err-outcome.ensures.err; locks = λ d. refl; account = c.in_err-outcome.ensures.account_err })
+pub returns-in_err-answered-clause-err : goal.returns-in_err-answered-clause-err
+returns-in_err-answered-clause-err g c = err_or_not c.from_residual.result (record { held = c.in_err-answered.ensures.err; locks = λ d. refl })
 
 pub returns-then-is_quit-clause-locks : goal.returns-then-is_quit-clause-locks
 returns-then-is_quit-clause-locks g c = search rules
 
-pub returns-in_err-outcome-clause-unasked : goal.returns-in_err-outcome-clause-unasked
-returns-in_err-outcome-clause-unasked g c d v sits none =
+pub returns-in_err-answered-clause-unasked : goal.returns-in_err-answered-clause-unasked
+returns-in_err-answered-clause-unasked g c d v sits none =
     c.answer.ensures.unasked d sits.0 sits.1 (subst (λ (w : Transaction). transaction_asks c.args.context.policy.now w (reading c.args.line.now) ≡ false) sits.2 none)
 
 pub returns-then-is_quit-clause-unasked : goal.returns-then-is_quit-clause-unasked

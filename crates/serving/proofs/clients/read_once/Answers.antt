@@ -30,19 +30,19 @@ returns-in-Count-clause-serves g c = λ seats these has before T beside s clean.
     let connection = c.args.seat.connection in
     let now = trace_of T.base s.log in
     let both : ToldOfPorts = record { pop = s.told; admin = beside.admin } in
-    let o = outcome_seen c.step_with_account.result in
+    let o = outcome_seen c.step_with_account-report.result.outcome in
     let within = c.in-Count.ensures.within in
     let is_so : c.ready.result ≡ true = search rules in
     let ready = sym (c.ready.ensures now s.stands) ∙ is_so in
     let here = ready_open now connection ready in
     let at_k = seat_owns s.owner seats c.args.seat has s.seated.own in
-    let k = bytes_mark now (lent_by c.args.office.now) connection piece o ready (short_piece n most_in_a_piece c.read.new.buffer (omega (arith, within.1, c.requires))) (c.step_with_account.ensures.outcome now s.stands clean) in
+    let k = bytes_mark now (lent_by c.args.office.now) connection piece o ready (short_piece n most_in_a_piece c.read.new.buffer (omega (arith, within.1, c.requires))) (c.step_with_account-report.ensures.outcome now s.stands clean) in
     record {
       log = (event.Bytes connection piece, event_tag_of o) ∷ s.log;
       told = has_read s.told number (Count n) piece;
       owner = s.owner;
-      stands = c.step_with_account.ensures.stands now s.stands clean;
-      admitted = (c.step_with_account.ensures.admitted now s.stands clean, s.admitted);
+      stands = c.step_with_account-report.ensures.stands now s.stands clean;
+      admitted = (c.step_with_account-report.ensures.admitted now s.stands clean, s.admitted);
       tells = c.in-Count.ensures.told both s.tells;
       served = subst (λ m. AreServed (has_read s.told number (Count n) piece) s.owner T.base ((event.Bytes connection piece, m) ∷ s.log)) (sym k.1)
           (served_read s.told s.owner T.base s.log number connection n piece k.0 s.served at_k here);
@@ -78,19 +78,19 @@ returns-in-End-clause-serves g c = λ seats these has before T beside s clean.
     let connection = c.args.seat.connection in
     let now = trace_of T.base s.log in
     let both : ToldOfPorts = record { pop = s.told; admin = beside.admin } in
-    let o = outcome_seen c.step_with_account-in-End.result in
+    let o = outcome_seen c.step_with_account-report-in-End.result.outcome in
     let io = c.read.result in
     let fault : is_fault io ≡ true = search rules in
     let is_so : c.ready.result ≡ true = search rules in
     let here = ready_open now connection (sym (c.ready.ensures now s.stands) ∙ is_so) in
     let at_k = seat_owns s.owner seats c.args.seat has s.seated.own in
-    let k = gone_mark now (lent_by c.args.office.now) connection o here (c.step_with_account-in-End.ensures.outcome now s.stands clean) in
+    let k = gone_mark now (lent_by c.args.office.now) connection o here (c.step_with_account-report-in-End.ensures.outcome now s.stands clean) in
     record {
       log = (event.Gone connection, event_tag_of o) ∷ s.log;
       told = has_read s.told number io [];
       owner = s.owner;
-      stands = c.step_with_account-in-End.ensures.stands now s.stands clean;
-      admitted = (c.step_with_account-in-End.ensures.admitted now s.stands clean, s.admitted);
+      stands = c.step_with_account-report-in-End.ensures.stands now s.stands clean;
+      admitted = (c.step_with_account-report-in-End.ensures.admitted now s.stands clean, s.admitted);
       tells = subst (λ xs. g.W.Wire.tells c.read.new.self (record { pop = has_read s.told number io xs; admin = beside.admin })) (fault_none io c.read.new.buffer fault) (c.read.ensures.told both s.tells);
       served = subst (λ m. AreServed (has_read s.told number io []) s.owner T.base ((event.Gone connection, m) ∷ s.log)) (sym k.1)
           (served_read_fault s.told s.owner T.base s.log number connection io k.0 fault s.served at_k here);
@@ -115,14 +115,14 @@ returns-in-Count-clause-works g c =
     let room = length c.args.buffer.now in
     let n = c.in-Count.count in
     let piece = take n c.read.new.buffer in
-    let m = event_tag_of (outcome_seen c.step_with_account.result) in
+    let m = event_tag_of (outcome_seen c.step_with_account-report.result.outcome) in
     record {
       given = (event.Bytes seat.connection piece, m) ∷ [];
       calls = Read Pop seat.link room (Count n) piece ∷ [];
-      was_given = given_one Holds g.V.Vault.is_clean g.V.Vault.faults o c.step_with_account.new.self (event.Bytes seat.connection piece) (outcome_seen c.step_with_account.result) c.step_with_account.ensures.clean c.step_with_account.ensures.stands c.step_with_account.ensures.admitted c.step_with_account.ensures.counted c.step_with_account.ensures.cause;
+      was_given = given_one Holds g.V.Vault.is_clean g.V.Vault.faults o c.step_with_account-report.new.self (event.Bytes seat.connection piece) (outcome_seen c.step_with_account-report.result.outcome) c.step_with_account-report.ensures.clean c.step_with_account-report.ensures.stands c.step_with_account-report.ensures.admitted c.step_with_account-report.ensures.counted c.step_with_account-report.ensures.cause;
       was_asked = asked_one g.W.Wire.asked c.args.wire.now c.read.new.self (Read Pop seat.link room (Count n) piece) c.in-Count.ensures.called;
       facts = (
-        heard_one g.V.Vault.holds g.V.Vault.is_clean g.L.Listener.heard o c.step_with_account.new.self c.args.listener.now c.hear.new.self (event.Bytes seat.connection piece) m seat.connection c.step_with_account.new.account (λ T. refl) c.step_with_account.ensures.account c.hear.ensures.told,
+        heard_one g.V.Vault.holds g.V.Vault.is_clean g.L.Listener.heard o c.step_with_account-report.new.self c.args.listener.now c.hear.new.self (event.Bytes seat.connection piece) m seat.connection c.step_with_account-report.result.account (λ T. refl) c.step_with_account-report.ensures.account c.hear.ensures.told,
         (read_some Holds g.V.Vault.is_clean g.V.Vault.faults o seat room (Count n) piece piece m, λ e. refl),
       );
     }
@@ -147,17 +147,17 @@ returns-in-End-clause-works g c =
     let seat = c.args.seat in
     let room = length c.args.buffer.now in
     let connection = seat.connection in
-    let m = event_tag_of (outcome_seen c.step_with_account-in-End.result) in
+    let m = event_tag_of (outcome_seen c.step_with_account-report-in-End.result.outcome) in
     let io = c.read.result in
     let octets = counted io c.read.new.buffer in
     let fault : is_fault io ≡ true = search rules in
     record {
       given = (event.Gone connection, m) ∷ [];
       calls = Read Pop seat.link room io octets ∷ [];
-      was_given = given_one Holds g.V.Vault.is_clean g.V.Vault.faults office c.step_with_account-in-End.new.self (event.Gone connection) (outcome_seen c.step_with_account-in-End.result) c.step_with_account-in-End.ensures.clean c.step_with_account-in-End.ensures.stands c.step_with_account-in-End.ensures.admitted c.step_with_account-in-End.ensures.counted c.step_with_account-in-End.ensures.cause;
+      was_given = given_one Holds g.V.Vault.is_clean g.V.Vault.faults office c.step_with_account-report-in-End.new.self (event.Gone connection) (outcome_seen c.step_with_account-report-in-End.result.outcome) c.step_with_account-report-in-End.ensures.clean c.step_with_account-report-in-End.ensures.stands c.step_with_account-report-in-End.ensures.admitted c.step_with_account-report-in-End.ensures.counted c.step_with_account-report-in-End.ensures.cause;
       was_asked = asked_one g.W.Wire.asked c.args.wire.now c.read.new.self (Read Pop seat.link room io octets) c.read.ensures.called;
       facts = (
-        heard_one g.V.Vault.holds g.V.Vault.is_clean g.L.Listener.heard office c.step_with_account-in-End.new.self c.args.listener.now c.hear-in-End.new.self (event.Gone connection) m connection c.step_with_account-in-End.new.account (λ T. refl) c.step_with_account-in-End.ensures.account c.hear-in-End.ensures.told,
+        heard_one g.V.Vault.holds g.V.Vault.is_clean g.L.Listener.heard office c.step_with_account-report-in-End.new.self c.args.listener.now c.hear-in-End.new.self (event.Gone connection) m connection c.step_with_account-report-in-End.result.account (λ T. refl) c.step_with_account-report-in-End.ensures.account c.hear-in-End.ensures.told,
         (read_cut Holds g.V.Vault.is_clean g.V.Vault.faults office seat room io octets m fault, polled_quiet false (Read Pop seat.link room io octets ∷ [])),
       );
     }

@@ -28,18 +28,18 @@ returns-in-Count-clause-serves g c = λ seats these has before T beside s clean.
     let number = c.args.seat.link.number in
     let connection = c.args.seat.connection in
     let now = trace_of T.base s.log in
-    let o = outcome_seen c.step_with_account.result in
+    let o = outcome_seen c.step_with_account-report.result.outcome in
     let within = c.in-Count.ensures.within in
     let is = c.owed-lent.ensures.lent now s.stands in
     let here = lent_open now connection n lent is within.0 within.1 in
     let at_k = seat_owns s.owner seats c.args.seat has s.seated.own in
-    let k = took_mark now (lent_by c.args.office.now) connection n lent o is c.owed-lent.ensures.count within.0 within.1 (c.step_with_account.ensures.outcome now s.stands clean) in
+    let k = took_mark now (lent_by c.args.office.now) connection n lent o is c.owed-lent.ensures.count within.0 within.1 (c.step_with_account-report.ensures.outcome now s.stands clean) in
     record {
       log = (event.Took connection n, event_tag_of o) ∷ s.log;
       told = has_written s.told number (Count n) (take n lent);
       owner = s.owner;
-      stands = c.step_with_account.ensures.stands now s.stands clean;
-      admitted = (c.step_with_account.ensures.admitted now s.stands clean, s.admitted);
+      stands = c.step_with_account-report.ensures.stands now s.stands clean;
+      admitted = (c.step_with_account-report.ensures.admitted now s.stands clean, s.admitted);
       tells = c.in-Count.ensures.told (record { pop = s.told; admin = beside.admin }) s.tells;
       served = subst (λ m. AreServed (has_written s.told number (Count n) (take n lent)) s.owner T.base ((event.Took connection n, m) ∷ s.log)) (sym k.1)
           (served_written s.told s.owner T.base s.log number connection n (take n lent) k.0 (lent_rest now connection n lent is within.1) s.served at_k here);
@@ -76,20 +76,20 @@ returns-in-End-clause-serves g c = λ seats these has before T beside s clean.
     let number = c.args.seat.link.number in
     let connection = c.args.seat.connection in
     let now = trace_of T.base s.log in
-    let o = outcome_seen c.step_with_account-in-End.result in
+    let o = outcome_seen c.step_with_account-report-in-End.result.outcome in
     let io = c.write.result in
     let fault : is_fault io ≡ true = search rules in
     let no : c.is_empty.result ≡ false = search rules in
     let some = lent_some c.is_empty.result (length lent) c.is_empty.ensures no in
     let here = lent_open now connection (length lent) lent (c.owed-lent.ensures.lent now s.stands) some (omega arith) in
     let at_k = seat_owns s.owner seats c.args.seat has s.seated.own in
-    let k = gone_mark now (lent_by c.args.office.now) connection o here (c.step_with_account-in-End.ensures.outcome now s.stands clean) in
+    let k = gone_mark now (lent_by c.args.office.now) connection o here (c.step_with_account-report-in-End.ensures.outcome now s.stands clean) in
     record {
       log = (event.Gone connection, event_tag_of o) ∷ s.log;
       told = has_written s.told number io [];
       owner = s.owner;
-      stands = c.step_with_account-in-End.ensures.stands now s.stands clean;
-      admitted = (c.step_with_account-in-End.ensures.admitted now s.stands clean, s.admitted);
+      stands = c.step_with_account-report-in-End.ensures.stands now s.stands clean;
+      admitted = (c.step_with_account-report-in-End.ensures.admitted now s.stands clean, s.admitted);
       tells = subst (λ xs. g.W.Wire.tells c.write.new.self (record { pop = has_written s.told number io xs; admin = beside.admin })) (fault_none io lent fault) (c.write.ensures.told (record { pop = s.told; admin = beside.admin }) s.tells);
       served = subst (λ m. AreServed (has_written s.told number io []) s.owner T.base ((event.Gone connection, m) ∷ s.log)) (sym k.1)
           (served_written_fault s.told s.owner T.base s.log number connection io k.0 fault s.served at_k here);
@@ -117,15 +117,15 @@ returns-in-Count-clause-works g c =
     let seat = c.args.seat in
     let n = c.in-Count.count in
     let lent = c.owed-lent.result.now in
-    let m = event_tag_of (outcome_seen c.step_with_account.result) in
+    let m = event_tag_of (outcome_seen c.step_with_account-report.result.outcome) in
     record {
       given = (event.Took seat.connection n, m) ∷ [];
       calls = Wrote Pop seat.link (length lent) (Count n) (take n lent) ∷ [];
-      was_given = given_one Holds g.V.Vault.is_clean g.V.Vault.faults o c.step_with_account.new.self (event.Took seat.connection n) (outcome_seen c.step_with_account.result) c.step_with_account.ensures.clean c.step_with_account.ensures.stands c.step_with_account.ensures.admitted c.step_with_account.ensures.counted c.step_with_account.ensures.cause;
+      was_given = given_one Holds g.V.Vault.is_clean g.V.Vault.faults o c.step_with_account-report.new.self (event.Took seat.connection n) (outcome_seen c.step_with_account-report.result.outcome) c.step_with_account-report.ensures.clean c.step_with_account-report.ensures.stands c.step_with_account-report.ensures.admitted c.step_with_account-report.ensures.counted c.step_with_account-report.ensures.cause;
       was_asked = asked_one g.W.Wire.asked c.args.wire.now c.write.new.self (Wrote Pop seat.link (length lent) (Count n) (take n lent)) c.in-Count.ensures.called;
       facts = (
-        heard_one g.V.Vault.holds g.V.Vault.is_clean g.L.Listener.heard o c.step_with_account.new.self c.args.listener.now c.hear.new.self (event.Took seat.connection n) m seat.connection c.step_with_account.new.account (λ T. refl) c.step_with_account.ensures.account c.hear.ensures.told,
-        wrote_some Holds g.V.Vault.is_clean g.V.Vault.faults o c.step_with_account.new.self seat (length lent) n (take n lent) m c.in-Count.ensures.within.0
+        heard_one g.V.Vault.holds g.V.Vault.is_clean g.L.Listener.heard o c.step_with_account-report.new.self c.args.listener.now c.hear.new.self (event.Took seat.connection n) m seat.connection c.step_with_account-report.result.account (λ T. refl) c.step_with_account-report.ensures.account c.hear.ensures.told,
+        wrote_some Holds g.V.Vault.is_clean g.V.Vault.faults o c.step_with_account-report.new.self seat (length lent) n (take n lent) m c.in-Count.ensures.within.0
             (λ B L s. c.owed-lent.ensures.exact (trace_of B L) s),
       );
     }
@@ -152,7 +152,7 @@ returns-in-End-clause-works g c =
     let office = c.args.office.now in
     let seat = c.args.seat in
     let connection = seat.connection in
-    let o = outcome_seen c.step_with_account-in-End.result in
+    let o = outcome_seen c.step_with_account-report-in-End.result.outcome in
     let io = c.write.result in
     let lent = c.owed-lent.result.now in
     let fault : is_fault io ≡ true = search rules in
@@ -162,16 +162,16 @@ returns-in-End-clause-works g c =
     record {
       given = (event.Gone connection, event_tag_of o) ∷ [];
       calls = Wrote Pop seat.link (length lent) io octets ∷ [];
-      was_given = given_one Holds g.V.Vault.is_clean g.V.Vault.faults office c.step_with_account-in-End.new.self (event.Gone connection) (outcome_seen c.step_with_account-in-End.result) c.step_with_account-in-End.ensures.clean c.step_with_account-in-End.ensures.stands c.step_with_account-in-End.ensures.admitted c.step_with_account-in-End.ensures.counted c.step_with_account-in-End.ensures.cause;
+      was_given = given_one Holds g.V.Vault.is_clean g.V.Vault.faults office c.step_with_account-report-in-End.new.self (event.Gone connection) (outcome_seen c.step_with_account-report-in-End.result.outcome) c.step_with_account-report-in-End.ensures.clean c.step_with_account-report-in-End.ensures.stands c.step_with_account-report-in-End.ensures.admitted c.step_with_account-report-in-End.ensures.counted c.step_with_account-report-in-End.ensures.cause;
       was_asked = asked_one g.W.Wire.asked c.args.wire.now c.write.new.self (Wrote Pop seat.link (length lent) io octets) c.write.ensures.called;
       facts = (
-        heard_one g.V.Vault.holds g.V.Vault.is_clean g.L.Listener.heard office c.step_with_account-in-End.new.self c.args.listener.now c.hear-in-End.new.self (event.Gone connection) (event_tag_of o) connection c.step_with_account-in-End.new.account (λ T. refl) c.step_with_account-in-End.ensures.account c.hear-in-End.ensures.told,
-        wrote_cut Holds g.V.Vault.is_clean g.V.Vault.faults office c.step_with_account-in-End.new.self seat (length lent) io octets
+        heard_one g.V.Vault.holds g.V.Vault.is_clean g.L.Listener.heard office c.step_with_account-report-in-End.new.self c.args.listener.now c.hear-in-End.new.self (event.Gone connection) (event_tag_of o) connection c.step_with_account-report-in-End.result.account (λ T. refl) c.step_with_account-report-in-End.ensures.account c.hear-in-End.ensures.told,
+        wrote_cut Holds g.V.Vault.is_clean g.V.Vault.faults office c.step_with_account-report-in-End.new.self seat (length lent) io octets
             (event_tag_of o) fault (λ B L s. c.owed-lent.ensures.exact (trace_of B L) s)
             (λ B L s k.
             (let now = trace_of B L in
             let here = lent_open now connection (length lent) lent (c.owed-lent.ensures.lent now s) some (omega arith) in
-            let t = gone_mark now (lent_by office) connection o here (c.step_with_account-in-End.ensures.outcome now s k) in
+            let t = gone_mark now (lent_by office) connection o here (c.step_with_account-report-in-End.ensures.outcome now s k) in
             shut_rest (trace_of B ((event.Gone connection, event_tag_of o) ∷ L)) connection
             (subst (λ m. is_open (trace_of B ((event.Gone connection, m) ∷ L)) connection ≡ false) (sym t.1) (gone_so B L connection t.0)))),
       );

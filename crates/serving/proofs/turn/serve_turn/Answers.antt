@@ -163,7 +163,7 @@ returns-clause-few g c = λ few. (let a = c.accept_requests.ensures.few few in l
 pub returns-clause-short : goal.returns-clause-short
 returns-clause-short g c = λ T s clean short.
     (let w = returns-clause-works g c T s clean in
-    all_short T c.args.now c.args.links.now (record { clients = c.serve_spool.new.links; requests = c.serve_requests.new.requests; site = c.args.links.now.site }) w.given w.calls w.http short)
+    all_short T c.args.now c.args.links.now (record { clients = c.serve_spool.new.links; requests = c.serve_requests.new.requests; site = c.args.links.now.site }) w.seen w.accepts w.admin short)
 
 pub returns-clause-seated : goal.returns-clause-seated
 returns-clause-seated g c = λ h.

@@ -8,6 +8,7 @@ use Rattle.office.specs.Transaction.{Transaction}
 use Rattle.office.specs.Kept.{Kept, asks}
 use Rattle.office.specs.Answered.{HasTransaction, LocksFollow, held_if}
 use Rattle.office.specs.AfterLine.{AfterNext, NothingDone, line_of}
+use Rattle.office.specs.declared.account.LineReport.{LineReport}
 use Rattle.office.specs.declared.login_state.LineOutcome.TheVariants as outcome
 use Rattle.office.proofs.AfterLines.{rest_cut}
 use Rattle.office.specs.AfterLine.{cut_through}
@@ -35,9 +36,10 @@ pub returns-clause-answered : goal.returns-clause-answered
 returns-clause-answered g c =
     let before = c.args in
     let new = c.answer_next.new in
-    subst (λ (k : Kept). IfOk c.answer_next.result (λ w. (d : Contents) (v : Option Transaction) → g.V.Vault.holds before.vault.now d → g.V.Vault.is_clean new.vault → HasTransaction d k.session v
+    subst (λ (k : Kept). IfOk c.answer_next.result
+    (λ (r : LineReport). (d : Contents) (v : Option Transaction) → g.V.Vault.holds before.vault.now d → g.V.Vault.is_clean new.vault → HasTransaction d k.session v
     → AfterNext (g.V.Vault.holds new.vault)
-    (has_grown (g.V.Vault.faults before.vault.now) (g.V.Vault.faults new.vault)) d before.policy.now before.locks.now v k new.self w before.account.now new.account))
+    (has_grown (g.V.Vault.faults before.vault.now) (g.V.Vault.faults new.vault)) d before.policy.now before.locks.now v k new.self r.outcome r.account))
     (cut g (goal.at.returns-clause-answered g c).After-answer_next)
     c.answer_next.ensures.answered
 
@@ -52,12 +54,12 @@ returns-clause-err g c =
     let before = c.args in
     let new = c.answer_next.new in
     subst (λ (k : Kept). OnErr c.answer_next.result
-    ((k.held.whole ≡ true) × NothingDone g.V.Vault before.vault.now new.vault before.locks.now new.locks before.account.now new.account)) (cut g (goal.at.returns-clause-err g c).After-answer_next)
+    ((k.held.whole ≡ true) × NothingDone g.V.Vault before.vault.now new.vault before.locks.now new.locks)) (cut g (goal.at.returns-clause-err g c).After-answer_next)
     c.answer_next.ensures.err
 
 pub returns-clause-acts : goal.returns-clause-acts
 returns-clause-acts g c =
-    subst (λ (k : Kept). ActsOnce g.V.Vault c.args.vault.now c.answer_next.new.vault (IsOkAnd c.answer_next.result WasDone)
+    subst (λ (k : Kept). ActsOnce g.V.Vault c.args.vault.now c.answer_next.new.vault (IsOkAnd c.answer_next.result (λ (r : LineReport). WasDone r.outcome))
     (held_if k.held.whole outcome.Done c.args.policy.now k.session (reading (line_of k)))) (cut g (goal.at.returns-clause-acts g c).After-answer_next)
     c.answer_next.ensures.acts
 

@@ -31,9 +31,9 @@ pub returns-in_default-clause-after : goal.returns-in_default-clause-after
 returns-in_default-clause-after g c =
     let o = c.args.self.now in
     let none : get nat_cmp o.connections c.args.c ≡ None = search rules in
-    ignored_after g.V.Vault o _ (Bytes c.args.c c.args.piece.now) outcome.NoSuchConnection (g.met.V.Vault.settled _)
+    rw c.ignored.ensures (ignored_after g.V.Vault o _ (Bytes c.args.c c.args.piece.now) outcome.NoSuchConnection (g.met.V.Vault.settled _)
     (λ q. ap (λ connections. get nat_cmp connections q) c.get_mut.follows.holds-at-none)
-    (λ T st. let closed = closed_at T c.args.c st none in rw closed refl)
+    (λ T st. let closed = closed_at T c.args.c st none in rw closed refl))
 
 pub returns-then-not-owes_nothing-clause-after : goal.returns-then-not-owes_nothing-clause-after
 returns-then-not-owes_nothing-clause-after g c =
@@ -42,11 +42,12 @@ returns-then-not-owes_nothing-clause-after g c =
     let k : Kept = c.in-Some.connection.now in
     let found : get nat_cmp o.connections n ≡ Some k = sym c.in-Some.ensures.value in
     let updates = (c.get_mut.follows.holds k).3 (search rules) in
-    ignored_after g.V.Vault o _ (Bytes n c.args.piece.now) outcome.NotReady (g.met.V.Vault.settled _) (put_back n k o.connections (c.get_mut.follows.lender k) found updates)
+    rw c.ignored-then-not-owes_nothing.ensures
+    (ignored_after g.V.Vault o _ (Bytes n c.args.piece.now) outcome.NotReady (g.met.V.Vault.settled _) (put_back n k o.connections (c.get_mut.follows.lender k) found updates)
     (λ T st.
     let m = kept_at T n st k found in
     bytes_waits T (lent_by o) n c.args.piece.now m.opened
-    (some_owed st.keeps.contents k.session k.output (untaken_of (seen T n)) m.owed (sym c.owes_nothing.ensures.value ∙ c.if-not-owes_nothing.true)))
+    (some_owed st.keeps.contents k.session k.output (untaken_of (seen T n)) m.owed (sym c.owes_nothing.ensures.value ∙ c.if-not-owes_nothing.true))))
 
 pub returns-then-piece-gt-MOST_IN_A_PIECE-clause-after : goal.returns-then-piece-gt-MOST_IN_A_PIECE-clause-after
 returns-then-piece-gt-MOST_IN_A_PIECE-clause-after g c =
@@ -57,10 +58,11 @@ returns-then-piece-gt-MOST_IN_A_PIECE-clause-after g c =
     let found : get nat_cmp o.connections n ≡ Some k = sym c.in-Some.ensures.value in
     let updates = (c.get_mut.follows.holds k).3 (search rules) in
     let long : nat_lt most_in_a_piece (length p) ≡ true = search rules in
-    ignored_after g.V.Vault o _ (Bytes n p) outcome.PieceTooLong (g.met.V.Vault.settled _) (put_back n k o.connections (c.get_mut.follows.lender k) found updates)
+    rw c.ignored-then-piece-gt-MOST_IN_A_PIECE.ensures
+    (ignored_after g.V.Vault o _ (Bytes n p) outcome.PieceTooLong (g.met.V.Vault.settled _) (put_back n k o.connections (c.get_mut.follows.lender k) found updates)
     (λ T st.
     let m = kept_at T n st k found in
-    bytes_too_long T (lent_by o) n p m.opened (none_owed st.keeps.contents k.session k.output (untaken_of (seen T n)) m.owed (c.owes_nothing.ensures.nothing c.if-not-owes_nothing.false)) long)
+    bytes_too_long T (lent_by o) n p m.opened (none_owed st.keeps.contents k.session k.output (untaken_of (seen T n)) m.owed (c.owes_nothing.ensures.nothing c.if-not-owes_nothing.false)) long))
 
 pub returns-in-Ok-clause-after : goal.returns-in-Ok-clause-after
 returns-in-Ok-clause-after g c = record {
@@ -72,7 +74,7 @@ returns-in-Ok-clause-after g c = record {
       let p = c.args.piece.now in
       let k : Kept = c.in-Some.connection.now in
       let k' : Kept = c.hear.new.self in
-      let w = c.in-Ok.line_outcome in
+      let w = c.in-Ok.line.outcome in
       let ct = st.keeps.contents in
       let found : get nat_cmp o.connections n ≡ Some k = sym c.in-Some.ensures.value in
       let m : Matches ct (seen T n) k = kept_at T n st k found in
@@ -86,12 +88,12 @@ returns-in-Ok-clause-after g c = record {
       let does = c.in-Ok.ensures in
       let did = does.answered ct j.transaction st.keeps.held clean j.has_transaction in
       stands_after g.V.Vault o _ T (Bytes n p) _
-      (moved g.V.Vault.holds o _ T (Bytes n p) _ (tag_of w) n (marked w _ c.outcome_of.ensures) st refl refl refl refl refl refl (whole-bytes T n p (tag_of w)) refl refl
+      (moved g.V.Vault.holds o _ T (Bytes n p) _ (tag_of w) n (marked w _ c.after_line.ensures.outcome) st refl refl refl refl refl refl (whole-bytes T n p (tag_of w)) refl refl
       (rw found refl) (λ q e. seen-bytes_other T n p q (tag_of w) e) (λ q ne. updates.2 q (is_apart n q ne))
       (piece_moves T n p st.keeps sound o.policy st.policy o.locks st.locks o.moment st.moment k m nothing fits w k' did _ does.locks g.V.Vault.holds o _ kept refl did.held))
-      (piece_answered T n p st.keeps sound o.policy st.policy o.locks st.locks o.moment st.moment k m nothing fits w k' did (lent_by o) _ c.outcome_of.ensures)
-      (line_cause (g.V.Vault.faults o.vault) (g.V.Vault.faults c.hear.new.vault) w _ c.outcome_of.ensures did.cause)
-      (λ up answered. does.acts.up ct st.keeps.held clean up (line_answered w _ c.outcome_of.ensures answered))
+      (piece_answered T n p st.keeps sound o.policy st.policy o.locks st.locks o.moment st.moment k m nothing fits w k' did (lent_by o) _ c.after_line.ensures.outcome)
+      (line_cause (g.V.Vault.faults o.vault) (g.V.Vault.faults c.hear.new.vault) w _ c.after_line.ensures.outcome did.cause)
+      (λ up answered. does.acts.up ct st.keeps.held clean up (line_answered w _ c.after_line.ensures.outcome answered))
       (λ up. line_left T n st.keeps sound (streamed (seen T n) p o.moment) (clocked o.moment p k) p (judged_at ct o.policy k.stamp o.locks) k.state ready j (Bytes n p)
       (λ h nx. records-bytes_line T n p line_outcome.Done (line_after k p) h nx) (λ h nx. records-bytes_part T n p Done h) (c.hear.ensures.acts.stop ct st.keeps.held clean up))
       (g.met.V.Vault.settled _) clean;
@@ -174,13 +176,13 @@ returns-in-Err-clause-unasked g c T st clean none =
     c.hear.ensures.unasked ct j.transaction j.has_transaction (piece_asks_none T n ct k (judged_at ct o.policy k.stamp o.locks) k.state k.session j p o.moment ready none)
 
 pub returns-in-Ok-clause-account : goal.returns-in-Ok-clause-account
-returns-in-Ok-clause-account g c fresh T st clean =
+returns-in-Ok-clause-account g c T st clean =
     let o = c.args.self.now in
     let n = c.args.c in
     let p = c.args.piece.now in
     let k : Kept = c.in-Some.connection.now in
     let k' : Kept = c.hear.new.self in
-    let w = c.in-Ok.line_outcome in
+    let w = c.in-Ok.line.outcome in
     let ct = st.keeps.contents in
     let found : get nat_cmp o.connections n ≡ Some k = sym c.in-Some.ensures.value in
     let m : Matches ct (seen T n) k = subst (IsKeptFor ct (seen T n)) found (st.connections n) in
@@ -191,7 +193,16 @@ returns-in-Ok-clause-account g c fresh T st clean =
     let does = c.in-Ok.ensures in
     let did = does.answered ct j.transaction st.keeps.held clean j.has_transaction in
     let is = piece_told T n p st.keeps sound o.policy st.policy o.locks st.locks o.moment st.moment k m nothing fits w k' did in
-    did.account fresh ∙ (is ∙ sym (ap (account_of T (Bytes n p)) (marked w _ c.outcome_of.ensures) ∙ piece_account T n p w))
+    c.after_line.ensures.account ∙ (did.account ∙ (is ∙ sym (ap (account_of T (Bytes n p)) (marked w _ c.after_line.ensures.outcome) ∙ piece_account T n p w)))
 
 pub returns-in-Err-clause-account : goal.returns-in-Err-clause-account
-returns-in-Err-clause-account g c fresh T st clean = rw c.lack_memory.ensures.outcome c.lack_memory.ensures.account
+returns-in-Err-clause-account g c T st clean = rw c.lack_memory.ensures.outcome c.lack_memory.ensures.account
+
+pub returns-in_default-clause-account : goal.returns-in_default-clause-account
+returns-in_default-clause-account g c T st clean = rw c.ignored.ensures refl
+
+pub returns-then-not-owes_nothing-clause-account : goal.returns-then-not-owes_nothing-clause-account
+returns-then-not-owes_nothing-clause-account g c T st clean = rw c.ignored-then-not-owes_nothing.ensures refl
+
+pub returns-then-piece-gt-MOST_IN_A_PIECE-clause-account : goal.returns-then-piece-gt-MOST_IN_A_PIECE-clause-account
+returns-then-piece-gt-MOST_IN_A_PIECE-clause-account g c T st clean = rw c.ignored-then-piece-gt-MOST_IN_A_PIECE.ensures refl

@@ -1,4 +1,3 @@
-use Rattle.std.proofs.Common.{refl}
 use Rattle.office.specs.Seen.{outcome_seen}
 use Rattle.office.proofs.Lending.{admitted, sent_so}
 use Rattle.office.proofs.Memory.{has_memory}
@@ -8,7 +7,7 @@ pub returns : goal.returns
 returns g c =
     let does = c.handle.ensures in
     let o = c.args.self.now in
-    let w = outcome_seen c.handle.result in
+    let w = outcome_seen c.handle.result.outcome in
     record {
       stands = λ T st clean. (does.after.each T st clean).stands;
       outcome = λ T st clean. (does.after.each T st clean).outcome;
@@ -23,5 +22,5 @@ returns g c =
       unasked_line = does.unasked_line;
       succeeds = does.succeeds;
       memory = λ T st clean. has_memory T _ _ w (does.after.each T st clean).outcome;
-      account = does.account refl;
+      account = does.account;
     }

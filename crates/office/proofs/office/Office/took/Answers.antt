@@ -79,8 +79,9 @@ pub returns-in_default-clause-after : goal.returns-in_default-clause-after
 returns-in_default-clause-after g c =
     let o = c.args.self.now in
     let none : get nat_cmp o.connections c.args.c ≡ None = search rules in
-    ignored_after g.V.Vault o _ (Took c.args.c c.args.octets) outcome.NoSuchConnection (g.met.V.Vault.settled _) (λ q. ap (λ connections. get nat_cmp connections q) c.get_mut.follows.holds-at-none)
-    (λ T st. let closed = closed_at T c.args.c st none in rw closed refl)
+    rw c.ignored.ensures (ignored_after g.V.Vault o _ (Took c.args.c c.args.octets) outcome.NoSuchConnection (g.met.V.Vault.settled _)
+    (λ q. ap (λ connections. get nat_cmp connections q) c.get_mut.follows.holds-at-none)
+    (λ T st. let closed = closed_at T c.args.c st none in rw closed refl))
 
 pub returns-then-not-lends-clause-after : goal.returns-then-not-lends-clause-after
 returns-then-not-lends-clause-after g c =
@@ -89,11 +90,12 @@ returns-then-not-lends-clause-after g c =
     let k : Kept = c.in-Some.connection.now in
     let found : get nat_cmp o.connections x ≡ Some k = sym c.in-Some.ensures.value in
     let updates = (c.get_mut.follows.holds k).3 (search rules) in
-    ignored_after g.V.Vault o _ (Took x c.args.octets) outcome.NotReady (g.met.V.Vault.settled _) (put_back x k o.connections (c.get_mut.follows.lender k) found updates)
-    (λ T st. search rules)
+    rw c.ignored-then-not-lends.ensures
+    (ignored_after g.V.Vault o _ (Took x c.args.octets) outcome.NotReady (g.met.V.Vault.settled _) (put_back x k o.connections (c.get_mut.follows.lender k) found updates)
+    (λ T st. search rules))
 
 pub returns-in-Err-clause-after : goal.returns-in-Err-clause-after
-returns-in-Err-clause-after g c = record {
+returns-in-Err-clause-after g c = rw c.ended.ensures (record {
   counted = c.take.ensures.looks.counted;
   clean = c.take.ensures.looks.clean;
   each = λ T st clean.
@@ -116,10 +118,10 @@ returns-in-Err-clause-after g c = record {
       (subst (λ h. Released h o.locks c.cut_off.new.locks) c.maildrop-held.ensures c.cut_off.ensures.locks))
       (record { tag = NoMemory; may = rw (left, more) refl; is = rw at.goes refl }) tt (λ up answered. absurd answered)
       (λ up. before_left T (Took x n) st.keeps (c.take.ensures.looks.stop ct st.keeps.held clean up)) (g.met.V.Vault.settled _) clean;
-}
+})
 
 pub returns-then-not-taken-clause-after : goal.returns-then-not-taken-clause-after
-returns-then-not-taken-clause-after g c = record {
+returns-then-not-taken-clause-after g c = rw c.ended-then-not-taken.ensures (record {
   counted = c.take.ensures.looks.counted;
   clean = c.take.ensures.looks.clean;
   each = λ T st clean.
@@ -144,10 +146,10 @@ returns-then-not-taken-clause-after g c = record {
       (record { tag = Failed; may = rw (left, serves) refl; is = rw at.goes refl })
       (c.in-Ok.ensures.cause c.if-not-taken.true ct (untaken_of s) st.keeps.held clean at.matches.owed) (λ up answered. absurd answered)
       (λ up. before_left T (Took x n) st.keeps (c.take.ensures.looks.stop ct st.keeps.held clean up)) (g.met.V.Vault.settled _) clean;
-}
+})
 
 pub returns-then-not-owes_nothing-clause-after : goal.returns-then-not-owes_nothing-clause-after
-returns-then-not-owes_nothing-clause-after g c = record {
+returns-then-not-owes_nothing-clause-after g c = rw c.silent.ensures (record {
   counted = c.take.ensures.looks.counted;
   clean = c.take.ensures.looks.clean;
   each = λ T st clean.
@@ -180,10 +182,10 @@ returns-then-not-owes_nothing-clause-after g c = record {
       }))
       (record { tag = Done; may = refl; is = rw at.goes refl }) tt (λ up answered. does.looks.up ct st.keeps.held clean up yes)
       (λ up. before_left T (Took x n) st.keeps (c.take.ensures.looks.stop ct st.keeps.held clean up)) (g.met.V.Vault.settled _) clean;
-}
+})
 
 pub returns-then-is_closing-clause-after : goal.returns-then-is_closing-clause-after
-returns-then-is_closing-clause-after g c = record {
+returns-then-is_closing-clause-after g c = rw c.all_taken.ensures (record {
   counted = c.take.ensures.looks.counted;
   clean = c.take.ensures.looks.clean;
   each = λ T st clean.
@@ -219,7 +221,7 @@ returns-then-is_closing-clause-after g c = record {
       }))
       (record { tag = Done; may = refl; is = rw at.goes refl }) tt (λ up answered. does.looks.up ct st.keeps.held clean up yes)
       (λ up. before_left T (Took x n) st.keeps (c.take.ensures.looks.stop ct st.keeps.held clean up)) (g.met.V.Vault.settled _) clean;
-}
+})
 
 pub returns-in-Ok-resume-clause-after : goal.returns-in-Ok-resume-clause-after
 returns-in-Ok-resume-clause-after g c = record {
@@ -242,7 +244,7 @@ returns-in-Ok-resume-clause-after g c = record {
       let held = c.take.ensures.looks.held ct st.keeps.held before in
       let sound : AreSound ct = g.met.V.Vault.sound o.vault ct st.keeps.held (c.take.ensures.looks.clean before) in
       let j = judged T x n st.keeps sound o.policy st.policy o.locks st.locks o.moment st.moment k1 a.ready a.over a.open_yet in
-      let w = c.in-Ok-resume.line_outcome in
+      let w = c.in-Ok-resume.line.outcome in
       let line = c.in-Ok-resume.ensures in
       let k' : Kept = c.resume.new.self in
       let change = (c.get_mut.follows.holds k').3 (search rules) in
@@ -335,7 +337,7 @@ returns-in-Err-resume-clause-unasked g c T st clean none =
     resumed g at.After-resume T st clean none (unasked g at.After-take T st none)
 
 pub returns-in-Ok-resume-clause-account : goal.returns-in-Ok-resume-clause-account
-returns-in-Ok-resume-clause-account g c fresh T st clean =
+returns-in-Ok-resume-clause-account g c T st clean =
     let before = c.resume.ensures.acts.clean clean in
     let o = c.args.self.now in
     let x = c.args.c in
@@ -347,31 +349,31 @@ returns-in-Ok-resume-clause-account g c fresh T st clean =
     let a = all g (goal.at.returns-in-Ok-resume-clause-account g c).After-resume T st before in
     let held = c.take.ensures.looks.held ct st.keeps.held before in
     let sound : AreSound ct = g.met.V.Vault.sound o.vault ct st.keeps.held (c.take.ensures.looks.clean before) in
-    let w = c.in-Ok-resume.line_outcome in
+    let w = c.in-Ok-resume.line.outcome in
     let j = judged T x n st.keeps sound o.policy st.policy o.locks st.locks o.moment st.moment k1 a.ready a.over a.open_yet in
     let line = c.in-Ok-resume.ensures in
     let did = line.answered ct j.transaction held clean j.has_transaction in
     let named : k1.state.user ≡ user (history T) x = ap (λ (k : Kept). k.state.user) c.take.ensures.kept ∙ at.matches.user in
     let is = taking_told T x n st.keeps sound o.policy st.policy o.locks st.locks o.moment st.moment k1 a.ready a.over a.open_yet w c.resume.new.self did named in
-    c.after_all.ensures.account ∙ (ap taken_told (did.account fresh ∙ is) ∙ sym (ap (account_of T (Took x n)) (marked w _ c.after_all.ensures.outcome) ∙ taking_account T x n w a.over))
+    c.after_all.ensures.account ∙ (ap taken_told (did.account ∙ is) ∙ sym (ap (account_of T (Took x n)) (marked w _ c.after_all.ensures.outcome) ∙ taking_account T x n w a.over))
 
 pub returns-in-Err-resume-clause-account : goal.returns-in-Err-resume-clause-account
-returns-in-Err-resume-clause-account g c fresh T st clean =
+returns-in-Err-resume-clause-account g c T st clean =
     let before = c.resume.ensures.acts.clean clean in
     let a = all g (goal.at.returns-in-Err-resume-clause-account g c).After-resume T st before in
     rw (c.lack_memory.ensures.outcome, a.over) c.lack_memory.ensures.account
 
 pub returns-in-Err-clause-account : goal.returns-in-Err-clause-account
-returns-in-Err-clause-account g c fresh T st clean =
+returns-in-Err-clause-account g c T st clean =
     let s = seen T c.args.c in
     let n = c.args.octets in
     let at = taking g (goal.at.returns-in-Err-clause-account g c).After-take T st in
     let left : is_left T.log (history T) c.args.c n ≡ true =
     left_over s n (took_more st.keeps.contents s c.in-Some.connection.now n c.args.self.now.moment at.matches at.fits c.in-Err.ensures.err) in
-    rw left refl
+    rw (c.ended.ensures, left) refl
 
 pub returns-then-not-taken-clause-account : goal.returns-then-not-taken-clause-account
-returns-then-not-taken-clause-account g c fresh T st clean =
+returns-then-not-taken-clause-account g c T st clean =
     let o = c.args.self.now in
     let x = c.args.c in
     let n = c.args.octets in
@@ -381,10 +383,10 @@ returns-then-not-taken-clause-account g c fresh T st clean =
     let at = taking g (goal.at.returns-then-not-taken-clause-account g c).After-take T st in
     let reads = c.in-Ok.ensures.refused c.if-not-taken.true in
     let left : is_left T.log (history T) x n ≡ true = left_over s n (took_more ct s k n o.moment at.matches at.fits (text_feeds k.output.source reads)) in
-    rw left refl
+    rw (c.ended-then-not-taken.ensures, left) refl
 
 pub returns-then-not-owes_nothing-clause-account : goal.returns-then-not-owes_nothing-clause-account
-returns-then-not-owes_nothing-clause-account g c fresh T st clean =
+returns-then-not-owes_nothing-clause-account g c T st clean =
     let o = c.args.self.now in
     let x = c.args.c in
     let n = c.args.octets in
@@ -399,10 +401,10 @@ returns-then-not-owes_nothing-clause-account g c fresh T st clean =
     let some : is_empty k1.output.ready ≡ false = sym c.owes_nothing.ensures.value ∙ c.if-not-owes_nothing.true in
     let less = took_less ct s k n o.moment at.matches at.fits k1.output owes some in
     let left : is_left T.log (history T) x n ≡ true = left_over s n less in
-    rw left (fresh ∙ sym (part_taken T.base (history T) (serving (history T) x) (closing (history T) x) x (next_line T.log (history T) x [])))
+    rw (c.silent.ensures, left) (sym (part_taken T.base (history T) (serving (history T) x) (closing (history T) x) x (next_line T.log (history T) x [])))
 
 pub returns-then-is_closing-clause-account : goal.returns-then-is_closing-clause-account
-returns-then-is_closing-clause-account g c fresh T st clean =
+returns-then-is_closing-clause-account g c T st clean =
     let o = c.args.self.now in
     let x = c.args.c in
     let n = c.args.octets in
@@ -415,4 +417,10 @@ returns-then-is_closing-clause-account g c fresh T st clean =
     let over : is_left T.log (history T) x n ≡ false = all_over s n (took_all ct s k n o.moment at.matches at.fits k1.output
     (c.in-Ok.ensures.owes c.if-not-taken.false ct (untaken_of s) st.keeps.held clean at.matches.owed) none) in
     let closed : closing (history T) x ≡ true = sym at.matches.closing ∙ (sym (ap (λ (k : Kept). k.state.closing) c.take.ensures.kept) ∙ (sym c.is_closing.ensures ∙ c.if-is_closing.true)) in
-    rw (over, closed) refl
+    rw (c.all_taken.ensures, over, closed) refl
+
+pub returns-in_default-clause-account : goal.returns-in_default-clause-account
+returns-in_default-clause-account g c T st clean = rw c.ignored.ensures refl
+
+pub returns-then-not-lends-clause-account : goal.returns-then-not-lends-clause-account
+returns-then-not-lends-clause-account g c T st clean = rw c.ignored-then-not-lends.ensures refl

@@ -1,11 +1,10 @@
 //! Notes of what a wire was asked and answered, which only proofs read.
-ghost use Rattle.std.specs.Prelude.{◌≡◌, List, [], ◌∷◌, ◌++◌};
-ghost use Rattle.std.specs.Borrow.{ftrue};
-ghost use Rattle.serving.specs.Calls.{Call};
+ghost use Rattle.std.specs.Prelude.{◌≡◌, [], ◌∷◌, ◌++◌};
 ghost use Rattle.serving.specs.Noted.{call_of};
 
 use crate::wire::{Io, Link, Port};
-use std::marker::{Model, PhantomData};
+use notes::Notes;
+use std::marker::Model;
 
 /// What a wire was asked, and what it answered. The octets stand beside it.
 #[derive(Clone, Copy, PartialEq, Eq, Debug)]
@@ -22,28 +21,31 @@ pub(crate) enum WireCall {
 /// The calls of a wire, the newest last. They are in the proofs alone: a value takes no memory, and
 /// to note a call does nothing when the program runs.
 #[derive(Drop)]
-pub struct Notes {
-    marker: PhantomData<u8>,
-    pub ghost calls: { List Call },
+pub struct WireNotes {
+    list: Notes<(WireCall, Notes<u8>)>,
 }
 
-impl Model for Notes {
-    ghost also_owns = { λ _. ftrue };
+impl Model for WireNotes {
+    ghost use Rattle.serving.specs.Noted.{NotedCalls, calls_of};
+
+    ghost Value = { NotedCalls };
+
+    ghost view = { λ n. record { calls = calls_of n.list.items } };
 }
 
-impl Notes {
+impl WireNotes {
     /// No call was noted.
-    pub(crate) fn new() -> Notes
+    pub(crate) fn new() -> WireNotes
         ensures { result.calls ≡ [] }
     {
-        Notes {
-            marker: PhantomData,
-        }
+        WireNotes { list: Notes::new() }
     }
 
     /// Notes a call, and the buffer that was read or written.
     #[inline(always)]
-    pub(crate) fn note(&mut self, _asked: &WireCall, _octets: &[u8])
-        ensures { self.new.calls ≡ self.old.calls ++ call_of _asked.now _octets.now ∷ [] }
-    {}
+    pub(crate) fn note(&mut self, asked: &WireCall, octets: &[u8])
+        ensures { self.new.calls ≡ self.old.calls ++ call_of asked.now octets.now ∷ [] }
+    {
+        self.list.note(&(*asked, Notes::of(octets)));
+    }
 }

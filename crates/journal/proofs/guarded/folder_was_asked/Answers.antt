@@ -1,0 +1,4 @@
+use Rattle.journal.proofs.guarded.folder_was_asked.Goals as goal
+
+pub returns : goal.returns
+returns g c = λ calls h. rw (← h.asked, ← h.answered) h.handed
