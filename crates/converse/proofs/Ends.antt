@@ -1,5 +1,6 @@
 -- How a conversation begins, and how it comes out once its connection is gone.
-use Rattle.std.proofs.Common.{◌≡◌, ℕ, zero, suc, ◌-◌, ◌<◌, ◌≤◌, Bool, true, false, not, ◌&&◌, ◌||◌, cond, List, [], ◌∷◌, ◌++◌, length, take, drop, refl, sym, ◌∙◌, ap, arith, length-append, subst, eq-eqb, ◌⊎◌, inl, inr, ⊎_elim, MatchResult}
+use Rattle.std.proofs.lemmas.Bool.{and_right}
+use Rattle.std.proofs.Common.{◌≡◌, ℕ, zero, suc, ◌-◌, ◌<◌, ◌≤◌, Bool, true, false, not, ◌&&◌, ◌||◌, cond, List, [], ◌∷◌, ◌++◌, length, take, drop, refl, sym, ◌∙◌, ap, arith, length-append, subst, eq-eqb, inl, inr, ⊎_elim, MatchResult}
 use Rattle.std.proofs.lemmas.List.{length-take}
 use Rattle.std.proofs.lemmas.List.Folds.{list_any-append}
 use Rattle.std.specs.List.{list_any, zip}
@@ -10,7 +11,7 @@ use Rattle.office.specs.History.{Act, Line, Gone, Tag, Done, Failed, NoMemory, i
 use Rattle.office.specs.Connections.{connected, closing, sent}
 use Rattle.office.specs.Replying.{is_empty}
 use Rattle.office.specs.Told.{told}
-use Rattle.office.specs.Events.{Event, EventTag, Tagged, Log, Trace, given}
+use Rattle.office.specs.Events.{Tagged, Log, Trace}
 use Rattle.office.specs.Events as event
 use Rattle.office.specs.Log.{taken, next_number}
 use Rattle.office.specs.Trace.{acts, history, rest, rest_if, is_open, is_open_by, untaken, IsLent}
@@ -23,17 +24,13 @@ use Rattle.converse.specs.Conversing.{GoesOn, Waits, Breaks, AreBroken, opened_b
 use Rattle.converse.proofs.Lines.{spoken_past, fit_past}
 use Rattle.converse.proofs.Saying.{whole, line_here}
 use Rattle.converse.proofs.Takings.{left_open}
-use Rattle.converse.proofs.Events.{ready_so}
+use Rattle.converse.proofs.Events.{empty_past, ready_so}
 
 -- ---- the opening
 
 opened_if : (b : Bool) (s : Outcome) (c : ℕ) → or_ignored (reason_if b TooManyConnections) s ≡ Opened c → s ≡ Opened c
 opened_if true s c e = cc
 opened_if false s c e = e
-
-ignored_if : (b : Bool) (s : Outcome) (r : Reason) → or_ignored (reason_if b TooManyConnections) s ≡ outcome.Ignored r → (b ≡ true) ⊎ (s ≡ outcome.Ignored r)
-ignored_if true s r e = inl refl
-ignored_if false s r e = inr e
 
 -- what Connect is never answered
 is_odd : Outcome → Bool
@@ -103,12 +100,6 @@ closed_if true true false h q = cc
 closed_if true false e h q = cc
 closed_if false cl e h q = cc
 
-empty_past : (n : ℕ) (xs : List ℕ) → is_empty (drop n xs) ≡ true → length xs ≤ n
-empty_past zero [] e = omega arith
-empty_past zero (x ∷ xs) e = cc
-empty_past (suc n) [] e = omega arith
-empty_past (suc n) (x ∷ xs) e = let h = empty_past n xs e in omega (arith, h)
-
 dones : ℕ → List Tag
 dones zero = []
 dones (suc n) = Done ∷ dones n
@@ -122,10 +113,6 @@ ample_dones : (n : ℕ) → list_any is_no_memory (dones n) ≡ false
 unfolding dones
 ample_dones zero = refl
 ample_dones (suc n) = ample_dones n
-
-shut_if : (a b : Bool) → b ≡ true → (a && not b) ≡ false
-shut_if true b e = rw e refl
-shut_if false b e = refl
 
 module _ (B : Records) (c : ℕ) (old : List (Act × Tag)) (octets written : List ℕ) where
   abbrev Went : List (Act × Tag) → List (Act × Tag)
@@ -216,7 +203,7 @@ module _ (B : Records) (c : ℕ) (old : List (Act × Tag)) (octets written : Lis
       let both = closed_if (connected G c) (closing G c) (is_empty (untaken L G c)) shut s.here in
       let K = spoken B c octets on.tags old in
       let closes : closing (told B K) c ≡ true = subst (λ (H : List (Act × Tag)). closing (told B H) c ≡ true) s.lines.are both.0 in
-      let off : goes_on (told B K) c ≡ false = shut_if (connected (told B K) c) (closing (told B K) c) closes in
+      let off : goes_on (told B K) c ≡ false = and_right (connected (told B K) c) (not (closing (told B K) c)) (ap not closes) in
       let more = dones (length (cut octets) - length on.tags) in
       let past = spoken_past B c octets on.tags old more off s.lines.some in
       let n = length_dones (length (cut octets) - length on.tags) in

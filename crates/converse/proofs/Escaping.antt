@@ -1,5 +1,6 @@
 -- Octets that are read of a TEXT one by one, and what is written of octets.
 use Rattle.std.proofs.Common.{◌≡◌, ℕ, ◌+◌, ◌*◌, ◌/◌, ◌%◌, ◌<◌, ◌==◌, Bool, true, false, List, [], ◌∷◌, ◌++◌, Option, Some, None, refl, ap, ◌∙◌, sym, append_assoc, lt-ltb, arith}
+use Rattle.std.proofs.lemmas.Bool.{eqb-true}
 use Rattle.std.proofs.lemmas.Bool.Decides.{nat_tests}
 use Rattle.std.proofs.lemmas.List.Elements.{recursion_from_All}
 use Rattle.std.specs.Char.{digit_value, is_digit}
@@ -37,16 +38,13 @@ digits_read b text h =
     let value : 16 * (b / 16) + b % 16 ≡ b = omega arith in
     rw (glyph_digit (b / 16) high, glyph_digit (b % 16) low, glyph_value (b / 16) high, glyph_value (b % 16) low, value)
 
-test_is : (b k : ℕ) → (b == k) ≡ true → b ≡ k
-test_is b k e = grind (arith, nat_tests)
-
 -- by the tests of what is written
 octet_read : (cr lf backslash printable : Bool) (b : ℕ) (text : List ℕ) → b < 256 → (b == 13) ≡ cr → (b == 10) ≡ lf → (b == 92) ≡ backslash → is_printable b ≡ printable
     → unescaped (escape b ++ text) ≡ led b (unescaped text)
-octet_read true lf backslash printable b text h is_cr _ _ _ = rw is_cr (ap (λ x. led x (unescaped text)) (sym (test_is b 13 is_cr)))
-octet_read false true backslash printable b text h is_cr is_lf _ _ = rw (is_cr, is_lf) (ap (λ x. led x (unescaped text)) (sym (test_is b 10 is_lf)))
+octet_read true lf backslash printable b text h is_cr _ _ _ = rw is_cr (ap (λ x. led x (unescaped text)) (sym (eqb-true b 13 is_cr)))
+octet_read false true backslash printable b text h is_cr is_lf _ _ = rw (is_cr, is_lf) (ap (λ x. led x (unescaped text)) (sym (eqb-true b 10 is_lf)))
 octet_read false false true printable b text h is_cr is_lf is_backslash _ =
-    rw (is_cr, is_lf, is_backslash) (ap (λ x. led x (unescaped text)) (sym (test_is b 92 is_backslash)))
+    rw (is_cr, is_lf, is_backslash) (ap (λ x. led x (unescaped text)) (sym (eqb-true b 92 is_backslash)))
 octet_read false false false true b text h is_cr is_lf is_backslash printable = rw (is_cr, is_lf, is_backslash, printable) (rw is_backslash)
 octet_read false false false false b text h is_cr is_lf is_backslash printable = rw (is_cr, is_lf, is_backslash, printable) (digits_read b text h)
 

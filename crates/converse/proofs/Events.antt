@@ -8,12 +8,12 @@ use Rattle.office.specs.History.{Act, Line, Tag, Done, Failed, NoMemory, is_no_m
 use Rattle.office.specs.Connections.{connected, closing, sent}
 use Rattle.office.specs.Replying.{is_empty}
 use Rattle.office.specs.Told.{told}
-use Rattle.office.specs.Events.{Event, EventTag, Tagged, Log, Trace, given}
+use Rattle.office.specs.Events.{Tagged, Log}
 use Rattle.office.specs.Events as event
 use Rattle.office.specs.Log.{stream, taken}
 use Rattle.office.specs.Trace.{acts, history, rest, rest_if, is_open, untaken, next_line}
 use Rattle.office.specs.Expected.{IsOutcome, ignored, shown_at, or_ignored, reason_if, may_show, most_in_a_piece}
-use Rattle.office.specs.Outcomes.{Outcome, Reason, NoSuchConnection, NotReady, PieceTooLong, TooManyConnections, Opened, event_tag_of}
+use Rattle.office.specs.Outcomes.{Outcome, Reason, NoSuchConnection, NotReady, PieceTooLong, event_tag_of}
 use Rattle.office.specs.Outcomes as outcome
 use Rattle.converse.specs.Talk.{may_be}
 use Rattle.converse.specs.Talked.{trace_of}
@@ -58,7 +58,7 @@ not_closing true true false h e = cc
 not_closing true false e h f = refl
 not_closing false cl e h f = cc
 
-empty_past : (n : ℕ) (xs : List ℕ) → is_empty (drop n xs) ≡ true → length xs ≤ n
+pub empty_past : (n : ℕ) (xs : List ℕ) → is_empty (drop n xs) ≡ true → length xs ≤ n
 empty_past zero [] e = omega arith
 empty_past zero (x ∷ xs) e = cc
 empty_past (suc n) [] e = omega arith

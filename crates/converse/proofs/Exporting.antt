@@ -1,8 +1,8 @@
 -- What a contract of an export needs of the contents: the text under a message's key is the message's own.
 use Rattle.std.proofs.Common.{◌≡◌, ◌⊎◌, inl, inr, ◌<◌, ◌≤◌, ◌+◌, ◌==◌, ℕ, Bool, true, false, not, List, [], ◌∷◌, ◌++◌, length, take, drop, get_or, map, refl, subst, sym, ◌∙◌, ap, ap₂, append_assoc, append-nil, zero, suc, cond, arith, Option, None, Some, Result, Ok, Err, true≢false, take_all}
 use Rattle.std.proofs.lemmas.List.{take_more, take-map, map-append, length-map}
-use Rattle.std.proofs.lemmas.Bool.{and_parts, or_parts, eq-eqb}
-use Rattle.std.specs.Prelude.{OnOk, OnErr, unwrap_or, filter, is_ok, if◌then◌else◌}
+use Rattle.std.proofs.lemmas.Bool.{and_parts, or_parts, eq-eqb, not-true}
+use Rattle.std.specs.Prelude.{OnErr, unwrap_or, filter, is_ok, if◌then◌else◌}
 use Rattle.std.specs.List.{All, list_any, find, flat_map}
 use Rattle.std.specs.Option.{option_map}
 use Rattle.std.specs.Str.{bytes_eq}
@@ -116,11 +116,7 @@ look_refused there counted x vault.NotOurs h s = absurd (other there x vault.Not
 look_refused there counted x vault.OldVersion h s = absurd (other there x vault.OldVersion refl h)
 look_refused there counted x vault.NoClerk h s = absurd (other there x vault.NoClerk refl h)
 
--- what holds in any case holds of an answer
-pub on_ok : {A E P : Type 0} (r : Result A E) → P → OnOk r P
-on_ok (Ok x) p = p
-on_ok (Err e) p = tt
-
+-- what holds in any case holds of a fault
 pub on_err : {A E P : Type 0} (r : Result A E) → P → OnErr r P
 on_err (Ok x) p = tt
 on_err (Err e) p = p
@@ -239,10 +235,6 @@ find_past : (y : Keyed) (b : Bool) (o : Option Keyed) → b ≡ false → cond b
 find_past y true o e = absurd (true≢false e)
 find_past y false o e = refl
 
-not_true : (b : Bool) → not b ≡ true → b ≡ false
-not_true true e = absurd (true≢false (sym e))
-not_true false e = refl
-
 -- a message is found under its key in these
 abbrev Found : List Keyed → Keyed → Type 0
 Found all x = find (λ (y : Keyed). y.key == x.key) all ≡ Some x
@@ -257,7 +249,7 @@ found : (xs : List Keyed) → are_distinct (λ (x y : Keyed). x.key == y.key) xs
 found [] d = tt
 found (x ∷ xs) d =
     let r = and_parts (not (list_any (λ (z : Keyed). x.key == z.key) xs)) (are_distinct (λ (x y : Keyed). x.key == y.key) xs) d in
-    let none = not_true (list_any (λ (z : Keyed). x.key == z.key) xs) r.0 in
+    let none = not-true (list_any (λ (z : Keyed). x.key == z.key) xs) r.0 in
     (find_at x (x.key == x.key) (find (λ (y : Keyed). y.key == x.key) xs) (eq-eqb x.key x.key refl), past x xs xs none (found xs r.1))
 
 -- the text under a message's key is its own

@@ -19,6 +19,7 @@ pub mod Running
 pub mod Playing
 pub mod Stopping
 pub mod Exporting
+pub mod ExportLemmas
 pub mod Checking
 mod Reasons
 pub mod Sifting

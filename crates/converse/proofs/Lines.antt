@@ -1,5 +1,6 @@
 -- Lines that act, one after another, and those of a stream that goes on.
-use Rattle.std.proofs.Common.{◌≡◌, ℕ, suc, ◌<◌, ◌≤◌, Bool, true, false, ◌&&◌, cond, List, [], ◌∷◌, ◌++◌, length, map, refl, sym, ◌∙◌, ap, arith, slice_get, Some, ◌==◌, drop}
+use Rattle.std.proofs.Common.{◌≡◌, ℕ, ◌<◌, ◌≤◌, Bool, true, false, ◌&&◌, cond, List, [], ◌∷◌, ◌++◌, length, map, refl, sym, ◌∙◌, ap, arith, slice_get, Some, ◌==◌, drop}
+use Rattle.std.proofs.lemmas.List.{map-append, length-map}
 use Rattle.std.specs.List.{zip}
 use Rattle.popline.specs.Cutting.{Cut, cut_of, cut, pieces, onto_first, has_newline}
 use Rattle.vault.specs.Records.{Records}
@@ -66,22 +67,14 @@ further_pieces : (stream piece : List ℕ) → FurtherPieces (pieces stream) pie
 further_pieces [] piece = record { more = pieces piece; is = refl; none = pieces_none piece; some = pieces_some piece }
 further_pieces (b ∷ bs) piece = further_if b (b == 10) (pieces bs) piece (pieces (bs ++ piece)) (further_pieces bs piece)
 
-map_append : {A B : Type 0} (f : A → B) (xs ys : List A) → map f (xs ++ ys) ≡ map f xs ++ map f ys
-map_append f [] ys = refl
-map_append f (x ∷ xs) ys = ap (λ zs. f x ∷ zs) (map_append f xs ys)
-
-length_map : {A B : Type 0} (f : A → B) (xs : List A) → length (map f xs) ≡ length xs
-length_map f [] = refl
-length_map f (x ∷ xs) = ap suc (length_map f xs)
-
 pub further : (stream piece : List ℕ) → Further (cut stream) piece (cut (stream ++ piece))
 further stream piece =
     let f = further_pieces stream piece in
     record {
       more = map cut_of f.more;
-      is = ap (map cut_of) f.is ∙ map_append cut_of (pieces stream) f.more;
+      is = ap (map cut_of) f.is ∙ map-append cut_of (pieces stream) f.more;
       none = λ e. ap (map cut_of) (f.none e);
-      some = λ e. rw (length_map cut_of f.more) (f.some e);
+      some = λ e. rw (length-map f.more cut_of) (f.some e);
     }
 
 -- ---- lines beside their tags

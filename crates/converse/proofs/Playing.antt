@@ -127,10 +127,6 @@ takes_more T c o p printed U (os, t, e) =
     (subst (λ X. 0 < owed_by X c → IsOutcome X (owed_by X) (event.Took c (owed_by X c)) p → TakesSoFar T c p (escaped (drained_octets c T os) ++ escaped (lent_at X c)) (given X (event.Took c (owed_by X c)) (event_tag_of p)))
     (sym t.behind) (takes_next T c os p t.are))
 
-pub some_owed : (b : Bool) (xs : List ℕ) → b ≡ false → b ≡ (length xs == 0) → 0 < length xs
-some_owed b [] f e = cc
-some_owed b (x ∷ xs) f e = omega (arith)
-
 pub takes_lent : (T : Trace) (c : ℕ) (o p : Outcome) (printed : List ℕ) (U : Trace) (lent : List ℕ) → lent ≡ lent_at U c → TakesSoFar T c o printed U → 0 < length lent
     → IsOutcome U (owed_by U) (event.Took c (length lent)) p → TakesSoFar T c p (printed ++ escaped lent) (given U (event.Took c (length lent)) (event_tag_of p))
 takes_lent T c o p printed U lent e s =

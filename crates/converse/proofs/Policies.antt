@@ -5,7 +5,7 @@ use Rattle.policy.specs.declared.fault.PolicyFault.{PolicyFault}
 use Rattle.converse.specs.declared.fault.Fault.{Fault}
 use Rattle.converse.specs.declared.fault.Fault.TheVariants as fault
 use Rattle.converse.specs.Causes.{IsPolicyEnd}
-use Rattle.converse.specs.PolicyFile.{IsFaultOf, IsFaultOfEither, IsPolicyText, IsNoPolicyText}
+use Rattle.converse.specs.PolicyFile.{IsFaultOf, IsFaultOfEither, IsPolicyText}
 
 -- a cause is one still where more failed
 pub ended_still : (Is Also : PolicyFault → Type 0) (written more : Bool) → ((e : PolicyFault) → Is e → Also e) → (written ≡ true → more ≡ true)
@@ -25,10 +25,6 @@ ended_still Is Also written more p w fault.OutOfMemory h = tt
 -- before anything was written
 pub ended_unwritten : (Is Also : PolicyFault → Type 0) (more : Bool) → ((e : PolicyFault) → Is e → Also e) → (f : Fault) → IsPolicyEnd Is false f → IsPolicyEnd Also more f
 ended_unwritten Is Also more p f h = ended_still Is Also false more p (λ e. absurd (true≢false (sym e))) f h
-
--- memory ran out
-pub ended_lacking : (Is : PolicyFault → Type 0) (written : Bool) (f : Fault) → f ≡ fault.OutOfMemory → IsPolicyEnd Is written f
-ended_lacking Is written f same = subst (IsPolicyEnd Is written) (sym same) tt
 
 -- a call of the writer failed
 pub ended_writing : (Is : PolicyFault → Type 0) (written : Bool) (f : Fault) → f ≡ fault.CannotWrite → written ≡ true → IsPolicyEnd Is written f

@@ -1,27 +1,14 @@
 -- Why a script isn't begun, and that this is told.
-use Rattle.std.proofs.Common.{◌≡◌, ◌⊎◌, inl, inr, refl, ℕ, List, Option, Some, None, Result, Ok, Err, true, false, sym, ◌∙◌, subst, IfSome, IsErr, IsOk}
+use Rattle.std.proofs.Common.{◌≡◌, ◌⊎◌, inl, inr, refl, ℕ, List, Option, Result, Ok, true, false, sym, ◌∙◌, subst, IfSome, IsErr, IsOk}
 use Rattle.std.proofs.lemmas.Bool.{false≢true}
 use Rattle.creds.specs.Names.{is_host}
-use Rattle.converse.specs.Causes.{of_script, IsWhyNot, Tells}
+use Rattle.converse.specs.Causes.{IsWhyNot, Tells}
 use Rattle.converse.specs.Printed.{PrintsPart}
 use Rattle.converse.specs.Script.{ScriptLine, script_of}
 use Rattle.converse.specs.Told.{fault_line}
 use Rattle.converse.specs.declared.fault.Fault.{Fault}
 use Rattle.converse.specs.declared.fault.Fault.TheVariants.{BadHost}
-use Rattle.converse.specs.declared.script.ScriptFault.{ScriptFault}
-use Rattle.converse.specs.declared.script.ScriptFault.TheVariants as script
 use Rattle.converse.proofs.Playing.{of_known}
-
--- a fault of the reading
-pub why_script : {A : Type 0} (text host : List ℕ) (r : Result A ScriptFault) (e : ScriptFault) → r ≡ Err e → ((n : ℕ) → r ≡ Err (script.BadEvent n) → script_of text ≡ Err n)
-    → IsWhyNot text host (of_script e)
-why_script text host r (script.BadEvent n) is told = told n is
-why_script text host r script.NoMemory is told = tt
-
--- what is said of the octets that were read is said of those that were left
-pub why_read : (known : Option (List ℕ)) (octets : List ℕ) (Is : List ℕ → Type 0) → IfSome known (λ text. octets ≡ text) → Is octets → IfSome known Is
-why_read None octets Is same h = tt
-why_read (Some text) octets Is same h = subst Is same h
 
 read_well : (r : Result (List ScriptLine) ℕ) (lines : List ScriptLine) → r ≡ Ok lines → IsOk r
 read_well r lines e = subst IsOk (sym e) refl

@@ -1,6 +1,7 @@
 -- What a conversation removes.
 use Rattle.std.specs.Prelude.{◌≡◌, ℕ, Bool, true, false, not, ◌&&◌, ◌||◌, List, [], ◌∷◌, ◌++◌, Option, Some, None, filter, cond}
 use Rattle.std.proofs.Common.{refl, sym, ◌∙◌, ap, eq-eqb, subst}
+use Rattle.std.proofs.lemmas.Bool.{and_right}
 use Rattle.std.proofs.lemmas.List.Folds.{list_any-append}
 use Rattle.std.specs.List.{list_any, zip}
 use Rattle.office.specs.Cutting.{Cut, cut}
@@ -62,17 +63,13 @@ quit_of n false d q e = absurd (no_some q e)
     no_some : (k : ℕ) → None ≡ Some k → ⊥
     no_some k e = cc
 
-stopped : (a b : Bool) → b ≡ true → (a && not b) ≡ false
-stopped true b e = rw e refl
-stopped false b e = refl
-
 -- after a QUIT no line acts
 ends : (B : Records) (c : ℕ) (x : Cut) (t : Tag) (H : List (Act × Tag)) (q : ℕ) → quits (Line c x) t ≡ Some q → goes_on (told B ((Line c x, t) ∷ H)) c ≡ false
 ends B c x t H q e =
     let h : is_quit (reading x) ≡ true = quit_of c (is_quit (reading x)) (is_done t) q e in
     let k : closes (reading x) (said_to B (told B H) (Line c x) t) ≡ true = closes_by_quit x (said_to B (told B H) (Line c x) t) h in
     let s : closing (told B ((Line c x, t) ∷ H)) c ≡ true = rw (eq-eqb c c refl, k) refl in
-    stopped (connected (told B ((Line c x, t) ∷ H)) c) (closing (told B ((Line c x, t) ∷ H)) c) s
+    and_right (connected (told B ((Line c x, t) ∷ H)) c) (not (closing (told B ((Line c x, t) ∷ H)) c)) (ap not s)
 
 stays : (B : Records) (c : ℕ) (lines : List (Cut × Tag)) (H : List (Act × Tag)) → goes_on (told B H) c ≡ false → acted_on B c lines H ≡ H
 stays B c [] H e = refl

@@ -1,7 +1,6 @@
 -- Messages that are sifted by the digests of their deposits.
 use Rattle.std.proofs.Common.{◌≡◌, ℕ, ◌+◌, ◌<◌, Bool, true, false, cond, not, ◌&&◌, ◌||◌, ◌==◌, List, [], ◌∷◌, ◌++◌, length, map, take, get_or, refl, sym, ap, ap₂, subst, ◌∙◌, append_assoc, true≢false, Option, None, Some, arith, Ordering}
-use Rattle.std.proofs.lemmas.Bool.{and_parts}
-use Rattle.std.proofs.lemmas.Bool.Decides.{nat_tests}
+use Rattle.std.proofs.lemmas.Bool.{and_from, and_parts, eq-eqb, eqb-true}
 use Rattle.std.proofs.lemmas.Cmp.{tied_itself}
 use Rattle.std.specs.Cmp.{nat_cmp_total}
 use Rattle.std.proofs.lemmas.Map.Lookups.{exact_bytes, exact_unsigned}
@@ -48,15 +47,6 @@ bools_same true b f g = sym (f refl)
 bools_same false true f g = g refl
 bools_same false false f g = refl
 
-num_same : (m n : ℕ) → (m == n) ≡ true → m ≡ n
-num_same m n e = grind (arith, nat_tests)
-
-num_itself : (n : ℕ) → (n == n) ≡ true
-num_itself n = grind (arith, nat_tests)
-
-both : (a b : Bool) → a ≡ true → b ≡ true → (a && b) ≡ true
-both a b e f = rw (e, f) refl
-
 -- a receipt's mark is that of a message and a digest where it is the message's and has the digest
 marked : (m : Message) (digest : List ℕ) (r : Receipt)
     → is_eq (mark_cmp (mark_of r) (m.maildrop, m.class, m.k, digest)) ≡ (is_receipt_for m r && bytes_eq r.digest digest)
@@ -70,7 +60,7 @@ marked m digest r =
     let p = equal_parts (ordering_then (ordering_then a b) d) e (told_equal (mark_cmp (mark_of r) (m.maildrop, m.class, m.k, digest)) h) in
     let q = equal_parts (ordering_then a b) d p.0 in
     let s = equal_parts a b q.0 in
-    both (is_receipt_for m r) (bytes_eq r.digest digest)
+    and_from (is_receipt_for m r) (bytes_eq r.digest digest)
     (is_for m r (exact_bytes r.maildrop m.maildrop s.0) (exact_bytes r.class m.class s.1) (exact_unsigned r.k m.k q.1))
     (subst (λ (t : List ℕ). bytes_eq r.digest t ≡ true) (exact_bytes r.digest digest p.1) (bytes_same r.digest)))
     (λ h.
@@ -78,13 +68,13 @@ marked m digest r =
     let q = and_parts (bytes_eq m.maildrop r.maildrop && bytes_eq m.class r.class) (m.k == r.k) p.0 in
     let s = and_parts (bytes_eq m.maildrop r.maildrop) (bytes_eq m.class r.class) q.0 in
     tied r (m.maildrop, m.class, m.k, digest) (sym (bytes_are m.maildrop r.maildrop s.0)) (sym (bytes_are m.class r.class s.1))
-    (sym (num_same m.k r.k q.1)) (bytes_are r.digest digest p.1))
+    (sym (eqb-true m.k r.k q.1)) (bytes_are r.digest digest p.1))
   where
     is_for : (m : Message) (r : Receipt) → r.maildrop ≡ m.maildrop → r.class ≡ m.class → r.k ≡ m.k → is_receipt_for m r ≡ true
     is_for m r e f g =
         let a : bytes_eq m.maildrop r.maildrop ≡ true = subst (λ (n : List ℕ). bytes_eq n r.maildrop ≡ true) e (bytes_same r.maildrop) in
         let b : bytes_eq m.class r.class ≡ true = subst (λ (n : List ℕ). bytes_eq n r.class ≡ true) f (bytes_same r.class) in
-        let d : (m.k == r.k) ≡ true = subst (λ n. (n == r.k) ≡ true) g (num_itself r.k) in
+        let d : (m.k == r.k) ≡ true = subst (λ n. (n == r.k) ≡ true) g (eq-eqb r.k r.k refl) in
         rw (a, b, d) refl
 
     itself : (x : Mark) → is_eq (mark_cmp x x) ≡ true
@@ -137,15 +127,6 @@ judged None marks d c h digest text found are e f g = absurd (none_some are)
 judged (Some rs) marks d c h digest text found are e f g =
     g ∙ ap (λ (t : List ℕ). contains mark_cmp marks (d, h.class, h.k, t)) (e ∙ ap text_digest f)
     ∙ are (d, h.class, h.k, text_digest (text_under h.key c.messages)) ∙ among (message_under d c h) rs
-
--- or for nothing
-pub unjudged : (rs : Option (List Receipt)) (marks : Option (BTreeSet Mark)) (d : List ℕ) (c : Contents) (h : Head) → AreMarks rs marks → marks ≡ None → true ≡ has_intact rs d c h
-unjudged None marks d c h are none = refl
-unjudged (Some rs) None d c h are none = absurd are
-unjudged (Some rs) (Some marks) d c h are none = absurd (some_none none)
-  where
-    some_none : {A : Type 0} {x : A} → (let n : Option A = None in Some x ≡ n) → ⊥
-    some_none e = cc
 
 -- ---- heads that are sifted
 
@@ -238,7 +219,7 @@ end_whole xs ts clerks rules none = ap (λ (ys : List Keyed). end_text ys ts cle
 pub none_of : (b : Bool) (xs : List Keyed) (hs : List Head) → hs ≡ map head_of xs → b ≡ (length hs == 0) → HasNone b xs
 none_of true [] hs e h = refl
 none_of true (x ∷ xs) hs e h =
-    let n : length hs ≡ 0 = num_same (length hs) 0 (sym h) in
+    let n : length hs ≡ 0 = eqb-true (length hs) 0 (sym h) in
     let m : length hs ≡ length (head_of x ∷ map head_of xs) = ap (λ (l : List Head). length l) e in
     absurd (omega (arith, n, m))
 none_of false [] hs e h = absurd (true≢false (ap (λ (l : List Head). length l == 0) (sym e) ∙ sym h))

@@ -1,13 +1,15 @@
 -- How far a loop of a conversation has come: so much was read and written, and what the office stands for by then.
+use Rattle.std.specs.Prelude.{MatchResult, Result, Err}
 use Rattle.std.proofs.Common.{◌≡◌, ℕ, ◌≤◌, Bool, true, false, not, List, [], ◌++◌, length, sym, arith, subst, inl, append-nil, append_assoc}
 use Rattle.vault.specs.Changes.{Contents}
 use Rattle.office.specs.Stands.{StandsFor, vault_of}
 use Rattle.office.specs.declared.office.Office.{Office}
 use Rattle.office.specs.Events.{Log, Trace}
 use Rattle.office.specs.Trace.{acts, is_open}
+use Rattle.converse.specs.declared.talk.TalkFault.{TalkFault}
 use Rattle.converse.specs.Streams.{Reading, Writing, Reads, Writes}
 use Rattle.converse.specs.Talked.{trace_of, StandsSo}
-use Rattle.converse.specs.Conversing.{GoesOn, Waits, Midway, IsPaid, IsOver}
+use Rattle.converse.specs.Conversing.{GoesOn, Waits, Midway, IsPaid, IsOver, IsCut}
 use Rattle.converse.proofs.Clauses.{waits_now, open_by, shut_by}
 use Rattle.converse.proofs.Streaming.{reads_none, writes_none}
 
@@ -61,6 +63,14 @@ module _ {V : Type 0} (Holds : V → Contents → Type 0) (faults : V → ℕ) (
   pub so_by : {before : ℕ} (o : Office V) (T : Trace) (c : ℕ) (P Q : Log → Type 0) → ((L : Log) → P L → Q L) → StandsSo Holds faults before o T c P → StandsSo Holds faults before o T c Q
   so_by o T c P Q f w = record { log = w.log; stands = w.stands; own = w.own; caused = w.caused; so = f w.log w.so }
 
+  -- a fault that a `?` hands on
+  pub cut_as : {A : Type 0} {before : ℕ} (o : Office V) (T : Trace) (c : ℕ) (octets written : List ℕ) (r : Result A TalkFault) (f : TalkFault) (Well : A → Log → Type 0) → r ≡ Err f
+      → StandsSo Holds faults before o T c (IsCut f T.base c (acts T) octets written)
+      → StandsSo Holds faults before o T c (λ L. MatchResult r (λ x. Well x L) (λ x. IsCut x T.base c (acts T) octets written L))
+  cut_as o T c octets written r f Well e w =
+      so_by o T c (IsCut f T.base c (acts T) octets written) (λ L. MatchResult r (λ x. Well x L) (λ x. IsCut x T.base c (acts T) octets written L))
+      (λ L h. subst (λ q. MatchResult q (λ x. Well x L) (λ x. IsCut x T.base c (acts T) octets written L)) (sym e) h) w
+
   -- what comes of writing more, if so much was written
   pub wrote_then : (old mid new : Office V) (c : ℕ) (held holds : Writing) (turns : ℕ) (s : WroteSoFar old mid c held holds turns) (more : List ℕ)
       (P : (before : ℕ) → Trace → (octets written : List ℕ) → Log → Type 0) → (IsClean (vault_of new) → IsClean (vault_of mid))
@@ -72,6 +82,18 @@ module _ {V : Type 0} (Holds : V → Contents → Type 0) (faults : V → ℕ) (
       let up = s.counted in
       subst (λ (o : List ℕ). StandsSo Holds faults before new T c (P before T octets o)) (append_assoc written s.more more)
       (next before T octets (written ++ s.more) (omega (arith, first, up)) clean (s.stands before T octets written first (back clean) w))
+
+  -- a fault of writing more
+  pub wrote_cut : (old mid new : Office V) (c : ℕ) (held holds : Writing) (turns : ℕ) (s : WroteSoFar old mid c held holds turns) (more : List ℕ) (r : Result Unit TalkFault) (f : TalkFault)
+      → r ≡ Err f → (IsClean (vault_of new) → IsClean (vault_of mid))
+      → ((before : ℕ) (T : Trace) (octets written : List ℕ) → before ≤ faults (vault_of mid) → IsClean (vault_of new)
+      → StandsSo Holds faults before mid T c (Midway before (faults (vault_of mid)) T.base c (acts T) octets written) → StandsSo Holds faults before new T c (IsCut f T.base c (acts T) octets (written ++ more)))
+      → (before : ℕ) (T : Trace) (octets written : List ℕ) → before ≤ faults (vault_of old) → IsClean (vault_of new)
+      → StandsSo Holds faults before old T c (Midway before (faults (vault_of old)) T.base c (acts T) octets written)
+      → StandsSo Holds faults before new T c (λ L. MatchResult r (λ _. IsPaid before (faults (vault_of new)) T.base c (acts T) octets (written ++ (s.more ++ more)) L) (λ x. IsCut x T.base c (acts T) octets (written ++ (s.more ++ more)) L))
+  wrote_cut old mid new c held holds turns s more r f e back next before T octets written first clean w =
+      cut_as new T c octets (written ++ (s.more ++ more)) r f (λ _. IsPaid before (faults (vault_of new)) T.base c (acts T) octets (written ++ (s.more ++ more))) e
+      (wrote_then old mid new c held holds turns s more (λ b T octets written L. IsCut f T.base c (acts T) octets written L) back next before T octets written first clean w)
 
   pub so_with : {before : ℕ} (o : Office V) (T : Trace) (c : ℕ) (P Q : Log → Type 0) → ((L : Log) → StandsFor Holds o (trace_of T.base L) → P L → Q L) → StandsSo Holds faults before o T c P → StandsSo Holds faults before o T c Q
   so_with o T c P Q f w = record { log = w.log; stands = w.stands; own = w.own; caused = w.caused; so = f w.log w.stands w.so }

@@ -101,9 +101,9 @@ at_faults (Ok x) Holds old new IsClean first now Is h = tt
 at_faults (Err e) Holds old new IsClean first now Is h = h
 
 -- what holds in any case holds if a call came to its end
-pub on_any : {A E P : Type 0} (r : Result A E) → P → OnOk r P
-on_any (Ok x) p = p
-on_any (Err e) p = tt
+pub on_ok : {A E P : Type 0} (r : Result A E) → P → OnOk r P
+on_ok (Ok x) p = p
+on_ok (Err e) p = tt
 
 -- what follows from two clauses over every trace, if a call came to its end
 pub at_ok : {A E V : Type 0} (r : Result A E) (Holds : V → Contents → Type 0) (old mid : Office V) (IsClean : Type 0) (P Q Is : Trace → Type 0)

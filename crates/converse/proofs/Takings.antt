@@ -8,12 +8,12 @@ use Rattle.office.specs.History.{Act, Line, Gone, Tag, Done, Failed, NoMemory, E
 use Rattle.office.specs.Connections.{connected, closing, acted, serving, sent}
 use Rattle.office.specs.Replying.{is_empty}
 use Rattle.office.specs.Told.{told}
-use Rattle.office.specs.Events.{Event, EventTag, Tagged, Log, Trace, given}
+use Rattle.office.specs.Events.{Tagged, Log}
 use Rattle.office.specs.Events as event
 use Rattle.office.specs.Log.{stream, taken}
 use Rattle.office.specs.Trace.{acts, history, rest, rest_if, is_open, is_open_by, is_left, untaken, rest_at, next_line, act_of_part, acts_of_took, most_lent, IsLent}
 use Rattle.office.specs.Expected.{IsOutcome, ignored, shown_at, reason_if, may_show, took_may, next_may_fail}
-use Rattle.office.specs.Outcomes.{Outcome, Reason, NoSuchConnection, NotReady, event_tag_of}
+use Rattle.office.specs.Outcomes.{Outcome, NoSuchConnection, NotReady, event_tag_of}
 use Rattle.office.specs.Outcomes as outcome
 use Rattle.converse.specs.Talk.{may_be, AreInTurn, TalksInPart}
 use Rattle.converse.specs.Talked.{trace_of}
@@ -70,12 +70,6 @@ open_if k false e a b = rw a refl
 
 pub left_open : (k cl : Bool) (m : ℕ) (xs : List ℕ) → k ≡ true → m < length xs → is_open_by k cl (drop m xs) ≡ true
 left_open k cl m xs e h = open_if k cl (is_empty (drop m xs)) e (some_left m xs h)
-
-not_left : (a b : ℕ) → nat_lt a b ≡ false → b ≤ a
-not_left a b e = omega (arith, ltb-false a b e)
-
-is_less : (a b : ℕ) → nat_lt a b ≡ true → a < b
-is_less a b e = omega (arith, ltb-true a b e)
 
 module _ (B : Records) (c : ℕ) (old : List (Act × Tag)) (octets written : List ℕ) (L : Log) (n : ℕ) (lent : List ℕ) where
   abbrev Takes : Type 0
@@ -165,13 +159,13 @@ module _ (B : Records) (c : ℕ) (old : List (Act × Tag)) (octets written : Lis
   left_goes k left =
       still k Done
       (acts_so Done true (serving Front c) (closing Front c) (next_line L Front c []) left refl refl refl ∙ ap (λ (A : List (Act × Tag)). A ++ Before) (part_done (serving Front c) c))
-      (λ shut paid. (let l = is_less (taken L c + n) (length (sent Front c)) left in let w = long k in absurd (omega (arith, l, w, paid))))
+      (λ shut paid. (let l = ltb-true (taken L c + n) (length (sent Front c)) left in let w = long k in absurd (omega (arith, l, w, paid))))
 
   left_ends : (k : Takes) → is_left L Front c n ≡ true → serving Front c ≡ true → TalksInPart B c octets Written old (acts (trace_of B (After Failed)))
   left_ends k left serves =
       let same : acts (trace_of B (After Failed)) ≡ (Gone c, Done) ∷ Before = acts_so Failed true true (closing Front c) (next_line L Front c []) left serves refl refl in
       let s = spoke_so k in
-      let l = is_less (taken L c + n) (length (sent Front c)) left in
+      let l = ltb-true (taken L c + n) (length (sent Front c)) left in
       let w = long k in
       record {
         tags = k.on.tags;
@@ -188,7 +182,7 @@ module _ (B : Records) (c : ℕ) (old : List (Act × Tag)) (octets written : Lis
   left_breaks : (k : Takes) → is_left L Front c n ≡ true → Breaks B c old octets Written true (After NoMemory)
   left_breaks k left =
       let s = spoke_so k in
-      let l = is_less (taken L c + n) (length (sent Front c)) left in
+      let l = ltb-true (taken L c + n) (length (sent Front c)) left in
       let w = long k in
       let same : acts (trace_of B (After NoMemory)) ≡ (Gone c, Done) ∷ Before =
       acts_so NoMemory true (serving Front c) (closing Front c) (next_line L Front c []) left refl refl refl ∙ ap (λ (A : List (Act × Tag)). A ++ Before) (part_lacks (serving Front c) c) in
@@ -203,7 +197,7 @@ module _ (B : Records) (c : ℕ) (old : List (Act × Tag)) (octets written : Lis
   -- ---- all is taken
 
   paid_so : (k : Takes) → is_left L Front c n ≡ false → length (sent Front c) ≤ length Written
-  paid_so k all = let l = not_left (taken L c + n) (length (sent Front c)) all in let w = long k in omega (arith, l, w)
+  paid_so k all = let l = ltb-false (taken L c + n) (length (sent Front c)) all in let w = long k in omega (arith, l, w)
 
   closing_goes : (k : Takes) → is_left L Front c n ≡ false → closing Front c ≡ true → GoesOn B c old octets Written (After Done)
   closing_goes k all closes =

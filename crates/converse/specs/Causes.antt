@@ -1,5 +1,5 @@
 -- Which fault a run reports for the fault that it met.
-use Rattle.std.specs.Prelude.{◌≡◌, ℕ, ⊤, Bool, true, false, List, Option, Err, IsOk}
+use Rattle.std.specs.Prelude.{◌≡◌, ◌≤◌, ℕ, ⊤, Bool, true, false, List, Option, Err, IsOk}
 use Rattle.creds.specs.Names.{is_host}
 use Rattle.policy.specs.declared.fault.PolicyFault.{PolicyFault}
 use Rattle.office.specs.declared.office.OpenFault.{OpenFault}
@@ -41,6 +41,14 @@ IsWhyNot text host _ = ⊥
 -- one of these faults is printed: its line, or a beginning of it
 abbrev pub Tells : (before after : Option (List ℕ)) → (Fault → Type 0) → Type 0
 Tells before after Is = (fault : Fault) × Is fault × PrintsPart before after (fault_line fault)
+
+-- A run ended with status 0, and wrote nothing on standard error; or with status 1, and printed one
+-- of these faults there, or a beginning of its line.
+pub record Reports {E : Type 0} (contents : E → Option (List ℕ)) (e e' : E) (status : ℕ)
+    (Why : Fault → Type 0) : Type 0 where
+  pub bound : status ≤ 1
+  pub silent : status ≡ 0 → e' ≡ e
+  pub why : status ≡ 1 → Tells (contents e) (contents e') Why
 
 -- why a store refuses a look at a maildrop that is there or not: a fault that it counted, or want
 -- of memory; or the maildrop isn't there

@@ -62,6 +62,11 @@ pub record IsOver (before now : ℕ) (B : Records) (c : ℕ) (old : List (Act ×
   pub midway : Midway before now B c old octets written L
   pub shut : is_open (trace_of B L) c ≡ false
 
+-- it came to its end: it waits and the source is at its end, or it is over
+abbrev pub IsDone : (at_end : Type 0) (before now : ℕ) → Records → ℕ → List (Act × Tag) → (octets written : List ℕ) → Log → Type 0
+IsDone at_end before now B c old octets written L =
+    (Waits B c old octets written L × at_end) ⊎ IsOver before now B c old octets written L
+
 -- the acts of one that was broken off: without the connection's end, or with it while the connection was still open
 abbrev pub AreBroken : Records → ℕ → (written : List ℕ) → (lines : List (Act × Tag)) → Log → Type 0
 AreBroken B c written H L =

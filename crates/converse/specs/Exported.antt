@@ -3,6 +3,7 @@ use Rattle.std.specs.Prelude.{◌≡◌, ◌≤◌, ℕ, ⊤, true, List, [], �
 use Rattle.std.specs.Prelude.{None, Some, Result, OnErr, codes}
 use Rattle.std.specs.Fmt.{decimal}
 use Rattle.std.specs.List.{flat_map}
+use Rattle.notes.specs.declared.Notes.{Notes}
 use Rattle.creds.specs.Uid.{uid_text}
 use Rattle.vault.specs.declared.answer.Head.{Head}
 use Rattle.vault.specs.declared.record.Keyed.{Keyed}
@@ -15,6 +16,10 @@ use Rattle.converse.specs.Texts.{intact_in, differing_in, differs_line, head_lin
 pub record File : Type 0 where
   pub name : List ℕ
   pub octets : List ℕ
+
+-- a file, as a folder notes it: its name and its octets
+abbrev pub noted_file : Notes ℕ × Notes ℕ → File
+noted_file n = record { name = n.0.items; octets = n.1.items }
 
 -- the name of a message's file: its unique-id, as UIDL gives it, and `.eml`
 abbrev pub file_name : (class : List ℕ) → (k : ℕ) → List ℕ

@@ -11,8 +11,11 @@ pub mod Escapes
 pub mod Script
 pub mod LinePlaces
 pub mod Runs
+pub mod TalksOver
 pub mod Played
 pub mod Reviewed
+pub mod Held
 pub mod Exported
+pub mod Exports
 pub mod Checked
 pub mod Texts

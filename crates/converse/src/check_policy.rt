@@ -1,9 +1,9 @@
 //! `popbox check-policy`: prints how many rules a policy's text has, or the policy in its written
 //! form, or the text's first fault.
 
-ghost use Rattle.std.specs.Prelude.{◌≡◌, ◌≤◌, ◌⊎◌, true, false, IfOk, IfErr, OnOk, string_bytes};
+ghost use Rattle.std.specs.Prelude.{◌≡◌, ◌⊎◌, true, false, IfOk, IfErr, OnOk, string_bytes};
 ghost use Rattle.policy.specs.WrittenText.{policy_text};
-ghost use Rattle.converse.specs.Causes.{IsPolicyEnd, Tells};
+ghost use Rattle.converse.specs.Causes.{IsPolicyEnd, Reports};
 ghost use Rattle.converse.specs.PolicyFile.{IsPolicyText, IsFaultOf, IsNoPolicyText, TellsCount};
 ghost use Rattle.converse.specs.PolicyFile.{TellsCountPart, TellsWritten, TellsWrittenPart};
 ghost use Rattle.converse.specs.Streams.{writes_failed};
@@ -24,14 +24,12 @@ use std::str;
 /// policy has a fault, memory runs out, `out` refuses octets. Before the last of them nothing is on
 /// `out`; then a beginning of the line may be.
 pub fn check_policy<W: Sink, E: Write>(alloc: Global, octets: &[u8], out: &mut W, err: &mut E) -> u8
-    ensures status { result ≤ 1 }
-    ensures silent { result ≡ 0 → err.new ≡ err.old }
     ensures good { result ≡ 0 → TellsCount octets.now (W.seen out.old) (W.seen out.new) }
     ensures flushed { result ≡ 0 → (W.seen out.new).flushed ≡ true }
     ensures faulty { IsNoPolicyText octets.now → out.new ≡ out.old }
     ensures part { (out.new ≡ out.old)
         ⊎ TellsCountPart octets.now (W.seen out.old) (W.seen out.new) }
-    ensures why { result ≡ 1 → Tells (E.contents err.old) (E.contents err.new)
+    ensures reports { Reports E.contents err.old err.new result
         (IsPolicyEnd (IsFaultOf octets.now) (writes_failed (W.seen out.old) (W.seen out.new))) }
 {
     match tell_count(alloc, octets, out) {
@@ -62,14 +60,12 @@ fn tell_count<W: Sink>(alloc: Global, octets: &[u8], out: &mut W) -> Result<(), 
 /// Gives the exit status, 0 or 1. Faults are told as `check_policy` tells them. Before `out`
 /// refuses octets nothing is on it; then a beginning of the text may be.
 pub fn write_policy<W: Sink, E: Write>(alloc: Global, octets: &[u8], out: &mut W, err: &mut E) -> u8
-    ensures status { result ≤ 1 }
-    ensures silent { result ≡ 0 → err.new ≡ err.old }
     ensures good { result ≡ 0 → TellsWritten octets.now (W.seen out.old) (W.seen out.new) }
     ensures flushed { result ≡ 0 → (W.seen out.new).flushed ≡ true }
     ensures faulty { IsNoPolicyText octets.now → out.new ≡ out.old }
     ensures part { (out.new ≡ out.old)
         ⊎ TellsWrittenPart octets.now (W.seen out.old) (W.seen out.new) }
-    ensures why { result ≡ 1 → Tells (E.contents err.old) (E.contents err.new)
+    ensures reports { Reports E.contents err.old err.new result
         (IsPolicyEnd (IsFaultOf octets.now) (writes_failed (W.seen out.old) (W.seen out.new))) }
 {
     match tell_written(alloc, octets, out) {

@@ -1,19 +1,19 @@
 //! `popbox check`: prints what is in a store.
 
-ghost use Rattle.std.specs.Prelude.{◌≡◌, ◌≤◌, ◌++◌, ◌⊎◌, [], true, false, length, sum_by, is_some};
-ghost use Rattle.std.specs.Prelude.{IfOk, IfErr, OnOk, List, Option};
+ghost use Rattle.std.specs.Prelude.{◌≡◌, ◌≤◌, ◌++◌, true, false, sum_by, is_some};
+ghost use Rattle.std.specs.Prelude.{IfOk, IfErr, IsOk, OnOk, List, Option};
 ghost use Rattle.std.specs.List.{All, flat_map};
 ghost use Rattle.std.specs.Io.KnownBytes.{Appends};
 ghost use Rattle.vault.specs.declared.answer.Total.{Total as Sum};
 ghost use Rattle.vault.specs.Records.{credential_in, is_one_of};
 ghost use Rattle.vault.specs.declared.record.Receipt as receipt;
-ghost use Rattle.vault.specs.Changes.{Contents};
 ghost use Rattle.converse.specs.Checked.{kind_text, counted, file_lines, maildrop_line, clerk_line};
 ghost use Rattle.converse.specs.Checked.{counts_front, counts_rest, counts_line, last_line};
 ghost use Rattle.converse.specs.Checked.{store_text, AreKnown};
-ghost use Rattle.converse.specs.Causes.{IsCheckEnd, IsExportFault, IsRefusedCheck, IsRefusedRead};
-ghost use Rattle.converse.specs.Causes.{IsRefusedExport, Tells};
-ghost use Rattle.converse.specs.Streams.{Writes, WritesPart, writes_failed};
+ghost use Rattle.converse.specs.Causes.{IsExportFault, IsRefusedCheck, IsRefusedRead};
+ghost use Rattle.converse.specs.Causes.{IsRefusedExport, Reports};
+ghost use Rattle.converse.specs.Exports.{Checks, WhyNotIntact};
+ghost use Rattle.converse.specs.Held.{OverHeld, StillHeld};
 ghost use Rattle.converse.specs.Texts.{AreMarks, HasNone, against};
 ghost use Rattle.converse.specs.Texts.{differing, differing_in, differs_line};
 
@@ -58,29 +58,13 @@ pub fn check_store<V: Vault, W: Sink, E: Write>(
     out: &mut W,
     err: &mut E,
 ) -> u8
-    ensures status { result ≤ 1 }
-    ensures silent { result ≡ 0 → err.new ≡ err.old }
-    ensures told { result ≡ 0 → (c : Contents) → V.holds vault.old c → V.is_clean vault.new
-        → Writes (W.seen out.old) (W.seen out.new)
-        (store_text file.now c clerks.now (against texts.now)) }
-    ensures flushed { result ≡ 0 → (W.seen out.new).flushed ≡ true }
-    ensures intact { result ≡ 0 → (c : Contents) → V.holds vault.old c → V.is_clean vault.new
-        → differing (against texts.now) c ≡ [] }
-    ensures why { result ≡ 1 → Tells (E.contents err.old) (E.contents err.new) (IsCheckEnd
-        ((c : Contents) → V.holds vault.old c → V.is_clean vault.new
-        → ¬ (differing (against texts.now) c ≡ []) × Writes (W.seen out.old) (W.seen out.new)
-        (store_text file.now c clerks.now (against texts.now)))
-        (writes_failed (W.seen out.old) (W.seen out.new))
+    ensures checks { Checks V.Vault W.Sink vault.old vault.new out.old out.new file.now
+        (λ _. clerks.now) (λ _. against texts.now) (result ≡ 0) }
+    ensures reports { Reports E.contents err.old err.new result
+        (WhyNotIntact V.Vault W.Sink vault.old vault.new out.old out.new file.now
+        (λ _. clerks.now) (λ _. against texts.now)
         (IsRefusedCheck V.holds V.is_clean V.faults vault.old vault.new (AreKnown clerks.now))) }
-    ensures part { (out.new ≡ out.old)
-        ⊎ ((c : Contents) → V.holds vault.old c → V.is_clean vault.new
-        → WritesPart (W.seen out.old) (W.seen out.new)
-        (store_text file.now c clerks.now (against texts.now))) }
-    ensures known { result ≡ 0 → (c : Contents) → V.holds vault.old c → V.is_clean vault.new
-        → AreKnown clerks.now c }
-    ensures held { (c : Contents) → V.holds vault.old c → V.is_clean vault.new
-        → V.holds vault.new c }
-    ensures clean { V.is_clean vault.new → V.is_clean vault.old }
+    ensures still { StillHeld V.Vault vault.old vault.new }
 {
     match tell_store(alloc, vault, clerks, texts, file, out) {
         Ok(()) => 0,
@@ -97,27 +81,12 @@ fn tell_store<V: Vault, W: Sink>(
     file: &StoreFile,
     out: &mut W,
 ) -> Result<(), Fault>
-    ensures told { OnOk result ((c : Contents) → V.holds vault.old c → V.is_clean vault.new
-        → Writes (W.seen out.old) (W.seen out.new)
-        (store_text file.now c clerks.now (against texts.now))) }
-    ensures flushed { OnOk result ((W.seen out.new).flushed ≡ true) }
-    ensures intact { OnOk result ((c : Contents) → V.holds vault.old c → V.is_clean vault.new
-        → differing (against texts.now) c ≡ []) }
-    ensures why { IfErr result (IsCheckEnd ((c : Contents) → V.holds vault.old c
-        → V.is_clean vault.new → ¬ (differing (against texts.now) c ≡ [])
-        × Writes (W.seen out.old) (W.seen out.new)
-        (store_text file.now c clerks.now (against texts.now)))
-        (writes_failed (W.seen out.old) (W.seen out.new))
+    ensures checks { Checks V.Vault W.Sink vault.old vault.new out.old out.new file.now
+        (λ _. clerks.now) (λ _. against texts.now) (IsOk result) }
+    ensures why { IfErr result (WhyNotIntact V.Vault W.Sink vault.old vault.new out.old out.new
+        file.now (λ _. clerks.now) (λ _. against texts.now)
         (IsRefusedCheck V.holds V.is_clean V.faults vault.old vault.new (AreKnown clerks.now))) }
-    ensures part { (out.new ≡ out.old)
-        ⊎ ((c : Contents) → V.holds vault.old c → V.is_clean vault.new
-        → WritesPart (W.seen out.old) (W.seen out.new)
-        (store_text file.now c clerks.now (against texts.now))) }
-    ensures known { OnOk result ((c : Contents) → V.holds vault.old c → V.is_clean vault.new
-        → AreKnown clerks.now c) }
-    ensures held { (c : Contents) → V.holds vault.old c → V.is_clean vault.new
-        → V.holds vault.new c }
-    ensures clean { V.is_clean vault.new → V.is_clean vault.old }
+    ensures still { StillHeld V.Vault vault.old vault.new }
 {
     let mut text = Vec::new(alloc);
     let marks = marks_of(alloc, texts)?;
@@ -139,16 +108,14 @@ fn put_store<V: Vault>(
     text: &mut Vec<u8>,
 ) -> Result<bool, Fault>
     ensures told { OnOk result ((rs : Option (List receipt.Receipt)) → AreMarks rs marks.now
-        → (c : Contents) → V.holds vault.old c → V.is_clean vault.new
-        → text.new.items ≡ text.old.items ++ store_text file.now c clerks.now rs) }
+        → OverHeld V.Vault vault.old vault.new
+        (λ c. text.new.items ≡ text.old.items ++ store_text file.now c clerks.now rs)) }
     ensures intact { IfOk result (λ intact. (rs : Option (List receipt.Receipt))
-        → AreMarks rs marks.now
-        → (c : Contents) → V.holds vault.old c → V.is_clean vault.new
-        → HasNone intact (differing rs c)) }
-    ensures known { OnOk result ((c : Contents) → V.holds vault.old c → V.is_clean vault.new
-        → AreKnown clerks.now c) }
-    ensures held { (c : Contents) → V.holds vault.old c → V.is_clean vault.new
-        → V.holds vault.new c }
+        → AreMarks rs marks.now → OverHeld V.Vault vault.old vault.new
+        (λ c. HasNone intact (differing rs c))) }
+    ensures known { OnOk result (OverHeld V.Vault vault.old vault.new
+        (λ c. AreKnown clerks.now c)) }
+    ensures held { OverHeld V.Vault vault.old vault.new (V.holds vault.new) }
     ensures clean { V.is_clean vault.new → V.is_clean vault.old }
     ensures cause { IfErr result (IsExportFault false false
         (IsRefusedCheck V.holds V.is_clean V.faults vault.old vault.new (AreKnown clerks.now))) }
@@ -180,12 +147,10 @@ fn tell_differing<V: Vault>(
     text: &mut Vec<u8>,
 ) -> Result<(), Fault>
     ensures told { OnOk result ((rs : Option (List receipt.Receipt)) → AreMarks rs marks.now
-        → (c : Contents) → V.holds vault.old c → V.is_clean vault.new
-        → text.new.items ≡ text.old.items
-        ++ flat_map (λ (s : Sum). flat_map differs_line (differing_in rs s.maildrop c))
-        totals.now) }
-    ensures held { (c : Contents) → V.holds vault.old c → V.is_clean vault.new
-        → V.holds vault.new c }
+        → OverHeld V.Vault vault.old vault.new
+        (λ c. text.new.items ≡ text.old.items ++ flat_map (λ (s : Sum). flat_map differs_line
+        (differing_in rs s.maildrop c)) totals.now)) }
+    ensures held { OverHeld V.Vault vault.old vault.new (V.holds vault.new) }
     ensures clean { V.is_clean vault.new → V.is_clean vault.old }
     ensures counted { V.faults vault.old ≤ V.faults vault.new }
     ensures cause { IfErr result (IsExportFault false false
@@ -207,11 +172,10 @@ fn tell_maildrop<V: Vault>(
     text: &mut Vec<u8>,
 ) -> Result<(), Fault>
     ensures told { OnOk result ((rs : Option (List receipt.Receipt)) → AreMarks rs marks.now
-        → (c : Contents) → V.holds vault.old c → V.is_clean vault.new
-        → text.new.items ≡ text.old.items
-        ++ flat_map differs_line (differing_in rs maildrop.now c)) }
-    ensures held { (c : Contents) → V.holds vault.old c → V.is_clean vault.new
-        → V.holds vault.new c }
+        → OverHeld V.Vault vault.old vault.new
+        (λ c. text.new.items ≡ text.old.items ++ flat_map differs_line
+        (differing_in rs maildrop.now c))) }
+    ensures held { OverHeld V.Vault vault.old vault.new (V.holds vault.new) }
     ensures clean { V.is_clean vault.new → V.is_clean vault.old }
     ensures counted { V.faults vault.old ≤ V.faults vault.new }
     ensures cause { IfErr result (IsExportFault false false
@@ -261,12 +225,11 @@ fn print_total<W: Write>(out: &mut W, total: &Total) -> io::Result<()>
 
 /// Prints a line for each of these clerks.
 fn tell_clerks<V: Vault>(vault: &mut V, clerks: &[Name], text: &mut Vec<u8>) -> Result<(), Fault>
-    ensures told { OnOk result ((c : Contents) → V.holds vault.old c → V.is_clean vault.new
-        → text.new.items ≡ text.old.items ++ flat_map (clerk_line c.clerks) clerks.now) }
-    ensures known { OnOk result ((c : Contents) → V.holds vault.old c → V.is_clean vault.new
-        → AreKnown clerks.now c) }
-    ensures held { (c : Contents) → V.holds vault.old c → V.is_clean vault.new
-        → V.holds vault.new c }
+    ensures told { OnOk result (OverHeld V.Vault vault.old vault.new
+        (λ c. text.new.items ≡ text.old.items ++ flat_map (clerk_line c.clerks) clerks.now)) }
+    ensures known { OnOk result (OverHeld V.Vault vault.old vault.new
+        (λ c. AreKnown clerks.now c)) }
+    ensures held { OverHeld V.Vault vault.old vault.new (V.holds vault.new) }
     ensures clean { V.is_clean vault.new → V.is_clean vault.old }
     ensures counted { V.faults vault.old ≤ V.faults vault.new }
     ensures cause { IfErr result (IsExportFault false false
@@ -280,12 +243,11 @@ fn tell_clerks<V: Vault>(vault: &mut V, clerks: &[Name], text: &mut Vec<u8>) -> 
 
 /// Prints the line of a clerk, who is asked of the store.
 fn tell_clerk<V: Vault>(vault: &mut V, name: &Name, text: &mut Vec<u8>) -> Result<(), Fault>
-    ensures told { OnOk result ((c : Contents) → V.holds vault.old c → V.is_clean vault.new
-        → text.new.items ≡ text.old.items ++ clerk_line c.clerks name.now) }
-    ensures known { OnOk result ((c : Contents) → V.holds vault.old c → V.is_clean vault.new
-        → is_some (credential_in name.now c.clerks) ≡ true) }
-    ensures held { (c : Contents) → V.holds vault.old c → V.is_clean vault.new
-        → V.holds vault.new c }
+    ensures told { OnOk result (OverHeld V.Vault vault.old vault.new
+        (λ c. text.new.items ≡ text.old.items ++ clerk_line c.clerks name.now)) }
+    ensures known { OnOk result (OverHeld V.Vault vault.old vault.new
+        (λ c. is_some (credential_in name.now c.clerks) ≡ true)) }
+    ensures held { OverHeld V.Vault vault.old vault.new (V.holds vault.new) }
     ensures clean { V.is_clean vault.new → V.is_clean vault.old }
     ensures counted { V.faults vault.old ≤ V.faults vault.new }
     ensures cause { IfErr result (IsExportFault false false

@@ -1,21 +1,20 @@
 //! `popbox export`: puts the messages of a maildrop as files into a folder.
 
-ghost use Rattle.std.specs.Prelude.{◌≡◌, ◌≤◌, ◌<◌, ◌∷◌, ◌⊎◌, [], true, false, ℕ, length, map};
-ghost use Rattle.std.specs.Prelude.{IsErr, IsOk, IfOk, IfErr, OnOk, OnErr};
+ghost use Rattle.std.specs.Prelude.{◌≡◌, ◌≤◌, ◌<◌, ◌∷◌, [], true, false, length, map};
+ghost use Rattle.std.specs.Prelude.{IsOk, IfOk, IfErr, OnOk, OnErr};
 ghost use Rattle.std.specs.List.{All};
-ghost use Rattle.vault.specs.Records.{is_one_of};
 ghost use Rattle.vault.specs.Calls.{text_under, has_grown};
-ghost use Rattle.vault.specs.Changes.{Contents};
-ghost use Rattle.converse.specs.Causes.{IsExportEnd, IsExportFault, IsRefusedExport, IsRefusedRead};
-ghost use Rattle.converse.specs.Causes.{Tells};
-ghost use Rattle.converse.specs.Streams.{Writes, WritesPart, writes_failed};
+ghost use Rattle.converse.specs.Causes.{IsExportFault, IsRefusedRead, Reports};
 ghost use Rattle.std.specs.Io.KnownBytes.{Appends};
-ghost use Rattle.converse.specs.Exported.{files_of, Takes, TakesFirst, export_line, IsFront};
-ghost use Rattle.converse.specs.Exported.{IsMeasured, file_under, report_text, told_of};
-ghost use Rattle.converse.specs.Texts.{HasNone, differing_in, against};
+ghost use Rattle.converse.specs.Exported.{Takes, TakesFirst, export_line, IsFront};
+ghost use Rattle.converse.specs.Exported.{IsMeasured, file_under, told_of};
+ghost use Rattle.converse.specs.Exports.{Exports, PutsMaildrop, WhyNotWhole};
+ghost use Rattle.converse.specs.Held.{OverHeld, StillHeld};
+ghost use Rattle.converse.specs.Texts.{against};
 ghost use Rattle.converse.specs.declared.fault.Fault.TheVariants as faults;
 
 use crate::fault::{Fault, put_fault, tell_fault};
+pub use crate::folder::Folder;
 use crate::streams::Sink;
 use crate::texts::{Texts, marks_of, print_differing, sift};
 use crate::writing::write_text;
@@ -27,38 +26,6 @@ use vault::{Head, MessageKey, Vault, VaultFault};
 
 /// How many octets of a message are read at once.
 const PAGE_OCTETS: usize = 16_384;
-
-/// A folder that takes files. Contracts see which files it took, if it tells them (a real folder
-/// doesn't); whether the names of all of them last a power cut; and how many of its calls failed.
-/// That count stops at 2^64 - 1.
-pub trait Folder {
-    ghost use Rattle.std.specs.Prelude.{List, Option, Bool};
-    ghost use Rattle.converse.specs.Exported.{File, CountsRefusal};
-
-    /// The files that it took, in their order.
-    ghost files: { Self → Option (List File) };
-
-    /// The name of each of them lasts a power cut.
-    ghost is_settled: { Self → Bool };
-
-    /// How many of its calls failed.
-    ghost faults: { Self → ℕ };
-
-    /// Puts a file of this name and these octets into the folder, whole or not at all. If the
-    /// folder has a file of the name that file stays as it is, and the call is an error.
-    fn put(&mut self, name: &str, octets: &[u8]) -> io::Result<()>
-        ensures put { OnOk result (Takes (files self.old) (files self.new)
-            (record { name = name.now; octets = octets.now } ∷ [])) }
-        ensures refused { OnErr result (Takes (files self.old) (files self.new) []) }
-        ensures unsettled { IsOk result → is_settled self.new ≡ false }
-        ensures counted { CountsRefusal (faults self.old) (faults self.new) result };
-
-    /// Waits until the names of the files that it took last a power cut.
-    fn settle(&mut self) -> io::Result<()>
-        ensures kept { Takes (files self.old) (files self.new) [] }
-        ensures settled { IsOk result → is_settled self.new ≡ true }
-        ensures counted { CountsRefusal (faults self.old) (faults self.new) result };
-}
 
 /// Puts each message of a maildrop, the oldest first, as a file into a folder, and prints
 /// `ok, N messages` to `out`, which is flushed, once the names of the files last a power cut. The
@@ -82,42 +49,12 @@ pub fn export<V: Vault, F: Folder, W: Sink, E: Write>(
     out: &mut W,
     err: &mut E,
 ) -> u8
-    ensures status { result ≤ 1 }
-    ensures silent { result ≡ 0 → err.new ≡ err.old }
-    ensures whole { result ≡ 0 → (c : Contents) → V.holds vault.old c → V.is_clean vault.new
-        → Takes (F.files folder.old) (F.files folder.new)
-        (files_of (against texts.now) maildrop.now c) }
-    ensures told { result ≡ 0 → (c : Contents) → V.holds vault.old c → V.is_clean vault.new
-        → Writes (W.seen out.old) (W.seen out.new)
-        (export_line (length (files_of (against texts.now) maildrop.now c))) }
-    ensures intact { result ≡ 0 → (c : Contents) → V.holds vault.old c → V.is_clean vault.new
-        → differing_in (against texts.now) maildrop.now c ≡ [] }
-    ensures part { (c : Contents) → V.holds vault.old c → V.is_clean vault.new
-        → TakesFirst (F.files folder.old) (F.files folder.new)
-        (files_of (against texts.now) maildrop.now c) }
-    ensures last { (out.new ≡ out.old)
-        ⊎ ((c : Contents) → V.holds vault.old c → V.is_clean vault.new
-        → Takes (F.files folder.old) (F.files folder.new)
-        (files_of (against texts.now) maildrop.now c)
-        × WritesPart (W.seen out.old) (W.seen out.new)
-        (report_text (against texts.now) maildrop.now c)) }
-    ensures missing { (c : Contents) → V.holds vault.old c → V.is_clean vault.new
-        → is_one_of maildrop.now c.maildrops ≡ false → result ≡ 1 }
-    ensures settled { result ≡ 0 → F.is_settled folder.new ≡ true }
-    ensures flushed { result ≡ 0 → (W.seen out.new).flushed ≡ true }
-    ensures settled_first { (out.new ≡ out.old) ⊎ (F.is_settled folder.new ≡ true) }
-    ensures why { result ≡ 1 → Tells (E.contents err.old) (E.contents err.new)
-        (IsExportEnd ((c : Contents) → V.holds vault.old c → V.is_clean vault.new
-        → ¬ (differing_in (against texts.now) maildrop.now c ≡ [])
-        × Takes (F.files folder.old) (F.files folder.new)
-        (files_of (against texts.now) maildrop.now c)
-        × Writes (W.seen out.old) (W.seen out.new) (report_text (against texts.now) maildrop.now c))
-        (has_grown (F.faults folder.old) (F.faults folder.new))
-        (writes_failed (W.seen out.old) (W.seen out.new))
-        (IsRefusedExport V.holds V.is_clean V.faults vault.old vault.new maildrop.now)) }
-    ensures held { (c : Contents) → V.holds vault.old c → V.is_clean vault.new
-        → V.holds vault.new c }
-    ensures clean { V.is_clean vault.new → V.is_clean vault.old }
+    ensures exports { Exports V.Vault F.Folder W.Sink vault.old vault.new folder.old folder.new
+        out.old out.new (λ _. against texts.now) maildrop.now result }
+    ensures reports { Reports E.contents err.old err.new result
+        (WhyNotWhole V.Vault F.Folder W.Sink vault.old vault.new folder.old folder.new
+        out.old out.new (λ _. against texts.now) maildrop.now) }
+    ensures still { StillHeld V.Vault vault.old vault.new }
 {
     match put_maildrop(alloc, vault, maildrop, texts, folder, out) {
         Ok(true) => 0,
@@ -136,35 +73,9 @@ fn put_maildrop<V: Vault, F: Folder, W: Sink>(
     folder: &mut F,
     out: &mut W,
 ) -> Result<bool, Fault>
-    ensures whole { OnOk result ((c : Contents) → V.holds vault.old c → V.is_clean vault.new
-        → Takes (F.files folder.old) (F.files folder.new)
-        (files_of (against texts.now) maildrop.now c)) }
-    ensures told { OnOk result ((c : Contents) → V.holds vault.old c → V.is_clean vault.new
-        → Writes (W.seen out.old) (W.seen out.new)
-        (report_text (against texts.now) maildrop.now c)) }
-    ensures intact { IfOk result (λ intact. (c : Contents) → V.holds vault.old c
-        → V.is_clean vault.new → HasNone intact (differing_in (against texts.now) maildrop.now c)) }
-    ensures part { (c : Contents) → V.holds vault.old c → V.is_clean vault.new
-        → TakesFirst (F.files folder.old) (F.files folder.new)
-        (files_of (against texts.now) maildrop.now c) }
-    ensures last { (out.new ≡ out.old)
-        ⊎ ((c : Contents) → V.holds vault.old c → V.is_clean vault.new
-        → Takes (F.files folder.old) (F.files folder.new)
-        (files_of (against texts.now) maildrop.now c)
-        × WritesPart (W.seen out.old) (W.seen out.new)
-        (report_text (against texts.now) maildrop.now c)) }
-    ensures missing { (c : Contents) → V.holds vault.old c → V.is_clean vault.new
-        → is_one_of maildrop.now c.maildrops ≡ false → IsErr result }
-    ensures settled { IsOk result → F.is_settled folder.new ≡ true }
-    ensures flushed { OnOk result ((W.seen out.new).flushed ≡ true) }
-    ensures settled_first { (out.new ≡ out.old) ⊎ (F.is_settled folder.new ≡ true) }
-    ensures cause { IfErr result
-        (IsExportFault (has_grown (F.faults folder.old) (F.faults folder.new))
-        (writes_failed (W.seen out.old) (W.seen out.new))
-        (IsRefusedExport V.holds V.is_clean V.faults vault.old vault.new maildrop.now)) }
-    ensures held { (c : Contents) → V.holds vault.old c → V.is_clean vault.new
-        → V.holds vault.new c }
-    ensures clean { V.is_clean vault.new → V.is_clean vault.old }
+    ensures puts { PutsMaildrop V.Vault F.Folder W.Sink vault.old vault.new folder.old folder.new
+        out.old out.new (λ _. against texts.now) maildrop.now result }
+    ensures still { StillHeld V.Vault vault.old vault.new }
 {
     let marks = marks_of(alloc, texts)?;
     let mut intact = Vec::new(alloc);
@@ -223,14 +134,13 @@ fn put_messages<V: Vault, F: Folder>(
     heads: &[Head],
     folder: &mut F,
 ) -> Result<(), Fault>
-    ensures whole { OnOk result ((c : Contents) → V.holds vault.old c → V.is_clean vault.new
-        → All (IsMeasured c) heads.now → Takes (F.files folder.old) (F.files folder.new) (map
-        (file_under c) heads.now)) }
-    ensures part { OnErr result ((c : Contents) → V.holds vault.old c → V.is_clean vault.new
-        → All (IsMeasured c) heads.now → TakesFirst (F.files folder.old) (F.files folder.new) (map
-        (file_under c) heads.now)) }
-    ensures held { (c : Contents) → V.holds vault.old c → V.is_clean vault.new
-        → V.holds vault.new c }
+    ensures whole { OnOk result (OverHeld V.Vault vault.old vault.new
+        (λ c. All (IsMeasured c) heads.now → Takes (F.files folder.old) (F.files folder.new)
+        (map (file_under c) heads.now))) }
+    ensures part { OnErr result (OverHeld V.Vault vault.old vault.new
+        (λ c. All (IsMeasured c) heads.now → TakesFirst (F.files folder.old) (F.files folder.new)
+        (map (file_under c) heads.now))) }
+    ensures held { OverHeld V.Vault vault.old vault.new (V.holds vault.new) }
     ensures clean { V.is_clean vault.new → V.is_clean vault.old }
     ensures settled { IsOk result → F.is_settled folder.new ≡ true }
     ensures cause { IfErr result
@@ -265,14 +175,13 @@ fn put_each<V: Vault, F: Folder>(
     heads: &[Head],
     folder: &mut F,
 ) -> Result<(), Fault>
-    ensures whole { OnOk result ((c : Contents) → V.holds vault.old c → V.is_clean vault.new
-        → All (IsMeasured c) heads.now → Takes (F.files folder.old) (F.files folder.new) (map
-        (file_under c) heads.now)) }
-    ensures part { OnErr result ((c : Contents) → V.holds vault.old c → V.is_clean vault.new
-        → All (IsMeasured c) heads.now → TakesFirst (F.files folder.old) (F.files folder.new) (map
-        (file_under c) heads.now)) }
-    ensures held { (c : Contents) → V.holds vault.old c → V.is_clean vault.new
-        → V.holds vault.new c }
+    ensures whole { OnOk result (OverHeld V.Vault vault.old vault.new
+        (λ c. All (IsMeasured c) heads.now → Takes (F.files folder.old) (F.files folder.new)
+        (map (file_under c) heads.now))) }
+    ensures part { OnErr result (OverHeld V.Vault vault.old vault.new
+        (λ c. All (IsMeasured c) heads.now → TakesFirst (F.files folder.old) (F.files folder.new)
+        (map (file_under c) heads.now))) }
+    ensures held { OverHeld V.Vault vault.old vault.new (V.holds vault.new) }
     ensures clean { V.is_clean vault.new → V.is_clean vault.old }
     ensures counted { F.faults folder.old ≤ F.faults folder.new }
     ensures counted_too { V.faults vault.old ≤ V.faults vault.new }
@@ -295,12 +204,11 @@ fn put_message<V: Vault, F: Folder>(
     head: &Head,
     folder: &mut F,
 ) -> Result<(), Fault>
-    ensures whole { OnOk result ((c : Contents) → V.holds vault.old c → V.is_clean vault.new
-        → IsMeasured c head.now → Takes (F.files folder.old) (F.files folder.new)
-        (file_under c head.now ∷ [])) }
+    ensures whole { OnOk result (OverHeld V.Vault vault.old vault.new
+        (λ c. IsMeasured c head.now → Takes (F.files folder.old) (F.files folder.new)
+        (file_under c head.now ∷ []))) }
     ensures refused { OnErr result (Takes (F.files folder.old) (F.files folder.new) []) }
-    ensures held { (c : Contents) → V.holds vault.old c → V.is_clean vault.new
-        → V.holds vault.new c }
+    ensures held { OverHeld V.Vault vault.old vault.new (V.holds vault.new) }
     ensures clean { V.is_clean vault.new → V.is_clean vault.old }
     ensures counted { F.faults folder.old ≤ F.faults folder.new }
     ensures counted_too { V.faults vault.old ≤ V.faults vault.new }
@@ -328,10 +236,9 @@ pub(crate) fn read_text<V: Vault>(
     vault: &mut V,
     head: &Head,
 ) -> Result<Vec<u8>, Fault>
-    ensures text { IfOk result (λ text. (c : Contents) → V.holds vault.old c → V.is_clean vault.new
-        → IsMeasured c head.now → text.items ≡ text_under head.now.key c.messages) }
-    ensures held { (c : Contents) → V.holds vault.old c → V.is_clean vault.new
-        → V.holds vault.new c }
+    ensures text { IfOk result (λ text. OverHeld V.Vault vault.old vault.new
+        (λ c. IsMeasured c head.now → text.items ≡ text_under head.now.key c.messages)) }
+    ensures held { OverHeld V.Vault vault.old vault.new (V.holds vault.new) }
     ensures clean { V.is_clean vault.new → V.is_clean vault.old }
     ensures counted { V.faults vault.old ≤ V.faults vault.new }
     ensures cause { IfErr result (IsExportFault false false
@@ -352,11 +259,10 @@ pub(crate) fn read_text<V: Vault>(
 /// refused, or gave a page that no clean store gives.
 fn read_more<V: Vault>(vault: &mut V, key: MessageKey, text: &mut Vec<u8>) -> Result<(), Fault>
     ensures grown { IsOk result → length text.old.items < length text.new.items }
-    ensures front { OnOk result ((c : Contents) → V.holds vault.old c → V.is_clean vault.new
-        → IsFront text.old.items (text_under key c.messages)
-        → IsFront text.new.items (text_under key c.messages)) }
-    ensures held { (c : Contents) → V.holds vault.old c → V.is_clean vault.new
-        → V.holds vault.new c }
+    ensures front { OnOk result (OverHeld V.Vault vault.old vault.new
+        (λ c. IsFront text.old.items (text_under key c.messages)
+        → IsFront text.new.items (text_under key c.messages))) }
+    ensures held { OverHeld V.Vault vault.old vault.new (V.holds vault.new) }
     ensures clean { V.is_clean vault.new → V.is_clean vault.old }
     ensures counted { V.faults vault.old ≤ V.faults vault.new }
     ensures cause { IfErr result (IsExportFault false false

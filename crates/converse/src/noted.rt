@@ -2,8 +2,8 @@
 
 ghost use Rattle.std.specs.Prelude.{◌≡◌, [], true};
 
-use crate::record::Record;
 use crate::streams::{Sink, Source};
+use notes::Notes;
 use std::io;
 use std::io::{Read, Write};
 
@@ -15,7 +15,7 @@ pub struct Noted<T> {
     /// The reader or writer.
     pub inner: T,
     /// The octets that it gave or took.
-    pub octets: Record,
+    pub octets: Notes<u8>,
     /// Whether a writer was flushed since it took octets.
     pub is_flushed: bool,
     /// How many of its calls failed. The count stops at 2^64 - 1.
@@ -26,13 +26,13 @@ impl<T> Noted<T> {
     /// Around a reader or writer of which nothing is noted yet.
     pub fn new(inner: T) -> Noted<T>
         ensures inner { result.inner ≡ inner }
-        ensures octets { result.octets.noted ≡ [] }
+        ensures octets { result.octets.items ≡ [] }
         ensures flushed { result.is_flushed ≡ true }
         ensures faults { result.faults ≡ 0 }
     {
         Noted {
             inner,
-            octets: Record::new(),
+            octets: Notes::new(),
             is_flushed: true,
             faults: 0,
         }
@@ -41,7 +41,7 @@ impl<T> Noted<T> {
 
 impl<R: Read> Source for Noted<R> {
     ghost seen = { λ n. record {
-      given = n.octets.noted;
+      given = n.octets.items;
       left = R.remaining n.inner;
       faults =
           n.faults;
@@ -50,7 +50,7 @@ impl<R: Read> Source for Noted<R> {
     fn read(&mut self, room: &mut [u8]) -> io::Result<usize> {
         match self.inner.read(room) {
             Ok(count) => {
-                self.octets.note(&room[..count]);
+                self.octets.note_all(&room[..count]);
                 Ok(count)
             }
             Err(error) => {
@@ -63,7 +63,7 @@ impl<R: Read> Source for Noted<R> {
 
 impl<W: Write> Sink for Noted<W> {
     ghost seen = { λ n. record {
-      taken = n.octets.noted;
+      taken = n.octets.items;
       flushed = n.is_flushed;
       holds = W.contents n.inner;
       faults =
@@ -77,7 +77,7 @@ impl<W: Write> Sink for Noted<W> {
                 if taken == 0 {
                     self.faults = self.faults.saturating_add(1);
                 }
-                self.octets.note(&octets[..taken]);
+                self.octets.note_all(&octets[..taken]);
                 Ok(taken)
             }
             Err(error) => {

@@ -1,8 +1,9 @@
 //! Any folder as one that tells which files it took.
-ghost use Rattle.std.specs.Prelude.{◌≡◌, [], Some};
+ghost use Rattle.std.specs.Prelude.{◌≡◌, [], Some, map};
+ghost use Rattle.converse.specs.Exported.{noted_file};
 
-use crate::export::Folder;
-use crate::record::FileRecord;
+use crate::folder::Folder;
+use notes::Notes;
 use std::io;
 
 /// A folder around another one. The files that the one inside answered that it took are its files,
@@ -11,25 +12,25 @@ use std::io;
 pub struct NotedFolder<F> {
     /// The folder inside.
     pub inner: F,
-    /// The files that it took.
-    pub taken: FileRecord,
+    /// The files that it took, the newest last: the name and the octets of each.
+    pub taken: Notes<(Notes<u8>, Notes<u8>)>,
 }
 
 impl<F> NotedFolder<F> {
     /// Around a folder of which nothing is noted yet.
     pub fn new(inner: F) -> NotedFolder<F>
         ensures inner { result.inner ≡ inner }
-        ensures taken { result.taken.files ≡ [] }
+        ensures taken { result.taken.items ≡ [] }
     {
         NotedFolder {
             inner,
-            taken: FileRecord::new(),
+            taken: Notes::new(),
         }
     }
 }
 
 impl<F: Folder> Folder for NotedFolder<F> {
-    ghost files = { λ n. Some n.taken.files };
+    ghost files = { λ n. Some (map noted_file n.taken.items) };
 
     ghost is_settled = { λ n. F.is_settled n.inner };
 
@@ -38,7 +39,8 @@ impl<F: Folder> Folder for NotedFolder<F> {
     fn put(&mut self, name: &str, octets: &[u8]) -> io::Result<()> {
         match self.inner.put(name, octets) {
             Ok(()) => {
-                self.taken.note(name.as_bytes(), octets);
+                let file = (Notes::of(name.as_bytes()), Notes::of(octets));
+                self.taken.note(&file);
                 Ok(())
             }
             Err(error) => Err(error),

@@ -1,7 +1,7 @@
 //! `popbox review-policy`: prints what a policy means as a whole, and what it would change.
 
 ghost use Rattle.std.specs.Prelude.{◌≡◌, ◌⊎◌, true, IfOk, IfErr, OnOk, IsOk};
-ghost use Rattle.converse.specs.Causes.{IsPolicyEnd, Tells};
+ghost use Rattle.converse.specs.Causes.{IsPolicyEnd, Reports, Tells};
 ghost use Rattle.converse.specs.PolicyFile.{IsFaultOf, IsFaultOfEither, IsNoPolicyText};
 ghost use Rattle.converse.specs.Reviewed.{TellsChange, TellsChangePart, TellsReview};
 ghost use Rattle.converse.specs.Reviewed.{TellsReviewPart, TellsStored, TellsStoredChange};
@@ -29,14 +29,12 @@ pub fn review_alone<W: Sink, E: Write>(
     out: &mut W,
     err: &mut E,
 ) -> u8
-    ensures status { (result ≡ 0) ⊎ (result ≡ 1) }
-    ensures silent { result ≡ 0 → err.new ≡ err.old }
     ensures good { result ≡ 0 → TellsReview choice.now text.now (W.seen out.old) (W.seen out.new) }
     ensures flushed { result ≡ 0 → (W.seen out.new).flushed ≡ true }
     ensures faulty { IsNoPolicyText text.now → out.new ≡ out.old }
     ensures part { (out.new ≡ out.old)
         ⊎ TellsReviewPart choice.now text.now (W.seen out.old) (W.seen out.new) }
-    ensures why { result ≡ 1 → Tells (E.contents err.old) (E.contents err.new)
+    ensures reports { Reports E.contents err.old err.new result
         (IsPolicyEnd (IsFaultOf text.now) (writes_failed (W.seen out.old) (W.seen out.new))) }
 {
     match tell_review(alloc, text, choice, out) {

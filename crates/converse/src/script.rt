@@ -2,7 +2,7 @@
 //!
 //! Lines end at LF; empty lines and lines that begin with `#` are skipped, and counted.
 
-ghost use Rattle.std.specs.Prelude.{◌≡◌, ◌+◌, ◌<◌, ◌≤◌, ◌∷◌, ◌++◌, ℕ, length, map, IfOk, OnOk};
+ghost use Rattle.std.specs.Prelude.{◌≡◌, ◌+◌, ◌<◌, ◌≤◌, ◌++◌, ℕ, length, map, IfOk, OnOk};
 ghost use Rattle.std.specs.Prelude.{IsOkAnd, IfErr, Some, None, option_copied, option_map, ok_or};
 ghost use Rattle.office.specs.Events.{Admin};
 ghost use Rattle.converse.specs.Escapes.{unescaped};

@@ -1,5 +1,5 @@
 //! One conversation of a client over an office.
-ghost use Rattle.std.specs.Prelude.{◌≡◌, ◌<◌, ◌≤◌, ◌++◌, ◌⊎◌, ℕ, List, [], true, false, length, Ok};
+ghost use Rattle.std.specs.Prelude.{◌≡◌, ◌<◌, ◌≤◌, ◌++◌, ℕ, List, [], true, false, length, Ok};
 ghost use Rattle.std.specs.Prelude.{MatchResult, IfErr, OnOk, cond};
 ghost use Rattle.std.specs.Io.KnownBytes.{IsAtEnd};
 ghost use Rattle.vault.specs.Calls.{has_grown};
@@ -11,7 +11,7 @@ ghost use Rattle.office.specs.Seen.{outcome_seen};
 ghost use Rattle.office.specs.Stands.{StandsFor, vault_of};
 ghost use Rattle.converse.specs.Streams.{Reads, Writes, reads_failed, writes_failed};
 ghost use Rattle.converse.specs.Talked.{StandsSo, ComesOut, HasFailed, IsFlushedBy};
-ghost use Rattle.converse.specs.Conversing.{GoesOn, Waits, Midway, IsPaid, IsOver, IsCut, Refuses};
+ghost use Rattle.converse.specs.Conversing.{GoesOn, Waits, Midway, IsPaid, IsDone, IsCut, Refuses};
 ghost use Rattle.converse.specs.Conversing.{opened_by, memory_by};
 
 use crate::streams::{Sink, Source};
@@ -218,9 +218,9 @@ fn converse<V: Vault, R: Source, W: Sink>(
         → V.is_clean (vault_of office.new)
         → StandsSo V.holds V.faults before office.old T c (GoesOn T.base c (acts T) [] [])
         → StandsSo V.holds V.faults before office.new T c
-        (λ L. MatchResult result (λ _. (Waits T.base c (acts T) octets written L
-        × IsAtEnd (R.seen reader.new).left) ⊎ IsOver before (V.faults (vault_of office.new)) T.base
-        c (acts T) octets written L) (λ e. IsCut e T.base c (acts T) octets written L))) }
+        (λ L. MatchResult result (λ _. IsDone (IsAtEnd (R.seen reader.new).left) before
+        (V.faults (vault_of office.new)) T.base c (acts T) octets written L)
+        (λ e. IsCut e T.base c (acts T) octets written L))) }
     ensures flushed { IsFlushedBy result (W.seen writer.new).flushed }
     ensures failed { IfErr result (HasFailed (reads_failed (R.seen reader.old) (R.seen reader.new))
         (writes_failed (W.seen writer.old) (W.seen writer.new))) }

@@ -7,9 +7,10 @@ ghost use Rattle.std.specs.List.{All, flat_map};
 ghost use Rattle.std.specs.Io.KnownBytes.{Appends};
 ghost use Rattle.vault.specs.Records.{is_one_of};
 ghost use Rattle.vault.specs.declared.record.Receipt as receipt;
-ghost use Rattle.vault.specs.Changes.{Contents, head_of};
+ghost use Rattle.vault.specs.Changes.{head_of};
 ghost use Rattle.converse.specs.Causes.{IsExportFault, IsRefusedExport, IsRefusedRead};
 ghost use Rattle.converse.specs.Exported.{IsMeasured};
+ghost use Rattle.converse.specs.Held.{OverHeld};
 ghost use Rattle.converse.specs.declared.fault.Fault.TheVariants.{OutOfMemory};
 ghost use Rattle.converse.specs.Texts.{IsSetOf, AreMarks, mark_of, has_intact, head_line, against};
 ghost use Rattle.converse.specs.Texts.{intact_in, differing_in};
@@ -65,11 +66,9 @@ fn is_intact<V: Vault>(
     head: &Head,
 ) -> Result<bool, Fault>
     ensures told { IfOk result (λ intact. (rs : Option (List receipt.Receipt))
-        → AreMarks rs marks.now
-        → (c : Contents) → V.holds vault.old c → V.is_clean vault.new → IsMeasured c head.now
-        → intact ≡ has_intact rs maildrop.now c head.now) }
-    ensures held { (c : Contents) → V.holds vault.old c → V.is_clean vault.new
-        → V.holds vault.new c }
+        → AreMarks rs marks.now → OverHeld V.Vault vault.old vault.new
+        (λ c. IsMeasured c head.now → intact ≡ has_intact rs maildrop.now c head.now)) }
+    ensures held { OverHeld V.Vault vault.old vault.new (V.holds vault.new) }
     ensures clean { V.is_clean vault.new → V.is_clean vault.old }
     ensures counted { V.faults vault.old ≤ V.faults vault.new }
     ensures cause { IfErr result (IsExportFault false false
@@ -125,13 +124,12 @@ fn sift_heads<V: Vault>(
     differing: &mut Vec<Head>,
 ) -> Result<(), Fault>
     ensures sifted { OnOk result ((rs : Option (List receipt.Receipt)) → AreMarks rs marks.now
-        → (c : Contents) → V.holds vault.old c → V.is_clean vault.new
-        → All (IsMeasured c) heads.now
+        → OverHeld V.Vault vault.old vault.new
+        (λ c. All (IsMeasured c) heads.now
         → (intact.new.items ≡ intact.old.items ++ filter (has_intact rs maildrop.now c) heads.now)
         × (differing.new.items ≡ differing.old.items
-        ++ filter (λ h. not (has_intact rs maildrop.now c h)) heads.now)) }
-    ensures held { (c : Contents) → V.holds vault.old c → V.is_clean vault.new
-        → V.holds vault.new c }
+        ++ filter (λ h. not (has_intact rs maildrop.now c h)) heads.now))) }
+    ensures held { OverHeld V.Vault vault.old vault.new (V.holds vault.new) }
     ensures clean { V.is_clean vault.new → V.is_clean vault.old }
     ensures counted { V.faults vault.old ≤ V.faults vault.new }
     ensures cause { IfErr result (IsExportFault false false
@@ -156,13 +154,12 @@ pub(crate) fn sift<V: Vault>(
     differing: &mut Vec<Head>,
 ) -> Result<(), Fault>
     ensures sifted { OnOk result ((rs : Option (List receipt.Receipt)) → AreMarks rs marks.now
-        → (c : Contents) → V.holds vault.old c → V.is_clean vault.new
-        → (is_one_of maildrop.now c.maildrops ≡ true)
+        → OverHeld V.Vault vault.old vault.new
+        (λ c. (is_one_of maildrop.now c.maildrops ≡ true)
         × (intact.new.items ≡ intact.old.items ++ map head_of (intact_in rs maildrop.now c))
         × (differing.new.items ≡ differing.old.items
-        ++ map head_of (differing_in rs maildrop.now c))) }
-    ensures held { (c : Contents) → V.holds vault.old c → V.is_clean vault.new
-        → V.holds vault.new c }
+        ++ map head_of (differing_in rs maildrop.now c)))) }
+    ensures held { OverHeld V.Vault vault.old vault.new (V.holds vault.new) }
     ensures clean { V.is_clean vault.new → V.is_clean vault.old }
     ensures counted { V.faults vault.old ≤ V.faults vault.new }
     ensures cause { IfErr result (IsExportFault false false

@@ -1,6 +1,6 @@
 //! Writes a text to a sink, whole, or a beginning of it.
 
-ghost use Rattle.std.specs.Prelude.{◌≡◌, ◌<◌, ◌≤◌, ℕ, [], length, take, IfOk, IfErr, OnOk};
+ghost use Rattle.std.specs.Prelude.{◌≡◌, ◌<◌, ◌≤◌, [], length, take, IfOk, IfErr, OnOk};
 ghost use Rattle.std.specs.Prelude.{MatchResult, true};
 ghost use Rattle.converse.specs.Streams.{Writes, WritesPart, writes_failed};
 ghost use Rattle.converse.specs.declared.fault.Fault.TheVariants.{CannotWrite};

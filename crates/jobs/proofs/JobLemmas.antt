@@ -1,6 +1,7 @@
 -- What a store keeps, from its opening over a job to its closing.
 use Rattle.std.proofs.Common.{◌≡◌, ◌∙◌, inl, refl, [], ℕ, Bool, true, false, Result, Ok, Err, subst}
-use Rattle.std.specs.Prelude.{◌&&◌, IfOk, if◌then◌else◌, is_ok}
+use Rattle.std.proofs.lemmas.Bool.{and_from}
+use Rattle.std.specs.Prelude.{IfOk, if◌then◌else◌, is_ok}
 use Rattle.sqlite_disk.specs.declared.Disk.{Ghosts}
 use Rattle.sqlite_disk.specs.declared.Files.{Files}
 use Rattle.sqlite_wal.specs.Reads.{AreClean}
@@ -45,12 +46,8 @@ unused_kept s h = record {
 
 -- ---- disks that tell no lie
 
-both_true : (a b : Bool) → a ≡ true → b ≡ true → (a && b) ≡ true
-both_true true b p q = q
-both_true false b p q = p
-
 pub all_clean : {D : Type 0} {g : Ghosts D} (c : Held (FileStore D g)) → ((d : D) → g.is_clean d ≡ true) → HasCleanDisk (file_state c)
-all_clean {D} {g} c honest = no_doubt _ (clean_is c.store.pool ∙ both_true _ _ (honest _) (honest _))
+all_clean {D} {g} c honest = no_doubt _ (clean_is c.store.pool ∙ and_from _ _ (honest _) (honest _))
 
 -- ---- a job
 

@@ -1,15 +1,15 @@
 //! The report on a store over tables, with all its clerks, its texts compared with its deposits.
-ghost use Rattle.std.specs.Prelude.{◌≡◌, ◌≤◌, ◌⊎◌, [], true, IfOk, IfErr};
+ghost use Rattle.std.specs.Prelude.{◌≡◌, ◌≤◌, true, IfOk, IfErr};
 ghost use Rattle.sqlite.specs.Held.{state};
 ghost use Rattle.sqlite.specs.State.{HasCleanDisk};
 ghost use Rattle.vault.specs.Calls.{has_grown};
 ghost use Rattle.vault.specs.Changes.{Contents};
 ghost use Rattle.sqlvault.specs.Clerks.{clerk_names};
 ghost use Rattle.sqlvault.specs.Stands.{Holds};
-ghost use Rattle.converse.specs.Causes.{IsCheckEnd, IsRefused, Tells};
-ghost use Rattle.converse.specs.Checked.{store_text};
-ghost use Rattle.converse.specs.Streams.{Writes, WritesPart, writes_failed};
-ghost use Rattle.converse.specs.Texts.{against, differing};
+ghost use Rattle.converse.specs.Causes.{IsRefused, Reports};
+ghost use Rattle.converse.specs.Exports.{Checks, WhyNotIntact};
+ghost use Rattle.converse.specs.Held.{OverHeld, StillHeld};
+ghost use Rattle.converse.specs.Texts.{against};
 ghost use Rattle.jobs.specs.Checks.{held_against};
 
 use converse::check_store::{StoreFile, check_store};
@@ -18,7 +18,7 @@ use sqlite::Alter;
 use sqlvault::SqlVault;
 use std::alloc::Global;
 use std::io::Write;
-use vault::VaultFault;
+use vault::{Vault, VaultFault};
 
 /// What the texts of a store's messages are compared with: the digests of all its deposits, or
 /// nothing.
@@ -58,35 +58,14 @@ pub fn check_all<S: Alter, W: Sink, E: Write>(
     out: &mut W,
     err: &mut E,
 ) -> u8
-    ensures status { result ≤ 1 }
-    ensures silent { result ≡ 0 → err.new ≡ err.old }
-    ensures told { result ≡ 0 → (c : Contents) → Holds (state S.Store vault.old.conn) c
-        → HasCleanDisk (state S.Store vault.new.conn)
-        → Writes (W.seen out.old) (W.seen out.new)
-        (store_text file.now c (clerk_names c.clerks) (held_against compared c)) }
-    ensures flushed { result ≡ 0 → (W.seen out.new).flushed ≡ true }
-    ensures intact { result ≡ 0 → (c : Contents) → Holds (state S.Store vault.old.conn) c
-        → HasCleanDisk (state S.Store vault.new.conn)
-        → differing (held_against compared c) c ≡ [] }
-    ensures why { result ≡ 1 → Tells (E.contents err.old) (E.contents err.new) (IsCheckEnd
-        ((c : Contents) → Holds (state S.Store vault.old.conn) c
-        → HasCleanDisk (state S.Store vault.new.conn)
-        → ¬ (differing (held_against compared c) c ≡ [])
-        × Writes (W.seen out.old) (W.seen out.new)
-        (store_text file.now c (clerk_names c.clerks) (held_against compared c)))
-        (writes_failed (W.seen out.old) (W.seen out.new))
-        (λ fault. (c : Contents) → Holds (state S.Store vault.old.conn) c
-        → HasCleanDisk (state S.Store vault.new.conn)
-        → IsRefused true (has_grown vault.old.faults vault.new.faults) fault)) }
-    ensures part { (out.new ≡ out.old)
-        ⊎ ((c : Contents) → Holds (state S.Store vault.old.conn) c
-        → HasCleanDisk (state S.Store vault.new.conn)
-        → WritesPart (W.seen out.old) (W.seen out.new)
-        (store_text file.now c (clerk_names c.clerks) (held_against compared c))) }
-    ensures held { (c : Contents) → Holds (state S.Store vault.old.conn) c
-        → HasCleanDisk (state S.Store vault.new.conn) → Holds (state S.Store vault.new.conn) c }
-    ensures clean { HasCleanDisk (state S.Store vault.new.conn)
-        → HasCleanDisk (state S.Store vault.old.conn) }
+    ensures checks { Checks ⟦<SqlVault<S> as Vault>⟧ W.Sink vault.old vault.new out.old out.new
+        file.now (λ c. clerk_names c.clerks) (held_against compared) (result ≡ 0) }
+    ensures reports { Reports E.contents err.old err.new result
+        (WhyNotIntact ⟦<SqlVault<S> as Vault>⟧ W.Sink vault.old vault.new out.old out.new
+        file.now (λ c. clerk_names c.clerks) (held_against compared)
+        (λ fault. OverHeld ⟦<SqlVault<S> as Vault>⟧ vault.old vault.new
+        (λ _. IsRefused true (has_grown vault.old.faults vault.new.faults) fault))) }
+    ensures still { StillHeld ⟦<SqlVault<S> as Vault>⟧ vault.old vault.new }
 {
     let texts = match texts_of(vault, compared) {
         Ok(texts) => texts,

@@ -3,7 +3,7 @@ use Rattle.converse.specs.Causes.{IsPolicyEnd}
 use Rattle.converse.specs.PolicyFile.{IsFaultOf}
 use Rattle.converse.specs.Streams.{Writes, WritesPart, writes_failed}
 use Rattle.converse.specs.Told.{count_line}
-use Rattle.converse.proofs.Policies.{ended_unwritten, ended_lacking, ended_writing}
+use Rattle.converse.proofs.Policies.{ended_unwritten, ended_writing}
 use Rattle.converse.proofs.TextWriting.{handed_as}
 use Rattle.converse.proofs.check_policy.tell_count.Goals as goal
 

@@ -1,7 +1,7 @@
-use Rattle.std.proofs.Common.{◌≡◌, ◌∙◌, List, ℕ, inr, subst}
+use Rattle.std.proofs.Common.{◌∙◌, List, ℕ, inr, subst}
 use Rattle.converse.specs.Causes.{IsPolicyEnd}
 use Rattle.converse.specs.PolicyFile.{IsFaultOf}
-use Rattle.converse.specs.Streams.{Writes, WritesPart, writes_failed}
+use Rattle.converse.specs.Streams.{WritesPart, writes_failed}
 use Rattle.converse.proofs.Policies.{ended_unwritten, ended_writing}
 use Rattle.converse.proofs.TextWriting.{handed_as, if_err_still}
 use Rattle.converse.proofs.check_policy.tell_written.Goals as goal

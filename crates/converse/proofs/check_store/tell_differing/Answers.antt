@@ -1,4 +1,4 @@
-use Rattle.std.proofs.Common.{◌≡◌, ◌∙◌, ◌++◌, List, Some, ap, sym, subst, take_all, true, false}
+use Rattle.std.proofs.Common.{◌≡◌, ◌∙◌, ◌++◌, List, Some, ap, subst, take_all, true, false}
 use Rattle.std.specs.List.{All, flat_map}
 use Rattle.vault.specs.declared.answer.Total.{Total}
 use Rattle.vault.specs.declared.fault.VaultFault.{VaultFault}

@@ -1,10 +1,12 @@
-use Rattle.std.proofs.Common.{◌≡◌, [], ◌++◌, ◌∙◌, ap, inr, subst, sym, rules, List, ℕ, true, false, true≢false}
+use Rattle.std.proofs.Common.{inl, refl, ◌≡◌, [], ◌++◌, ◌∙◌, ap, inr, subst, sym, rules, List, ℕ, true, false, true≢false}
 use Rattle.vault.specs.declared.fault.VaultFault.{VaultFault}
 use Rattle.vault.specs.Changes.{Contents}
 use Rattle.converse.specs.Causes.{IsCheckEnd, IsRefusedCheck}
 use Rattle.converse.specs.Checked.{store_text, AreKnown}
 use Rattle.converse.specs.Streams.{Writes, WritesPart, writes_failed}
 use Rattle.converse.specs.Texts.{HasNone, against, differing}
+use Rattle.std.proofs.lemmas.Bool.{false≢true}
+use Rattle.converse.proofs.ExportLemmas.{checks_ill, err_not_ok}
 use Rattle.converse.proofs.Exporting.{cause_still, end_of}
 use Rattle.converse.proofs.TextWriting.{handed_as}
 use Rattle.converse.proofs.check_store.tell_store.Goals as goal
@@ -13,35 +15,38 @@ use Rattle.converse.proofs.check_store.tell_store.Goals as goal
 put_alone : (lent items before text : List ℕ) → lent ≡ items → items ≡ before ++ text → before ≡ [] → lent ≡ text
 put_alone lent items before text is put none = is ∙ put ∙ ap (λ (xs : List ℕ). xs ++ text) none
 
-pub returns-in_err-write_text-clause-part : goal.returns-in_err-write_text-clause-part
-returns-in_err-write_text-clause-part g c = inr (λ d h k.
-    subst (λ (text : List ℕ). WritesPart (g.W.Sink.seen c.args.out.now) (g.W.Sink.seen c.write_text.new.out) text)
-    (put_alone c.as_slice.result.now _ _ (store_text c.args.file.now d c.args.clerks.now (against c.args.texts.now)) c.as_slice.ensures.value (c.in_ok-are_intact.ensures.told (against c.args.texts.now) c.in_ok-marks.ensures d h k) c.new-text.ensures.items)
-    c.in_err-write_text.ensures.part)
+pub returns-in_err-marks-clause-checks : goal.returns-in_err-marks-clause-checks
+returns-in_err-marks-clause-checks g c = checks_ill _ _ _ _ _ _ _ _ _ _ (err_not_ok c.from_residual.result (search rules)) (inl refl)
 
-pub returns-then-are_intact-clause-part : goal.returns-then-are_intact-clause-part
-returns-then-are_intact-clause-part g c = inr (λ d h k.
-    subst (λ (text : List ℕ). WritesPart (g.W.Sink.seen c.args.out.now) (g.W.Sink.seen c.write_text.new.out) text)
-    (put_alone c.as_slice.result.now _ _ (store_text c.args.file.now d c.args.clerks.now (against c.args.texts.now)) c.as_slice.ensures.value (c.in_ok-are_intact.ensures.told (against c.args.texts.now) c.in_ok-marks.ensures d h k) c.new-text.ensures.items)
-    c.in_ok-write_text.ensures.part)
+pub returns-in_err-are_intact-clause-checks : goal.returns-in_err-are_intact-clause-checks
+returns-in_err-are_intact-clause-checks g c = checks_ill _ _ _ _ _ _ _ _ _ _ (err_not_ok c.from_residual-in_err-are_intact.result (search rules)) (inl refl)
 
-pub returns-clause-part : goal.returns-clause-part
-returns-clause-part g c = inr (λ d h k.
-    subst (λ (text : List ℕ). WritesPart (g.W.Sink.seen c.args.out.now) (g.W.Sink.seen c.write_text.new.out) text)
-    (put_alone c.as_slice.result.now _ _ (store_text c.args.file.now d c.args.clerks.now (against c.args.texts.now)) c.as_slice.ensures.value (c.in_ok-are_intact.ensures.told (against c.args.texts.now) c.in_ok-marks.ensures d h k) c.new-text.ensures.items)
-    c.in_ok-write_text.ensures.part)
+pub returns-in_err-write_text-clause-checks : goal.returns-in_err-write_text-clause-checks
+returns-in_err-write_text-clause-checks g c =
+    let put = λ (d : Contents) (h : g.V.Vault.holds c.args.vault.now d) (k : g.V.Vault.is_clean c.put_store.new.vault).
+    put_alone c.as_slice.result.now _ _ (store_text c.args.file.now d c.args.clerks.now (against c.args.texts.now)) c.as_slice.ensures.value (c.in_ok-are_intact.ensures.told (against c.args.texts.now) c.in_ok-marks.ensures d h k) c.new-text.ensures.items in
+    checks_ill _ _ _ _ _ _ _ _ _ _ (err_not_ok c.from_residual-in_err-write_text.result (search rules))
+    (inr (λ d h k. subst (λ (text : List ℕ). WritesPart (g.W.Sink.seen c.args.out.now) (g.W.Sink.seen c.write_text.new.out) text) (put d h k) c.in_err-write_text.ensures.part))
 
-pub returns-then-are_intact-clause-told : goal.returns-then-are_intact-clause-told
-returns-then-are_intact-clause-told g c = λ d h k.
-    subst (λ (text : List ℕ). Writes (g.W.Sink.seen c.args.out.now) (g.W.Sink.seen c.write_text.new.out) text)
-    (put_alone c.as_slice.result.now _ _ (store_text c.args.file.now d c.args.clerks.now (against c.args.texts.now)) c.as_slice.ensures.value (c.in_ok-are_intact.ensures.told (against c.args.texts.now) c.in_ok-marks.ensures d h k) c.new-text.ensures.items)
-    c.in_ok-write_text.ensures.ok
-
-pub returns-then-are_intact-clause-intact : goal.returns-then-are_intact-clause-intact
-returns-then-are_intact-clause-intact g c = λ d h k.
+pub returns-then-are_intact-clause-checks : goal.returns-then-are_intact-clause-checks
+returns-then-are_intact-clause-checks g c =
+    let put = λ (d : Contents) (h : g.V.Vault.holds c.args.vault.now d) (k : g.V.Vault.is_clean c.put_store.new.vault).
+    put_alone c.as_slice.result.now _ _ (store_text c.args.file.now d c.args.clerks.now (against c.args.texts.now)) c.as_slice.ensures.value (c.in_ok-are_intact.ensures.told (against c.args.texts.now) c.in_ok-marks.ensures d h k) c.new-text.ensures.items in
     let is : c.in_ok-are_intact.are_intact ≡ true = search rules in
-    subst (λ b. HasNone b (differing (against c.args.texts.now) d)) is
-    (c.in_ok-are_intact.ensures.intact (against c.args.texts.now) c.in_ok-marks.ensures d h k)
+    record {
+      told = λ _ d h k. subst (λ (text : List ℕ). Writes (g.W.Sink.seen c.args.out.now) (g.W.Sink.seen c.write_text.new.out) text) (put d h k) c.in_ok-write_text.ensures.ok;
+      flushed = λ _. c.in_ok-write_text.ensures.flushed;
+      intact = λ _ d h k. subst (λ b. HasNone b (differing (against c.args.texts.now) d)) is (c.in_ok-are_intact.ensures.intact (against c.args.texts.now) c.in_ok-marks.ensures d h k);
+      known = λ _. c.in_ok-are_intact.ensures.known;
+      part = inr (λ d h k. subst (λ (text : List ℕ). WritesPart (g.W.Sink.seen c.args.out.now) (g.W.Sink.seen c.write_text.new.out) text) (put d h k) c.in_ok-write_text.ensures.part);
+    }
+
+pub returns-clause-checks : goal.returns-clause-checks
+returns-clause-checks g c =
+    let put = λ (d : Contents) (h : g.V.Vault.holds c.args.vault.now d) (k : g.V.Vault.is_clean c.put_store.new.vault).
+    put_alone c.as_slice.result.now _ _ (store_text c.args.file.now d c.args.clerks.now (against c.args.texts.now)) c.as_slice.ensures.value (c.in_ok-are_intact.ensures.told (against c.args.texts.now) c.in_ok-marks.ensures d h k) c.new-text.ensures.items in
+    checks_ill _ _ _ _ _ _ _ _ _ _ false≢true
+    (inr (λ d h k. subst (λ (text : List ℕ). WritesPart (g.W.Sink.seen c.args.out.now) (g.W.Sink.seen c.write_text.new.out) text) (put d h k) c.in_ok-write_text.ensures.part))
 
 pub returns-clause-why : goal.returns-clause-why
 returns-clause-why g c = λ d h k.
@@ -72,6 +77,3 @@ returns-in_err-write_text-clause-why g c =
     let P : VaultFault → Type 0 = IsRefusedCheck g.V.Vault.holds g.V.Vault.is_clean g.V.Vault.faults c.args.vault.now c.put_store.new.vault (AreKnown c.args.clerks.now) in
     handed_as c.from_residual-in_err-write_text.result _ (IsCheckEnd D written P) c.from_residual-in_err-write_text.ensures.1
     (subst (IsCheckEnd D written P) (sym c.in_err-write_text.ensures.cause.0) c.in_err-write_text.ensures.cause.1)
-
-pub returns-then-are_intact-clause-flushed : goal.returns-then-are_intact-clause-flushed
-returns-then-are_intact-clause-flushed g c = c.in_ok-write_text.ensures.flushed

@@ -1,4 +1,5 @@
-use Rattle.converse.proofs.Exporting.{takes_kept, takes_whole, on_ok, on_err}
+use Rattle.converse.proofs.Exporting.{takes_kept, takes_whole, on_err}
+use Rattle.converse.proofs.Stopping.{on_ok}
 use Rattle.converse.proofs.export.put_messages.Goals as goal
 
 pub returns-in-Ok-clause-whole : goal.returns-in-Ok-clause-whole

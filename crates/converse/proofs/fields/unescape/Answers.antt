@@ -1,4 +1,4 @@
-use Rattle.std.proofs.Common.{arith, rules}
+use Rattle.std.proofs.Common.{arith}
 use Rattle.std.proofs.lemmas.Grind.{common_steps}
 use Rattle.converse.proofs.Escaping.{behind_more}
 use Rattle.converse.proofs.fields.unescape.Goals as goal
@@ -11,6 +11,3 @@ loop-rest-preserved c =
       short = grind (arith, common_steps, next.shorter, read.len, c.loop-rest.invariant.short);
       is = behind_more _ _ _ _ _ _ c.loop-rest.invariant.is next.is read.items;
     }
-
-pub returns-in_default-clause-is : goal.returns-in_default-clause-is
-returns-in_default-clause-is c = search rules

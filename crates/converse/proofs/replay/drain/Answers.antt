@@ -1,4 +1,4 @@
-use Rattle.std.proofs.Common.{rules, ◌≡◌, ◌<◌, [], ◌++◌, codes, length, refl, subst}
+use Rattle.std.proofs.Common.{◌≡◌, ◌<◌, [], ◌++◌, codes, length, refl, subst}
 use Rattle.std.specs.Fmt.{decimal}
 use Rattle.std.proofs.KnownBytes.{Appends-nil}
 use Rattle.office.specs.Seen.{outcome_seen}
@@ -8,7 +8,8 @@ use Rattle.converse.proofs.Clauses.{found_empty, nothing_lent}
 use Rattle.converse.specs.Played.{lent_at, Begun, TakesAll}
 use Rattle.converse.specs.Script.{Drains}
 use Rattle.converse.proofs.Stopping.{begun_taken, reaches_so}
-use Rattle.converse.proofs.Playing.{caused_none, owed_whole, drains_all, some_owed, appends_three}
+use Rattle.converse.proofs.Playing.{caused_none, owed_whole, drains_all, appends_three}
+use Rattle.converse.proofs.Streaming.{some_lent}
 use Rattle.converse.proofs.replay.drain.Goals as goal
 
 pub returns-then-is_empty-clause-drained : goal.returns-then-is_empty-clause-drained
@@ -36,7 +37,7 @@ returns-in-Ok-writeln-clause-drained g c =
     let lent = c.owed.result.now in λ T st clean.
     (let s = c.in_ok-outcome.ensures.taken T st clean in
     let whole : lent ≡ lent_at T n = owed_whole g.V.Vault.holds c.args.office.now T st n lent (c.owed.ensures.lent T st) c.owed.ensures.count in
-    let some : 0 < length lent = some_owed c.is_empty.result lent c.if-is_empty.false c.is_empty.ensures in
+    let some : 0 < length lent = some_lent c.is_empty.result lent c.if-is_empty.false c.is_empty.ensures in
     record {
       printed = codes "sent " ++ decimal n ++ codes " " ++ s.printed ++ codes "\n";
       trace = s.trace;
@@ -50,54 +51,3 @@ returns-in-Err-clause-broken g c =
     let n = c.args.number in
     let o = outcome_seen c.in_ok-outcome.outcome in λ T st clean.
     reaches_so g.V.Vault.holds _ _ _ T (Begun T (Drains n)) (TakesAll T n o) _ _ (begun_taken T n o) (c.in_ok-outcome.ensures.taken T st clean)
-
-pub returns-then-is_empty-clause-counted : goal.returns-then-is_empty-clause-counted
-returns-then-is_empty-clause-counted g c = search rules
-
-pub returns-then-is_empty-clause-clean : goal.returns-then-is_empty-clause-clean
-returns-then-is_empty-clause-clean g c = search rules
-
-pub returns-then-is_empty-clause-broken : goal.returns-then-is_empty-clause-broken
-returns-then-is_empty-clause-broken g c = search rules
-
-pub returns-in_default-clause-counted : goal.returns-in_default-clause-counted
-returns-in_default-clause-counted g c = search rules
-
-pub returns-in_default-clause-clean : goal.returns-in_default-clause-clean
-returns-in_default-clause-clean g c = search rules
-
-pub returns-in_default-clause-broken : goal.returns-in_default-clause-broken
-returns-in_default-clause-broken g c = search rules
-
-pub returns-in_default-clause-drained : goal.returns-in_default-clause-drained
-returns-in_default-clause-drained g c = search rules
-
-pub returns-in_err-outcome-clause-counted : goal.returns-in_err-outcome-clause-counted
-returns-in_err-outcome-clause-counted g c = search rules
-
-pub returns-in_err-outcome-clause-clean : goal.returns-in_err-outcome-clause-clean
-returns-in_err-outcome-clause-clean g c = search rules
-
-pub returns-in_err-outcome-clause-broken : goal.returns-in_err-outcome-clause-broken
-returns-in_err-outcome-clause-broken g c = search rules
-
-pub returns-in_err-outcome-clause-drained : goal.returns-in_err-outcome-clause-drained
-returns-in_err-outcome-clause-drained g c = search rules
-
-pub returns-in-Ok-writeln-clause-counted : goal.returns-in-Ok-writeln-clause-counted
-returns-in-Ok-writeln-clause-counted g c = search rules
-
-pub returns-in-Ok-writeln-clause-clean : goal.returns-in-Ok-writeln-clause-clean
-returns-in-Ok-writeln-clause-clean g c = search rules
-
-pub returns-in-Ok-writeln-clause-broken : goal.returns-in-Ok-writeln-clause-broken
-returns-in-Ok-writeln-clause-broken g c = search rules
-
-pub returns-in-Err-clause-counted : goal.returns-in-Err-clause-counted
-returns-in-Err-clause-counted g c = search rules
-
-pub returns-in-Err-clause-clean : goal.returns-in-Err-clause-clean
-returns-in-Err-clause-clean g c = search rules
-
-pub returns-in-Err-clause-drained : goal.returns-in-Err-clause-drained
-returns-in-Err-clause-drained g c = search rules

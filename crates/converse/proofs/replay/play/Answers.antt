@@ -1,4 +1,4 @@
-use Rattle.std.proofs.Common.{rules, arith, [], map, subst, take_all}
+use Rattle.std.proofs.Common.{arith, [], map, subst, take_all}
 use Rattle.office.specs.Stands.{vault_of}
 use Rattle.converse.specs.Played.{Plays, PlaysInPart, point}
 use Rattle.converse.specs.Script.{line_seen}
@@ -39,24 +39,3 @@ returns-in_err-play_line-clause-broken g c =
     (let s = c.loop-line.invariant.played T st (x.ensures.clean clean) in
     stopped_at g.V.Vault.holds c.loop-line.office x.new.office (point T []) c.args.lines.now c.loop-line.line-index c.line-item.result c.loop-line-test.true c.line-item.is (g.V.Vault.faults (vault_of c.args.office.now)) (g.V.Vault.faults (vault_of c.loop-line.office)) (g.V.Vault.faults (vault_of x.new.office)) c.loop-line.invariant.counted x.ensures.counted _ _ _ s
     (c.in_err-play_line.ensures.broken s.trace s.stands clean)))
-
-pub loop-line-init : goal.loop-line-init
-loop-line-init g c = search rules
-
-pub returns-in_err-play_line-clause-counted : goal.returns-in_err-play_line-clause-counted
-returns-in_err-play_line-clause-counted g c = search rules
-
-pub returns-in_err-play_line-clause-clean : goal.returns-in_err-play_line-clause-clean
-returns-in_err-play_line-clause-clean g c = search rules
-
-pub returns-in_err-play_line-clause-played : goal.returns-in_err-play_line-clause-played
-returns-in_err-play_line-clause-played g c = search rules
-
-pub returns-clause-counted : goal.returns-clause-counted
-returns-clause-counted g c = search rules
-
-pub returns-clause-clean : goal.returns-clause-clean
-returns-clause-clean g c = search rules
-
-pub returns-clause-broken : goal.returns-clause-broken
-returns-clause-broken g c = search rules

@@ -1,15 +1,15 @@
-use Rattle.std.proofs.Common.{rules, ◌≡◌, Some, None}
+use Rattle.std.proofs.Common.{◌≡◌, Some, None}
 use Rattle.std.specs.Io.KnownBytes.{Appends}
 use Rattle.office.specs.Seen.{outcome_seen}
 use Rattle.office.specs.Stands.{vault_of}
 use Rattle.converse.specs.Played.{Acts, Begun, ComesTo, WithCause, PlaysLine, point, told_text, still_known}
 use Rattle.converse.specs.Script.{line_seen}
 use Rattle.converse.proofs.Playing.{by_told, comes_kept, line_none, line_some}
-use Rattle.converse.proofs.Stopping.{at_faults, at_ok, begun_acted, on_any, reaches_so}
+use Rattle.converse.proofs.Stopping.{at_faults, at_ok, begun_acted, on_ok, reaches_so}
 use Rattle.converse.proofs.replay.play_line.Goals as goal
 
 pub returns-in-None-clause-played : goal.returns-in-None-clause-played
-returns-in-None-clause-played g c = on_any c.flush.result (λ T st clean.
+returns-in-None-clause-played g c = on_ok c.flush.result (λ T st clean.
     comes_kept g.V.Vault.holds c.act.new.office (g.W.Write.contents c.args.out.now) (g.W.Write.contents c.act.new.out) (g.W.Write.contents c.flush.new.out) _ c.flush.ensures.kept
     (line_none g.V.Vault.holds c.act.new.office T (g.V.Vault.faults (vault_of c.args.office.now)) (g.V.Vault.faults (vault_of c.act.new.office)) (line_seen c.args.line.now) _ _ c.args.known.now.items
     (by_told g.V.Vault.holds c.act.new.office T (g.V.Vault.faults (vault_of c.args.office.now)) (g.V.Vault.faults (vault_of c.act.new.office)) (line_seen c.args.line.now) _ _ _ _ c.in-None.is (c.in_ok-outcome.ensures.acted T st clean))))
@@ -43,30 +43,6 @@ returns-in-Some-clause-broken g c =
     reaches_so g.V.Vault.holds c.act.new.office (g.V.Vault.faults (vault_of c.args.office.now)) (g.V.Vault.faults (vault_of c.act.new.office)) T (Begun T line) (Acts T line (Some o)) _ _ (begun_acted T line (Some o))
     (by_told g.V.Vault.holds c.act.new.office T (g.V.Vault.faults (vault_of c.args.office.now)) (g.V.Vault.faults (vault_of c.act.new.office)) line _ _ _ _ c.in-Some.is (c.in_ok-outcome.ensures.acted T st clean)))
 
-pub returns-in_err-outcome-clause-counted : goal.returns-in_err-outcome-clause-counted
-returns-in_err-outcome-clause-counted g c = search rules
-
-pub returns-in_err-outcome-clause-clean : goal.returns-in_err-outcome-clause-clean
-returns-in_err-outcome-clause-clean g c = search rules
-
-pub returns-in_err-outcome-clause-played : goal.returns-in_err-outcome-clause-played
-returns-in_err-outcome-clause-played g c = search rules
-
-pub returns-in_err-outcome-clause-broken : goal.returns-in_err-outcome-clause-broken
-returns-in_err-outcome-clause-broken g c = search rules
-
-pub returns-in-Some-clause-counted : goal.returns-in-Some-clause-counted
-returns-in-Some-clause-counted g c = search rules
-
-pub returns-in-Some-clause-clean : goal.returns-in-Some-clause-clean
-returns-in-Some-clause-clean g c = search rules
-
-pub returns-in-None-clause-counted : goal.returns-in-None-clause-counted
-returns-in-None-clause-counted g c = search rules
-
-pub returns-in-None-clause-clean : goal.returns-in-None-clause-clean
-returns-in-None-clause-clean g c = search rules
-
 pub returns-in-None-clause-broken : goal.returns-in-None-clause-broken
 returns-in-None-clause-broken g c =
     let line = line_seen c.args.line.now in
@@ -79,6 +55,3 @@ returns-in-None-clause-flushed g c = c.flush.ensures.flushed
 
 pub returns-in-Some-clause-flushed : goal.returns-in-Some-clause-flushed
 returns-in-Some-clause-flushed g c = c.tell_whole.ensures.flushed
-
-pub returns-in_err-outcome-clause-flushed : goal.returns-in_err-outcome-clause-flushed
-returns-in_err-outcome-clause-flushed g c = search rules

@@ -1,4 +1,4 @@
-use Rattle.std.proofs.Common.{[], map, rules}
+use Rattle.std.proofs.Common.{[], map}
 use Rattle.office.specs.Stands.{vault_of}
 use Rattle.converse.specs.Played.{HasPlayed, PlaysInPart, WithCause, point}
 use Rattle.converse.specs.Script.{line_seen}
@@ -9,9 +9,6 @@ use Rattle.converse.proofs.replay.play_over.Goals as goal
 pub returns-in-Ok-clause-played : goal.returns-in-Ok-clause-played
 returns-in-Ok-clause-played g c = λ well T st clean.
     comes_kept g.V.Vault.holds c.play-played.new.office _ _ _ (WithCause (g.V.Vault.faults (vault_of c.args.office.now)) (g.V.Vault.faults (vault_of c.play-played.new.office)) T (HasPlayed T (map line_seen c.args.lines.now))) c.in-Ok.ensures.bytes (c.in_default.ensures.played T st clean)
-
-pub returns-in-Ok-clause-silent : goal.returns-in-Ok-clause-silent
-returns-in-Ok-clause-silent g c = search rules
 
 pub returns-in-Err-clause-kept : goal.returns-in-Err-clause-kept
 returns-in-Err-clause-kept g c = c.in-Err.ensures.broken
@@ -27,48 +24,3 @@ returns-in-Err-flushed-clause-kept g c =
     let x = c.play-played.new.office in
     let lines = map line_seen c.args.lines.now in λ T st clean.
     reaches_so g.V.Vault.holds x (g.V.Vault.faults (vault_of c.args.office.now)) (g.V.Vault.faults (vault_of x)) T (PlaysInPart (point T []) lines) (HasPlayed T lines) _ _ (played_whole T lines) (c.in_default.ensures.played T st clean)
-
-pub returns-in-Err-clause-counted : goal.returns-in-Err-clause-counted
-returns-in-Err-clause-counted g c = search rules
-
-pub returns-in-Err-clause-clean : goal.returns-in-Err-clause-clean
-returns-in-Err-clause-clean g c = search rules
-
-pub returns-in-Err-clause-status : goal.returns-in-Err-clause-status
-returns-in-Err-clause-status g c = search rules
-
-pub returns-in-Err-clause-silent : goal.returns-in-Err-clause-silent
-returns-in-Err-clause-silent g c = search rules
-
-pub returns-in-Err-clause-played : goal.returns-in-Err-clause-played
-returns-in-Err-clause-played g c = search rules
-
-pub returns-in-Ok-clause-counted : goal.returns-in-Ok-clause-counted
-returns-in-Ok-clause-counted g c = search rules
-
-pub returns-in-Ok-clause-clean : goal.returns-in-Ok-clause-clean
-returns-in-Ok-clause-clean g c = search rules
-
-pub returns-in-Ok-clause-status : goal.returns-in-Ok-clause-status
-returns-in-Ok-clause-status g c = search rules
-
-pub returns-in-Err-flushed-clause-counted : goal.returns-in-Err-flushed-clause-counted
-returns-in-Err-flushed-clause-counted g c = search rules
-
-pub returns-in-Err-flushed-clause-clean : goal.returns-in-Err-flushed-clause-clean
-returns-in-Err-flushed-clause-clean g c = search rules
-
-pub returns-in-Err-flushed-clause-status : goal.returns-in-Err-flushed-clause-status
-returns-in-Err-flushed-clause-status g c = search rules
-
-pub returns-in-Err-flushed-clause-silent : goal.returns-in-Err-flushed-clause-silent
-returns-in-Err-flushed-clause-silent g c = search rules
-
-pub returns-in-Err-flushed-clause-played : goal.returns-in-Err-flushed-clause-played
-returns-in-Err-flushed-clause-played g c = search rules
-
-pub returns-in-Err-clause-flushed : goal.returns-in-Err-clause-flushed
-returns-in-Err-clause-flushed g c = search rules
-
-pub returns-in-Err-flushed-clause-flushed : goal.returns-in-Err-flushed-clause-flushed
-returns-in-Err-flushed-clause-flushed g c = search rules

@@ -1,4 +1,4 @@
-use Rattle.std.proofs.Common.{refl, ◌≡◌, [], List, Ok, ap, inr, map, rules, subst, sym, ◌∙◌}
+use Rattle.std.proofs.Common.{refl, ◌≡◌, [], List, Ok, ap, inr, map, subst, sym, ◌∙◌}
 use Rattle.std.proofs.lemmas.Bool.{false≢true}
 use Rattle.office.specs.Events.{Trace}
 use Rattle.office.specs.Stands.{Keeps, vault_of}
@@ -9,9 +9,6 @@ use Rattle.converse.proofs.Playing.{has_run, no_fault, of_known, same_lines}
 use Rattle.converse.proofs.Reasons.{unread_told, host_told, none_told}
 use Rattle.converse.proofs.Stopping.{has_run_in_part}
 use Rattle.converse.proofs.replay.replay.Goals as goal
-
-pub returns-clause-silent : goal.returns-clause-silent
-returns-clause-silent g c = search rules
 
 pub returns-clause-told : goal.returns-clause-told
 returns-clause-told g c =
@@ -50,50 +47,11 @@ returns-clause-kept g c =
           (x.ensures.kept opened (c.in-Ok-open_office.ensures.opened T keeps (x.ensures.clean clean2)) clean2))),
     ))
 
-pub returns-in-Err-clause-status : goal.returns-in-Err-clause-status
-returns-in-Err-clause-status g c = search rules
-
-pub returns-in-Err-clause-silent : goal.returns-in-Err-clause-silent
-returns-in-Err-clause-silent g c = search rules
-
-pub returns-in-Err-clause-unread : goal.returns-in-Err-clause-unread
-returns-in-Err-clause-unread g c = search rules
-
-pub returns-in-Err-clause-bad_line : goal.returns-in-Err-clause-bad_line
-returns-in-Err-clause-bad_line g c = search rules
-
-pub returns-in-Err-clause-bad_host : goal.returns-in-Err-clause-bad_host
-returns-in-Err-clause-bad_host g c = search rules
-
-pub returns-in-Err-clause-told : goal.returns-in-Err-clause-told
-returns-in-Err-clause-told g c = search rules
-
-pub returns-in-Err-clause-kept : goal.returns-in-Err-clause-kept
-returns-in-Err-clause-kept g c = search rules
-
-pub returns-in-Err-open_office-clause-status : goal.returns-in-Err-open_office-clause-status
-returns-in-Err-open_office-clause-status g c = search rules
-
-pub returns-in-Err-open_office-clause-silent : goal.returns-in-Err-open_office-clause-silent
-returns-in-Err-open_office-clause-silent g c = search rules
-
 pub returns-in-Err-open_office-clause-unread : goal.returns-in-Err-open_office-clause-unread
 returns-in-Err-open_office-clause-unread g c = λ unread. absurd (unread (c.in-Ok.ensures.end refl))
 
 pub returns-in-Err-open_office-clause-bad_line : goal.returns-in-Err-open_office-clause-bad_line
 returns-in-Err-open_office-clause-bad_line g c = no_fault (g.R.Read.remaining c.args.script.now) _ _ c.in-Ok.ensures.lines
-
-pub returns-in-Err-open_office-clause-bad_host : goal.returns-in-Err-open_office-clause-bad_host
-returns-in-Err-open_office-clause-bad_host g c = search rules
-
-pub returns-in-Err-open_office-clause-told : goal.returns-in-Err-open_office-clause-told
-returns-in-Err-open_office-clause-told g c = search rules
-
-pub returns-in-Err-open_office-clause-kept : goal.returns-in-Err-open_office-clause-kept
-returns-in-Err-open_office-clause-kept g c = search rules
-
-pub returns-clause-status : goal.returns-clause-status
-returns-clause-status g c = search rules
 
 pub returns-clause-unread : goal.returns-clause-unread
 returns-clause-unread g c = λ unread. absurd (unread (c.in-Ok.ensures.end refl))
@@ -127,18 +85,6 @@ pub returns-clause-clean : goal.returns-clause-clean
 returns-clause-clean g c = λ clean.
     c.in-Ok-open_office.ensures.clean (c.play_over-status.ensures.clean (subst g.V.Vault.is_clean c.into_vault.ensures clean))
 
-pub returns-in-Err-clause-ran : goal.returns-in-Err-clause-ran
-returns-in-Err-clause-ran g c = search rules
-
-pub returns-in-Err-clause-clean : goal.returns-in-Err-clause-clean
-returns-in-Err-clause-clean g c = search rules
-
-pub returns-in-Err-open_office-clause-ran : goal.returns-in-Err-open_office-clause-ran
-returns-in-Err-open_office-clause-ran g c = search rules
-
-pub returns-in-Err-open_office-clause-clean : goal.returns-in-Err-open_office-clause-clean
-returns-in-Err-open_office-clause-clean g c = search rules
-
 pub returns-in-Err-clause-why_not : goal.returns-in-Err-clause-why_not
 returns-in-Err-clause-why_not g c = unread_told (g.R.Read.remaining c.args.script.now) c.args.host.now _ _ c.in-Err.fault c.in-Err.ensures.fault c.tell_fault.ensures.line
 
@@ -150,9 +96,3 @@ returns-clause-why_not g c = none_told (g.R.Read.remaining c.args.script.now) c.
 
 pub returns-clause-flushed : goal.returns-clause-flushed
 returns-clause-flushed g c = c.play_over-status.ensures.flushed
-
-pub returns-in-Err-clause-flushed : goal.returns-in-Err-clause-flushed
-returns-in-Err-clause-flushed g c = search rules
-
-pub returns-in-Err-open_office-clause-flushed : goal.returns-in-Err-open_office-clause-flushed
-returns-in-Err-open_office-clause-flushed g c = search rules

@@ -1,4 +1,4 @@
-use Rattle.std.proofs.Common.{rules, arith, ◌≡◌, ◌++◌, [], length}
+use Rattle.std.proofs.Common.{arith, ◌≡◌, ◌++◌, [], length}
 use Rattle.std.proofs.KnownBytes.{Appends-nil, Appends-trans}
 use Rattle.office.specs.Events.{Took}
 use Rattle.office.specs.Seen.{outcome_seen, followed_by}
@@ -8,7 +8,8 @@ use Rattle.converse.specs.Escapes.{escaped}
 use Rattle.converse.proofs.Clauses.{found_empty, nothing_lent}
 use Rattle.converse.specs.Played.{lent_at, Begun}
 use Rattle.converse.specs.Script.{Drains}
-use Rattle.converse.proofs.Playing.{TakesSoFar, by_owed, caused_none, caused_one, caused_more, owed_whole, takes_none, takes_lent, some_owed}
+use Rattle.converse.proofs.Playing.{TakesSoFar, by_owed, caused_none, caused_one, caused_more, owed_whole, takes_none, takes_lent}
+use Rattle.converse.proofs.Streaming.{some_lent}
 use Rattle.converse.proofs.Stopping.{begun_taking, reaches_so}
 use Rattle.converse.proofs.replay.take_all.Goals as goal
 
@@ -35,7 +36,7 @@ loop-preserved g c =
             stands = x.ensures.stands s.trace s.stands clean;
             is = (
               takes_lent T n (outcome_seen c.loop.outcome) (outcome_seen x.result) s.printed s.trace lent whole s.is.0
-                  (some_owed c.is_empty.result lent c.if-is_empty.false c.is_empty.ensures)
+                  (some_lent c.is_empty.result lent c.if-is_empty.false c.is_empty.ensures)
                   (by_owed g.V.Vault.holds c.loop.office s.trace s.stands e (outcome_seen x.result) (x.ensures.outcome s.trace s.stands clean)),
               caused_more (g.V.Vault.faults (vault_of c.args.office.now)) (g.V.Vault.faults (vault_of c.loop.office)) (g.V.Vault.faults (vault_of x.new.self)) T s.trace (followed_by s.trace e x.result) c.loop.invariant.counted x.ensures.counted s.is.1
                   (caused_one (g.V.Vault.faults (vault_of c.loop.office)) (g.V.Vault.faults (vault_of x.new.self)) s.trace e (outcome_seen x.result) (x.ensures.cause s.trace s.stands clean)),
@@ -69,30 +70,3 @@ returns-clause-broken g c =
     let n = c.args.number in
     let o = outcome_seen c.loop.outcome in λ T st clean.
     reaches_so g.V.Vault.holds c.loop.office (g.V.Vault.faults (vault_of c.args.office.now)) (g.V.Vault.faults (vault_of c.loop.office)) T (Begun T (Drains n)) (TakesSoFar T n o) _ _ (begun_taking T n o) (c.loop.invariant.taken T st clean)
-
-pub returns-then-is_empty-clause-counted : goal.returns-then-is_empty-clause-counted
-returns-then-is_empty-clause-counted g c = search rules
-
-pub returns-then-is_empty-clause-clean : goal.returns-then-is_empty-clause-clean
-returns-then-is_empty-clause-clean g c = search rules
-
-pub returns-then-is_empty-clause-broken : goal.returns-then-is_empty-clause-broken
-returns-then-is_empty-clause-broken g c = search rules
-
-pub returns-in_default-clause-counted : goal.returns-in_default-clause-counted
-returns-in_default-clause-counted g c = search rules
-
-pub returns-in_default-clause-clean : goal.returns-in_default-clause-clean
-returns-in_default-clause-clean g c = search rules
-
-pub returns-in_default-clause-taken : goal.returns-in_default-clause-taken
-returns-in_default-clause-taken g c = search rules
-
-pub returns-clause-counted : goal.returns-clause-counted
-returns-clause-counted g c = search rules
-
-pub returns-clause-clean : goal.returns-clause-clean
-returns-clause-clean g c = search rules
-
-pub returns-clause-taken : goal.returns-clause-taken
-returns-clause-taken g c = search rules

@@ -7,17 +7,8 @@ use Rattle.converse.proofs.replay.tell_ended.Goals as goal
 pub returns-clause-kept : goal.returns-clause-kept
 returns-clause-kept g c = λ T stands. filter_same _ (is_open T) _ (λ x b f' k. search rules) _ _ c.retain.ensures.filtered
 
-pub loop-number-init : goal.loop-number-init
-loop-number-init g c = search rules
-
 pub loop-number-preserved : goal.loop-number-preserved
 loop-number-preserved g c = λ T st. grind (arith, common_steps, c.loop-number.invariant T st, c.in_ok-tell_if_ended.ensures T st)
 
 pub returns-clause-told : goal.returns-clause-told
 returns-clause-told g c = λ T st. grind (arith, common_steps, c.loop-number.invariant T st)
-
-pub returns-in_err-tell_if_ended-clause-told : goal.returns-in_err-tell_if_ended-clause-told
-returns-in_err-tell_if_ended-clause-told g c = search rules
-
-pub returns-in_err-tell_if_ended-clause-kept : goal.returns-in_err-tell_if_ended-clause-kept
-returns-in_err-tell_if_ended-clause-kept g c = search rules

@@ -1,4 +1,4 @@
-use Rattle.std.proofs.Common.{◌≡◌, ◌∙◌, List, ℕ, ap, inr, subst}
+use Rattle.std.proofs.Common.{◌∙◌, List, ℕ, ap, inr, subst}
 use Rattle.review.specs.Names.{Kept}
 use Rattle.review.specs.Review.{against_text, changes_of, has_lines}
 use Rattle.converse.specs.Causes.{IsPolicyEnd}

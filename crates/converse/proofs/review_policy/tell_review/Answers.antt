@@ -1,4 +1,4 @@
-use Rattle.std.proofs.Common.{◌≡◌, ◌∙◌, List, ℕ, inr, subst}
+use Rattle.std.proofs.Common.{◌∙◌, List, ℕ, inr, subst}
 use Rattle.converse.specs.Causes.{IsPolicyEnd}
 use Rattle.converse.specs.PolicyFile.{IsFaultOf}
 use Rattle.converse.specs.Streams.{Writes, WritesPart, writes_failed}

@@ -1,34 +1,31 @@
-use Rattle.std.proofs.Common.{rules, ◌≡◌, ◌++◌, ◌<◌, length, length-append, cond, MatchResult, Err, Ok, sym, ap, subst, arith, true, false, ◌⊎◌, inl, inr}
+use Rattle.std.proofs.Common.{◌≡◌, ◌++◌, ◌<◌, length, length-append, cond, Ok, ap, arith, true, false, inl, inr}
 use Rattle.std.specs.Io.KnownBytes.{IsAtEnd}
 use Rattle.office.specs.Trace.{acts}
 use Rattle.office.specs.Stands.{vault_of}
 use Rattle.converse.specs.Streams.{reads_failed, writes_failed}
 use Rattle.converse.specs.Talked.{IsEndless}
-use Rattle.converse.specs.Conversing.{GoesOn, Waits, IsOver, IsCut, Breaks}
+use Rattle.converse.specs.Conversing.{GoesOn, Waits, IsDone, IsOver, IsCut, Breaks}
 use Rattle.converse.proofs.Ends.{goes_broken}
 use Rattle.converse.proofs.Clauses.{refused_as, none_written, some_written}
 use Rattle.converse.proofs.Streaming.{reads_then, writes_then, reads_failed_then, writes_failed_then, failed_more, handed_on, flushed_unread, flushed_anyway}
-use Rattle.converse.proofs.SoFar.{talked_none, so_by, talked_then, talked_waits, talked_over}
+use Rattle.converse.proofs.SoFar.{talked_none, so_by, cut_as, talked_then, talked_waits, talked_over}
 use Rattle.converse.proofs.talk.converse.Goals as goal
 
 pub returns-in_err-write_owed-clause-talked : goal.returns-in_err-write_owed-clause-talked
 returns-in_err-write_owed-clause-talked g c =
     let f = c.in_err-write_owed.field-0.0 in
-    let e : c.from_residual.result ≡ Err f = refused_as c.from_residual.result f c.from_residual.ensures.1 in
+    let r = c.from_residual in
     let s = c.loop.invariant in
-    let d = c.in_err-write_owed.ensures.wrote in (
+    let d = c.in_err-write_owed.ensures.wrote in
+    let now = g.V.Vault.faults (vault_of c.write_owed.new.office) in (
       s.octets,
       s.written ++ d.0,
       s.reads,
       writes_then _ _ _ s.written d.0 s.writes d.1,
-      talked_then g.V.Vault.holds g.V.Vault.faults g.V.Vault.is_clean c.args.office.now c.loop.office c.write_owed.new.office c.args.c _ _ _ _ c.loop.counter s d.0
-          (λ before T octets written L. MatchResult c.from_residual.result (λ _. (Waits T.base c.args.c (acts T) octets written L × IsAtEnd (g.R.Source.seen c.loop.reader).left) ⊎ IsOver before (g.V.Vault.faults (vault_of c.write_owed.new.office)) T.base c.args.c (acts T) octets written L) (λ x. IsCut x T.base c.args.c (acts T) octets written L))
-          c.in_err-write_owed.ensures.clean
-          (λ before T octets written first clean w. so_by g.V.Vault.holds g.V.Vault.faults g.V.Vault.is_clean c.write_owed.new.office T c.args.c
-          (λ L. IsCut f T.base c.args.c (acts T) octets (written ++ d.0) L)
-          (λ L. MatchResult c.from_residual.result (λ _. (Waits T.base c.args.c (acts T) octets (written ++ d.0) L × IsAtEnd (g.R.Source.seen c.loop.reader).left) ⊎ IsOver before (g.V.Vault.faults (vault_of c.write_owed.new.office)) T.base c.args.c (acts T) octets (written ++ d.0) L) (λ x. IsCut x T.base c.args.c (acts T) octets (written ++ d.0) L))
-          (λ L h. subst (λ r. MatchResult r (λ _. (Waits T.base c.args.c (acts T) octets (written ++ d.0) L × IsAtEnd (g.R.Source.seen c.loop.reader).left) ⊎ IsOver before (g.V.Vault.faults (vault_of c.write_owed.new.office)) T.base c.args.c (acts T) octets (written ++ d.0) L) (λ x. IsCut x T.base c.args.c (acts T) octets (written ++ d.0) L)) (sym e) h)
-          (d.2 before T octets written first clean w)),
+      λ before T first clean w. cut_as g.V.Vault.holds g.V.Vault.faults g.V.Vault.is_clean c.write_owed.new.office T c.args.c s.octets (s.written ++ d.0) r.result f
+          (λ _. IsDone (IsAtEnd (g.R.Source.seen c.loop.reader).left) before now T.base c.args.c (acts T) s.octets (s.written ++ d.0)) (refused_as r.result f r.ensures.1)
+          (talked_then g.V.Vault.holds g.V.Vault.faults g.V.Vault.is_clean c.args.office.now c.loop.office c.write_owed.new.office c.args.c _ _ _ _ c.loop.counter s d.0
+          (λ _ T octets written L. IsCut f T.base c.args.c (acts T) octets written L) c.in_err-write_owed.ensures.clean d.2 before T first clean w),
     )
 
 pub returns-then-ended-clause-talked : goal.returns-then-ended-clause-talked
@@ -42,7 +39,7 @@ returns-then-ended-clause-talked g c =
       writes_then _ _ _ s.written d.0 s.writes d.1,
       λ before T first clean w. so_by g.V.Vault.holds g.V.Vault.faults g.V.Vault.is_clean c.write_owed.new.office T c.args.c
           (IsOver before now T.base c.args.c (acts T) s.octets (s.written ++ d.0))
-          (λ L. (Waits T.base c.args.c (acts T) s.octets (s.written ++ d.0) L × IsAtEnd (g.R.Source.seen c.loop.reader).left) ⊎ IsOver before now T.base c.args.c (acts T) s.octets (s.written ++ d.0) L)
+          (IsDone (IsAtEnd (g.R.Source.seen c.loop.reader).left) before now T.base c.args.c (acts T) s.octets (s.written ++ d.0))
           (λ L h. inr h)
           (talked_over g.V.Vault.holds g.V.Vault.faults g.V.Vault.is_clean c.args.office.now c.loop.office c.write_owed.new.office c.args.c _ _ _ _ c.loop.counter s d.0
           c.in_ok-write_owed.ensures.clean d.2 c.ended.result c.ended.ensures c.if-ended.true before T first clean w),
@@ -51,7 +48,7 @@ returns-then-ended-clause-talked g c =
 pub returns-in_err-listen-clause-talked : goal.returns-in_err-listen-clause-talked
 returns-in_err-listen-clause-talked g c =
     let f = c.in_err-listen.field-0.0 in
-    let e : c.from_residual-in_err-listen.result ≡ Err f = refused_as c.from_residual-in_err-listen.result f c.from_residual-in_err-listen.ensures.1 in
+    let r = c.from_residual-in_err-listen in
     let s = c.loop.invariant in
     let d = c.in_ok-write_owed.ensures.wrote in
     let q = c.in_err-listen.ensures.read in
@@ -62,10 +59,8 @@ returns-in_err-listen-clause-talked g c =
       s.written ++ d.0,
       reads_then _ _ _ s.octets q.0 s.reads q.1,
       writes_then _ _ _ s.written d.0 s.writes d.1,
-      λ before T first clean w. so_by g.V.Vault.holds g.V.Vault.faults g.V.Vault.is_clean c.listen.new.office T c.args.c
-          (λ L. IsCut f T.base c.args.c (acts T) (s.octets ++ q.0) (s.written ++ d.0) L)
-          (λ L. MatchResult c.from_residual-in_err-listen.result (λ _. (Waits T.base c.args.c (acts T) (s.octets ++ q.0) (s.written ++ d.0) L × IsAtEnd (g.R.Source.seen c.listen.new.reader).left) ⊎ IsOver before now T.base c.args.c (acts T) (s.octets ++ q.0) (s.written ++ d.0) L) (λ x. IsCut x T.base c.args.c (acts T) (s.octets ++ q.0) (s.written ++ d.0) L))
-          (λ L h. subst (λ r. MatchResult r (λ _. (Waits T.base c.args.c (acts T) (s.octets ++ q.0) (s.written ++ d.0) L × IsAtEnd (g.R.Source.seen c.listen.new.reader).left) ⊎ IsOver before now T.base c.args.c (acts T) (s.octets ++ q.0) (s.written ++ d.0) L) (λ x. IsCut x T.base c.args.c (acts T) (s.octets ++ q.0) (s.written ++ d.0) L)) (sym e) h)
+      λ before T first clean w. cut_as g.V.Vault.holds g.V.Vault.faults g.V.Vault.is_clean c.listen.new.office T c.args.c (s.octets ++ q.0) (s.written ++ d.0) r.result f
+          (λ _. IsDone (IsAtEnd (g.R.Source.seen c.listen.new.reader).left) before now T.base c.args.c (acts T) (s.octets ++ q.0) (s.written ++ d.0)) (refused_as r.result f r.ensures.1)
           (q.4 before T s.octets (s.written ++ d.0) (omega (arith, first, up, up2)) clean
           (talked_waits g.V.Vault.holds g.V.Vault.faults g.V.Vault.is_clean c.args.office.now c.loop.office c.write_owed.new.office c.args.c _ _ _ _ c.loop.counter s d.0
           c.in_ok-write_owed.ensures.clean d.2 c.ended.result c.ended.ensures c.if-ended.false before T first (c.in_err-listen.ensures.clean clean) w)),
@@ -87,7 +82,7 @@ returns-then-not-branch-clause-talked g c =
       writes_then _ _ _ s.written d.0 s.writes d.1,
       λ before T first clean w. so_by g.V.Vault.holds g.V.Vault.faults g.V.Vault.is_clean c.listen.new.office T c.args.c
           (λ L. cond b (GoesOn T.base c.args.c (acts T) (s.octets ++ q.0) (s.written ++ d.0) L) (Waits T.base c.args.c (acts T) (s.octets ++ q.0) (s.written ++ d.0) L))
-          (λ L. (Waits T.base c.args.c (acts T) (s.octets ++ q.0) (s.written ++ d.0) L × IsAtEnd (g.R.Source.seen c.listen.new.reader).left) ⊎ IsOver before now T.base c.args.c (acts T) (s.octets ++ q.0) (s.written ++ d.0) L)
+          (IsDone (IsAtEnd (g.R.Source.seen c.listen.new.reader).left) before now T.base c.args.c (acts T) (s.octets ++ q.0) (s.written ++ d.0))
           (λ L h. inl (none_written b (λ L. GoesOn T.base c.args.c (acts T) (s.octets ++ q.0) (s.written ++ d.0) L) (λ L. Waits T.base c.args.c (acts T) (s.octets ++ q.0) (s.written ++ d.0) L) L off h, q.3 (ap (λ x. Ok x) off)))
           (q.4 before T s.octets (s.written ++ d.0) (omega (arith, first, up, up2)) clean
           (talked_waits g.V.Vault.holds g.V.Vault.faults g.V.Vault.is_clean c.args.office.now c.loop.office c.write_owed.new.office c.args.c _ _ _ _ c.loop.counter s d.0
@@ -141,36 +136,6 @@ returns-clause-talked g c =
 
 pub loop-init : goal.loop-init
 loop-init g c = talked_none g.V.Vault.holds g.V.Vault.faults g.V.Vault.is_clean c.args.office.now c.args.c (g.R.Source.seen c.args.reader.now) (g.W.Sink.seen c.args.writer.now)
-
-pub returns-in_err-write_owed-clause-counted : goal.returns-in_err-write_owed-clause-counted
-returns-in_err-write_owed-clause-counted g c = search rules
-
-pub returns-in_err-write_owed-clause-clean : goal.returns-in_err-write_owed-clause-clean
-returns-in_err-write_owed-clause-clean g c = search rules
-
-pub returns-then-ended-clause-counted : goal.returns-then-ended-clause-counted
-returns-then-ended-clause-counted g c = search rules
-
-pub returns-then-ended-clause-clean : goal.returns-then-ended-clause-clean
-returns-then-ended-clause-clean g c = search rules
-
-pub returns-in_err-listen-clause-counted : goal.returns-in_err-listen-clause-counted
-returns-in_err-listen-clause-counted g c = search rules
-
-pub returns-in_err-listen-clause-clean : goal.returns-in_err-listen-clause-clean
-returns-in_err-listen-clause-clean g c = search rules
-
-pub returns-then-not-branch-clause-counted : goal.returns-then-not-branch-clause-counted
-returns-then-not-branch-clause-counted g c = search rules
-
-pub returns-then-not-branch-clause-clean : goal.returns-then-not-branch-clause-clean
-returns-then-not-branch-clause-clean g c = search rules
-
-pub returns-clause-counted : goal.returns-clause-counted
-returns-clause-counted g c = search rules
-
-pub returns-clause-clean : goal.returns-clause-clean
-returns-clause-clean g c = search rules
 
 pub returns-in_err-write_owed-clause-failed : goal.returns-in_err-write_owed-clause-failed
 returns-in_err-write_owed-clause-failed g c =

@@ -1,7 +1,8 @@
-use Rattle.std.proofs.Common.{rules, ◌≡◌, [], ◌++◌, ℕ, List, take, cond, MatchResult, Err, sym, subst, append-nil, true, false}
+use Rattle.std.proofs.Common.{◌≡◌, [], ◌++◌, ℕ, List, take, cond, Err, sym, subst, append-nil, true, false}
 use Rattle.office.specs.Trace.{acts}
-use Rattle.converse.specs.Conversing.{GoesOn, Waits, IsCut}
+use Rattle.converse.specs.Conversing.{GoesOn, Waits}
 use Rattle.converse.proofs.Clauses.{refused_as, not_ok}
+use Rattle.converse.proofs.SoFar.{cut_as}
 use Rattle.converse.proofs.Streaming.{failed_none, handed_on}
 use Rattle.converse.proofs.talk.listen.Goals as goal
 
@@ -24,46 +25,10 @@ returns-in_err-hear-clause-read g c =
       c.in-Ok.ensures.given.0,
       (λ q. absurd (not_ok c.from_residual.result f true e q)),
       (λ q. absurd (not_ok c.from_residual.result f false e q)),
-      λ before T octets written first clean w.
-          (let k = c.in_err-hear.ensures.heard before T octets written first clean w in
-          record {
-            log = k.log;
-            stands = k.stands;
-            own = k.own;
-            caused = k.caused;
-            so = subst (λ r. MatchResult r (λ more. cond more (GoesOn T.base c.args.c (acts T) (octets ++ piece) written k.log) (Waits T.base c.args.c (acts T) (octets ++ piece) written k.log)) (λ x. IsCut x T.base c.args.c (acts T) (octets ++ piece) written k.log)) (sym e) k.so;
-          }),
+      λ before T octets written first clean w. cut_as g.V.Vault.holds g.V.Vault.faults g.V.Vault.is_clean c.hear.new.office T c.args.c (octets ++ piece) written c.from_residual.result f
+          (λ more L. cond more (GoesOn T.base c.args.c (acts T) (octets ++ piece) written L) (Waits T.base c.args.c (acts T) (octets ++ piece) written L)) e
+          (c.in_err-hear.ensures.heard before T octets written first clean w),
     )
-
-pub returns-in_default-clause-counted : goal.returns-in_default-clause-counted
-returns-in_default-clause-counted g c = search rules
-
-pub returns-in_default-clause-clean : goal.returns-in_default-clause-clean
-returns-in_default-clause-clean g c = search rules
-
-pub returns-then-count-eq0-clause-counted : goal.returns-then-count-eq0-clause-counted
-returns-then-count-eq0-clause-counted g c = search rules
-
-pub returns-then-count-eq0-clause-clean : goal.returns-then-count-eq0-clause-clean
-returns-then-count-eq0-clause-clean g c = search rules
-
-pub returns-then-count-eq0-clause-read : goal.returns-then-count-eq0-clause-read
-returns-then-count-eq0-clause-read g c = search rules
-
-pub returns-in_err-hear-clause-counted : goal.returns-in_err-hear-clause-counted
-returns-in_err-hear-clause-counted g c = search rules
-
-pub returns-in_err-hear-clause-clean : goal.returns-in_err-hear-clause-clean
-returns-in_err-hear-clause-clean g c = search rules
-
-pub returns-clause-counted : goal.returns-clause-counted
-returns-clause-counted g c = search rules
-
-pub returns-clause-clean : goal.returns-clause-clean
-returns-clause-clean g c = search rules
-
-pub returns-clause-read : goal.returns-clause-read
-returns-clause-read g c = search rules
 
 pub returns-in_default-clause-failed : goal.returns-in_default-clause-failed
 returns-in_default-clause-failed g c = c.in_default.ensures.given.1

@@ -1,4 +1,4 @@
-use Rattle.std.proofs.Common.{rules, ◌≡◌, ◌≤◌, arith, ◌∷◌, [], Err, sym, subst}
+use Rattle.std.proofs.Common.{◌≡◌, ◌≤◌, arith, ◌∷◌, [], Err, sym, subst}
 use Rattle.std.specs.Io.KnownBytes.{IsAtEnd}
 use Rattle.vault.specs.Calls.{has_grown}
 use Rattle.office.specs.Events as event
@@ -65,18 +65,6 @@ returns-clause-talked g c =
             so = subst (λ m. ComesOut AtEnd (has_grown first now) T m d.0 d.1 r ((event.Gone n, event_tag_of o) ∷ h.log)) same out;
           }),
     )
-
-pub returns-in_err-c-clause-counted : goal.returns-in_err-c-clause-counted
-returns-in_err-c-clause-counted g c = search rules
-
-pub returns-in_err-c-clause-clean : goal.returns-in_err-c-clause-clean
-returns-in_err-c-clause-clean g c = search rules
-
-pub returns-clause-counted : goal.returns-clause-counted
-returns-clause-counted g c = search rules
-
-pub returns-clause-clean : goal.returns-clause-clean
-returns-clause-clean g c = search rules
 
 pub returns-in_err-c-clause-failed : goal.returns-in_err-c-clause-failed
 returns-in_err-c-clause-failed g c =

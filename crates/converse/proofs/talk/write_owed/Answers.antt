@@ -1,4 +1,4 @@
-use Rattle.std.proofs.Common.{rules, false, ◌≡◌, ◌++◌, ◌<◌, length, length-append, cond, MatchResult, Err, Ok, sym, ◌∙◌, ap, subst, arith, true, inr}
+use Rattle.std.proofs.Common.{false, ◌≡◌, ◌++◌, ◌<◌, length, length-append, cond, Err, Ok, sym, ◌∙◌, ap, subst, arith, true, inr}
 use Rattle.office.specs.Trace.{acts}
 use Rattle.office.specs.Stands.{vault_of}
 use Rattle.converse.specs.Streams.{writes_failed}
@@ -8,47 +8,37 @@ use Rattle.converse.specs.Conversing.{Midway, IsPaid, IsCut, Breaks}
 use Rattle.converse.proofs.Ends.{midway_broken}
 use Rattle.converse.proofs.Clauses.{refused_as, none_written, some_written}
 use Rattle.converse.proofs.Streaming.{writes_then, writes_kept, writes_failed_then, failed_more, handed_on}
-use Rattle.converse.proofs.SoFar.{wrote_none, so_by, wrote_then}
+use Rattle.converse.proofs.SoFar.{wrote_none, so_by, wrote_cut, wrote_then}
 use Rattle.converse.proofs.talk.write_owed.Goals as goal
 
 pub returns-in_err-write_some-clause-wrote : goal.returns-in_err-write_some-clause-wrote
 returns-in_err-write_some-clause-wrote g c =
     let f = c.in_err-write_some.field-0.0 in
-    let e : c.from_residual.result ≡ Err f = refused_as c.from_residual.result f c.from_residual.ensures.1 in
     let s = c.loop.invariant in
-    let d = c.in_err-write_some.ensures.wrote in
-    let now = g.V.Vault.faults (vault_of c.write_some.new.office) in (
+    let d = c.in_err-write_some.ensures.wrote in (
       s.more ++ d.0,
       writes_then _ _ _ s.more d.0 s.writes d.1,
-      wrote_then g.V.Vault.holds g.V.Vault.faults g.V.Vault.is_clean c.args.office.now c.loop.office c.write_some.new.office c.args.c _ _ c.loop.counter s d.0
-          (λ before T octets written L. MatchResult c.from_residual.result (λ _. IsPaid before now T.base c.args.c (acts T) octets written L) (λ x. IsCut x T.base c.args.c (acts T) octets written L))
-          c.in_err-write_some.ensures.clean
-          (λ before T octets written first clean w. so_by g.V.Vault.holds g.V.Vault.faults g.V.Vault.is_clean c.write_some.new.office T c.args.c
-          (λ L. IsCut f T.base c.args.c (acts T) octets (written ++ d.0) L)
-          (λ L. MatchResult c.from_residual.result (λ _. IsPaid before now T.base c.args.c (acts T) octets (written ++ d.0) L) (λ x. IsCut x T.base c.args.c (acts T) octets (written ++ d.0) L))
-          (λ L h. subst (λ r. MatchResult r (λ _. IsPaid before now T.base c.args.c (acts T) octets (written ++ d.0) L) (λ x. IsCut x T.base c.args.c (acts T) octets (written ++ d.0) L)) (sym e) h)
-          (d.3 before T octets written first clean w)),
+      wrote_cut g.V.Vault.holds g.V.Vault.faults g.V.Vault.is_clean c.args.office.now c.loop.office c.write_some.new.office c.args.c _ _ c.loop.counter s d.0
+          c.from_residual.result f (refused_as c.from_residual.result f c.from_residual.ensures.1) c.in_err-write_some.ensures.clean d.3,
     )
 
 pub returns-in_err-flush-clause-wrote : goal.returns-in_err-flush-clause-wrote
 returns-in_err-flush-clause-wrote g c =
     let b = c.in_ok-write_some.field-0 in
     let f = c.in_err-flush.field-0.0 in
-    let e : c.from_residual-in_err-flush.result ≡ Err fault.Write = refused_as c.from_residual-in_err-flush.result f c.from_residual-in_err-flush.ensures.1 ∙ ap Err c.in_err-flush.ensures.cause.0 in
+    let r = c.from_residual-in_err-flush in
     let s = c.loop.invariant in
     let d = c.in_ok-write_some.ensures.wrote in
     let now = g.V.Vault.faults (vault_of c.write_some.new.office) in (
       s.more ++ d.0,
       writes_kept _ _ _ (s.more ++ d.0) (writes_then _ _ _ s.more d.0 s.writes d.1) c.in_err-flush.ensures.took,
-      wrote_then g.V.Vault.holds g.V.Vault.faults g.V.Vault.is_clean c.args.office.now c.loop.office c.write_some.new.office c.args.c _ _ c.loop.counter s d.0
-          (λ before T octets written L. MatchResult c.from_residual-in_err-flush.result (λ _. IsPaid before now T.base c.args.c (acts T) octets written L) (λ x. IsCut x T.base c.args.c (acts T) octets written L))
-          c.in_ok-write_some.ensures.clean
+      wrote_cut g.V.Vault.holds g.V.Vault.faults g.V.Vault.is_clean c.args.office.now c.loop.office c.write_some.new.office c.args.c _ _ c.loop.counter s d.0
+          r.result fault.Write (refused_as r.result f r.ensures.1 ∙ ap Err c.in_err-flush.ensures.cause.0) c.in_ok-write_some.ensures.clean
           (λ before T octets written first clean w. so_by g.V.Vault.holds g.V.Vault.faults g.V.Vault.is_clean c.write_some.new.office T c.args.c
           (λ L. cond b (Midway before now T.base c.args.c (acts T) octets (written ++ d.0) L) (IsPaid before now T.base c.args.c (acts T) octets (written ++ d.0) L))
-          (λ L. MatchResult c.from_residual-in_err-flush.result (λ _. IsPaid before now T.base c.args.c (acts T) octets (written ++ d.0) L) (λ x. IsCut x T.base c.args.c (acts T) octets (written ++ d.0) L))
-          (λ L h. subst (λ r. MatchResult r (λ _. IsPaid before now T.base c.args.c (acts T) octets (written ++ d.0) L) (λ x. IsCut x T.base c.args.c (acts T) octets (written ++ d.0) L)) (sym e)
-          (midway_broken T.base c.args.c (acts T) octets (written ++ d.0) before now L
-          (none_written b (λ L. Midway before now T.base c.args.c (acts T) octets (written ++ d.0) L) (λ L. IsPaid before now T.base c.args.c (acts T) octets (written ++ d.0) L) L c.if-not-branch.true h).midway))
+          (IsCut fault.Write T.base c.args.c (acts T) octets (written ++ d.0))
+          (λ L h. midway_broken T.base c.args.c (acts T) octets (written ++ d.0) before now L
+          (none_written b (λ L. Midway before now T.base c.args.c (acts T) octets (written ++ d.0) L) (λ L. IsPaid before now T.base c.args.c (acts T) octets (written ++ d.0) L) L c.if-not-branch.true h).midway)
           (d.3 before T octets written first clean w)),
     )
 
@@ -114,30 +104,6 @@ returns-clause-wrote g c =
 
 pub loop-init : goal.loop-init
 loop-init g c = wrote_none g.V.Vault.holds g.V.Vault.faults g.V.Vault.is_clean c.args.office.now c.args.c (g.W.Sink.seen c.args.writer.now)
-
-pub returns-in_err-write_some-clause-counted : goal.returns-in_err-write_some-clause-counted
-returns-in_err-write_some-clause-counted g c = search rules
-
-pub returns-in_err-write_some-clause-clean : goal.returns-in_err-write_some-clause-clean
-returns-in_err-write_some-clause-clean g c = search rules
-
-pub returns-in_err-flush-clause-counted : goal.returns-in_err-flush-clause-counted
-returns-in_err-flush-clause-counted g c = search rules
-
-pub returns-in_err-flush-clause-clean : goal.returns-in_err-flush-clause-clean
-returns-in_err-flush-clause-clean g c = search rules
-
-pub returns-then-not-branch-clause-counted : goal.returns-then-not-branch-clause-counted
-returns-then-not-branch-clause-counted g c = search rules
-
-pub returns-then-not-branch-clause-clean : goal.returns-then-not-branch-clause-clean
-returns-then-not-branch-clause-clean g c = search rules
-
-pub returns-clause-counted : goal.returns-clause-counted
-returns-clause-counted g c = search rules
-
-pub returns-clause-clean : goal.returns-clause-clean
-returns-clause-clean g c = search rules
 
 pub returns-in_err-write_some-clause-failed : goal.returns-in_err-write_some-clause-failed
 returns-in_err-write_some-clause-failed g c =

@@ -1,4 +1,4 @@
-use Rattle.std.proofs.Common.{rules, false, ◌≡◌, ◌∷◌, [], ◌++◌, ◌<◌, ◌≤◌, ℕ, List, length, take, cond, MatchResult, Err, sym, ◌∙◌, ap, subst, append-nil, length, arith, true}
+use Rattle.std.proofs.Common.{false, ◌≡◌, ◌∷◌, [], ◌++◌, ◌<◌, ◌≤◌, ℕ, List, length, take, cond, MatchResult, Err, sym, ◌∙◌, ap, subst, append-nil, length, arith, true}
 use Rattle.std.proofs.lemmas.List.{length-take-le}
 use Rattle.office.specs.Events as event
 use Rattle.office.specs.Seen.{outcome_seen}
@@ -101,24 +101,6 @@ returns-clause-wrote g c =
           }),
     )
 
-pub returns-then-is_empty-clause-counted : goal.returns-then-is_empty-clause-counted
-returns-then-is_empty-clause-counted g c = search rules
-
-pub returns-then-is_empty-clause-clean : goal.returns-then-is_empty-clause-clean
-returns-then-is_empty-clause-clean g c = search rules
-
-pub returns-in_default-clause-counted : goal.returns-in_default-clause-counted
-returns-in_default-clause-counted g c = search rules
-
-pub returns-in_default-clause-clean : goal.returns-in_default-clause-clean
-returns-in_default-clause-clean g c = search rules
-
-pub returns-then-count-eq0-clause-counted : goal.returns-then-count-eq0-clause-counted
-returns-then-count-eq0-clause-counted g c = search rules
-
-pub returns-then-count-eq0-clause-clean : goal.returns-then-count-eq0-clause-clean
-returns-then-count-eq0-clause-clean g c = search rules
-
 pub returns-then-count-eq0-clause-wrote : goal.returns-then-count-eq0-clause-wrote
 returns-then-count-eq0-clause-wrote g c =
     let lent = c.owed-lent.result.now in
@@ -138,18 +120,6 @@ returns-then-count-eq0-clause-wrote g c =
             so = subst (λ (o : List ℕ). Breaks T.base c.args.c (acts T) octets o false w.log) same (midway_broken T.base c.args.c (acts T) octets written before (g.V.Vault.faults (vault_of c.args.office.now)) w.log w.so);
           }),
     )
-
-pub returns-in_err-had_memory-clause-counted : goal.returns-in_err-had_memory-clause-counted
-returns-in_err-had_memory-clause-counted g c = search rules
-
-pub returns-in_err-had_memory-clause-clean : goal.returns-in_err-had_memory-clause-clean
-returns-in_err-had_memory-clause-clean g c = search rules
-
-pub returns-clause-counted : goal.returns-clause-counted
-returns-clause-counted g c = search rules
-
-pub returns-clause-clean : goal.returns-clause-clean
-returns-clause-clean g c = search rules
 
 pub returns-in_default-clause-failed : goal.returns-in_default-clause-failed
 returns-in_default-clause-failed g c = c.in_default.ensures.taken.1

@@ -15,69 +15,46 @@ use Rattle.converse.proofs.talk_over_store.talk_over_store.Goals as goal
 
 pub returns-clause-talked : goal.returns-clause-talked
 returns-clause-talked g c =
-    let d = c.talk_and_tell-status.ensures.talked in (
-      d.0,
-      d.1,
-      d.2,
-      d.3,
-      λ well T keeps clean.
-          (let clean2 = subst g.V.Vault.is_clean c.into_vault.ensures clean in
-          let opened = opened_on T c.args.host.now c.args.boot c.args.removals in
-          let first = g.V.Vault.faults c.args.vault in
-          let before = g.V.Vault.faults (vault_of c.in-Ok.office) in
-          let now = g.V.Vault.faults (vault_of c.talk_and_tell-status.new.office) in
-          let at_end = IsAtEnd (g.R.Source.seen c.talk_and_tell-status.new.reader).left in
-          subst (λ v. HasTalked g.V.Vault.holds v (has_grown first (g.V.Vault.faults v)) opened d.0 d.1 at_end) (sym c.into_vault.ensures)
-          (talked_since g.V.Vault.holds (vault_of c.talk_and_tell-status.new.office) opened d.0 d.1 at_end (has_grown before now) (has_grown first now)
-          (grown_since first before now c.in-Ok.ensures.counted) (d.4 well opened (c.in-Ok.ensures.opened T keeps (c.talk_and_tell-status.ensures.clean clean2)) clean2))),
-      λ ill T keeps clean.
-          (let reads = reads_failed (g.R.Source.seen c.args.reader.now) (g.R.Source.seen c.talk_and_tell-status.new.reader) in
-          let writes = writes_failed (g.W.Sink.seen c.args.writer.now) (g.W.Sink.seen c.talk_and_tell-status.new.writer) in
+    let x = c.talk_and_tell-status in
+    let d = x.ensures.talked in
+    let first = g.V.Vault.faults c.args.vault in
+    let before = g.V.Vault.faults (vault_of c.in-Ok.office) in
+    let now = g.V.Vault.faults (vault_of x.new.office) in
+    let at_end = IsAtEnd (g.R.Source.seen x.new.reader).left in
+    let reads = reads_failed (g.R.Source.seen c.args.reader.now) (g.R.Source.seen x.new.reader) in
+    let writes = writes_failed (g.W.Sink.seen c.args.writer.now) (g.W.Sink.seen x.new.writer) in
+    record {
+      octets = d.octets;
+      written = d.written;
+      read = d.read;
+      wrote = d.wrote;
+      flushed = d.flushed;
+      well = λ well T keeps clean.
           let clean2 = subst g.V.Vault.is_clean c.into_vault.ensures clean in
           let opened = opened_on T c.args.host.now c.args.boot c.args.removals in
-          let first = g.V.Vault.faults c.args.vault in
-          let before = g.V.Vault.faults (vault_of c.in-Ok.office) in
-          let now = g.V.Vault.faults (vault_of c.talk_and_tell-status.new.office) in
-          let at_end = IsAtEnd (g.R.Source.seen c.talk_and_tell-status.new.reader).left in
-          subst (λ v. HasStopped g.V.Vault.holds v (has_grown first (g.V.Vault.faults v)) reads writes T opened d.0 d.1 at_end) (sym c.into_vault.ensures)
-          (inr (broken_since g.V.Vault.holds (vault_of c.talk_and_tell-status.new.office) opened d.0 d.1 at_end (has_grown before now) (has_grown first now)
-          (grown_since first before now c.in-Ok.ensures.counted) (d.5 ill opened (c.in-Ok.ensures.opened T keeps (c.talk_and_tell-status.ensures.clean clean2)) clean2)))),
-    )
+          subst (λ v. HasTalked g.V.Vault.holds v (has_grown first (g.V.Vault.faults v)) opened d.octets d.written at_end) (sym c.into_vault.ensures)
+          (talked_since g.V.Vault.holds (vault_of x.new.office) opened d.octets d.written at_end (has_grown before now) (has_grown first now)
+          (grown_since first before now c.in-Ok.ensures.counted) (d.well well opened (c.in-Ok.ensures.opened T keeps (d.clean clean2)) clean2));
+      ill = λ ill T keeps clean.
+          let clean2 = subst g.V.Vault.is_clean c.into_vault.ensures clean in
+          let opened = opened_on T c.args.host.now c.args.boot c.args.removals in
+          subst (λ v. HasStopped g.V.Vault.holds v (has_grown first (g.V.Vault.faults v)) reads writes T opened d.octets d.written at_end) (sym c.into_vault.ensures)
+          (inr (broken_since g.V.Vault.holds (vault_of x.new.office) opened d.octets d.written at_end (has_grown before now) (has_grown first now)
+          (grown_since first before now c.in-Ok.ensures.counted) (d.ill ill opened (c.in-Ok.ensures.opened T keeps (d.clean clean2)) clean2)));
+      clean = λ clean. c.in-Ok.ensures.clean (d.clean (subst g.V.Vault.is_clean c.into_vault.ensures clean));
+    }
 
 pub returns-in-Err-clause-talked : goal.returns-in-Err-clause-talked
-returns-in-Err-clause-talked g c = (
-  [],
-  [],
-  reads_none _,
-  writes_none _,
-  λ well T keeps clean. absurd (omega (arith, well, c.tell_fault.ensures.status)),
-  λ ill T keeps clean. inl (keeps_still (g.V.Vault.holds c.args.vault) (g.V.Vault.holds c.in-Err.vault) T keeps (c.in-Err.ensures.kept keeps.contents keeps.held clean), refl, refl),
-)
-
-pub returns-clause-silent : goal.returns-clause-silent
-returns-clause-silent g c = search rules
-
-pub returns-in-Err-clause-status : goal.returns-in-Err-clause-status
-returns-in-Err-clause-status g c = search rules
-
-pub returns-in-Err-clause-silent : goal.returns-in-Err-clause-silent
-returns-in-Err-clause-silent g c = search rules
-
-pub returns-in-Err-clause-bad_host : goal.returns-in-Err-clause-bad_host
-returns-in-Err-clause-bad_host g c = search rules
-
-pub returns-clause-status : goal.returns-clause-status
-returns-clause-status g c = search rules
-
-pub returns-clause-bad_host : goal.returns-clause-bad_host
-returns-clause-bad_host g c = search rules
-
-pub returns-clause-clean : goal.returns-clause-clean
-returns-clause-clean g c = λ clean.
-    c.in-Ok.ensures.clean (c.talk_and_tell-status.ensures.clean (subst g.V.Vault.is_clean c.into_vault.ensures clean))
-
-pub returns-in-Err-clause-clean : goal.returns-in-Err-clause-clean
-returns-in-Err-clause-clean g c = search rules
+returns-in-Err-clause-talked g c = record {
+  octets = [];
+  written = [];
+  read = reads_none _;
+  wrote = writes_none _;
+  flushed = λ well. absurd (omega (arith, well, c.tell_fault.ensures.status));
+  well = λ well T keeps clean. absurd (omega (arith, well, c.tell_fault.ensures.status));
+  ill = λ ill T keeps clean. inl (keeps_still (g.V.Vault.holds c.args.vault) (g.V.Vault.holds c.in-Err.vault) T keeps (c.in-Err.ensures.kept keeps.contents keeps.held clean), refl, refl);
+  clean = search rules;
+}
 
 pub returns-in-Err-clause-host_told : goal.returns-in-Err-clause-host_told
 returns-in-Err-clause-host_told g c = λ bad.

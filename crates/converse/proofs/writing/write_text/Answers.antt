@@ -3,7 +3,7 @@ use Rattle.converse.specs.Streams.{Writes, writes_failed}
 use Rattle.converse.specs.declared.fault.Fault.TheVariants.{CannotWrite}
 use Rattle.converse.proofs.Streaming.{writes_none, writes_failed_then}
 use Rattle.converse.proofs.TextWriting.{wrote_more, wrote_part, wrote_all, some_failed, if_err_still, handed_as}
-use Rattle.converse.proofs.Exporting.{on_ok}
+use Rattle.converse.proofs.Stopping.{on_ok}
 use Rattle.converse.proofs.writing.write_text.Goals as goal
 
 pub loop-init : goal.loop-init

@@ -9,8 +9,8 @@ returns-clause-done g c = λ tells T k clean.
     let d = x.ensures.talked in
     let opened = opened_on T job.host.now job.boot job.removals in
     conversed g.V.Vault.holds x.result.1 (g.R.Source.seen job.reader) (g.R.Source.seen x.new.reader) (g.W.Sink.seen job.writer) (g.W.Sink.seen x.new.writer) x.result.0
-    (g.V.Vault.faults c.args.vault) (g.V.Vault.faults x.result.1) T opened d.0 d.1 d.2 d.3 x.ensures.status x.ensures.flushed
-    (λ well. d.4 well T k clean) (λ ill. d.5 ill T k clean))
+    (g.V.Vault.faults c.args.vault) (g.V.Vault.faults x.result.1) T opened d.octets d.written d.read d.wrote x.ensures.status d.flushed
+    (λ well. d.well well T k clean) (λ ill. d.ill ill T k clean))
 
 pub returns-clause-clean : goal.returns-clause-clean
-returns-clause-clean g c = λ tells clean. c.talk_over_store-status.ensures.clean clean
+returns-clause-clean g c = λ tells clean. c.talk_over_store-status.ensures.talked.clean clean
