@@ -11,7 +11,7 @@ use Rattle.converse.specs.Causes.{IsExportEnd, IsRefused, IsRefusedOf}
 use Rattle.converse.specs.Checked.{store_text, AreKnown}
 use Rattle.converse.specs.Streams.{Writes, WritesPart, writes_failed}
 use Rattle.converse.specs.Texts.{against, differing}
-use Rattle.converse.proofs.ExportLemmas.{checks_ill, reports_fault}
+use Rattle.converse.proofs.ExportLemmas.{reports_fault}
 use Rattle.converse.proofs.Exporting.{counts_on, look_refused, refused_since}
 use Rattle.converse.proofs.Refusals.{clerks_known, refused_all}
 use Rattle.jobs.specs.Checks.{held_against}
@@ -66,10 +66,26 @@ returns-clause-still g c = record {
 }
 
 pub returns-in-Err-clause-checks : goal.returns-in-Err-clause-checks
-returns-in-Err-clause-checks g c = checks_ill _ _ _ _ _ _ _ _ _ _ (λ well. let one = c.tell_fault.ensures.status in absurd (omega (arith, one, well))) (inl refl)
+returns-in-Err-clause-checks g c =
+    let one = c.tell_fault.ensures.status in
+    record {
+      told = λ well. absurd (omega (arith, one, well));
+      flushed = λ well. absurd (omega (arith, one, well));
+      intact = λ well. absurd (omega (arith, one, well));
+      known = λ well. absurd (omega (arith, one, well));
+      part = inl refl;
+    }
 
 pub returns-clause-checks : goal.returns-clause-checks
-returns-clause-checks g c = checks_ill _ _ _ _ _ _ _ _ _ _ (λ well. let one = c.tell_fault-in-Err-clerk_names.ensures.status in absurd (omega (arith, one, well))) (inl refl)
+returns-clause-checks g c =
+    let one = c.tell_fault-in-Err-clerk_names.ensures.status in
+    record {
+      told = λ well. absurd (omega (arith, one, well));
+      flushed = λ well. absurd (omega (arith, one, well));
+      intact = λ well. absurd (omega (arith, one, well));
+      known = λ well. absurd (omega (arith, one, well));
+      part = inl refl;
+    }
 
 pub returns-in-Ok-clerk_names-clause-reports : goal.returns-in-Ok-clerk_names-clause-reports
 returns-in-Ok-clerk_names-clause-reports g c =
