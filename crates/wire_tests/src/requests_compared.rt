@@ -149,6 +149,7 @@ fn told_over_http(alloc: Global) -> Result<String, Fail> {
     deposit(&mut bench.server.office, "orders", b"hi")?;
     text.push_str("answer new note.1\n")?;
     bench
+        .server
         .wire
         .connect(octets(alloc, b"USER ann/orders\r\nPASS s3 cret\r\n")?)?;
     turns(&mut bench, 4, 0);

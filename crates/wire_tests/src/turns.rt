@@ -40,7 +40,7 @@ pub(super) fn one_link(alloc: Global, comes: &[u8], piece: usize) -> Result<Scri
 }
 
 /// A server of `new_office`, on this wire.
-pub(super) fn server_on<W: Wire>(
+pub(super) fn server_on<W: Wire + Drop>(
     alloc: Global,
     wire: W,
 ) -> Result<Server<PlainVault, W, NoListener>, Fail> {
