@@ -172,14 +172,19 @@ fn look_at_links(links: &Links, reckoning: &mut Reckoning) {
     }
 }
 
-/// What the server judged in a turn is what the office that reckons did, line by line.
-fn look_at_accounts(heard: &mut Heard, reckoning: &mut Reckoning) {
+/// What was heard in a turn is what the office that reckons judged, line by line.
+fn compare_heard(heard: &mut Heard, reckoning: &mut Reckoning) {
     if !heard.is_as(&reckoning.heard) {
         reckoning.note("another account");
     }
     reckoning.counts.judged = reckoning.counts.judged.saturating_add(heard.len() as u64);
     heard.clear();
     reckoning.heard.clear();
+}
+
+/// What the server judged in a turn is what the office that reckons did.
+fn look_at_accounts(server: &mut Server<PlainVault, RandomWire, Heard>) {
+    compare_heard(&mut server.listener, &mut server.wire.reckoning);
 }
 
 /// A turn.
@@ -191,7 +196,7 @@ fn turn(game: &mut Game) -> Result<(), Fail> {
         serve(game);
     }
     look_at_links(&game.links, &mut game.server.wire.reckoning);
-    look_at_accounts(&mut game.server.listener, &mut game.server.wire.reckoning);
+    look_at_accounts(&mut game.server);
     Ok(())
 }
 
@@ -215,7 +220,7 @@ fn calm_down(game: &mut Game) {
         }
         serve(game);
         look_at_links(&game.links, &mut game.server.wire.reckoning);
-        look_at_accounts(&mut game.server.listener, &mut game.server.wire.reckoning);
+        look_at_accounts(&mut game.server);
     }
     game.server.wire.reckoning.note("not all was told");
 }
