@@ -1,5 +1,6 @@
 -- Clients that took too long for their login are ended, and nobody is forgotten early.
-use Rattle.std.proofs.Common.{◌≡◌, ℕ, ◌+◌, ◌<◌, ◌≤◌, ◌==◌, ◌&&◌, not, Bool, true, false, List, [], ◌∷◌, ◌++◌, length, take, get_or, refl, sym, ◌∙◌, ap, Some, None, Option, ⊎_elim, ◌⊎◌, inl, inr, subst, true≢false, append_assoc, eqb-true}
+use Rattle.std.proofs.Common.{◌≡◌, ℕ, ◌+◌, ◌<◌, ◌≤◌, ◌==◌, ◌&&◌, not, Bool, true, false, List, [], ◌∷◌, ◌++◌, length, take, get_or, refl, sym, ◌∙◌, ap, Some, None, Option, ⊎_elim}
+use Rattle.std.proofs.Common.{◌⊎◌, inl, inr, subst, true≢false, append_assoc, eqb-true}
 use Rattle.std.proofs.lemmas.Bool.{cases_Bool}
 use Rattle.std.proofs.lemmas.List.Elements.{All-nil, All-cons, All-head, All-append, All-weaker, All-more}
 use Rattle.vault.specs.Records.{Records}
@@ -42,7 +43,8 @@ ended_left : (B : Records) (L g1 g2 : Log) (xs : List Newcomer) (c : ℕ) → Ha
 ended_left B L g1 g2 xs c (inl u) = inl (lived_left B L g1 g2 c u)
 ended_left B L g1 g2 xs c (inr h) = inr h
 
-ended_right : (B : Records) (L g1 g2 : Log) (xs ys : List Newcomer) (c : ℕ) → newcomer c ys ≡ newcomer c xs → HasLived B (g1 ++ L) g2 c ⊎ (lies_unread (newcomer c ys) ≡ true) → HasLived B L (g2 ++ g1) c ⊎ (lies_unread (newcomer c xs) ≡ true)
+ended_right : (B : Records) (L g1 g2 : Log) (xs ys : List Newcomer) (c : ℕ) → newcomer c ys ≡ newcomer c xs
+    → HasLived B (g1 ++ L) g2 c ⊎ (lies_unread (newcomer c ys) ≡ true) → HasLived B L (g2 ++ g1) c ⊎ (lies_unread (newcomer c xs) ≡ true)
 ended_right B L g1 g2 xs ys c e (inl u) = inl (lived_right B L g1 g2 c u)
 ended_right B L g1 g2 xs ys c e (inr h) = inr (ap lies_unread (sym e) ∙ h)
 
@@ -63,7 +65,8 @@ late_same : (now seconds : ℕ) (xs ys : List Newcomer) (c : ℕ) → newcomer c
 late_same now seconds xs ys c e h = ap (λ n. not (seconds == 0) && is_late_by now seconds n) e ∙ h
 
 -- whoever is late is late by who was noted, if that is noted still
-pub late_kept : (now seconds : ℕ) (xs ys : List Newcomer) (c : ℕ) → ((n : Newcomer) → newcomer c xs ≡ Some n → newcomer c ys ≡ Some n) → is_late now seconds xs c ≡ true → is_late now seconds ys c ≡ true
+pub late_kept : (now seconds : ℕ) (xs ys : List Newcomer) (c : ℕ) → ((n : Newcomer) → newcomer c xs ≡ Some n → newcomer c ys ≡ Some n)
+    → is_late now seconds xs c ≡ true → is_late now seconds ys c ≡ true
 late_kept now seconds xs ys c keeps h = by (newcomer c xs) refl where
   by : (m : Option Newcomer) → newcomer c xs ≡ m → is_late now seconds ys c ≡ true
   by None is =
@@ -86,7 +89,7 @@ found_noted true connection now xs ys is c n h = ap (newcomer c) is ∙ found_fi
 
 -- ---- one client
 
-module _ {V : Type 0} (Holds : V → Contents → Type 0) (IsClean : V → Type 0) (Faults : V → ℕ) (now seconds : ℕ) where
+module _ {V : Type 0} (Holds : V → Contents → Type 0) (IsClean : V → Type 0) (Faults : V → ℕ) (IsUp : V → Type 0) (MayLeave : V → Contents → Type 0) (now seconds : ℕ) where
   pub late_none : (o : Office V) (xs : List Newcomer) → HasEndedLate Holds IsClean o o now seconds xs xs [] []
   late_none o xs = record {
     gone = All-nil (IsLateGone now seconds xs);
@@ -106,7 +109,8 @@ module _ {V : Type 0} (Holds : V → Contents → Type 0) (IsClean : V → Type 
   late_lived o xs ys q is lives = record {
     gone = All-nil (IsLateGone now seconds xs);
     each = λ B L s k.
-        All-cons (IsEndedInTime now seconds xs B L [] (trace_of B L)) q [] (λ late here. inl (lived_now B L q.connection (lives (trace_of B L) s))) (All-nil (IsEndedInTime now seconds xs B L [] (trace_of B L)));
+        All-cons (IsEndedInTime now seconds xs B L [] (trace_of B L)) q [] (λ late here. inl (lived_now B L q.connection (lives (trace_of B L) s)))
+        (All-nil (IsEndedInTime now seconds xs B L [] (trace_of B L)));
     noted = λ B L s k c.
         ⊎_elim
         (λ (e : (c == q.connection) ≡ true). inr (lived_now B L c (subst (λ n. live (history (trace_of B L)) n ≡ true) (sym (eqb-true c q.connection e)) (lives (trace_of B L) s))))
@@ -131,18 +135,20 @@ module _ {V : Type 0} (Holds : V → Contents → Type 0) (IsClean : V → Type 
     noted = λ B L s k c. inl refl;
   }
 
-  pub late_shut : (o o1 : Office V) (xs : List Newcomer) (q : Seat) (g : Log) → AreLateGone now seconds xs g → IsShutBy Holds IsClean o o1 q.connection g → HasEndedLate Holds IsClean o o1 now seconds xs xs (q ∷ []) g
+  pub late_shut : (o o1 : Office V) (xs : List Newcomer) (q : Seat) (g : Log) → AreLateGone now seconds xs g
+      → IsShutBy Holds IsClean o o1 q.connection g → HasEndedLate Holds IsClean o o1 now seconds xs xs (q ∷ []) g
   late_shut o o1 xs q g gone shut = record {
     gone = gone;
     each = λ B L s k.
-        All-cons (IsEndedInTime now seconds xs B L g (trace_of B (g ++ L))) q [] (λ late here. absurd (true≢false (sym here ∙ shut B L s k))) (All-nil (IsEndedInTime now seconds xs B L g (trace_of B (g ++ L))));
+        All-cons (IsEndedInTime now seconds xs B L g (trace_of B (g ++ L))) q [] (λ late here. absurd (true≢false (sym here ∙ shut B L s k)))
+        (All-nil (IsEndedInTime now seconds xs B L g (trace_of B (g ++ L))));
     noted = λ B L s k c. inl refl;
   }
 
   -- ---- one after the other
 
   pub late_more : (o o1 o2 : Office V) (xs ys zs : List Newcomer) (seats cur : List Seat) (i : ℕ) (d : Seat) (g1 g2 : Log) → cur ≡ seats → i < length cur → AreNoMoreLate now seconds xs ys
-      → WasGiven Holds IsClean Faults o o1 g1 → WasGiven Holds IsClean Faults o1 o2 g2
+      → WasGiven Holds IsClean Faults IsUp MayLeave o o1 g1 → WasGiven Holds IsClean Faults IsUp MayLeave o1 o2 g2
       → HasEndedLate Holds IsClean o o1 now seconds xs ys (take i seats) g1 → HasEndedLate Holds IsClean o1 o2 now seconds ys zs (get_or cur i d ∷ []) g2
       → HasEndedLate Holds IsClean o o2 now seconds xs zs (take (i + 1) seats) (g2 ++ g1)
   late_more o o1 o2 xs ys zs seats cur i d g1 g2 is within less wa wb a at_cur =
@@ -164,7 +170,8 @@ module _ {V : Type 0} (Holds : V → Contents → Type 0) (IsClean : V → Type 
             ⊎_elim
             (λ (e : newcomer q.connection ys ≡ newcomer q.connection xs).
             ended_right B L g1 g2 xs ys q.connection e
-            (All-head (IsEndedInTime now seconds ys B (g1 ++ L) g2 (trace_of B (g2 ++ (g1 ++ L)))) q [] (b.each B (g1 ++ L) s1 k) (late_same now seconds xs ys q.connection e late) (same q.connection here)))
+            (All-head (IsEndedInTime now seconds ys B (g1 ++ L) g2 (trace_of B (g2 ++ (g1 ++ L)))) q [] (b.each B (g1 ++ L) s1 k)
+            (late_same now seconds xs ys q.connection e late) (same q.connection here)))
             (λ (u : HasLived B L g1 q.connection). inl (lived_left B L g1 g2 q.connection u))
             (a.noted B L s (wb.clean k) q.connection)));
         noted = λ B L s k c.
@@ -180,30 +187,30 @@ module _ {V : Type 0} (Holds : V → Contents → Type 0) (IsClean : V → Type 
 
   pub late_step : (o o1 o2 : Office V) (xs ys zs : List Newcomer) (seats cur : List Seat) (i : ℕ) (d : Seat) (M N K : Log → Type 0) → cur ≡ seats → i < length cur → AreNoMoreLate now seconds xs ys
       → ((g1 g2 : Log) → AreLateGone now seconds ys g2 → M g1 → N g2 → K (g2 ++ g1))
-      → Giving Holds IsClean Faults o o1 (λ g. HasEndedLate Holds IsClean o o1 now seconds xs ys (take i seats) g × M g)
-      → Giving Holds IsClean Faults o1 o2 (λ g. ((e : Seat) → HasEndedLate Holds IsClean o1 o2 now seconds ys zs (get_or cur i e ∷ []) g) × N g)
-      → Giving Holds IsClean Faults o o2 (λ g. HasEndedLate Holds IsClean o o2 now seconds xs zs (take (i + 1) seats) g × K g)
+      → Giving Holds IsClean Faults IsUp MayLeave o o1 (λ g. HasEndedLate Holds IsClean o o1 now seconds xs ys (take i seats) g × M g)
+      → Giving Holds IsClean Faults IsUp MayLeave o1 o2 (λ g. ((e : Seat) → HasEndedLate Holds IsClean o1 o2 now seconds ys zs (get_or cur i e ∷ []) g) × N g)
+      → Giving Holds IsClean Faults IsUp MayLeave o o2 (λ g. HasEndedLate Holds IsClean o o2 now seconds xs zs (take (i + 1) seats) g × K g)
   late_step o o1 o2 xs ys zs seats cur i d M N K is within less join a b = record {
     given = b.given ++ a.given;
-    was_given = given_then Holds IsClean Faults o o1 o2 a.given b.given a.was_given b.was_given;
+    was_given = given_then Holds IsClean Faults IsUp MayLeave o o1 o2 a.given b.given a.was_given b.was_given;
     facts = (late_more o o1 o2 xs ys zs seats cur i d a.given b.given is within less a.was_given b.was_given a.facts.0 (b.facts.0 d), join a.given b.given (b.facts.0 d).gone a.facts.1 b.facts.1);
   }
 
   pub late_whole : (o o1 : Office V) (xs ys : List Newcomer) (seats cur : List Seat) (n : ℕ) (M : Log → Type 0) → cur ≡ seats → length cur ≤ n
-      → Giving Holds IsClean Faults o o1 (λ g. HasEndedLate Holds IsClean o o1 now seconds xs ys (take n seats) g × M g)
-      → Giving Holds IsClean Faults o o1 (λ g. HasEndedLate Holds IsClean o o1 now seconds xs ys seats g × M g)
+      → Giving Holds IsClean Faults IsUp MayLeave o o1 (λ g. HasEndedLate Holds IsClean o o1 now seconds xs ys (take n seats) g × M g)
+      → Giving Holds IsClean Faults IsUp MayLeave o o1 (λ g. HasEndedLate Holds IsClean o o1 now seconds xs ys seats g × M g)
   late_whole o o1 xs ys seats cur n M is h a =
       let k : length seats ≤ n = subst (λ v. length v ≤ n) is h in
-      subst (λ v. Giving Holds IsClean Faults o o1 (λ g. HasEndedLate Holds IsClean o o1 now seconds xs ys v g × M g)) (whole_front seats n k) a
+      subst (λ v. Giving Holds IsClean Faults IsUp MayLeave o o1 (λ g. HasEndedLate Holds IsClean o o1 now seconds xs ys v g × M g)) (whole_front seats n k) a
 
 -- who went was late before, and what else is known of it by that
-pub late_both : {V : Type 0} (Holds : V → Contents → Type 0) (IsClean : V → Type 0) (Faults : V → ℕ) (now seconds seconds0 : ℕ)
+pub late_both : {V : Type 0} (Holds : V → Contents → Type 0) (IsClean : V → Type 0) (Faults : V → ℕ) (IsUp : V → Type 0) (MayLeave : V → Contents → Type 0) (now seconds seconds0 : ℕ)
     (xs ys zs : List Newcomer) (seats : List Seat) (o o1 : Office V) (M K : Log → Type 0) → seconds ≡ seconds0 → AreNoMoreLate now seconds0 xs ys
     → ((g : Log) → AreLateGone now seconds0 ys g → M g → K g)
-    → Giving Holds IsClean Faults o o1 (λ g. HasEndedLate Holds IsClean o o1 now seconds ys zs seats g × M g)
-    → Giving Holds IsClean Faults o o1 (λ g. AreLateGone now seconds0 xs g × HasEndedLate Holds IsClean o o1 now seconds0 ys zs seats g × K g)
-late_both Holds IsClean Faults now seconds seconds0 xs ys zs seats o o1 M K is less more a =
-    let b = subst (λ n. Giving Holds IsClean Faults o o1 (λ g. HasEndedLate Holds IsClean o o1 now n ys zs seats g × M g)) is a in
+    → Giving Holds IsClean Faults IsUp MayLeave o o1 (λ g. HasEndedLate Holds IsClean o o1 now seconds ys zs seats g × M g)
+    → Giving Holds IsClean Faults IsUp MayLeave o o1 (λ g. AreLateGone now seconds0 xs g × HasEndedLate Holds IsClean o o1 now seconds0 ys zs seats g × K g)
+late_both Holds IsClean Faults IsUp MayLeave now seconds seconds0 xs ys zs seats o o1 M K is less more a =
+    let b = subst (λ n. Giving Holds IsClean Faults IsUp MayLeave o o1 (λ g. HasEndedLate Holds IsClean o o1 now n ys zs seats g × M g)) is a in
     record {
       given = b.given;
       was_given = b.was_given;

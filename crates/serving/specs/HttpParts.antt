@@ -37,19 +37,21 @@ AskedApart Facts calls = IsQuiet [] calls × Facts calls
 
 -- A part of a turn that does this, and nothing for the clients' links.
 abbrev pub DoesApart : {V W : Type 0} (Holds : V → Contents → Type 0) (IsClean : V → Type 0)
-    (Faults : V → ℕ) (Asked : W → List Call → Type 0) (office : Office V) (wire : W)
+    (Faults : V → ℕ)
+    (IsUp : V → Type 0) (MayLeave : V → Contents → Type 0) (Asked : W → List Call → Type 0) (office : Office V) (wire : W)
     (office_then : Office V) (wire_then : W) (Did : Records → Log → Log → List Call → Type 0)
     → Type 0
-DoesApart Holds IsClean Faults Asked office wire office_then wire_then Did =
-    Part Holds IsClean Faults Asked office wire office_then wire_then
+DoesApart Holds IsClean Faults IsUp MayLeave Asked office wire office_then wire_then Did =
+    Part Holds IsClean Faults IsUp MayLeave Asked office wire office_then wire_then
     (DidApart Holds IsClean office office_then Did)
 
 -- One that asks the wire nothing.
 abbrev pub GivesApart : {V : Type 0} (Holds : V → Contents → Type 0) (IsClean : V → Type 0)
-    (Faults : V → ℕ) (office office_then : Office V)
+    (Faults : V → ℕ)
+    (IsUp : V → Type 0) (MayLeave : V → Contents → Type 0) (office office_then : Office V)
     (Did : Records → Log → Log → List Call → Type 0) → Type 0
-GivesApart Holds IsClean Faults office office_then Did =
-    Giving Holds IsClean Faults office office_then
+GivesApart Holds IsClean Faults IsUp MayLeave office office_then Did =
+    Giving Holds IsClean Faults IsUp MayLeave office office_then
     (λ given. DidApart Holds IsClean office office_then Did given [])
 
 -- One that gives the office nothing.

@@ -30,6 +30,7 @@ use Rattle.serving.specs.Works.{has_moved, moments, openings, refusals, is_faile
 use Rattle.serving.specs.Works.{AreCaused, WasAsked}
 use Rattle.serving.specs.Hearing.{Hearing, WithHeard}
 use Rattle.serving.specs.Late.{IsShutBy}
+use Rattle.serving.specs.Stopping.{Outlasts}
 
 -- ---- what it gives and asks
 
@@ -53,7 +54,8 @@ AreNoMoreLate now seconds newcomers newcomers_then = (c : ℕ)
     → is_late now seconds newcomers_then c ≡ true
     → (other : ℕ) → is_late now other newcomers c ≡ is_late now other newcomers_then c
 
-pub record WasGiven {V : Type 0} (Holds : V → Contents → Type 0) (IsClean : V → Type 0) (Faults : V → ℕ) (office office_then : Office V) (given : Log) : Type 0 where
+pub record WasGiven {V : Type 0} (Holds : V → Contents → Type 0) (IsClean : V → Type 0) (Faults : V → ℕ)
+    (IsUp : V → Type 0) (MayLeave : V → Contents → Type 0) (office office_then : Office V) (given : Log) : Type 0 where
   pub clean : IsClean (vault_of office_then) → IsClean (vault_of office)
   pub stands : (B : Records) (L : Log) → StandsFor Holds office (trace_of B L) → IsClean (vault_of office_then) → StandsFor Holds office_then (trace_of B (given ++ L))
   pub admitted : (B : Records) (L : Log) → StandsFor Holds office (trace_of B L) → IsClean (vault_of office_then) → AreNewlyAdmitted B L given
@@ -61,13 +63,16 @@ pub record WasGiven {V : Type 0} (Holds : V → Contents → Type 0) (IsClean : 
   pub counted : Faults (vault_of office) ≤ Faults (vault_of office_then)
   pub failed : (B : Records) (L : Log) → StandsFor Holds office (trace_of B L) → IsClean (vault_of office_then) → list_any is_failed given ≡ true
       → has_grown (Faults (vault_of office)) (Faults (vault_of office_then)) ≡ true
+  -- whether the store's device is up, and what a stop leaves
+  pub outlasts : Outlasts Holds IsClean IsUp MayLeave office office_then given
 
 -- a part of a turn, of whose events and calls this holds
-pub record Part {V W : Type 0} (Holds : V → Contents → Type 0) (IsClean : V → Type 0) (Faults : V → ℕ) (Asked : W → List Call → Type 0)
+pub record Part {V W : Type 0} (Holds : V → Contents → Type 0) (IsClean : V → Type 0) (Faults : V → ℕ)
+    (IsUp : V → Type 0) (MayLeave : V → Contents → Type 0) (Asked : W → List Call → Type 0)
     (office : Office V) (wire : W) (office_then : Office V) (wire_then : W) (Facts : Log → List Call → Type 0) : Type 0 where
   pub given : Log
   pub calls : List Call
-  pub was_given : WasGiven Holds IsClean Faults office office_then given
+  pub was_given : WasGiven Holds IsClean Faults IsUp MayLeave office office_then given
   pub was_asked : WasAsked Asked wire wire_then calls
   pub facts : Facts given calls
 
@@ -78,9 +83,10 @@ pub record Asking {W : Type 0} (Asked : W → List Call → Type 0) (wire wire_t
   pub facts : Facts calls
 
 -- a part that gives events to the office alone
-pub record Giving {V : Type 0} (Holds : V → Contents → Type 0) (IsClean : V → Type 0) (Faults : V → ℕ) (office office_then : Office V) (Facts : Log → Type 0) : Type 0 where
+pub record Giving {V : Type 0} (Holds : V → Contents → Type 0) (IsClean : V → Type 0) (Faults : V → ℕ)
+    (IsUp : V → Type 0) (MayLeave : V → Contents → Type 0) (office office_then : Office V) (Facts : Log → Type 0) : Type 0 where
   pub given : Log
-  pub was_given : WasGiven Holds IsClean Faults office office_then given
+  pub was_given : WasGiven Holds IsClean Faults IsUp MayLeave office office_then given
   pub facts : Facts given
 
 -- no wait, no link that comes, none that is closed, no tick and no opening
@@ -101,12 +107,13 @@ pub record IsQuietFor (seats : List Seat) (given : Log) (calls : List Call) : Ty
 -- It gave these events and made these calls and no others, of which `Facts` holds, and the listener
 -- heard the accounts of these events and nothing else.
 abbrev pub Does : {V W H : Type 0} (Holds : V → Contents → Type 0) (IsClean : V → Type 0)
-    (Faults : V → ℕ) (Asked : W → List Call → Type 0) (Heard : H → List Hearing → Type 0)
+    (Faults : V → ℕ)
+    (IsUp : V → Type 0) (MayLeave : V → Contents → Type 0) (Asked : W → List Call → Type 0) (Heard : H → List Hearing → Type 0)
     (office : Office V) (wire : W) (listener : H)
     (office_then : Office V) (wire_then : W) (listener_then : H)
     (Facts : Log → List Call → Type 0) → Type 0
-Does Holds IsClean Faults Asked Heard office wire listener office_then wire_then listener_then Facts =
-    Part Holds IsClean Faults Asked office wire office_then wire_then
+Does Holds IsClean Faults IsUp MayLeave Asked Heard office wire listener office_then wire_then listener_then Facts =
+    Part Holds IsClean Faults IsUp MayLeave Asked office wire office_then wire_then
     (WithHeard Holds IsClean Heard office listener office_then listener_then Facts)
 
 -- a late client's connection was ended, or wasn't open

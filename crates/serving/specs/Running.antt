@@ -1,7 +1,7 @@
 -- That a server goes on turn by turn, each from where the one before it ended.
 use Rattle.std.specs.Prelude.{◌≡◌, ◌≤◌, ℕ, Bool, true, false, List, [], ◌∷◌, ◌++◌, length, map}
 use Rattle.std.specs.Prelude.{Option, Some, None, if◌then◌else◌}
-use Rattle.std.specs.List.{list_any}
+use Rattle.std.specs.List.{list_all, list_any}
 use Rattle.vault.specs.Calls.{has_grown}
 use Rattle.vault.specs.Changes.{Contents}
 use Rattle.office.specs.Events.{Log, Trace}
@@ -10,6 +10,7 @@ use Rattle.office.specs.Stands.{StandsFor, vault_of}
 use Rattle.office.specs.declared.office.Office.{Office}
 use Rattle.serving.specs.Calls.{Call}
 use Rattle.serving.specs.Spools.{FileCall}
+use Rattle.serving.specs.Stopping.{is_answered, StopLeavesAfter}
 use Rattle.serving.specs.Hearing.{Hearing}
 use Rattle.serving.specs.Given.{AreNewlyAdmitted, is_failed}
 use Rattle.serving.specs.Seen.{given_in}
@@ -34,32 +35,34 @@ pub record LeavesAsFound (now : ℕ) (links links_then : Links) : Type 0 where
 -- The turns of these moments were done, the oldest first, and gave these events: each turn works,
 -- from the trace with the events of those before it.
 pub data AreTurns {V W S H : Type 0} (Holds : V → Contents → Type 0) (Faults : V → ℕ)
+    (IsUp : V → Type 0) (MayLeave : V → Contents → Type 0)
     (Asked : W → List Call → Type 0) (AskedFiles : S → List FileCall → Type 0)
     (Heard : H → List Hearing → Type 0) (T : Trace)
     (links : Links) (office : Office V) (wire : W) (spool : S) (listener : H)
     : (moments : List ℕ) → (given : Log) → Links → Office V → W → S → H → Type 0 where
-  NoTurn : AreTurns Holds Faults Asked AskedFiles Heard T links office wire spool listener
+  NoTurn : AreTurns Holds Faults IsUp MayLeave Asked AskedFiles Heard T links office wire spool listener
       [] [] links office wire spool listener
   OneMore : (moments : List ℕ) (given : Log) (links1 : Links) (office1 : Office V) (wire1 : W)
       (spool1 : S) (listener1 : H) (now : ℕ) (links2 : Links) (office2 : Office V) (wire2 : W)
       (spool2 : S) (listener2 : H)
-      → AreTurns Holds Faults Asked AskedFiles Heard T links office wire spool listener
+      → AreTurns Holds Faults IsUp MayLeave Asked AskedFiles Heard T links office wire spool listener
       moments given links1 office1 wire1 spool1 listener1
-      → (turn : Works Holds Faults Asked AskedFiles Heard (trace_of T.base (given ++ T.log)) now
+      → (turn : Works Holds Faults IsUp MayLeave Asked AskedFiles Heard (trace_of T.base (given ++ T.log)) now
       links1 office1 wire1 spool1 listener1 office2 links2 wire2 spool2 listener2)
       → LeavesAsFound now links1 links2
-      → AreTurns Holds Faults Asked AskedFiles Heard T links office wire spool listener
+      → AreTurns Holds Faults IsUp MayLeave Asked AskedFiles Heard T links office wire spool listener
       (moments ++ now ∷ []) (given_in turn.seen ++ given) links2 office2 wire2 spool2 listener2
 
 -- So an office went on since a trace: it stands for that trace with the events of the turns.
 pub record HasGoneOn {V W S H : Type 0} (Holds : V → Contents → Type 0) (Faults : V → ℕ)
+    (IsUp : V → Type 0) (MayLeave : V → Contents → Type 0)
     (Asked : W → List Call → Type 0) (AskedFiles : S → List FileCall → Type 0)
     (Heard : H → List Hearing → Type 0) (T : Trace) (moments : List ℕ)
     (links : Links) (office : Office V) (wire : W) (spool : S) (listener : H)
     (links_then : Links) (office_then : Office V) (wire_then : W) (spool_then : S)
     (listener_then : H) : Type 0 where
   pub given : Log
-  pub turns : AreTurns Holds Faults Asked AskedFiles Heard T links office wire spool listener
+  pub turns : AreTurns Holds Faults IsUp MayLeave Asked AskedFiles Heard T links office wire spool listener
       moments given links_then office_then wire_then spool_then listener_then
   pub stands : StandsFor Holds office_then (trace_of T.base (given ++ T.log))
   -- each event has a tag that it may have
@@ -68,6 +71,11 @@ pub record HasGoneOn {V W S H : Type 0} (Holds : V → Contents → Type 0) (Fau
   pub counted : Faults (vault_of office) ≤ Faults (vault_of office_then)
   pub failed : list_any is_failed given ≡ true
       → has_grown (Faults (vault_of office)) (Faults (vault_of office_then)) ≡ true
+  -- a store's device that was up is up, unless an event failed or wanted memory; and what a stop in
+  -- the last event leaves, if all before it were answered
+  pub up : IsUp (vault_of office) → list_all is_answered given ≡ true → IsUp (vault_of office_then)
+  pub stop : IsUp (vault_of office)
+      → StopLeavesAfter (MayLeave (vault_of office_then)) T.base T.log given
 
 -- what a clock answered: these moments, and after them none, if it stopped
 abbrev pub answers : (stopped : Bool) → (moments : List ℕ) → List (Option ℕ)
@@ -75,7 +83,8 @@ answers stopped moments = map (λ m. Some m) moments ++ (if stopped then None �
 
 -- A clock was asked for these moments and no others, and for each a turn was done, since any trace.
 pub record HasTurned {V W S H C : Type 0} (Holds : V → Contents → Type 0) (IsClean : V → Type 0)
-    (Faults : V → ℕ) (Asked : W → List Call → Type 0) (AskedFiles : S → List FileCall → Type 0)
+    (Faults : V → ℕ)
+    (IsUp : V → Type 0) (MayLeave : V → Contents → Type 0) (Asked : W → List Call → Type 0) (AskedFiles : S → List FileCall → Type 0)
     (Heard : H → List Hearing → Type 0) (Gave : C → List (Option ℕ) → Type 0)
     (stopped : Bool) (moments : List ℕ)
     (links : Links) (office : Office V) (wire : W) (spool : S) (listener : H) (clock : C)
@@ -84,19 +93,20 @@ pub record HasTurned {V W S H C : Type 0} (Holds : V → Contents → Type 0) (I
   pub gave : (before : List (Option ℕ)) → Gave clock before
       → Gave clock_then (before ++ answers stopped moments)
   pub each : (T : Trace) → StandsFor Holds office T → IsClean (vault_of office_then)
-      → HasGoneOn Holds Faults Asked AskedFiles Heard T moments
+      → HasGoneOn Holds Faults IsUp MayLeave Asked AskedFiles Heard T moments
       links office wire spool listener links_then office_then wire_then spool_then listener_then
 
 -- Turns were done until the clock stopped, or so many were over.
 pub record HasRun {V W S H C : Type 0} (Holds : V → Contents → Type 0) (IsClean : V → Type 0)
-    (Faults : V → ℕ) (Asked : W → List Call → Type 0) (AskedFiles : S → List FileCall → Type 0)
+    (Faults : V → ℕ)
+    (IsUp : V → Type 0) (MayLeave : V → Contents → Type 0) (Asked : W → List Call → Type 0) (AskedFiles : S → List FileCall → Type 0)
     (Heard : H → List Hearing → Type 0) (Gave : C → List (Option ℕ) → Type 0) (most : ℕ)
     (links : Links) (office : Office V) (wire : W) (spool : S) (listener : H) (clock : C)
     (links_then : Links) (office_then : Office V) (wire_then : W) (spool_then : S)
     (listener_then : H) (clock_then : C) : Type 0 where
   pub moments : List ℕ
   pub stopped : Bool
-  pub turned : HasTurned Holds IsClean Faults Asked AskedFiles Heard Gave stopped moments
+  pub turned : HasTurned Holds IsClean Faults IsUp MayLeave Asked AskedFiles Heard Gave stopped moments
       links office wire spool listener clock
       links_then office_then wire_then spool_then listener_then clock_then
   pub within : length moments ≤ most

@@ -37,7 +37,8 @@ fn accept_link<V: Vault, W: Wire, L: Listener>(
         links.old.seats.items [] office.new wire.new links.new.seats.items [] }
     ensures comers { AreNoted links.old links.new now }
     ensures heard { (h : List Hearing) → L.heard listener.old h → L.heard listener.new h }
-    ensures works { Part V.holds V.is_clean V.faults W.asked office.old wire.old office.new wire.new
+    ensures works { Part V.holds V.is_clean V.faults V.is_up V.may_leave
+        W.asked office.old wire.old office.new wire.new
         (AreAccepted V.holds V.is_clean office.old office.new links.old.seats.items
         links.new.seats.items 1 result) }
 {
@@ -71,7 +72,8 @@ pub(crate) fn accept_links<V: Vault, W: Wire, L: Listener>(
         links.old.seats.items [] office.new wire.new links.new.seats.items [] }
     ensures comers { AreNoted links.old links.new now }
     ensures heard { (h : List Hearing) → L.heard listener.old h → L.heard listener.new h }
-    ensures works { (goes : Bool) × Part V.holds V.is_clean V.faults W.asked office.old wire.old
+    ensures works { (goes : Bool) × Part V.holds V.is_clean V.faults V.is_up V.may_leave
+        W.asked office.old wire.old
         office.new wire.new (AreAccepted V.holds V.is_clean office.old office.new
         links.old.seats.items links.new.seats.items 64 goes) }
 {

@@ -44,7 +44,8 @@ fn write_once<V: Vault, W: Wire, L: Listener>(
 ) -> usize
     ensures serves { StillServesOne V.holds V.is_clean W.tells seat office.old wire.old office.new
         wire.new }
-    ensures works { Does V.holds V.is_clean V.faults W.asked L.heard office.old wire.old
+    ensures works { Does V.holds V.is_clean V.faults V.is_up V.may_leave
+        W.asked L.heard office.old wire.old
         listener.old office.new wire.new listener.new
         (IsWritten V.holds V.is_clean office.old office.new seat (if result == 0 then 0 else 1)
         result (not (result == 0))) }
@@ -81,7 +82,8 @@ fn write_owed<V: Vault, W: Wire, L: Listener>(
 ) -> bool
     ensures serves { StillServesOne V.holds V.is_clean W.tells seat office.old wire.old office.new
         wire.new }
-    ensures works { Does V.holds V.is_clean V.faults W.asked L.heard office.old wire.old
+    ensures works { Does V.holds V.is_clean V.faults V.is_up V.may_leave
+        W.asked L.heard office.old wire.old
         listener.old office.new wire.new listener.new
         (IsWrittenOut V.holds V.is_clean office.old office.new seat share result) }
 {
@@ -111,7 +113,8 @@ fn read_once<V: Vault, W: Wire, L: Listener>(
     requires { length buffer.old ≤ 4096 }
     ensures serves { StillServesOne V.holds V.is_clean W.tells seat office.old wire.old office.new
         wire.new }
-    ensures works { Does V.holds V.is_clean V.faults W.asked L.heard office.old wire.old
+    ensures works { Does V.holds V.is_clean V.faults V.is_up V.may_leave
+        W.asked L.heard office.old wire.old
         listener.old office.new wire.new listener.new
         (Also (IsReadOnce V.holds office.old seat (length buffer.old)) (PollsBy false result)) }
 {
@@ -153,7 +156,8 @@ fn read_piece<V: Vault, W: Wire, L: Listener>(
     ensures keeps { KeepsSeats links.old links.new }
     ensures freed { links.new.lock_released ≡ links.old.lock_released }
     ensures settles { Settles now seat.connection links.old links.new }
-    ensures works { Does V.holds V.is_clean V.faults W.asked L.heard office.old wire.old
+    ensures works { Does V.holds V.is_clean V.faults V.is_up V.may_leave
+        W.asked L.heard office.old wire.old
         listener.old office.new wire.new listener.new
         (Also (IsHeard V.holds office.old seat links.old.wait
         (reads_by_line links.old.wait (may_keep links.old)) (may_at now links.old seat.connection)
@@ -197,7 +201,8 @@ fn serve_link<V: Vault, W: Wire, L: Listener>(
     ensures keeps { KeepsSeats links.old links.new }
     ensures freed { links.new.lock_released ≡ links.old.lock_released }
     ensures settles { Settles now seat.connection links.old links.new }
-    ensures works { Does V.holds V.is_clean V.faults W.asked L.heard office.old wire.old
+    ensures works { Does V.holds V.is_clean V.faults V.is_up V.may_leave
+        W.asked L.heard office.old wire.old
         listener.old office.new wire.new listener.new
         (Also (HadTurns V.holds V.is_clean office.old office.new
         (way_at now links.old (links.new.poll_now || result))
@@ -270,7 +275,8 @@ fn serve_client<V: Vault, W: Wire, L: Listener>(
     ensures keeps { KeepsSeats links.old links.new }
     ensures frees { Frees V.holds office.old office.new links.old links.new seat.connection }
     ensures settles { Settles now seat.connection links.old links.new }
-    ensures works { Does V.holds V.is_clean V.faults W.asked L.heard office.old wire.old
+    ensures works { Does V.holds V.is_clean V.faults V.is_up V.may_leave
+        W.asked L.heard office.old wire.old
         listener.old office.new wire.new listener.new
         (Also (HadTurns V.holds V.is_clean office.old office.new
         (way_at now links.old links.new.poll_now) links.new.newcomers.newcomers.items
@@ -297,7 +303,8 @@ pub(crate) fn serve_links<V: Vault, W: Wire, L: Listener>(
     ensures settled { AreSettled now links.old.newcomers.newcomers.items
         links.new.newcomers.newcomers.items }
     ensures frees { links.new.lock_released ≡ true → links.new.poll_now ≡ true }
-    ensures works { Does V.holds V.is_clean V.faults W.asked L.heard office.old wire.old
+    ensures works { Does V.holds V.is_clean V.faults V.is_up V.may_leave
+        W.asked L.heard office.old wire.old
         listener.old office.new wire.new listener.new
         (Also (WereServed V.holds V.is_clean office.old office.new (settings_of links.old) now
         links.old.newcomers.newcomers.items links.new.lock_released links.new.poll_now

@@ -70,7 +70,8 @@ fn end_seat<V: Vault, W: Wire, L: Listener>(
 )
     ensures serves { StillServesOne V.holds V.is_clean W.tells seat office.old _wire.now office.new
         _wire.now }
-    ensures works { Giving V.holds V.is_clean V.faults office.old office.new (λ given.
+    ensures works { Giving V.holds V.is_clean V.faults V.is_up V.may_leave
+        office.old office.new (λ given.
         IsEnded V.holds V.is_clean office.old office.new seat.connection given
         × WasTold L.heard listener.old listener.new (late_ends now links.now.newcomers.seconds
         links.now.newcomers.newcomers.items given)) }
@@ -100,7 +101,8 @@ fn end_late<V: Vault, W: Wire, L: Listener>(
     ensures ends { Ends links.old links.new now seconds }
     ensures unread { lies_unread (newcomer seat.connection links.old.newcomers.newcomers.items)
         ≡ true → office.new ≡ office.old }
-    ensures works { Giving V.holds V.is_clean V.faults office.old office.new (λ given.
+    ensures works { Giving V.holds V.is_clean V.faults V.is_up V.may_leave
+        office.old office.new (λ given.
         ((seconds == 0) ≡ false → HasEndedLate V.holds V.is_clean office.old office.new now seconds
         links.old.newcomers.newcomers.items links.new.newcomers.newcomers.items (seat ∷ []) given)
         × WasTold L.heard listener.old listener.new (late_ends now links.old.newcomers.seconds
@@ -134,7 +136,8 @@ pub(crate) fn end_late_ones<V: Vault, W: Wire, L: Listener>(
     ensures keeps { KeepsSeats links.old links.new }
     ensures ends { Ends links.old links.new now seconds }
     ensures off { seconds ≡ 0 → office.new ≡ office.old }
-    ensures works { Giving V.holds V.is_clean V.faults office.old office.new (λ given. HasEndedLate
+    ensures works { Giving V.holds V.is_clean V.faults V.is_up V.may_leave
+        office.old office.new (λ given. HasEndedLate
         V.holds V.is_clean office.old office.new now seconds
         links.old.newcomers.newcomers.items links.new.newcomers.newcomers.items
         links.old.seats.items given × WasTold L.heard listener.old listener.new

@@ -208,7 +208,7 @@ fn command<V: Vault, L: Listener>(
     ensures works { (site : Site) (read : List ℕ) → ((B : Records) (L : Log)
         → StandsFor V.holds office.old (trace_of B L)
         → IsRequest site (access_in L) read (Ok (command_seen command.now)))
-        → GivesApart V.holds V.is_clean V.faults office.old office.new
+        → GivesApart V.holds V.is_clean V.faults V.is_up V.may_leave office.old office.new
         (HeardApart L.heard listener.old listener.new
         (ComeTo site read (Some (octets_of result)))) }
     ensures asked { (site : Site) (B : Records) (L : Log) (read : List ℕ)
@@ -286,7 +286,7 @@ fn respond_to<V: Vault, L: Listener>(
     link: Link,
     read: &[u8],
 ) -> Option<Response>
-    ensures works { GivesApart V.holds V.is_clean V.faults office.old office.new
+    ensures works { GivesApart V.holds V.is_clean V.faults V.is_up V.may_leave office.old office.new
         (HeardApart L.heard listener.old listener.new
         (ComeTo site.now read.now (option_map octets_of result))) }
     ensures asked { (B : Records) (L : Log) → StandsFor V.holds office.old (trace_of B L)
@@ -311,7 +311,7 @@ fn take_piece<V: Vault, L: Listener>(
     exchange: &mut Exchange,
     piece: &[u8],
 )
-    ensures works { GivesApart V.holds V.is_clean V.faults office.old office.new
+    ensures works { GivesApart V.holds V.is_clean V.faults V.is_up V.may_leave office.old office.new
         (HeardApart L.heard listener.old listener.new
         (ComeTo site.now (exchange.old.read.items ++ piece.now) (response_of exchange.new))) }
     ensures asked { (B : Records) (L : Log) → StandsFor V.holds office.old (trace_of B L)
@@ -349,7 +349,8 @@ fn read_request<V: Vault, W: Wire, L: Listener>(
     site: &Option<HostName>,
     exchange: &mut Exchange,
 )
-    ensures works { DoesApart V.holds V.is_clean V.faults W.asked office.old wire.old office.new
+    ensures works { DoesApart V.holds V.is_clean V.faults V.is_up V.may_leave
+        W.asked office.old wire.old office.new
         wire.new (HeardApart L.heard listener.old listener.new
         (λ B L. HasHeard site.now B L exchange.old exchange.new)) }
     ensures asked { StillAsked V.holds V.is_clean W.tells site.now office.old wire.old exchange.old
@@ -439,7 +440,7 @@ fn serve_exchange<V: Vault, W: Wire, L: Listener>(
     exchange: &mut Exchange,
     now: u64,
 ) -> bool
-    ensures works { Part V.holds V.is_clean V.faults W.asked
+    ensures works { Part V.holds V.is_clean V.faults V.is_up V.may_leave W.asked
         office.old wire.old office.new wire.new
         (Also (DidApart V.holds V.is_clean office.old office.new
         (HeardApart L.heard listener.old listener.new
@@ -468,7 +469,7 @@ fn serve_place<V: Vault, W: Wire, L: Listener>(
     now: u64,
 ) -> bool
     requires { place < length requests.old.exchanges.items }
-    ensures works { Part V.holds V.is_clean V.faults W.asked
+    ensures works { Part V.holds V.is_clean V.faults V.is_up V.may_leave W.asked
         office.old wire.old office.new wire.new
         (Also (DidApart V.holds V.is_clean office.old office.new
         (HeardApart L.heard listener.old listener.new
@@ -503,7 +504,7 @@ pub(crate) fn serve_requests<V: Vault, W: Wire, L: Listener>(
     site: &Option<HostName>,
     now: u64,
 )
-    ensures works { Part V.holds V.is_clean V.faults W.asked
+    ensures works { Part V.holds V.is_clean V.faults V.is_up V.may_leave W.asked
         office.old wire.old office.new wire.new
         (Also (DidApart V.holds V.is_clean office.old office.new
         (HeardApart L.heard listener.old listener.new

@@ -55,7 +55,8 @@ pub fn serve_while<V: Vault, W: Wire, S: Spool, L: Listener, C: Clock>(
         → Serves V.holds W.tells S.tells T office.new wire.new spool.new
         links.new.clients.seats.items links.new.requests.exchanges.items links.new.site }
     ensures clean { V.is_clean (vault_of office.new) → V.is_clean (vault_of office.old) }
-    ensures runs { HasRun V.holds V.is_clean V.faults W.asked S.asked L.heard C.gave most
+    ensures runs { HasRun V.holds V.is_clean V.faults V.is_up V.may_leave
+        W.asked S.asked L.heard C.gave most
         links.old office.old wire.old spool.old listener.old clock.old
         links.new office.new wire.new spool.new listener.new clock.new }
     ensures few { AreFew links.old → AreFew links.new }

@@ -38,7 +38,8 @@ fn pass_time<V: Vault, W: Wire>(office: &mut Office<V>, wire: &mut W, millis: u3
     ensures serves { (seats these : List declared.Seat)
         → StillServes V.holds V.is_clean W.tells office.old wire.old seats these office.new wire.new
         seats [] }
-    ensures works { Part V.holds V.is_clean V.faults W.asked office.old wire.old office.new wire.new
+    ensures works { Part V.holds V.is_clean V.faults V.is_up V.may_leave
+        W.asked office.old wire.old office.new wire.new
         (IsPassed millis now) }
 {
     wire.wait(millis);
@@ -72,7 +73,7 @@ pub fn serve_turn<V: Vault, W: Wire, S: Spool, L: Listener>(
         spool.new links.new.clients.seats.items links.new.requests.exchanges.items links.new.site }
     ensures clean { V.is_clean (vault_of office.new) → V.is_clean (vault_of office.old) }
     ensures works { (T : Trace) → StandsFor V.holds office.old T → V.is_clean (vault_of office.new)
-        → Works V.holds V.faults W.asked S.asked L.heard T now
+        → Works V.holds V.faults V.is_up V.may_leave W.asked S.asked L.heard T now
         links.old office.old wire.old spool.old listener.old
         office.new links.new wire.new spool.new listener.new }
     ensures ongoing { AllGoOn now links.new }

@@ -44,7 +44,8 @@ returns-in-Some-number-clause-serves g c = λ T beside s clean.
       served = subst (λ m. AreServed (has_accepted s.told) after T.base ((event.Connect, m) ∷ s.log)) (sym k.0) (served_accepted s.told s.owner T.base s.log s.served);
       seated = seated_more s.owner after T.base s.log ((event.Connect, event_tag_of o) ∷ s.log) seats _ (record { link = link; connection = connection }) c.push.ensures.items still
           (opened_before s.told s.owner T.base s.log connection k.1 s.served) own
-          (subst (λ m. Frame T.base s.log ((event.Connect, m) ∷ s.log) connection) (sym k.0) (subst (Frame T.base s.log ((event.Connect, Tagged Done) ∷ s.log)) (sym k.1) (frame_connect T.base s.log))) s.seated;
+          (subst (λ m. Frame T.base s.log ((event.Connect, m) ∷ s.log) connection) (sym k.0)
+          (subst (Frame T.base s.log ((event.Connect, Tagged Done) ∷ s.log)) (sym k.1) (frame_connect T.base s.log))) s.seated;
       adds = adds_connect after T.base T.log s.log beside s.told.accepted (event_tag_of o) (adds_still s.owner after still T.base T.log s.log beside s.told.accepted s.adds);
     })
 
@@ -73,7 +74,8 @@ returns-then-is_full-clause-works g c =
     let seats = c.args.links.now.seats.items in
     let is : c.is_full.result ≡ true = search rules in
     let full : length seats ≡ 128 = eqb-true (length seats) 128 (sym c.is_full.ensures.value ∙ is) in
-    part_none g.V.Vault.holds g.V.Vault.is_clean g.V.Vault.faults g.W.Wire.asked c.args.office.now c.args.wire.now _ (accepted_full g.V.Vault.holds g.V.Vault.is_clean g.V.Vault.faults c.args.office.now seats full)
+    part_none g.V.Vault.holds g.V.Vault.is_clean g.V.Vault.faults g.V.Vault.is_up g.V.Vault.may_leave g.W.Wire.asked c.args.office.now c.args.wire.now _
+    (accepted_full g.V.Vault.holds g.V.Vault.is_clean g.V.Vault.faults g.V.Vault.is_up g.V.Vault.may_leave c.args.office.now seats full)
 
 pub returns-in_default-clause-works : goal.returns-in_default-clause-works
 returns-in_default-clause-works g c =
@@ -81,9 +83,9 @@ returns-in_default-clause-works g c =
     record {
       given = [];
       calls = Accepted Pop None ∷ [];
-      was_given = given_none g.V.Vault.holds g.V.Vault.is_clean g.V.Vault.faults o;
+      was_given = given_none g.V.Vault.holds g.V.Vault.is_clean g.V.Vault.faults g.V.Vault.is_up g.V.Vault.may_leave o;
       was_asked = asked_one g.W.Wire.asked c.args.wire.now c.accept.new.self (Accepted Pop None) c.in_default.ensures.called;
-      facts = accepted_none g.V.Vault.holds g.V.Vault.is_clean g.V.Vault.faults o c.args.links.now.seats.items;
+      facts = accepted_none g.V.Vault.holds g.V.Vault.is_clean g.V.Vault.faults g.V.Vault.is_up g.V.Vault.may_leave o c.args.links.now.seats.items;
     }
 
 pub returns-in-Some-number-clause-works : goal.returns-in-Some-number-clause-works
@@ -97,9 +99,11 @@ returns-in-Some-number-clause-works g c =
     record {
       given = (event.Connect, event_tag_of o) ∷ [];
       calls = Accepted Pop (Some link) ∷ [];
-      was_given = given_one Holds IsClean g.V.Vault.faults c.args.office.now c.step.new.self event.Connect (outcome_seen c.step.result) c.step.ensures.clean c.step.ensures.stands c.step.ensures.admitted c.step.ensures.counted c.step.ensures.cause;
+      was_given = given_one Holds IsClean g.V.Vault.faults g.V.Vault.is_up g.V.Vault.may_leave c.args.office.now c.step.new.self event.Connect
+          (outcome_seen c.step.result) c.step.ensures.clean c.step.ensures.stands c.step.ensures.admitted c.step.ensures.counted c.step.ensures.cause c.step.ensures.up c.step.ensures.stop;
       was_asked = asked_one g.W.Wire.asked c.args.wire.now c.accept.new.self (Accepted Pop (Some link)) c.in-Some.ensures.called;
-      facts = accepted_seated Holds IsClean g.V.Vault.faults c.args.office.now c.step.new.self c.args.links.now.seats.items _ link connection (event_tag_of o) (done_mark o connection e) c.push.ensures.items;
+      facts = accepted_seated Holds IsClean g.V.Vault.faults g.V.Vault.is_up g.V.Vault.may_leave c.args.office.now c.step.new.self c.args.links.now.seats.items _ link connection
+          (event_tag_of o) (done_mark o connection e) c.push.ensures.items;
     }
 
 pub returns-in-None-clause-works : goal.returns-in-None-clause-works
@@ -113,11 +117,12 @@ returns-in-None-clause-works g c =
     record {
       given = (event.Connect, event_tag_of o) ∷ [];
       calls = Accepted Pop (Some link) ∷ Closed Pop link ∷ [];
-      was_given = given_one Holds IsClean g.V.Vault.faults office c.step.new.self event.Connect (outcome_seen c.step.result) c.step.ensures.clean c.step.ensures.stands c.step.ensures.admitted c.step.ensures.counted c.step.ensures.cause;
+      was_given = given_one Holds IsClean g.V.Vault.faults g.V.Vault.is_up g.V.Vault.may_leave office c.step.new.self event.Connect
+          (outcome_seen c.step.result) c.step.ensures.clean c.step.ensures.stands c.step.ensures.admitted c.step.ensures.counted c.step.ensures.cause c.step.ensures.up c.step.ensures.stop;
       was_asked = asked_then g.W.Wire.asked c.args.wire.now c.accept.new.self c.close.new.self (Accepted Pop (Some link) ∷ []) (Closed Pop link ∷ [])
           (asked_one g.W.Wire.asked c.args.wire.now c.accept.new.self (Accepted Pop (Some link)) c.in-Some.ensures.called)
           (asked_one g.W.Wire.asked c.accept.new.self c.close.new.self (Closed Pop link) c.close.ensures.called);
-      facts = accepted_unseated Holds IsClean g.V.Vault.faults office c.step.new.self c.args.links.now.seats.items link (event_tag_of o)
+      facts = accepted_unseated Holds IsClean g.V.Vault.faults g.V.Vault.is_up g.V.Vault.may_leave office c.step.new.self c.args.links.now.seats.items link (event_tag_of o)
           (λ T s k.
           (let r : IsRefusal (event_tag_of o) = subst (Comes T.log o) {y = None} e (comes T (lent_by office) o (c.step.ensures.outcome T s k)) in
           refusal_so (event_tag_of o) r));
@@ -137,5 +142,11 @@ returns-in-Some-number-clause-comers g c =
     let free : length c.args.links.now.seats.items < 128 = search rules in
     let old = c.args.links.now in
     noted_one c.args.now old _ c.in-Some.link c.in-Some-number.connection c.note.result
-    (record { set = set_same old.wait old.newcomers.seconds _ old.newcomers.full_house_seconds _ old.guesses.are_slow c.note.ensures.seconds c.note.ensures.full; last = refl; polled = λ e. e; pacing = λ h. h })
+    (record {
+      set = set_same old.wait old.newcomers.seconds _ old.newcomers.full_house_seconds _ old.guesses.are_slow c.note.ensures.seconds c.note.ensures.full;
+      last =
+          refl;
+      polled = λ e. e;
+      pacing = λ h. h;
+    })
     refl c.push.ensures.items c.note.ensures.newcomers c.note.ensures.room free

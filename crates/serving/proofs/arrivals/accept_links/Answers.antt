@@ -11,7 +11,8 @@ loop-times-init g c = record {
   serves = λ T beside s clean. s;
   comers = noted_none c.args.now c.args.links.now;
   heard = λ h a. a;
-  works = part_none g.V.Vault.holds g.V.Vault.is_clean g.V.Vault.faults g.W.Wire.asked c.args.office.now c.args.wire.now _ (accepting_none g.V.Vault.holds g.V.Vault.is_clean g.V.Vault.faults c.args.office.now c.args.links.now.seats.items);
+  works = part_none g.V.Vault.holds g.V.Vault.is_clean g.V.Vault.faults g.V.Vault.is_up g.V.Vault.may_leave g.W.Wire.asked c.args.office.now c.args.wire.now _
+      (accepting_none g.V.Vault.holds g.V.Vault.is_clean g.V.Vault.faults g.V.Vault.is_up g.V.Vault.may_leave c.args.office.now c.args.links.now.seats.items);
 }
 
 pub loop-times-preserved : goal.loop-times-preserved
@@ -24,13 +25,15 @@ loop-times-preserved g c =
     let seats = c.args.links.now.seats.items in
     let seats1 = k.links.seats.items in
     let seats2 = x.new.links.seats.items in
-    let once = subst (λ b. Part Holds IsClean g.V.Vault.faults g.W.Wire.asked k.office k.wire x.new.office x.new.wire (AreAccepted Holds IsClean k.office x.new.office seats1 seats2 1 b)) goes x.ensures.works in
+    let once = subst (λ b. Part Holds IsClean g.V.Vault.faults g.V.Vault.is_up g.V.Vault.may_leave g.W.Wire.asked k.office k.wire x.new.office x.new.wire
+    (AreAccepted Holds IsClean k.office x.new.office seats1 seats2 1 b)) goes x.ensures.works in
     record {
       serves = λ T beside s clean. x.ensures.serves T beside (k.invariant.serves T beside s (x.ensures.works.was_given.clean clean)) clean;
       comers = noted_then c.args.now c.args.links.now k.links x.new.links k.invariant.comers x.ensures.comers;
       heard = λ h a. x.ensures.heard h (k.invariant.heard h a);
-      works = part_then Holds IsClean g.V.Vault.faults g.W.Wire.asked c.args.office.now k.office x.new.office c.args.wire.now k.wire x.new.wire _ _ _
-          (λ g1 g2 c1 c2 wa wb a b. accepted_then Holds IsClean g.V.Vault.faults c.args.office.now k.office x.new.office seats seats1 seats2 k._times true g1 g2 c1 c2 wa wb a b) k.invariant.works once;
+      works = part_then Holds IsClean g.V.Vault.faults g.V.Vault.is_up g.V.Vault.may_leave g.W.Wire.asked c.args.office.now k.office x.new.office c.args.wire.now k.wire x.new.wire _ _ _
+          (λ g1 g2 c1 c2 wa wb a b. accepted_then Holds IsClean g.V.Vault.faults g.V.Vault.is_up g.V.Vault.may_leave c.args.office.now k.office
+          x.new.office seats seats1 seats2 k._times true g1 g2 c1 c2 wa wb a b) k.invariant.works once;
     }
 
 pub returns-then-not-accept_link-clause-works : goal.returns-then-not-accept_link-clause-works
@@ -43,11 +46,13 @@ returns-then-not-accept_link-clause-works g c =
     let seats = c.args.links.now.seats.items in
     let seats1 = k.links.seats.items in
     let seats2 = x.new.links.seats.items in
-    let once = subst (λ b. Part Holds IsClean g.V.Vault.faults g.W.Wire.asked k.office k.wire x.new.office x.new.wire (AreAccepted Holds IsClean k.office x.new.office seats1 seats2 1 b)) goes x.ensures.works in (
+    let once = subst (λ b. Part Holds IsClean g.V.Vault.faults g.V.Vault.is_up g.V.Vault.may_leave g.W.Wire.asked k.office k.wire x.new.office x.new.wire
+    (AreAccepted Holds IsClean k.office x.new.office seats1 seats2 1 b)) goes x.ensures.works in (
       false,
-      part_then Holds IsClean g.V.Vault.faults g.W.Wire.asked c.args.office.now k.office x.new.office c.args.wire.now k.wire x.new.wire _ _ _
-          (λ g1 g2 c1 c2 wa wb a b. accepted_ended Holds IsClean g.V.Vault.faults c.args.office.now x.new.office seats seats2 (k._times + 1) 64 _ _
-          (accepted_then Holds IsClean g.V.Vault.faults c.args.office.now k.office x.new.office seats seats1 seats2 k._times false g1 g2 c1 c2 wa wb a b)) k.invariant.works once,
+      part_then Holds IsClean g.V.Vault.faults g.V.Vault.is_up g.V.Vault.may_leave g.W.Wire.asked c.args.office.now k.office x.new.office c.args.wire.now k.wire x.new.wire _ _ _
+          (λ g1 g2 c1 c2 wa wb a b. accepted_ended Holds IsClean g.V.Vault.faults g.V.Vault.is_up g.V.Vault.may_leave c.args.office.now x.new.office seats seats2 (k._times + 1) 64 _ _
+          (accepted_then Holds IsClean g.V.Vault.faults g.V.Vault.is_up g.V.Vault.may_leave c.args.office.now k.office x.new.office seats seats1 seats2 k._times false g1 g2 c1 c2 wa wb a b))
+          k.invariant.works once,
     )
 
 pub returns-clause-works : goal.returns-clause-works
@@ -57,8 +62,9 @@ returns-clause-works g c =
     let k = c.loop-times in
     let h : 64 ≤ k._times = search rules in (
       true,
-      part_so Holds IsClean g.V.Vault.faults g.W.Wire.asked c.args.office.now k.office c.args.wire.now k.wire _ _
-          (λ gv cl wa a. accepted_all Holds IsClean g.V.Vault.faults c.args.office.now k.office c.args.links.now.seats.items k.links.seats.items k._times 64 gv cl h a) k.invariant.works,
+      part_so Holds IsClean g.V.Vault.faults g.V.Vault.is_up g.V.Vault.may_leave g.W.Wire.asked c.args.office.now k.office c.args.wire.now k.wire _ _
+          (λ gv cl wa a. accepted_all Holds IsClean g.V.Vault.faults g.V.Vault.is_up g.V.Vault.may_leave c.args.office.now k.office
+          c.args.links.now.seats.items k.links.seats.items k._times 64 gv cl h a) k.invariant.works,
     )
 
 pub returns-then-not-accept_link-clause-comers : goal.returns-then-not-accept_link-clause-comers

@@ -54,12 +54,15 @@ returns-clause-works g c =
     let links = c.args.links.now in
     let now = c.args.now in
     let seat = c.args.seat in
-    part_so Holds IsClean g.V.Vault.faults g.W.Wire.asked c.args.office.now x.new.office c.args.wire.now x.new.wire _ _
+    part_so Holds IsClean g.V.Vault.faults g.V.Vault.is_up g.V.Vault.may_leave g.W.Wire.asked c.args.office.now x.new.office c.args.wire.now x.new.wire _ _
     (λ gv cl wa a. (
       a.0,
       (
-        served_so Holds IsClean g.V.Vault.faults c.args.office.now x.new.office (way_at now links (x.new.links.poll_now || x.result)) (way_at now links n.poll_now) n.newcomers.newcomers.items (seat ∷ []) (seat ∷ []) gv cl refl refl (λ e. e) (λ i d within e. e) c.note_freed.ensures.keeps.keeps.polled
-            (subst (λ m. HadTurns Holds IsClean c.args.office.now x.new.office (way_at now links (x.new.links.poll_now || x.result)) m.newcomers.items (seat ∷ []) (seat ∷ []) gv cl) (sym c.note_freed.ensures.newcomers) a.1.0),
+        served_so Holds IsClean g.V.Vault.faults g.V.Vault.is_up g.V.Vault.may_leave c.args.office.now x.new.office
+            (way_at now links (x.new.links.poll_now || x.result)) (way_at now links n.poll_now) n.newcomers.newcomers.items (seat ∷ [])
+            (seat ∷ []) gv cl refl refl (λ e. e) (λ i d within e. e) c.note_freed.ensures.keeps.keeps.polled
+            (subst (λ m. HadTurns Holds IsClean c.args.office.now x.new.office (way_at now links (x.new.links.poll_now || x.result)) m.newcomers.items (seat ∷ []) (seat ∷ []) gv cl)
+            (sym c.note_freed.ensures.newcomers) a.1.0),
         client_polled links.poll_now (x.new.links.poll_now || x.result) n.lock_released n.poll_now cl a.1.1 c.note_freed.ensures.poll_now,
       ),
     )) x.ensures.works

@@ -16,8 +16,10 @@ invariant-loop-place g l = record {
   settled : AreSettled l.fn.now l.fn.links.newcomers.newcomers.items l.links.newcomers.newcomers.items;
   touched : AreTouched l.fn.links.newcomers.newcomers.items l.links.newcomers.newcomers.items (take l.place l.fn.links.seats.items);
   frees : l.links.lock_released ≡ true → l.links.poll_now ≡ true;
-  works : Does g.V.Vault.holds g.V.Vault.is_clean g.V.Vault.faults g.W.Wire.asked g.L.Listener.heard l.fn.office l.fn.wire l.fn.listener l.office l.wire l.listener
-      (Also (WereServed g.V.Vault.holds g.V.Vault.is_clean l.fn.office l.office (settings_of l.fn.links) l.fn.now l.fn.links.newcomers.newcomers.items l.links.lock_released l.links.poll_now l.links.newcomers.newcomers.items l.fn.links.seats.items (take l.place l.fn.links.seats.items))
+  works : Does g.V.Vault.holds g.V.Vault.is_clean g.V.Vault.faults g.V.Vault.is_up g.V.Vault.may_leave g.W.Wire.asked g.L.Listener.heard l.fn.office l.fn.wire l.fn.listener l.office l.wire l.listener
+      (Also (WereServed g.V.Vault.holds g.V.Vault.is_clean l.fn.office l.office
+      (settings_of l.fn.links) l.fn.now l.fn.links.newcomers.newcomers.items l.links.lock_released l.links.poll_now l.links.newcomers.newcomers.items l.fn.links.seats.items
+      (take l.place l.fn.links.seats.items))
       (PollsBy (l.fn.links.poll_now || l.links.lock_released) l.links.poll_now));
 }
 

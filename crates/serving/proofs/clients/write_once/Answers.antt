@@ -44,7 +44,8 @@ returns-in-Count-clause-serves g c = λ seats these has before T beside s clean.
       served = subst (λ m. AreServed (has_written s.told number (Count n) (take n lent)) s.owner T.base ((event.Took connection n, m) ∷ s.log)) (sym k.1)
           (served_written s.told s.owner T.base s.log number connection n (take n lent) k.0 (lent_rest now connection n lent is within.1) s.served at_k here);
       seated = subst (λ m. AreSeated s.owner (trace_of T.base ((event.Took connection n, m) ∷ s.log)) seats these) (sym k.1)
-          (seated_one s.owner T.base s.log seats these ((event.Took connection n, Tagged k.0) ∷ s.log) c.args.seat before (fewer_framed T.base s.log connection ((event.Took connection n, Tagged k.0) ∷ s.log) here (frame_took T.base s.log connection n k.0)) (frame_took T.base s.log connection n k.0) s.seated);
+          (seated_one s.owner T.base s.log seats these ((event.Took connection n, Tagged k.0) ∷ s.log) c.args.seat before
+          (fewer_framed T.base s.log connection ((event.Took connection n, Tagged k.0) ∷ s.log) here (frame_took T.base s.log connection n k.0)) (frame_took T.base s.log connection n k.0) s.seated);
       adds = adds_one s.owner T.base T.log s.log beside s.told.accepted (event.Took connection n) (event_tag_of o) (number, at_k) (λ l Before h. h) (λ l. refl) s.adds;
     })
 
@@ -90,11 +91,13 @@ returns-in-End-clause-serves g c = λ seats these has before T beside s clean.
       owner = s.owner;
       stands = c.step_with_account-in-End.ensures.stands now s.stands clean;
       admitted = (c.step_with_account-in-End.ensures.admitted now s.stands clean, s.admitted);
-      tells = subst (λ xs. g.W.Wire.tells c.write.new.self (record { pop = has_written s.told number io xs; admin = beside.admin })) (fault_none io lent fault) (c.write.ensures.told (record { pop = s.told; admin = beside.admin }) s.tells);
+      tells = subst (λ xs. g.W.Wire.tells c.write.new.self (record { pop = has_written s.told number io xs; admin = beside.admin }))
+          (fault_none io lent fault) (c.write.ensures.told (record { pop = s.told; admin = beside.admin }) s.tells);
       served = subst (λ m. AreServed (has_written s.told number io []) s.owner T.base ((event.Gone connection, m) ∷ s.log)) (sym k.1)
           (served_written_fault s.told s.owner T.base s.log number connection io k.0 fault s.served at_k here);
       seated = subst (λ m. AreSeated s.owner (trace_of T.base ((event.Gone connection, m) ∷ s.log)) seats these) (sym k.1)
-          (seated_one s.owner T.base s.log seats these ((event.Gone connection, Tagged k.0) ∷ s.log) c.args.seat before (fewer_framed T.base s.log connection ((event.Gone connection, Tagged k.0) ∷ s.log) here (frame_gone T.base s.log connection k.0)) (frame_gone T.base s.log connection k.0) s.seated);
+          (seated_one s.owner T.base s.log seats these ((event.Gone connection, Tagged k.0) ∷ s.log) c.args.seat before
+          (fewer_framed T.base s.log connection ((event.Gone connection, Tagged k.0) ∷ s.log) here (frame_gone T.base s.log connection k.0)) (frame_gone T.base s.log connection k.0) s.seated);
       adds = adds_one s.owner T.base T.log s.log beside s.told.accepted (event.Gone connection) (event_tag_of o) (number, at_k) (λ l Before h. h) (λ l. refl) s.adds;
     })
 
@@ -104,9 +107,9 @@ returns-then-is_empty-clause-works g c =
     let o = c.args.office.now in
     let seat = c.args.seat in
     let e : c.is_empty.result ≡ true = search rules in
-    part_none Holds g.V.Vault.is_clean g.V.Vault.faults g.W.Wire.asked o c.args.wire.now _ (
+    part_none Holds g.V.Vault.is_clean g.V.Vault.faults g.V.Vault.is_up g.V.Vault.may_leave g.W.Wire.asked o c.args.wire.now _ (
       unheard g.V.Vault.holds g.V.Vault.is_clean g.L.Listener.heard o c.args.listener.now,
-      wrote_none Holds g.V.Vault.is_clean g.V.Vault.faults o seat
+      wrote_none Holds g.V.Vault.is_clean g.V.Vault.faults g.V.Vault.is_up g.V.Vault.may_leave o seat
           (λ B L s k. nothing_left (rest (trace_of B L) seat.connection) (length c.owed-lent.result.now) c.is_empty.result (c.owed-lent.ensures.exact (trace_of B L) s) c.is_empty.ensures e),
     )
 
@@ -121,11 +124,15 @@ returns-in-Count-clause-works g c =
     record {
       given = (event.Took seat.connection n, m) ∷ [];
       calls = Wrote Pop seat.link (length lent) (Count n) (take n lent) ∷ [];
-      was_given = given_one Holds g.V.Vault.is_clean g.V.Vault.faults o c.step_with_account.new.self (event.Took seat.connection n) (outcome_seen c.step_with_account.result) c.step_with_account.ensures.clean c.step_with_account.ensures.stands c.step_with_account.ensures.admitted c.step_with_account.ensures.counted c.step_with_account.ensures.cause;
+      was_given = given_one Holds g.V.Vault.is_clean g.V.Vault.faults g.V.Vault.is_up g.V.Vault.may_leave o c.step_with_account.new.self
+          (event.Took seat.connection n) (outcome_seen c.step_with_account.result) c.step_with_account.ensures.clean
+          c.step_with_account.ensures.stands c.step_with_account.ensures.admitted c.step_with_account.ensures.counted
+          c.step_with_account.ensures.cause c.step_with_account.ensures.up c.step_with_account.ensures.stop;
       was_asked = asked_one g.W.Wire.asked c.args.wire.now c.write.new.self (Wrote Pop seat.link (length lent) (Count n) (take n lent)) c.in-Count.ensures.called;
       facts = (
-        heard_one g.V.Vault.holds g.V.Vault.is_clean g.L.Listener.heard o c.step_with_account.new.self c.args.listener.now c.hear.new.self (event.Took seat.connection n) m seat.connection c.step_with_account.new.account (λ T. refl) c.step_with_account.ensures.account c.hear.ensures.told,
-        wrote_some Holds g.V.Vault.is_clean g.V.Vault.faults o c.step_with_account.new.self seat (length lent) n (take n lent) m c.in-Count.ensures.within.0
+        heard_one g.V.Vault.holds g.V.Vault.is_clean g.L.Listener.heard o c.step_with_account.new.self c.args.listener.now c.hear.new.self
+            (event.Took seat.connection n) m seat.connection c.step_with_account.new.account (λ T. refl) c.step_with_account.ensures.account c.hear.ensures.told,
+        wrote_some Holds g.V.Vault.is_clean g.V.Vault.faults g.V.Vault.is_up g.V.Vault.may_leave o c.step_with_account.new.self seat (length lent) n (take n lent) m c.in-Count.ensures.within.0
             (λ B L s. c.owed-lent.ensures.exact (trace_of B L) s),
       );
     }
@@ -138,11 +145,11 @@ returns-in-Later-clause-works g c =
     record {
       given = [];
       calls = Wrote Pop seat.link (length lent) Later [] ∷ [];
-      was_given = given_none g.V.Vault.holds g.V.Vault.is_clean g.V.Vault.faults o;
+      was_given = given_none g.V.Vault.holds g.V.Vault.is_clean g.V.Vault.faults g.V.Vault.is_up g.V.Vault.may_leave o;
       was_asked = asked_one g.W.Wire.asked c.args.wire.now c.write.new.self (Wrote Pop seat.link (length lent) Later []) c.in-Later.ensures.called;
       facts = (
         unheard g.V.Vault.holds g.V.Vault.is_clean g.L.Listener.heard o c.args.listener.now,
-        wrote_later g.V.Vault.holds g.V.Vault.is_clean g.V.Vault.faults o seat (length lent) [] (λ B L s. c.owed-lent.ensures.exact (trace_of B L) s),
+        wrote_later g.V.Vault.holds g.V.Vault.is_clean g.V.Vault.faults g.V.Vault.is_up g.V.Vault.may_leave o seat (length lent) [] (λ B L s. c.owed-lent.ensures.exact (trace_of B L) s),
       );
     }
 
@@ -162,11 +169,15 @@ returns-in-End-clause-works g c =
     record {
       given = (event.Gone connection, event_tag_of o) ∷ [];
       calls = Wrote Pop seat.link (length lent) io octets ∷ [];
-      was_given = given_one Holds g.V.Vault.is_clean g.V.Vault.faults office c.step_with_account-in-End.new.self (event.Gone connection) (outcome_seen c.step_with_account-in-End.result) c.step_with_account-in-End.ensures.clean c.step_with_account-in-End.ensures.stands c.step_with_account-in-End.ensures.admitted c.step_with_account-in-End.ensures.counted c.step_with_account-in-End.ensures.cause;
+      was_given = given_one Holds g.V.Vault.is_clean g.V.Vault.faults g.V.Vault.is_up g.V.Vault.may_leave office c.step_with_account-in-End.new.self
+          (event.Gone connection) (outcome_seen c.step_with_account-in-End.result) c.step_with_account-in-End.ensures.clean
+          c.step_with_account-in-End.ensures.stands c.step_with_account-in-End.ensures.admitted c.step_with_account-in-End.ensures.counted
+          c.step_with_account-in-End.ensures.cause c.step_with_account-in-End.ensures.up c.step_with_account-in-End.ensures.stop;
       was_asked = asked_one g.W.Wire.asked c.args.wire.now c.write.new.self (Wrote Pop seat.link (length lent) io octets) c.write.ensures.called;
       facts = (
-        heard_one g.V.Vault.holds g.V.Vault.is_clean g.L.Listener.heard office c.step_with_account-in-End.new.self c.args.listener.now c.hear-in-End.new.self (event.Gone connection) (event_tag_of o) connection c.step_with_account-in-End.new.account (λ T. refl) c.step_with_account-in-End.ensures.account c.hear-in-End.ensures.told,
-        wrote_cut Holds g.V.Vault.is_clean g.V.Vault.faults office c.step_with_account-in-End.new.self seat (length lent) io octets
+        heard_one g.V.Vault.holds g.V.Vault.is_clean g.L.Listener.heard office c.step_with_account-in-End.new.self c.args.listener.now c.hear-in-End.new.self
+            (event.Gone connection) (event_tag_of o) connection c.step_with_account-in-End.new.account (λ T. refl) c.step_with_account-in-End.ensures.account c.hear-in-End.ensures.told,
+        wrote_cut Holds g.V.Vault.is_clean g.V.Vault.faults g.V.Vault.is_up g.V.Vault.may_leave office c.step_with_account-in-End.new.self seat (length lent) io octets
             (event_tag_of o) fault (λ B L s. c.owed-lent.ensures.exact (trace_of B L) s)
             (λ B L s k.
             (let now = trace_of B L in

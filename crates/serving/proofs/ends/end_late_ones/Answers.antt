@@ -22,8 +22,12 @@ returns-then-seconds-eq0-clause-works g c =
     let off : (c.args.seconds == 0) ≡ true = search rules in
     record {
       given = [];
-      was_given = given_none g.V.Vault.holds g.V.Vault.is_clean g.V.Vault.faults c.args.office.now;
-      facts = (late_off g.V.Vault.holds g.V.Vault.is_clean g.V.Vault.faults c.args.now c.args.seconds c.args.office.now n.newcomers.items c.args.links.now.seats.items off, told_none g.L.Listener.heard c.args.listener.now);
+      was_given = given_none g.V.Vault.holds g.V.Vault.is_clean g.V.Vault.faults g.V.Vault.is_up g.V.Vault.may_leave c.args.office.now;
+      facts = (
+        late_off g.V.Vault.holds g.V.Vault.is_clean g.V.Vault.faults g.V.Vault.is_up g.V.Vault.may_leave c.args.now c.args.seconds
+            c.args.office.now n.newcomers.items c.args.links.now.seats.items off,
+        told_none g.L.Listener.heard c.args.listener.now,
+      );
     }
 
 pub returns-then-seconds-eq0-clause-ends : goal.returns-then-seconds-eq0-clause-ends
@@ -34,7 +38,15 @@ loop-place-init g c = record {
   serves = λ T beside s clean. s;
   keeps = seats_none c.args.links.now;
   ends = ends_none c.args.now c.args.seconds c.args.links.now;
-  works = record { given = []; was_given = given_none g.V.Vault.holds g.V.Vault.is_clean g.V.Vault.faults c.args.office.now; facts = (late_none g.V.Vault.holds g.V.Vault.is_clean g.V.Vault.faults c.args.now c.args.seconds c.args.office.now c.args.links.now.newcomers.newcomers.items, told_none g.L.Listener.heard c.args.listener.now) };
+  works = record {
+    given = [];
+    was_given =
+        given_none g.V.Vault.holds g.V.Vault.is_clean g.V.Vault.faults g.V.Vault.is_up g.V.Vault.may_leave c.args.office.now;
+    facts = (
+      late_none g.V.Vault.holds g.V.Vault.is_clean g.V.Vault.faults g.V.Vault.is_up g.V.Vault.may_leave c.args.now c.args.seconds c.args.office.now c.args.links.now.newcomers.newcomers.items,
+      told_none g.L.Listener.heard c.args.listener.now,
+    );
+  };
 }
 
 pub loop-place-preserved : goal.loop-place-preserved
@@ -58,7 +70,8 @@ loop-place-preserved g c =
           subst (λ kept. IsServing g.V.Vault.holds g.W.Wire.tells T beside x.new.office c.args.wire.now kept.items []) (sym x.ensures.keeps.seats) served);
       keeps = seats_then c.args.links.now k.links x.new.links k.invariant.keeps x.ensures.keeps;
       ends = ends_then now c.args.seconds c.args.links.now k.links x.new.links k.invariant.ends x.ensures.ends;
-      works = late_step g.V.Vault.holds g.V.Vault.is_clean g.V.Vault.faults now c.args.seconds c.args.office.now k.office x.new.office n.newcomers.items k.links.newcomers.newcomers.items x.new.links.newcomers.newcomers.items c.args.links.now.seats.items k.links.seats.items k.place no_seat
+      works = late_step g.V.Vault.holds g.V.Vault.is_clean g.V.Vault.faults g.V.Vault.is_up g.V.Vault.may_leave now c.args.seconds c.args.office.now
+          k.office x.new.office n.newcomers.items k.links.newcomers.newcomers.items x.new.links.newcomers.newcomers.items c.args.links.now.seats.items k.links.seats.items k.place no_seat
           (λ given. WasTold Heard l k.listener (late_ends now n.seconds n.newcomers.items given))
           (λ given. WasTold Heard k.listener x.new.listener (late_ends now k.links.newcomers.seconds k.links.newcomers.newcomers.items given))
           (λ given. WasTold Heard l x.new.listener (late_ends now n.seconds n.newcomers.items given)) (ap (λ v. v.items) k.invariant.keeps.seats) within k.invariant.ends.late
@@ -71,7 +84,8 @@ loop-place-preserved g c =
             was_given = w.was_given;
             facts = (
               λ d. at_place seats ys k.place _
-                  (λ q. HasEndedLate g.V.Vault.holds g.V.Vault.is_clean k.office x.new.office now c.args.seconds k.links.newcomers.newcomers.items x.new.links.newcomers.newcomers.items (q ∷ []) w.given) c.deref.ensures.0 within (w.facts.0 some) d,
+                  (λ q. HasEndedLate g.V.Vault.holds g.V.Vault.is_clean k.office x.new.office now c.args.seconds k.links.newcomers.newcomers.items x.new.links.newcomers.newcomers.items
+                  (q ∷ []) w.given) c.deref.ensures.0 within (w.facts.0 some) d,
               w.facts.1,
             );
           });
@@ -82,7 +96,7 @@ returns-clause-works g c =
     let k = c.loop-place in
     let n = c.args.links.now.newcomers in
     let done : length k.links.seats.items ≤ k.place = search rules in
-    late_whole g.V.Vault.holds g.V.Vault.is_clean g.V.Vault.faults c.args.now c.args.seconds c.args.office.now k.office n.newcomers.items
+    late_whole g.V.Vault.holds g.V.Vault.is_clean g.V.Vault.faults g.V.Vault.is_up g.V.Vault.may_leave c.args.now c.args.seconds c.args.office.now k.office n.newcomers.items
     k.links.newcomers.newcomers.items c.args.links.now.seats.items k.links.seats.items k.place
     (λ given. WasTold g.L.Listener.heard c.args.listener.now k.listener (late_ends c.args.now n.seconds n.newcomers.items given))
     (ap (λ v. v.items) k.invariant.keeps.seats) done k.invariant.works

@@ -12,8 +12,9 @@ invariant-loop-place g l = record {
   serves : StillServes g.V.Vault.holds g.V.Vault.is_clean g.W.Wire.tells l.fn.office l.fn.wire l.fn.links.seats.items [] l.office l.fn.wire l.links.seats.items [];
   keeps : KeepsSeats l.fn.links l.links;
   ends : Ends l.fn.links l.links l.fn.now l.fn.seconds;
-  works : Giving g.V.Vault.holds g.V.Vault.is_clean g.V.Vault.faults l.fn.office l.office
-      (λ given. HasEndedLate g.V.Vault.holds g.V.Vault.is_clean l.fn.office l.office l.fn.now l.fn.seconds l.fn.links.newcomers.newcomers.items l.links.newcomers.newcomers.items (take l.place l.fn.links.seats.items) given
+  works : Giving g.V.Vault.holds g.V.Vault.is_clean g.V.Vault.faults g.V.Vault.is_up g.V.Vault.may_leave l.fn.office l.office
+      (λ given. HasEndedLate g.V.Vault.holds g.V.Vault.is_clean l.fn.office l.office l.fn.now l.fn.seconds l.fn.links.newcomers.newcomers.items l.links.newcomers.newcomers.items
+      (take l.place l.fn.links.seats.items) given
       × WasTold g.L.Listener.heard l.fn.listener l.listener (late_ends l.fn.now l.fn.links.newcomers.seconds l.fn.links.newcomers.newcomers.items given));
 }
 

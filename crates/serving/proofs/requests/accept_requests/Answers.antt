@@ -23,7 +23,8 @@ loop-times-preserved g c =
     record {
       answers = λ y B start L pop s. x.ensures.answers y B start L pop (k.invariant.answers y B start L pop s);
       few = λ h. x.ensures.few (k.invariant.few h);
-      works = asks_then g.W.Wire.asked c.args.wire.now k.wire x.new.wire (HasAcceptedForAdmin c.args.now k._times true xs ys) (HasAcceptedForAdmin c.args.now 1 true ys zs) (HasAcceptedForAdmin c.args.now (k._times + 1) true xs zs)
+      works = asks_then g.W.Wire.asked c.args.wire.now k.wire x.new.wire (HasAcceptedForAdmin c.args.now k._times true xs ys)
+          (HasAcceptedForAdmin c.args.now 1 true ys zs) (HasAcceptedForAdmin c.args.now (k._times + 1) true xs zs)
           (λ c1 c2 a b. accepted_then c.args.now xs ys zs k._times 1 true c1 c2 a b) k.invariant.works once;
     }
 

@@ -46,7 +46,8 @@ returns-clause-asked g c = λ B start L pop s clean.
     let told = all.is.told in
     let told2 = has_closed told n in
     let within : place < length ys = (let h = c.requires in omega (arith, h, length-set xs place e2)) in
-    asked_still g.V.Vault.holds g.W.Wire.tells c.args.site.now B start L pop c.serve_exchange.new.office c.serve_exchange.new.wire c.close.new.self (λ told x. AreHeld told x ys) (λ told x. AreHeld told x c.remove.new.self.items) all
+    asked_still g.V.Vault.holds g.W.Wire.tells c.args.site.now B start L pop c.serve_exchange.new.office c.serve_exchange.new.wire c.close.new.self
+    (λ told x. AreHeld told x ys) (λ told x. AreHeld told x c.remove.new.self.items) all
     (record {
       told = told2;
       tells = c.close.ensures.told (record { pop = pop; admin = told }) all.is.tells;
@@ -69,11 +70,15 @@ returns-then-not-exchange-clause-works g c =
     let live : e2.is_over ≡ false = search rules in
     let is : take 1 (drop place xs) ≡ e ∷ [] = one_at xs place e c.requires ∙ ap (λ y. y ∷ []) (sym c.index_mut-exchange.ensures.value) in
     let left = one_set xs place e2 c.requires in
-    also_so g.V.Vault.holds g.V.Vault.is_clean g.V.Vault.faults g.W.Wire.asked c.args.office.now c.serve_exchange.new.office c.args.wire.now c.serve_exchange.new.wire
-    (HeardApart g.L.Listener.heard l l1 (λ B L. HasHttpTurn c.args.site.now now B L e e2)) (HeardApart g.L.Listener.heard l l1 (λ B L. HadHttpTurns c.args.site.now now B L (take 1 (drop place xs)) (take 1 (drop place (set xs place e2))))) (PollsBy false polled) (PollsBy before (before || polled))
+    also_so g.V.Vault.holds g.V.Vault.is_clean g.V.Vault.faults g.V.Vault.is_up g.V.Vault.may_leave g.W.Wire.asked c.args.office.now
+    c.serve_exchange.new.office c.args.wire.now c.serve_exchange.new.wire
+    (HeardApart g.L.Listener.heard l l1 (λ B L. HasHttpTurn c.args.site.now now B L e e2))
+    (HeardApart g.L.Listener.heard l l1 (λ B L. HadHttpTurns c.args.site.now now B L (take 1 (drop place xs)) (take 1 (drop place (set xs place e2)))))
+    (PollsBy false polled) (PollsBy before (before || polled))
     (λ B L given calls turn. (
       turn.0,
-      subst (λ v. HadHttpTurns c.args.site.now now B L v (take 1 (drop place (set xs place e2))) given calls) (sym is) (subst (λ v. HadHttpTurns c.args.site.now now B L (e ∷ []) v given calls) (sym left) (held_on c.args.site.now now B L e e2 given calls turn.1 live c.serve_exchange.ensures.keeps.since)),
+      subst (λ v. HadHttpTurns c.args.site.now now B L v (take 1 (drop place (set xs place e2))) given calls) (sym is)
+          (subst (λ v. HadHttpTurns c.args.site.now now B L (e ∷ []) v given calls) (sym left) (held_on c.args.site.now now B L e e2 given calls turn.1 live c.serve_exchange.ensures.keeps.since)),
     ))
     (admin_polled before polled)
     c.serve_exchange.ensures.works
@@ -95,7 +100,7 @@ returns-clause-works g c =
     let l1 = c.serve_exchange.new.listener in
     let over : e2.is_over ≡ true = search rules in
     let is : take 1 (drop place xs) ≡ e ∷ [] = one_at xs place e c.requires ∙ ap (λ y. y ∷ []) (sym c.index_mut-exchange.ensures.value) in
-    also_then g.V.Vault.holds g.V.Vault.is_clean g.V.Vault.faults g.W.Wire.asked c.args.office.now o1 o1 c.args.wire.now w1 w2
+    also_then g.V.Vault.holds g.V.Vault.is_clean g.V.Vault.faults g.V.Vault.is_up g.V.Vault.may_leave g.W.Wire.asked c.args.office.now o1 o1 c.args.wire.now w1 w2
     (HeardApart g.L.Listener.heard l l1 (λ B L. HasHttpTurn c.args.site.now now B L e e2)) (NoEvent (IsOne call))
     (HeardApart g.L.Listener.heard l l1 (λ B L. HadHttpTurns c.args.site.now now B L (take 1 (drop place xs)) []))
     (PollsBy false polled) (PollsBy false false) (PollsBy before (before || polled))
@@ -106,8 +111,8 @@ returns-clause-works g c =
     ))
     (λ c1 c2 m n. closed_polled before polled c1 c2 m)
     c.serve_exchange.ensures.works
-    (also_from g.V.Vault.holds g.V.Vault.is_clean g.V.Vault.faults g.W.Wire.asked o1 o1 w1 w2 _ (PollsBy false false) (polled_same false)
-    (did_asked g.V.Vault.holds g.V.Vault.is_clean g.V.Vault.faults g.W.Wire.asked o1 w1 w2 (IsOne call) (NoEvent (IsOne call)) (λ B L cs at. (refl, at))
+    (also_from g.V.Vault.holds g.V.Vault.is_clean g.V.Vault.faults g.V.Vault.is_up g.V.Vault.may_leave g.W.Wire.asked o1 o1 w1 w2 _ (PollsBy false false) (polled_same false)
+    (did_asked g.V.Vault.holds g.V.Vault.is_clean g.V.Vault.faults g.V.Vault.is_up g.V.Vault.may_leave g.W.Wire.asked o1 w1 w2 (IsOne call) (NoEvent (IsOne call)) (λ B L cs at. (refl, at))
     (asks_one g.W.Wire.asked w1 w2 call (IsOne call) (quiet_closed e2.link) refl c.close.ensures.called)))
 
 pub returns-then-not-exchange-clause-held : goal.returns-then-not-exchange-clause-held

@@ -13,8 +13,9 @@ invariant-loop-place g l = record {
   asked : AllStillAsked g.V.Vault.holds g.V.Vault.is_clean g.W.Wire.tells l.fn.site l.fn.office l.fn.wire l.fn.requests.exchanges.items l.office l.wire l.requests.exchanges.items;
   stay : All (GoesOn l.fn.now) (take l.place l.requests.exchanges.items);
   no_more : length l.requests.exchanges.items ≤ length l.fn.requests.exchanges.items;
-  works : Part g.V.Vault.holds g.V.Vault.is_clean g.V.Vault.faults g.W.Wire.asked l.fn.office l.fn.wire l.office l.wire
-      (Also (DidApart g.V.Vault.holds g.V.Vault.is_clean l.fn.office l.office (HeardApart g.L.Listener.heard l.fn.listener l.listener (HadSome l.fn.site l.fn.now l.place l.fn.requests.exchanges.items l.requests.exchanges.items))) (PollsBy false l.requests.poll_now));
+  works : Part g.V.Vault.holds g.V.Vault.is_clean g.V.Vault.faults g.V.Vault.is_up g.V.Vault.may_leave g.W.Wire.asked l.fn.office l.fn.wire l.office l.wire
+      (Also (DidApart g.V.Vault.holds g.V.Vault.is_clean l.fn.office l.office
+      (HeardApart g.L.Listener.heard l.fn.listener l.listener (HadSome l.fn.site l.fn.now l.place l.fn.requests.exchanges.items l.requests.exchanges.items))) (PollsBy false l.requests.poll_now));
 }
 
 abbrev pub decreases-loop-place : goal.decreases-loop-place

@@ -10,7 +10,8 @@ loop-turn-init g c = record {
   turned = (
     [],
     refl,
-    turned_none g.V.Vault.holds g.V.Vault.is_clean g.V.Vault.faults g.W.Wire.asked g.S.Spool.asked g.L.Listener.heard g.C.Clock.gave c.args.links.now c.args.office.now c.args.wire.now c.args.spool.now c.args.listener.now c.args.clock.now,
+    turned_none g.V.Vault.holds g.V.Vault.is_clean g.V.Vault.faults g.V.Vault.is_up g.V.Vault.may_leave g.W.Wire.asked g.S.Spool.asked
+        g.L.Listener.heard g.C.Clock.gave c.args.links.now c.args.office.now c.args.wire.now c.args.spool.now c.args.listener.now c.args.clock.now,
   );
   few = λ a. a;
   seated = λ h. h;
@@ -32,7 +33,8 @@ loop-turn-preserved g c =
       turned = (
         m.0 ++ now ∷ [],
         one_longer m.0 now k._turn m.1,
-        turned_more g.V.Vault.holds g.V.Vault.is_clean g.V.Vault.faults g.W.Wire.asked g.S.Spool.asked g.L.Listener.heard g.C.Clock.gave c.args.links.now c.args.office.now c.args.wire.now c.args.spool.now c.args.listener.now c.args.clock.now
+        turned_more g.V.Vault.holds g.V.Vault.is_clean g.V.Vault.faults g.V.Vault.is_up g.V.Vault.may_leave g.W.Wire.asked g.S.Spool.asked
+            g.L.Listener.heard g.C.Clock.gave c.args.links.now c.args.office.now c.args.wire.now c.args.spool.now c.args.listener.now c.args.clock.now
             m.0 k.links k.office k.wire k.spool k.listener k.clock now x.new.links x.new.office x.new.wire x.new.spool x.new.listener c.moment.new.self m.2
             c.in-Some.ensures.called x.ensures.clean x.ensures.works
             (record { set = x.ensures.settings; site = x.ensures.site; seated = x.ensures.seated; pacing = x.ensures.pacing; few = x.ensures.few; ongoing = x.ensures.ongoing }),
@@ -57,7 +59,8 @@ returns-in_default-clause-runs g c =
     record {
       moments = m.0;
       stopped = true;
-      turned = turned_stopped g.V.Vault.holds g.V.Vault.is_clean g.V.Vault.faults g.W.Wire.asked g.S.Spool.asked g.L.Listener.heard g.C.Clock.gave c.args.links.now c.args.office.now c.args.wire.now c.args.spool.now c.args.listener.now c.args.clock.now
+      turned = turned_stopped g.V.Vault.holds g.V.Vault.is_clean g.V.Vault.faults g.V.Vault.is_up g.V.Vault.may_leave g.W.Wire.asked g.S.Spool.asked
+          g.L.Listener.heard g.C.Clock.gave c.args.links.now c.args.office.now c.args.wire.now c.args.spool.now c.args.listener.now c.args.clock.now
           m.0 k.links k.office k.wire k.spool k.listener k.clock c.moment.new.self m.2 c.in_default.ensures.called;
       within = omega (arith, most, count);
       all = λ e. cc;

@@ -32,7 +32,9 @@ returns-clause-works g c =
     record {
       given = (event.Tick c.args.now, m) ∷ [];
       calls = Waited c.args.millis ∷ [];
-      was_given = given_one g.V.Vault.holds g.V.Vault.is_clean g.V.Vault.faults c.args.office.now c.step.new.self (event.Tick c.args.now) (outcome_seen c.step.result) c.step.ensures.clean c.step.ensures.stands c.step.ensures.admitted c.step.ensures.counted c.step.ensures.cause;
+      was_given = given_one g.V.Vault.holds g.V.Vault.is_clean g.V.Vault.faults g.V.Vault.is_up g.V.Vault.may_leave c.args.office.now c.step.new.self
+          (event.Tick c.args.now) (outcome_seen c.step.result) c.step.ensures.clean c.step.ensures.stands c.step.ensures.admitted
+          c.step.ensures.counted c.step.ensures.cause c.step.ensures.up c.step.ensures.stop;
       was_asked = asked_one g.W.Wire.asked c.args.wire.now c.wait.new.self (Waited c.args.millis) c.wait.ensures.called;
       facts = record { event_tag = m; given_is = refl; calls_are = refl };
     }
