@@ -5,7 +5,8 @@ field `outlasts` to `WasGiven` with the lemmas that make it, and `up` and `stop`
 `HasGoneOn`. It needs specs/Stopping.antt and proofs/Stopping.antt of serving beside it."""
 import glob, re, shutil, sys
 S = "crates/serving/"
-HERE = "/work/h/"
+import os
+HERE = os.path.dirname(os.path.realpath(__file__)) + "/"
 shutil.copy(HERE + "words.Stopping.spec", S + "specs/Stopping.antt")
 shutil.copy(HERE + "words.Stopping.proof", S + "proofs/Stopping.antt")
 for lib in ("specs", "proofs"):
