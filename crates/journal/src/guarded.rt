@@ -7,9 +7,8 @@ ghost use Rattle.journal.specs.Guards.{AreFilesHandedOn, AreGuarded, AreHandedOn
 
 use super::spool::LoggedSpool;
 use super::watch::{NotedWatch, Watch};
-use super::wire::{LoggedWire, Peers};
-use serving::{FileName, Io, Link, NotedSpool, NotedWire, Port, Spool, Wire};
-use std::net::IpAddr;
+use serving::{FileName, Io, Link, NotedSpool, NotedWire, Port, Refusal, Spool, Wire};
+use std::net::{IpAddr, SocketAddr};
 
 /// A wire or a spool that does what the one inside does, until its watch says that the store is
 /// lost: that its files are seen to be others than those that are open. From then on it accepts no
@@ -51,6 +50,10 @@ impl<W: Wire, X: Watch> Wire for Guarded<W, X> {
 
     ghost address_of = { λ r. W.address_of r.inner };
 
+    ghost peer_of = { λ r. W.peer_of r.inner };
+
+    ghost closed_for = { λ r. W.closed_for r.inner };
+
     ghost tells_once = { λ r. W.tells_once r.inner };
 
     fn wait(&mut self, millis: u32) {
@@ -88,6 +91,14 @@ impl<W: Wire, X: Watch> Wire for Guarded<W, X> {
 
     fn address(&self, port: Port, link: Link) -> Option<IpAddr> {
         self.inner.address(port, link)
+    }
+
+    fn peer(&self, port: Port, link: Link) -> Option<SocketAddr> {
+        self.inner.peer(port, link)
+    }
+
+    fn refusal(&self, link: Link) -> Option<Refusal> {
+        self.inner.refusal(link)
     }
 
     fn close(&mut self, port: Port, link: Link) {
@@ -128,12 +139,10 @@ impl<S: Spool, X: Watch> Spool for Guarded<S, X> {
 /// A law: of the calls of the wire that a server's loop uses, these reached the sockets, in this
 /// order, and were answered so: those that stand in the notes right around the sockets. Each call
 /// is handed on as it is, unless the watch answered that the store is lost (`AreHandedOn`).
-pub fn sockets_were_asked<'a, W: Wire + Peers, X: Watch>(
-    wire: &Guarded<LoggedWire<'a, NotedWire<W>>, NotedWatch<X>>,
-)
+pub fn sockets_were_asked<W: Wire, X: Watch>(wire: &Guarded<NotedWire<W>, NotedWatch<X>>)
     ensures { (calls : List Call)
-        → ⟦<Guarded<LoggedWire<'a, NotedWire<W>>, NotedWatch<X>> as Wire>⟧.asked wire.now calls
-        → AreHandedOn wire.now.inner.wire.notes.calls wire.now.watch.notes.items calls }
+        → ⟦<Guarded<NotedWire<W>, NotedWatch<X>> as Wire>⟧.asked wire.now calls
+        → AreHandedOn wire.now.inner.notes.calls wire.now.watch.notes.items calls }
 {}
 
 /// A law: of the calls of the spool that a server's loop uses, these reached the folder, in this

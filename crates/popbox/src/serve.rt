@@ -3,8 +3,8 @@ use crate::options::ServeOptions;
 use crate::version::{IS_PROVED, SLOW};
 use converse::{Fault, tell_fault};
 use journal::{
-    FileId, Folder, Guarded, Journal, LoggedSpool, LoggedVault, LoggedWire, Loss, NotedWatch,
-    Peers, Shared, StoreWatch, note_end, note_loss, note_opening, note_start,
+    FileId, Folder, Guarded, Journal, LoggedSpool, LoggedVault, Loss, NotedWatch, Shared,
+    StoreWatch, note_end, note_loss, note_opening, note_start,
 };
 use office::{AdminAccess, Limits, Office};
 use proxy::ProxiedWire;
@@ -243,7 +243,7 @@ impl Clock for ServerClock<'_> {
 
 /// Serves a wire, and the spool that is named, until so many turns are over, or the store is lost.
 /// Gives the office back.
-fn serve_turns<'a, V: Vault, W: Wire + Peers + Drop>(
+fn serve_turns<'a, V: Vault, W: Wire + Drop>(
     rt: &'a HostRuntime,
     office: Office<V>,
     wire: W,
@@ -254,7 +254,7 @@ fn serve_turns<'a, V: Vault, W: Wire + Peers + Drop>(
 ) -> (Result<u8, Fault>, Office<V>) {
     let mut server = Server {
         office,
-        wire: Guarded::new(LoggedWire::new(wire, journal), NotedWatch::new(watch)),
+        wire: Guarded::new(wire, NotedWatch::new(watch)),
         listener: NotedListener::new(journal.with_reads(options.reads)),
     };
     let files = NotedSpool::new(FolderSpool::new(rt, rt.alloc(), spool));

@@ -84,13 +84,24 @@ impl<V: Vault, W: Wire, L: Listener> Server<V, W, L> {
         self.pass_time(millis, now);
         tell_idle_ones(&self.office, &mut self.listener, &links.clients);
         self.accept_links(&mut links.clients, now);
-        accept_requests(&mut self.wire, &mut links.requests, MOST_LINKS, now);
+        accept_requests(
+            &mut self.wire,
+            &mut self.listener,
+            &mut links.requests,
+            MOST_LINKS,
+            now,
+        );
         self.serve_links(&mut links.clients, now);
         let site = &links.site;
         self.serve_requests(&mut links.requests, site, now);
         let seconds = links.clients.newcomers.limit(links.clients.seats.len());
         self.end_late_ones(&mut links.clients, now, seconds);
-        close_links(&self.office, &mut self.wire, &mut links.clients);
+        close_links(
+            &self.office,
+            &mut self.wire,
+            &mut self.listener,
+            &mut links.clients,
+        );
         serve_spool(&mut self.office, spool, &mut links.clients);
         // For the proof: what each connection took was sent to it.
         taken_is_sent();

@@ -26,7 +26,7 @@ use Rattle.serving.specs.Parts.{Giving}
 use Rattle.serving.specs.Late.{HasEndedLate}
 use Rattle.serving.proofs.Timely.{late_both}
 use Rattle.serving.specs.Hearing.{WasTold, WithHeard, heard_of_all, idle_ends, late_ends}
-use Rattle.serving.proofs.Hearing.{told_same, told_then, late_heard}
+use Rattle.serving.proofs.Hearing.{told_on, told_same, told_then, late_heard}
 use Rattle.serving.proofs.Working.{part_so}
 use Rattle.serving.proofs.Finishing.{turn_done}
 use Rattle.serving.proofs.Bounds.{all_short}
@@ -104,10 +104,11 @@ returns-clause-works g c = λ T s clean.
     let l = c.args.self.now.listener in
     let l0 = c.pass_time.new.self.listener in
     let l1 = c.tell_idle_ones.new.listener in
-    let l2 = c.accept_links.new.self.listener in
+    let l2 = c.accept_requests.new.listener in
     let l3 = c.serve_links.new.self.listener in
     let l4 = c.serve_requests.new.self.listener in
     let l5 = c.end_late_ones.new.self.listener in
+    let l6 = c.close_links.new.listener in
     let a = c.accept_links.ensures.works in
     let accepted : Part Holds IsClean g.V.Vault.faults Asked o1 w1 o2 c.accept_links.new.self.wire (AreAccepted Holds IsClean o1 o2 old.seats.items seats2 64 a.0) =
     part_so Holds IsClean g.V.Vault.faults Asked o1 o2 w1 c.accept_links.new.self.wire _ _ (λ gv cl wa x. x.1) a.1 in
@@ -129,8 +130,8 @@ returns-clause-works g c = λ T s clean.
     let login_same : served.newcomers.seconds ≡ old.newcomers.seconds = ap (λ (s : Settings). s.login_seconds) set in
     let late = late_both Holds IsClean g.V.Vault.faults now c.limit-seconds.result most old.newcomers.newcomers.items served.newcomers.newcomers.items ended.newcomers.newcomers.items seats2 o4 o5
     (λ given. WasTold Heard l4 l5 (late_ends now served.newcomers.seconds served.newcomers.newcomers.items given))
-    (λ given. WasTold Heard l4 l5 (late_ends now old.newcomers.seconds old.newcomers.newcomers.items given)) seconds less
-    (λ given gone told. late_heard Heard now most old.newcomers.seconds served.newcomers.seconds old.newcomers.newcomers.items served.newcomers.newcomers.items less login_same l4 l5 given gone told)
+    (λ given. WasTold Heard l4 l6 (late_ends now old.newcomers.seconds old.newcomers.newcomers.items given)) seconds less
+    (λ given gone told. told_on Heard l4 l5 l6 _ c.close_links.ensures.heard (late_heard Heard now most old.newcomers.seconds served.newcomers.seconds old.newcomers.newcomers.items served.newcomers.newcomers.items less login_same l4 l5 given gone told))
     (subst (λ v. Giving Holds IsClean g.V.Vault.faults o4 o5
     (λ given. HasEndedLate Holds IsClean o4 o5 now c.limit-seconds.result served.newcomers.newcomers.items ended.newcomers.newcomers.items v.items given
     × WasTold Heard l4 l5 (late_ends now served.newcomers.seconds served.newcomers.newcomers.items given)))
@@ -152,8 +153,8 @@ returns-clause-works g c = λ T s clean.
     turn_done Holds IsClean g.V.Vault.faults Asked g.S.Spool.asked Heard T now links
     (record { clients = c.serve_spool.new.links; requests = c.serve_requests.new.requests; site = c.args.links.now.site })
     c.args.self.now.office o1 o2 o3 o4 o5 c.serve_spool.new.office
-    c.args.self.now.wire w1 c.accept_links.new.self.wire w3 w4 w5 w6 c.args.spool.now c.serve_spool.new.spool c.args.self.now.listener l1 l2 l3 l4 l5
-    seats2 a.0 c.accept_requests.new.requests.exchanges.items c.accept_requests.ensures.works.0 served.lock_released served.poll_now c.close_links.new.links.poll_now came.newcomers.newcomers.items served.newcomers.newcomers.items ended.newcomers.newcomers.items passed (λ U su. told_then Heard l l0 l1 [] (idle_ends U old.seats.items) untold (c.tell_idle_ones.ensures U su)) accepted c.accept_requests.ensures.works.1 (told_same Heard l1 l2 c.accept_links.ensures.heard) turned c.serve_links.ensures.frees
+    c.args.self.now.wire w1 c.accept_links.new.self.wire w3 w4 w5 w6 c.args.spool.now c.serve_spool.new.spool c.args.self.now.listener l1 l2 l3 l4 l6
+    seats2 a.0 c.accept_requests.new.requests.exchanges.items c.accept_requests.ensures.works.0 served.lock_released served.poll_now c.close_links.new.links.poll_now came.newcomers.newcomers.items served.newcomers.newcomers.items ended.newcomers.newcomers.items passed (λ U su. told_then Heard l l0 l1 [] (idle_ends U old.seats.items) untold (c.tell_idle_ones.ensures U su)) accepted c.accept_requests.ensures.works.1 (told_same Heard l1 l2 (λ h q. c.accept_requests.ensures.heard h (c.accept_links.ensures.heard h q))) turned c.serve_links.ensures.frees
     (λ e. c.close_links.ensures.closes.keeps.polled (c.end_late_ones.ensures.ends.poll_now ∙ e)) c.serve_requests.ensures.works waited keeps newly late forgets
     (λ U su.
     subst (λ w. Asking Asked w w6 (λ calls. AreClosed U seats2 c.serve_spool.new.links.seats.items calls × PollsBy served.poll_now c.close_links.new.links.poll_now calls × Releases old.wait c.close_links.new.links.poll_now calls)) same_wire
