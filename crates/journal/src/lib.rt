@@ -4,8 +4,8 @@
 //! a server's vault, wire and spool: each does what the one inside does, and notes what came of it.
 //! As the server's listener a [`Journal`] notes connections, logins and QUITs as the office judged
 //! them, and what the administration was asked and answered.
-//! A [`StoreWatch`] sees whether the store's files are still those that are open. Once they aren't a
-//! [`GuardedSpool`] gives no file.
+//! A [`StoreWatch`] sees whether the store's files are still those that are open. Once they aren't,
+//! a [`GuardedSpool`] gives no file.
 #![tactic(auto)]
 
 mod account_text;
