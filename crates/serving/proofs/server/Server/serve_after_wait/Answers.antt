@@ -179,6 +179,6 @@ returns-clause-left g c = record {
   pacing = λ h.
       subst (λ gs. ArePacing gs.refusals.items) (sym c.serve_spool.ensures.keeps.guesses)
       (c.close_links.ensures.closes.keeps.pacing (c.end_late_ones.ensures.keeps.keeps.pacing (c.serve_links.ensures.keeps.keeps.pacing (c.accept_links.ensures.comers.keeps.pacing h))));
-  few = λ few. (let a = c.accept_requests.ensures.few few in let b = c.serve_requests.ensures.no_more in omega (arith, a, b));
+  few = λ h. (let a = c.accept_requests.ensures.few h in let b = c.serve_requests.ensures.no_more in omega (arith, a, b));
   ongoing = c.serve_requests.ensures.stay;
 }

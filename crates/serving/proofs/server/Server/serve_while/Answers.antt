@@ -29,7 +29,7 @@ loop-turn-preserved g c =
     let now = c.in-Some.now in
     let w0 = k.self.wire in
     let w1 = c.wait.new.self in
-    let waited = waited_for g.W.Wire.asked w0 w1 k.links c.millis_for-wait.result c.millis_for-wait.ensures c.wait.ensures.called in
+    let waited = waited_for g.W.Wire.asked w0 w1 k.links c.millis_for.result c.millis_for.ensures c.wait.ensures.called in
     let left = x.ensures.left in
     record {
       serves = λ T s clean.
@@ -74,7 +74,7 @@ returns-in_default-clause-runs g c =
       wire_left = k.self.wire;
       turned = turned_stopped g.V.Vault.holds g.V.Vault.is_clean g.V.Vault.faults g.W.Wire.asked g.S.Spool.asked g.L.Listener.heard g.C.Clock.gave c.args.links.now c.args.self.now.office c.args.self.now.wire c.args.spool.now c.args.self.now.listener c.args.clock.now
           m.0 k.links k.self.office k.self.wire k.spool k.self.listener k.clock c.moment.new.self m.2 c.in_default.ensures.called;
-      last = waited_for g.W.Wire.asked k.self.wire c.wait.new.self k.links c.millis_for-wait.result c.millis_for-wait.ensures c.wait.ensures.called;
+      last = waited_for g.W.Wire.asked k.self.wire c.wait.new.self k.links c.millis_for.result c.millis_for.ensures c.wait.ensures.called;
       within = omega (arith, most, count);
       all = λ e. cc;
     }
