@@ -4,7 +4,8 @@
 //! and spool: each does what the one inside does, and notes what came of it. As the server's listener
 //! a [`Journal`] notes links and connections, logins and QUITs as the office judged them, and what the
 //! administration was asked and answered.
-//! [`Guarded`] ends all that once a [`StoreWatch`] sees that the store's files are others.
+//! A [`StoreWatch`] sees whether the store's files are still those that are open. Once they aren't,
+//! a [`GuardedSpool`] gives no file.
 #![tactic(auto)]
 
 mod account_text;
@@ -26,7 +27,7 @@ mod spool;
 mod store;
 mod watch;
 
-pub use guarded::{Guarded, folder_was_asked, sockets_were_asked};
+pub use guarded::{GuardedSpool, folder_was_asked};
 pub use journal::{Journal, Shared};
 pub use left::Folder;
 pub use server::{note_end, note_loss, note_opening, note_start};
