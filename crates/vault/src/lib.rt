@@ -1,4 +1,4 @@
-//! What a mail store keeps (clerks, maildrops, messages, deposits and the policy), its thirteen
+//! What a mail store keeps (clerks, maildrops, messages, deposits and the policy), its fourteen
 //! calls (the trait `Vault`), and a store in memory.
 #![tactic(auto)]
 
