@@ -1,5 +1,5 @@
 -- The bodies of requests: a clerk's credential, and a policy's text.
-use Rattle.std.specs.Prelude.{ℕ, ◌-◌, nat_le, nat_eq, List, codes, length, take, drop, Option, Some, None, option_map, Result, Ok, Err, if◌then◌else◌}
+use Rattle.std.specs.Prelude.{ℕ, ◌-◌, nat_le, nat_eq, List, codes, length, take, drop, Option, None, option_map, Result, Ok, Err, if◌then◌else◌}
 use Rattle.std.specs.List.{starts_with, ends_with}
 use Rattle.std.specs.Str.{is_utf8}
 use Rattle.creds.specs.Digests.{pass_digest}
@@ -10,7 +10,6 @@ use Rattle.policy.specs.Policy.{Policy}
 use Rattle.policy.specs.PolicyText.{rules_of}
 use Rattle.policy.specs.declared.fault.PolicyFault.{PolicyFault}
 use Rattle.policy.specs.declared.fault.PolicyFault.TheVariants.{NotToml, NoMemory}
-use Rattle.adminhttp.specs.Steps.{◌>>=◌}
 use Rattle.adminhttp.specs.Fields.{Header, body_length}
 use Rattle.adminhttp.specs.declared.no_command.NoCommand.{NoCommand}
 use Rattle.adminhttp.specs.declared.no_command.NoCommand.TheVariants as stop

@@ -12,7 +12,7 @@ use Rattle.adminhttp.specs.Head.{IsHead, IsNoHead, head_text, behind_head}
 use Rattle.adminhttp.specs.Targets.{target_of}
 use Rattle.adminhttp.specs.Fields.{Header}
 use Rattle.adminhttp.specs.Sites.{Site, is_own}
-use Rattle.adminhttp.specs.Steps.{◌>>=◌, value_or}
+use Rattle.adminhttp.specs.Steps.{value_or}
 use Rattle.adminhttp.specs.Bodies.{body_of, without_line_end, credential_of, policy_of}
 use Rattle.adminhttp.specs.declared.route.Route.{Route}
 use Rattle.adminhttp.specs.declared.route.Route.TheVariants as route

@@ -1,6 +1,6 @@
 //! Deposits into a store in memory: how each is answered, and how it is kept.
-ghost use Rattle.std.specs.Prelude.{◌≡◌, ◌&&◌, find, option_copied, ◌+◌, ◌≤◌, ℕ, List, [], ◌∷◌};
-ghost use Rattle.std.specs.Prelude.{◌++◌, length, is_ok, true, if◌then◌else◌, IfOk, OnOk, OnErr};
+ghost use Rattle.std.specs.Prelude.{◌≡◌, ◌&&◌, find, option_copied, ◌+◌, ℕ, List, [], ◌∷◌};
+ghost use Rattle.std.specs.Prelude.{◌++◌, length, is_ok, true, if◌then◌else◌};
 ghost use Rattle.std.specs.Str.{bytes_eq};
 ghost use Rattle.creds.specs.Names.{is_name, is_deposit_id};
 ghost use Rattle.creds.specs.Digests.{text_digest};

@@ -1,5 +1,5 @@
 //! The calls that every mail store answers, and what they promise.
-ghost use Rattle.std.specs.Prelude.{◌≡◌, ◌≤◌, ℕ, List, Ok};
+ghost use Rattle.std.specs.Prelude.{ℕ, Ok};
 ghost use Rattle.vault.specs.Changes.{Contents, AreSound};
 ghost use Rattle.vault.specs.Stops.{SaySame};
 ghost use Rattle.vault.specs.Call.{Looks, Commits};
