@@ -15,8 +15,8 @@ use crate::answer::Deposited;
 use crate::fault::VaultFault;
 use crate::lists::{count_in, has_name};
 use crate::message_key::MessageKey;
-use crate::pages::PagedText;
 use crate::record::{Keyed, Message, Receipt};
+use crate::sheets::SheetText;
 use creds::{DepositId, Name, Uid};
 use mailtext::MailText;
 use std::alloc::{AllocError, Global};
@@ -159,7 +159,7 @@ pub(crate) fn accept(
         maildrop: asked.maildrop,
         class: asked.class,
         k,
-        text: PagedText::copy_of(alloc, text)?,
+        text: SheetText::copy_of(alloc, text)?,
     };
     let receipt = Receipt {
         maildrop: asked.maildrop,
