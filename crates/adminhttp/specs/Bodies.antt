@@ -10,6 +10,7 @@ use Rattle.policy.specs.Policy.{Policy}
 use Rattle.policy.specs.PolicyText.{rules_of}
 use Rattle.policy.specs.declared.fault.PolicyFault.{PolicyFault}
 use Rattle.policy.specs.declared.fault.PolicyFault.TheVariants.{NotToml, NoMemory}
+use Rattle.adminhttp.specs.Steps.{◌>>=◌}
 use Rattle.adminhttp.specs.Fields.{Header, body_length}
 use Rattle.adminhttp.specs.declared.no_command.NoCommand.{NoCommand}
 use Rattle.adminhttp.specs.declared.no_command.NoCommand.TheVariants as stop

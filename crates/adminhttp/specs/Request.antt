@@ -7,6 +7,7 @@ use Rattle.httparse.specs.Spans.{name_and_value}
 use Rattle.office.specs.Answers.{AdminCommand, ListMaildrops, ShowMaildrop, AddMaildrop, DropMaildrop, ListClerks, ShowClerk, PutClerk, DropClerk, ShowPolicy, SetPolicy, ListGroups, ListSessions, EndSession, Explain}
 use Rattle.office.specs.Seen.{command_seen}
 use Rattle.office.specs.declared.limits.AdminAccess.{AdminAccess}
+use Rattle.adminhttp.specs.Steps.{◌>>=◌}
 use Rattle.adminhttp.specs.Lines.{head_at, most_in_head}
 use Rattle.adminhttp.specs.Head.{IsHead, IsNoHead, head_text, behind_head}
 use Rattle.adminhttp.specs.Targets.{target_of}

@@ -1,6 +1,7 @@
 -- The sheets of a text.
 use Rattle.std.proofs.Common.{◌≡◌, ◌⊎◌, inl, inr, ℕ, zero, suc, ◌+◌, ◌*◌, ◌-◌, ◌<◌, ◌≤◌, min, ℤ, pos, ◌<ℤ◌, List, [], ◌∷◌, ◌++◌, length, map, take, drop, Some, Bool, true, false}
 use Rattle.std.proofs.Common.{cond, refl, sym, ap, ap₂, ◌∙◌, arith, append_assoc, append-nil, length-take, length-drop, take_all, is_eq}
+use Rattle.std.specs.Prelude.{◌&&◌}
 use Rattle.std.proofs.lemmas.Int.{ints}
 use Rattle.std.specs.declared.cmp.Ordering.TheVariants.{Less}
 use Rattle.std.specs.Cmp.{int_cmp_is}
