@@ -7,13 +7,12 @@ use Rattle.httparse.specs.Spans.{name_and_value}
 use Rattle.office.specs.Answers.{AdminCommand, ListMaildrops, ShowMaildrop, AddMaildrop, DropMaildrop, ListClerks, ShowClerk, PutClerk, DropClerk, ShowPolicy, SetPolicy, ListGroups, ListSessions, EndSession, Explain}
 use Rattle.office.specs.Seen.{command_seen}
 use Rattle.office.specs.declared.limits.AdminAccess.{AdminAccess}
-use Rattle.adminhttp.specs.Steps.{◌>>=◌}
 use Rattle.adminhttp.specs.Lines.{head_at, most_in_head}
 use Rattle.adminhttp.specs.Head.{IsHead, IsNoHead, head_text, behind_head}
 use Rattle.adminhttp.specs.Targets.{target_of}
 use Rattle.adminhttp.specs.Fields.{Header}
 use Rattle.adminhttp.specs.Sites.{Site, is_own}
-use Rattle.adminhttp.specs.Steps.{value_or}
+use Rattle.adminhttp.specs.Steps.{◌>>=◌, value_or}
 use Rattle.adminhttp.specs.Bodies.{body_of, without_line_end, credential_of, policy_of}
 use Rattle.adminhttp.specs.declared.route.Route.{Route}
 use Rattle.adminhttp.specs.declared.route.Route.TheVariants as route
