@@ -1,6 +1,5 @@
 -- The policy that a body spells.
 use Rattle.std.proofs.Common.{◌≡◌, ◌≢◌, ℕ, Bool, true, false, List, Result, Ok, Err, refl, sym, ap, ◌∙◌}
-use Rattle.std.proofs.lemmas.Bool.{false≢true}
 use Rattle.std.proofs.lemmas.Str.{is_utf8-from_IsUtf8, IsUtf8-from_is_utf8}
 use Rattle.std.specs.Str.{IsUtf8, is_utf8}
 use Rattle.policy.specs.Policy.{Policy}
@@ -8,7 +7,6 @@ use Rattle.policy.specs.PolicyText.{rules_of}
 use Rattle.policy.specs.declared.fault.PolicyFault.{PolicyFault}
 use Rattle.policy.specs.declared.fault.PolicyFault.TheVariants.{NotToml, NoMemory}
 use Rattle.adminhttp.specs.Bodies.{policy_of, or_fault, no_command_of}
-use Rattle.adminhttp.specs.declared.no_command.NoCommand.{NoCommand}
 use Rattle.adminhttp.specs.declared.no_command.NoCommand.TheVariants.{BadPolicy}
 use Rattle.adminhttp.specs.declared.no_command.NoCommand.TheVariants as stop
 

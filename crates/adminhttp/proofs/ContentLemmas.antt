@@ -1,5 +1,5 @@
 -- The line of a body that is one line.
-use Rattle.std.proofs.Common.{◌≡◌, ℕ, ◌+◌, ◌-◌, List, ◌++◌, codes, length, take, arith, ap, ◌∙◌, length-append}
+use Rattle.std.proofs.Common.{◌≡◌, ℕ, ◌-◌, List, ◌++◌, codes, length, take, arith, ap, ◌∙◌, length-append}
 use Rattle.std.proofs.Math.Seq.{take-append_seam}
 use Rattle.office.specs.Answers.{body_line}
 use Rattle.adminhttp.specs.Contents.{without_lf}

@@ -1,5 +1,5 @@
 -- The octets of a head and after it.
-use Rattle.std.proofs.Common.{◌≡◌, ℕ, ◌+◌, ◌<◌, ◌≤◌, List, length, take, drop, arith}
+use Rattle.std.proofs.Common.{ℕ, ◌≤◌, List, length, take, arith}
 use Rattle.std.proofs.lemmas.List.{length-take}
 
 pub length_take_le : (n : ℕ) (xs : List ℕ) → length (take n xs) ≤ length xs

@@ -33,11 +33,13 @@ pub out_of_memory : refusal_response OutOfMemory ≡ codes "HTTP/1.1 503 Service
 unfolding digits refusal_response response_text
 out_of_memory = refl
 
-pub not_allowed_maildrops : refusal_response (NotAllowed Maildrops) ≡ codes "HTTP/1.1 405 Method Not Allowed\r\nContent-Type: text/plain\r\nAllow: GET\r\nContent-Length: 19\r\nConnection: close\r\n\r\nmethod not allowed\n"
+pub not_allowed_maildrops : refusal_response (NotAllowed Maildrops)
+    ≡ codes "HTTP/1.1 405 Method Not Allowed\r\nContent-Type: text/plain\r\nAllow: GET\r\nContent-Length: 19\r\nConnection: close\r\n\r\nmethod not allowed\n"
 unfolding digits refusal_response response_text
 not_allowed_maildrops = refl
 
-pub not_allowed_maildrop : refusal_response (NotAllowed Maildrop) ≡ codes "HTTP/1.1 405 Method Not Allowed\r\nContent-Type: text/plain\r\nAllow: GET, PUT, DELETE\r\nContent-Length: 19\r\nConnection: close\r\n\r\nmethod not allowed\n"
+pub not_allowed_maildrop : refusal_response (NotAllowed Maildrop)
+    ≡ codes "HTTP/1.1 405 Method Not Allowed\r\nContent-Type: text/plain\r\nAllow: GET, PUT, DELETE\r\nContent-Length: 19\r\nConnection: close\r\n\r\nmethod not allowed\n"
 unfolding digits refusal_response response_text
 not_allowed_maildrop = refl
 
@@ -46,26 +48,32 @@ pub not_allowed_clerks : refusal_response (NotAllowed Clerks)
 unfolding digits refusal_response response_text
 not_allowed_clerks = refl
 
-pub not_allowed_clerk : refusal_response (NotAllowed Clerk) ≡ codes "HTTP/1.1 405 Method Not Allowed\r\nContent-Type: text/plain\r\nAllow: GET, PUT, DELETE\r\nContent-Length: 19\r\nConnection: close\r\n\r\nmethod not allowed\n"
+pub not_allowed_clerk : refusal_response (NotAllowed Clerk)
+    ≡ codes "HTTP/1.1 405 Method Not Allowed\r\nContent-Type: text/plain\r\nAllow: GET, PUT, DELETE\r\nContent-Length: 19\r\nConnection: close\r\n\r\nmethod not allowed\n"
 unfolding digits refusal_response response_text
 not_allowed_clerk = refl
 
-pub not_allowed_policy : refusal_response (NotAllowed Policy) ≡ codes "HTTP/1.1 405 Method Not Allowed\r\nContent-Type: text/plain\r\nAllow: GET, PUT\r\nContent-Length: 19\r\nConnection: close\r\n\r\nmethod not allowed\n"
+pub not_allowed_policy : refusal_response (NotAllowed Policy)
+    ≡ codes "HTTP/1.1 405 Method Not Allowed\r\nContent-Type: text/plain\r\nAllow: GET, PUT\r\nContent-Length: 19\r\nConnection: close\r\n\r\nmethod not allowed\n"
 unfolding digits refusal_response response_text
 not_allowed_policy = refl
 
-pub not_allowed_groups : refusal_response (NotAllowed Groups) ≡ codes "HTTP/1.1 405 Method Not Allowed\r\nContent-Type: text/plain\r\nAllow: GET\r\nContent-Length: 19\r\nConnection: close\r\n\r\nmethod not allowed\n"
+pub not_allowed_groups : refusal_response (NotAllowed Groups)
+    ≡ codes "HTTP/1.1 405 Method Not Allowed\r\nContent-Type: text/plain\r\nAllow: GET\r\nContent-Length: 19\r\nConnection: close\r\n\r\nmethod not allowed\n"
 unfolding digits refusal_response response_text
 not_allowed_groups = refl
 
-pub not_allowed_sessions : refusal_response (NotAllowed Sessions) ≡ codes "HTTP/1.1 405 Method Not Allowed\r\nContent-Type: text/plain\r\nAllow: GET\r\nContent-Length: 19\r\nConnection: close\r\n\r\nmethod not allowed\n"
+pub not_allowed_sessions : refusal_response (NotAllowed Sessions)
+    ≡ codes "HTTP/1.1 405 Method Not Allowed\r\nContent-Type: text/plain\r\nAllow: GET\r\nContent-Length: 19\r\nConnection: close\r\n\r\nmethod not allowed\n"
 unfolding digits refusal_response response_text
 not_allowed_sessions = refl
 
-pub not_allowed_session : refusal_response (NotAllowed Session) ≡ codes "HTTP/1.1 405 Method Not Allowed\r\nContent-Type: text/plain\r\nAllow: DELETE\r\nContent-Length: 19\r\nConnection: close\r\n\r\nmethod not allowed\n"
+pub not_allowed_session : refusal_response (NotAllowed Session)
+    ≡ codes "HTTP/1.1 405 Method Not Allowed\r\nContent-Type: text/plain\r\nAllow: DELETE\r\nContent-Length: 19\r\nConnection: close\r\n\r\nmethod not allowed\n"
 unfolding digits refusal_response response_text
 not_allowed_session = refl
 
-pub not_allowed_explain : refusal_response (NotAllowed Explain) ≡ codes "HTTP/1.1 405 Method Not Allowed\r\nContent-Type: text/plain\r\nAllow: GET\r\nContent-Length: 19\r\nConnection: close\r\n\r\nmethod not allowed\n"
+pub not_allowed_explain : refusal_response (NotAllowed Explain)
+    ≡ codes "HTTP/1.1 405 Method Not Allowed\r\nContent-Type: text/plain\r\nAllow: GET\r\nContent-Length: 19\r\nConnection: close\r\n\r\nmethod not allowed\n"
 unfolding digits refusal_response response_text
 not_allowed_explain = refl

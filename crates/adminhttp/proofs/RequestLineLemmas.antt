@@ -1,5 +1,5 @@
 -- The line of a request that gives a command is that command's.
-use Rattle.std.proofs.Common.{◌≡◌, ◌⊎◌, ℕ, List, codes, map, Option, Some, None, option_map, Result, Ok, Err, Bool, true, false, cond, inl, inr, refl, sym, ap, subst, ◌∙◌}
+use Rattle.std.proofs.Common.{◌≡◌, ℕ, List, codes, map, Option, Some, None, option_map, Result, Ok, Err, Bool, true, false, cond, inl, inr, refl, sym, ap, ◌∙◌}
 use Rattle.std.proofs.lemmas.Slice.Eq.{bytes_eq-Decides}
 use Rattle.std.specs.Prelude.{option_and_then}
 use Rattle.std.specs.Str.{bytes_eq}
@@ -26,7 +26,6 @@ use Rattle.adminhttp.specs.declared.refusal.Refusal.TheVariants.{ForeignSite, No
 use Rattle.adminhttp.specs.declared.target.Target.{Target}
 use Rattle.adminhttp.specs.declared.target.Target.TheVariants as target
 use Rattle.adminhttp.specs.declared.target.Target.TheVariants.{Clerk}
-use Rattle.adminhttp.specs.declared.request_line.Method.{Method}
 use Rattle.adminhttp.specs.declared.request_line.Method.TheVariants.{Get, Put, Delete}
 use Rattle.adminhttp.specs.declared.request_line.RequestLine.{RequestLine}
 

@@ -1,6 +1,6 @@
 -- Worked rows: what requests come to, octet by octet.
-use Rattle.std.specs.Prelude.{◌≡◌, ℕ, true, List, [], ◌∷◌, ◌++◌, codes, Some, None, Ok, Err, refl, nat_lt}
-use Rattle.std.proofs.Common.{inl, inr, lit<, lit≤, arith}
+use Rattle.std.specs.Prelude.{◌≡◌, ℕ, true, List, [], ◌∷◌, codes, Some, None, Ok, Err, refl, nat_lt}
+use Rattle.std.proofs.Common.{inl, lit<, lit≤, arith}
 use Rattle.std.proofs.lemmas.Bool.Decides.{nat_tests}
 use Rattle.std.proofs.lemmas.List.Elements.{All-nil}
 use Rattle.std.proofs.lemmas.List.Sums.{AllPass-from_list_all}
@@ -13,7 +13,7 @@ use Rattle.policy.specs.declared.rule.Action.TheVariants as to
 use Rattle.httparse.proofs.OnLiterals.{httparse_on_literals}
 use Rattle.httparse.specs.Grammar.{RequestHead, IsRequestHead, IsField, crlf, is_token_byte, is_uri_byte}
 use Rattle.office.specs.Events.{no_access}
-use Rattle.office.specs.Answers.{ListMaildrops, ListClerks, ShowMaildrop, DropMaildrop, PutClerk, EndSession, Explain}
+use Rattle.office.specs.Answers.{ListMaildrops, ListClerks, PutClerk, EndSession, Explain}
 use Rattle.adminhttp.specs.declared.route.Route.TheVariants as route
 use Rattle.adminhttp.specs.declared.refusal.Refusal.TheVariants.{BadRequest, NotFound, NotAllowed, LengthRequired, TooLarge}
 use Rattle.adminhttp.specs.declared.no_command.NoCommand.TheVariants.{More, Bad}
@@ -21,7 +21,7 @@ use Rattle.adminhttp.specs.Lines.{empty_lines, through_empty_line, head_at}
 use Rattle.adminhttp.specs.Targets.{target_of}
 use Rattle.adminhttp.specs.Fields.{Header, body_length}
 use Rattle.adminhttp.specs.Bodies.{body_of, without_line_end, credential_of}
-use Rattle.adminhttp.specs.Request.{Asked, IsRequest, asked_by, asked_of_site, clerk_put, policy_put, maildrop_asked, clerks_asked, clerk_asked, policy_asked}
+use Rattle.adminhttp.specs.Request.{Asked, IsRequest, asked_by, asked_of_site, clerk_put, policy_put, clerks_asked, clerk_asked, policy_asked}
 use Rattle.adminhttp.specs.Request.{session_asked}
 
 -- ---- heads

@@ -1,20 +1,19 @@
 -- If a path has the parts of a route, the router finds that route.
-use Rattle.std.proofs.Common.{◌≡◌, ◌≢◌, ℕ, zero, suc, ◌+◌, ◌-◌, ◌<◌, ◌≤◌, List, [], ◌∷◌, ◌++◌, length, drop, take, Option, Some, None, Bool, true, false, not, cond, ◌&&◌, ltb, refl, sym, ap, ◌∙◌, arith, nat_eq, ◌==◌, length-append, lt-ltb, lit<}
+use Rattle.std.proofs.Common.{◌≡◌, ℕ, ◌-◌, ◌<◌, List, [], ◌∷◌, ◌++◌, length, drop, Some, Bool, true, false, not, cond, ◌&&◌, ltb}
+use Rattle.std.proofs.Common.{refl, sym, ap, ◌∙◌, arith, nat_eq, ◌==◌, length-append, lt-ltb, lit<}
 use Rattle.std.proofs.lemmas.Bool.Decides.{nat_tests}
 use Rattle.std.proofs.lemmas.Bool.{false≢true}
 use Rattle.std.proofs.Math.ListN.{drop_of_length-le}
-use Rattle.std.proofs.lemmas.Grind.{common_steps}
 use Rattle.std.specs.List.{list_all, ends_with}
-use Rattle.std.specs.Cmp.Lexicographic.{pointwise}
 use Rattle.std.specs.Char.{is_digit, digit_value}
 use Rattle.std.specs.Prelude.{nat_le, nat_lt}
 use Rattle.std.proofs.lemmas.Str.Parse.{digit_from_value}
 use Rattle.std.proofs.lemmas.Bool.{ltb-true}
 use Rattle.creds.specs.Names.{is_name, is_name_octet, has_length}
 use Rattle.office.specs.Numbers.{is_number}
-use Rattle.matchit.specs.Rows.{Rows, RowsOf, param_token, catch_all_token}
-use Rattle.matchit.specs.Router.{rename, map_key}
-use Rattle.matchit.specs.Seek.{own, step, or_else, seek, first, param_step, has_slash, slash, segment, cuts}
+use Rattle.matchit.specs.Rows.{Rows, param_token}
+use Rattle.matchit.specs.Router.{map_key}
+use Rattle.matchit.specs.Seek.{seek, first, param_step, has_slash, slash, segment, cuts}
 use Rattle.matchit.proofs.SeekLemmas.{seek-empty, seek-drop, or_else-none, first-prefix}
 use Rattle.matchit.proofs.RenameLemmas.{first-rename}
 

@@ -1,11 +1,12 @@
 -- What a path names is what it names on the route that the router finds.
-use Rattle.std.proofs.Common.{◌≡◌, ◌⊎◌, ℕ, zero, suc, ◌+◌, ◌<◌, List, [], ◌∷◌, ◌++◌, codes, length, get_or, drop, take, Option, Some, None, option_map, Bool, true, false, cond, ◌&&◌, ◌==◌, inl, inr, refl, sym, ap, subst, ◌∙◌, arith, nat_eq, lit<}
+use Rattle.std.proofs.Common.{◌≡◌, ◌⊎◌, ℕ, ◌+◌, ◌<◌, List, [], ◌∷◌, ◌++◌, codes, length, get_or, drop, take, Option, Some, None, option_map, Bool, true, false, cond}
+use Rattle.std.proofs.Common.{◌==◌, inl, inr, refl, sym, ap, subst, ◌∙◌, arith, nat_eq, lit<}
 use Rattle.std.proofs.lemmas.Bool.Decides.{nat_tests}
-use Rattle.std.proofs.lemmas.Bool.{false≢true, ltb-true}
+use Rattle.std.proofs.lemmas.Bool.{ltb-true}
 use Rattle.std.proofs.lemmas.List.{drop_more, take-append-drop}
 use Rattle.std.proofs.lemmas.List.Sums.{passes_at_first}
 use Rattle.std.proofs.lemmas.Slice.Eq.{bytes_eq-Decides}
-use Rattle.std.specs.List.{starts_with, position, position_or_len, before_first}
+use Rattle.std.specs.List.{starts_with, position_or_len, before_first}
 use Rattle.std.specs.Prelude.{nat_lt}
 use Rattle.std.specs.Str.{bytes_eq}
 use Rattle.std.specs.Str.Parse.{digits_value}
@@ -13,7 +14,7 @@ use Rattle.creds.specs.Names.{is_name, name_of}
 use Rattle.policy.specs.PolicyText.{action_of}
 use Rattle.policy.specs.declared.rule.Action.{Action}
 use Rattle.policy.specs.declared.rule.Action.TheVariants.{Open, Read, Remove}
-use Rattle.matchit.specs.Rows.{RowsOf, param_token}
+use Rattle.matchit.specs.Rows.{RowsOf}
 use Rattle.matchit.specs.Route.{scan}
 use Rattle.matchit.specs.Seek.{first, seek, step, slash}
 use Rattle.matchit.proofs.OnLiterals.{matchit_on_literals}

@@ -1,5 +1,5 @@
 -- What stands before the first element of a kind.
-use Rattle.std.proofs.Common.{◌≡◌, ℕ, ◌≤◌, List, length, take, Option, Some, None, Bool, true, false, cond, nat_lt, refl, sym, ap, arith, take_all}
+use Rattle.std.proofs.Common.{◌≡◌, ℕ, ◌≤◌, List, length, take, Some, None, Bool, true, false, cond, nat_lt, refl, sym, ap, arith, take_all}
 use Rattle.std.proofs.lemmas.Bool.Decides.{nat_tests}
 use Rattle.std.specs.List.{before_first, position, position_or_len}
 

@@ -1,5 +1,5 @@
 -- The bodies of requests: a clerk's credential, and a policy's text.
-use Rattle.std.specs.Prelude.{ℕ, ◌-◌, nat_le, nat_eq, List, codes, length, take, drop, Option, Some, None, option_map, Result, Ok, Err, if◌then◌else◌}
+use Rattle.std.specs.Prelude.{ℕ, ◌-◌, nat_le, nat_eq, List, codes, length, take, drop, Option, None, option_map, Result, Ok, Err, if◌then◌else◌}
 use Rattle.std.specs.List.{starts_with, ends_with}
 use Rattle.std.specs.Str.{is_utf8}
 use Rattle.creds.specs.Digests.{pass_digest}

@@ -1,6 +1,6 @@
 //! The headers that give the length of a request's body (RFC 9112, 6).
 
-ghost use Rattle.std.specs.Prelude.{◌≡◌, ◌<◌, nat_le, length, map, All, codes, IsTrue};
+ghost use Rattle.std.specs.Prelude.{◌≡◌, nat_le, length, map, All, codes, IsTrue};
 ghost use Rattle.std.specs.Prelude.{if◌then◌else◌};
 ghost use Rattle.std.specs.List.{list_any, list_all};
 ghost use Rattle.std.specs.Str.Parse.{digits_value};

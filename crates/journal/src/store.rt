@@ -278,4 +278,9 @@ impl<V: Vault> Vault for LoggedVault<'_, V> {
         let answer = self.vault.set_policy(policy);
         told(&self.journal, "set_policy", answer)
     }
+
+    fn maintain(&mut self) -> Result<(), VaultFault> {
+        let answer = self.vault.maintain();
+        told(&self.journal, "maintain", answer)
+    }
 }

@@ -63,14 +63,16 @@ heads_of (r ∷ rows) = ap (λ l. m.message_of r ∷ l) (heads_of rows)
 module _ (old new : State) (rows : List Row) (carried : is_carried old.now.trees ≡ true) (kept : IsKept old.now) (h : Shown st.old_messages_text ([]) old new rows) where
   pub old_messages_shows : map (λ r. m.message_of (column r 0 ∷ r)) rows ≡ map (λ (b : m.Body). b.head) (rows_in old.now.trees).bodies
   old_messages_shows =
-      everything_of (schema_of true) _ _ _ _ _ old_messages_asks (λ db. refl) old new _ rows (ours_carried old.now carried kept) h m.message_of (λ r. m.message_of (column r 0 ∷ r)) (bodies_keyed old.now carried kept) (λ r. refl) (λ r. refl)
+      everything_of (schema_of true) _ _ _ _ _ old_messages_asks (λ db. refl) old new _ rows (ours_carried old.now carried kept) h m.message_of
+      (λ r. m.message_of (column r 0 ∷ r)) (bodies_keyed old.now carried kept) (λ r. refl) (λ r. refl)
       ∙ heads_of (old.now.trees 10) ∙ ap (map (λ (b : m.Body). b.head)) (sym (bodies_are old.now.trees carried))
 
 module _ (old new : State) (key : ℤ) (rows : List Row) (carried : is_carried old.now.trees ≡ true) (kept : IsKept old.now) (h : Shown st.find_body_text (Int key ∷ []) old new rows) where
   pub find_body_shows : map (λ r. m.body_of (column r 0 ∷ r)) rows ≡ filter (m.is_body key) (rows_in old.now.trees).bodies
   find_body_shows =
       let keyed = bodies_keyed old.now carried kept in
-      listed_of (schema_of true) _ _ _ _ _ find_body_asks (λ db. refl) old new _ rows (ours_carried old.now carried kept) h m.body_of (λ r. m.body_of (column r 0 ∷ r)) (m.is_body key) keyed (λ r. refl)
+      listed_of (schema_of true) _ _ _ _ _ find_body_asks (λ db. refl) old new _ rows (ours_carried old.now carried kept) h m.body_of
+      (λ r. m.body_of (column r 0 ∷ r)) (m.is_body key) keyed (λ r. refl)
       (λ r has. and_true _ ∙ column_int (column r 0) key (id_is (old.now.trees 10) keyed r has)) ∙ ap (filter (m.is_body key)) (sym (bodies_are old.now.trees carried))
 
 -- each row can be read
@@ -113,8 +115,10 @@ clear_bodies_does limit s text tally after carried kept sound h =
 module _ (old new : State) (carried : is_carried old.now.trees ≡ true) (live : IsLive old) where
   pub clear_bodies_ok : (count : ℕ) → IsReady old → Executes st.clear_bodies_text ([]) old new (Ok count) → Changes (ch.ClearsBodies) old new
   clear_bodies_ok count ready h =
-      changes_in true st.clear_bodies_text ([]) clear_bodies_command clear_bodies_is clear_bodies_plain (λ e. cc) (λ n e. cc) (λ a b t n r. r) (ch.ClearsBodies) (clear_bodies_does) old new count carried ready live h
+      changes_in true st.clear_bodies_text ([]) clear_bodies_command clear_bodies_is clear_bodies_plain (λ e. cc) (λ n e. cc) (λ a b t n r. r)
+      (ch.ClearsBodies) (clear_bodies_does) old new count carried ready live h
 
   pub clear_bodies_commits : (db : Trees) → CommitsBy st.clear_bodies_text ([]) old db → MayLeave (ch.ClearsBodies) old db
   clear_bodies_commits db h =
-      commits_in true st.clear_bodies_text ([]) clear_bodies_command clear_bodies_is clear_bodies_plain (λ e. cc) (λ n e. cc) (λ a b t n r. r) (ch.ClearsBodies) (clear_bodies_does) old db carried live h
+      commits_in true st.clear_bodies_text ([]) clear_bodies_command clear_bodies_is clear_bodies_plain (λ e. cc) (λ n e. cc) (λ a b t n r. r)
+      (ch.ClearsBodies) (clear_bodies_does) old db carried live h

@@ -1,5 +1,6 @@
 -- DELETE of the rows of a table takes with it those that refer to them: sheets go with their message, members with their group.
-use Rattle.std.proofs.Common.{◌≡◌, ◌≢◌, ◌⊎◌, inl, inr, ℕ, zero, suc, ℤ, Bool, true, false, not, cond, List, [], ◌∷◌, ◌++◌, length, length-append, map, Ok, refl, sym, ap, subst, subst₂, ◌∙◌, arith, true≢false}
+use Rattle.std.proofs.Common.{◌≡◌, ◌≢◌, ◌⊎◌, inl, inr, ℕ, zero, suc, ℤ, Bool, true, false, not, cond, List, [], ◌∷◌, ◌++◌, length, length-append, map, Ok, refl, sym, ap, subst}
+use Rattle.std.proofs.Common.{subst₂, ◌∙◌, arith, true≢false}
 use Rattle.std.specs.List.{list_any}
 use Rattle.std.proofs.lemmas.Bool.{cases_Bool, or_parts, and_parts}
 use Rattle.sqlite_tied.specs.Compute.{everything}
@@ -184,7 +185,8 @@ module _ (carried : Bool) (table child : Table) (parent : List ℕ) (acting : Ac
       let edit = edit_of mid child (id ∷ ids) Given 0 [] in
       inr (subst (Applies (schema_of carried) Enforced mid edit) (settled (schema_of carried) n went.0 next (rw (acting.still (taken_by mid edit)) at went.2)) went.1)
 
-  ended : (db mid next : Trees) (edit : Edit) → Applies (schema_of carried) Enforced db edit mid → (n : ℕ) → Leads (schema_of carried) Enforced n mid (cascade child parent (taken_by db edit) ∷ []) (Ok next) → Cascaded db edit next
+  ended : (db mid next : Trees) (edit : Edit) → Applies (schema_of carried) Enforced db edit mid → (n : ℕ)
+      → Leads (schema_of carried) Enforced n mid (cascade child parent (taken_by db edit) ∷ []) (Ok next) → Cascaded db edit next
   ended db mid next edit first zero h = absurd (let e = h.0 in cc)
   ended db mid next edit first (suc n) h =
       let w = cascade child parent (taken_by db edit) in
@@ -236,14 +238,16 @@ module _ (carried : Bool) (table child : Table) (parent : List ℕ) (acting : Ac
     pub second : Frame carried child.tree mid next
     pub kept : AreKept (schema_of carried).tables next
 
-  pub swept : (db next : Trees) (gone : List ℤ) → AreKept (schema_of carried).tables db → Cascaded carried table child parent acting db (edit_of db table gone Given 0 []) next → Swept db (edit_of db table gone Given 0 []) next
+  pub swept : (db next : Trees) (gone : List ℤ) → AreKept (schema_of carried).tables db
+      → Cascaded carried table child parent acting db (edit_of db table gone Given 0 []) next → Swept db (edit_of db table gone Given 0 []) next
   swept db next gone kept c =
       let edit = edit_of db table gone Given 0 [] in
       let first = framed db c.mid edit acting.table_low c.first in
       let mid_kept = applied_kept db c.mid edit c.first kept in
       let same : c.mid child.tree ≡ db child.tree = acting.child_stays db c.mid first in
       let q = λ (r : Row). list_any (is_child_of (cascade child parent (taken_by db edit)) r) (pairs (taken_by db edit) []) in
-      let left : without_all (c.mid child.tree) c.ids ≡ filter (λ r. not (q r)) (db child.tree) = without_ids c.ids (c.mid child.tree) q (acting.keyed c.mid mid_kept) c.children.sound c.children.complete ∙ ap (filter (λ r. not (q r))) same in
+      let left : without_all (c.mid child.tree) c.ids ≡ filter (λ r. not (q r)) (db child.tree) =
+      without_ids c.ids (c.mid child.tree) q (acting.keyed c.mid mid_kept) c.children.sound c.children.complete ∙ ap (filter (λ r. not (q r))) same in
       elim c.rest as (λ _. Swept db edit next) [
         | inl none ↦
             let now = none.1 in
@@ -267,7 +271,8 @@ module _ (carried : Bool) (table child : Table) (parent : List ℕ) (acting : Ac
             }
       ]
 
-pub messages_swept : (db mid next : Trees) → Frame (is_carried db) (mail_tree (is_carried db)) db mid → Frame (is_carried db) 15 mid next → rows_in next ≡ record (rows_in db) { messages = map message_of (next (mail_tree (is_carried db))); sheets = map sheet_of (next 15) }
+pub messages_swept : (db mid next : Trees) → Frame (is_carried db) (mail_tree (is_carried db)) db mid → Frame (is_carried db) 15 mid next
+    → rows_in next ≡ record (rows_in db) { messages = map message_of (next (mail_tree (is_carried db))); sheets = map sheet_of (next 15) }
 messages_swept db mid next a b =
     let same : is_carried next ≡ is_carried db = b.same ∙ a.same in
     let meta : next 0 ≡ db 0 = b.meta (λ e. absurd (omega arith)) ∙ a.meta (mail_apart (is_carried db) 0 (λ e. absurd (omega arith)) (λ e. absurd (omega arith))) in
@@ -281,7 +286,8 @@ messages_swept db mid next a b =
     let bodies = b.bodies (λ c e. absurd (omega arith)) ∙ a.bodies (not_bodies (is_carried db)) in
     rw (same, meta, clerks, maildrops, counts, deposits, rules, groups, members, bodies)
 
-pub groups_swept : (db mid next : Trees) → Frame (is_carried db) 17 db mid → Frame (is_carried db) 19 mid next → rows_in next ≡ record (rows_in db) { groups = map group_of (next 17); members = map member_of (next 19) }
+pub groups_swept : (db mid next : Trees) → Frame (is_carried db) 17 db mid → Frame (is_carried db) 19 mid next
+    → rows_in next ≡ record (rows_in db) { groups = map group_of (next 17); members = map member_of (next 19) }
 groups_swept db mid next a b =
     let same : is_carried next ≡ is_carried db = b.same ∙ a.same in
     let meta : next 0 ≡ db 0 = b.meta (λ e. absurd (omega arith)) ∙ a.meta (λ e. absurd (omega arith)) in
@@ -291,7 +297,8 @@ groups_swept db mid next a b =
     let deposits : next 8 ≡ db 8 = b.deposits (λ e. absurd (omega arith)) ∙ a.deposits (λ e. absurd (omega arith)) in
     let rules : next 13 ≡ db 13 = b.rules (λ e. absurd (omega arith)) ∙ a.rules (λ e. absurd (omega arith)) in
     let sheets : next 15 ≡ db 15 = b.sheets (λ e. absurd (omega arith)) ∙ a.sheets (λ e. absurd (omega arith)) in
-    let mail : next (mail_tree (is_carried db)) ≡ db (mail_tree (is_carried db)) = b.mail (not_mail (is_carried db) 19 (λ e. absurd (omega arith)) (λ e. absurd (omega arith))) ∙ a.mail (not_mail (is_carried db) 17 (λ e. absurd (omega arith)) (λ e. absurd (omega arith))) in
+    let mail : next (mail_tree (is_carried db)) ≡ db (mail_tree (is_carried db)) = b.mail (not_mail (is_carried db) 19 (λ e. absurd (omega arith)) (λ e. absurd (omega arith)))
+    ∙ a.mail (not_mail (is_carried db) 17 (λ e. absurd (omega arith)) (λ e. absurd (omega arith))) in
     let bodies = b.bodies (λ c e. absurd (omega arith)) ∙ a.bodies (λ c e. absurd (omega arith)) in
     rw (same, meta, clerks, maildrops, counts, deposits, rules, sheets, mail, bodies)
 
@@ -340,7 +347,8 @@ module _ (rows shown : List Row) (p : Row → Bool) (keyed : AreKeyed rows) (sam
       subst (Has (map (row_at rows) (ids_of shown))) (at_id y (has_filtered p rows y h).0) (has_mapped (row_at rows) (ids_of shown) (id_in (rowid y)) id)
 
   -- a row is a child of the rows that were taken if its number is that of one that passes
-  pub child_is : {X : Type 0} (child : Table) (parent : List ℕ) (f : Row → X) (q : X → Bool) (key : X → ℤ) (r : Row) (m : ℤ) → column r 1 ≡ Int m → ((y : Row) → Has rows y → p y ≡ q (f y)) → ((y : Row) → id_in (rowid y) ≡ key (f y))
+  pub child_is : {X : Type 0} (child : Table) (parent : List ℕ) (f : Row → X) (q : X → Bool) (key : X → ℤ) (r : Row) (m : ℤ) → column r 1 ≡ Int m
+      → ((y : Row) → Has rows y → p y ≡ q (f y)) → ((y : Row) → id_in (rowid y) ≡ key (f y))
       → list_any (is_child_of (cascade child parent (map (row_at rows) (ids_of shown))) r) (pairs (map (row_at rows) (ids_of shown)) []) ≡ list_any (λ x. q x && same_int m (key x)) (map f rows)
   child_is child parent f q key r m number passes keys =
       let olds = map (row_at rows) (ids_of shown) in
@@ -350,7 +358,8 @@ module _ (rows shown : List Row) (p : Row → Bool) (keyed : AreKeyed rows) (sam
       let move = pairs_have olds it.0 it.1 in
       let y = move.0 in
       let there = has_filtered p rows y (taken_pass y move.1) in
-      let is : same_int m (id_in (rowid y)) ≡ true = sym (child_at child parent olds r y m (id_in (rowid y)) number (row_id y there.0)) ∙ ap (is_child_of (cascade child parent olds) r) (sym move.2) ∙ it.2 in
+      let is : same_int m (id_in (rowid y)) ≡ true = sym (child_at child parent olds r y m (id_in (rowid y)) number (row_id y there.0))
+      ∙ ap (is_child_of (cascade child parent olds) r) (sym move.2) ∙ it.2 in
       some_from (λ x. q x && same_int m (key x)) (map f rows) (f y) (has_mapped f rows y there.0) (and_from _ _ (sym (passes y there.0) ∙ there.1) (ap (same_int m) (sym (keys y)) ∙ is)))
       (λ some.
       let it = some_has (λ x. q x && same_int m (key x)) (map f rows) some in
@@ -359,4 +368,5 @@ module _ (rows shown : List Row) (p : Row → Bool) (keyed : AreKeyed rows) (sam
       let both = and_parts _ _ it.2 in
       let pass : p y ≡ true = passes y from.1 ∙ ap q (sym from.2) ∙ both.0 in
       let is : same_int m (id_in (rowid y)) ≡ true = ap (same_int m) (keys y ∙ ap key (sym from.2)) ∙ both.1 in
-      some_from (is_child_of (cascade child parent olds) r) (pairs olds []) (y, []) (have_pairs olds y (pass_taken y (has_kept p rows y from.1 pass))) (child_at child parent olds r y m (id_in (rowid y)) number (row_id y from.1) ∙ is))
+      some_from (is_child_of (cascade child parent olds) r) (pairs olds []) (y, []) (have_pairs olds y (pass_taken y (has_kept p rows y from.1 pass)))
+      (child_at child parent olds r y m (id_in (rowid y)) number (row_id y from.1) ∙ is))

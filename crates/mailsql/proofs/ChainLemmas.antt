@@ -4,7 +4,8 @@ use Rattle.sqlite.specs.State.{State, HasCleanDisk, Survives}
 use Rattle.sqlite.proofs.StateLemmas.{survives_weaker, survives_then}
 use Rattle.mailsql.specs.Rows.{Rows, IsReady, Changes, MayLeave, IsUndone, IsHalted}
 
-committed_then : (b : Bool) (first mid last : State) → first.in_transaction ≡ b → mid.in_transaction ≡ b → mid.committed ≡ cond first.in_transaction first.committed mid.now → last.committed ≡ cond mid.in_transaction mid.committed last.now
+committed_then : (b : Bool) (first mid last : State) → first.in_transaction ≡ b → mid.in_transaction ≡ b
+    → mid.committed ≡ cond first.in_transaction first.committed mid.now → last.committed ≡ cond mid.in_transaction mid.committed last.now
     → last.committed ≡ cond first.in_transaction first.committed last.now
 committed_then true first mid last p q a b = (rw q at b) ∙ (rw p at a) ∙ (λ i. cond (sym p i) first.committed last.now)
 committed_then false first mid last p q a b = (rw q at b) ∙ (λ i. cond (sym p i) first.committed last.now)
@@ -25,7 +26,8 @@ module _ (P Q R : Rows → Rows → Type 0) (both : (a b c : Rows) → P a b →
         };
       }
 
-  pub stops_then : (HasCleanDisk mid → IsReady first → Changes P first mid) → Survives first mid (MayLeave P first) → Survives mid last (MayLeave Q mid) → Survives first last (MayLeave (λ a b. P a b ⊎ R a b) first)
+  pub stops_then : (HasCleanDisk mid → IsReady first → Changes P first mid) → Survives first mid (MayLeave P first)
+      → Survives mid last (MayLeave Q mid) → Survives first last (MayLeave (λ a b. P a b ⊎ R a b) first)
   stops_then does one two =
       survives_then first mid last _ _ _ (λ _ db may ready. let it = may ready in (it.0, inl it.1))
       (λ clean db may ready.

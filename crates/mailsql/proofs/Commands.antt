@@ -7,7 +7,8 @@ use Rattle.sqlite.proofs.Callers.{IsPlain, command_of}
 use Rattle.mailsql.specs.Tables.{schema_of, mail_place}
 use Rattle.mailsql.proofs.Statements as s
 
-pub find_maildrop_is : (c : Bool) → (command_of (understood (schema_of c) s.find_maildrop_text) ≡ s.select_of s.find_maildrop_query (codes "name" ∷ [])) × (reads_listing (schema_of c) s.find_maildrop_text ≡ false)
+pub find_maildrop_is : (c : Bool)
+    → (command_of (understood (schema_of c) s.find_maildrop_text) ≡ s.select_of s.find_maildrop_query (codes "name" ∷ [])) × (reads_listing (schema_of c) s.find_maildrop_text ≡ false)
 unfolding understood everything
 find_maildrop_is false = (refl, refl)
 find_maildrop_is true = (refl, refl)

@@ -131,25 +131,38 @@ none_yet carried s b is = record {
 }
 
 -- the next
-pub completes_next : (carried : Bool) (at next : ℕ) → next ≡ suc at → at < length (lacked_texts carried) → (first old new : State) (count : ℕ) → Completing carried at first old → Executes (lacked_text carried at) [] old new (Ok count) → Completing carried next first new
+pub completes_next : (carried : Bool) (at next : ℕ) → next ≡ suc at → at < length (lacked_texts carried) → (first old new : State) (count : ℕ)
+    → Completing carried at first old → Executes (lacked_text carried at) [] old new (Ok count) → Completing carried next first new
 completes_next carried at next is low first old new count so h =
     let step = step_at carried at low in
     let r = step.reads in
-    let w = subst (λ txt. Writes old new None CreateTable txt [] count) r.statement (runs_as (lacked_text carried at) [] old new (old_stage carried at) so.schema CreateTable r.command r.plain count h) in
+    let w = subst (λ txt. Writes old new None CreateTable txt [] count) r.statement
+    (runs_as (lacked_text carried at) [] old new (old_stage carried at) so.schema CreateTable r.command r.plain count h) in
     let g = grows (lacked_text carried at) step.made (old_stage carried at) r old.step_limit old w.tally new.now so.schema w.changed step.still in
-    let keeps = behind (λ t. new.now.trees t.tree ≡ old.now.trees t.tree) (old_schema carried).tables (fresh_tables carried at) (subst (λ ts. KeepsRows ts old.now.trees new.now.trees) step.tables g.others) in
+    let keeps = behind (λ t. new.now.trees t.tree ≡ old.now.trees t.tree) (old_schema carried).tables (fresh_tables carried at)
+    (subst (λ ts. KeepsRows ts old.now.trees new.now.trees) step.tables g.others) in
     subst (λ n. Completing carried n first new) (sym is) (record {
       schema = g.schema ∙ sym step.next;
       others = keeps_then (old_schema carried).tables first.now.trees old.now.trees new.now.trees so.others keeps.0;
-      fresh = subst (λ ts. AreEmpty ts new.now.trees) (sym step.fresh) (one_more (fresh_tables carried at) (record step.made { tree = next_tree (old_stage carried at) }) old.now.trees new.now.trees g.empty keeps.1 so.fresh);
-      on = record { was_open = so.on.was_open; is_open = w.shown.is_open; now_is = refl; committed_is = (rw so.on.mode at w.shown.committed_is) ∙ so.on.committed_is; mode = w.shown.mode ∙ so.on.mode };
+      fresh = subst (λ ts. AreEmpty ts new.now.trees) (sym step.fresh)
+          (one_more (fresh_tables carried at) (record step.made { tree = next_tree (old_stage carried at) }) old.now.trees new.now.trees g.empty keeps.1 so.fresh);
+      on = record {
+        was_open = so.on.was_open;
+        is_open = w.shown.is_open;
+        now_is = refl;
+        committed_is = (rw so.on.mode at w.shown.committed_is)
+            ∙ so.on.committed_is;
+        mode = w.shown.mode ∙ so.on.mode;
+      };
     })
 
 -- inside a transaction nothing is committed
-pub completes_none : (carried : Bool) (at : ℕ) → at < length (lacked_texts carried) → (first old : State) (db : Trees) → Completing carried at first old → ¬ CommitsBy (lacked_text carried at) [] old db
+pub completes_none : (carried : Bool) (at : ℕ) → at < length (lacked_texts carried) → (first old : State) (db : Trees)
+    → Completing carried at first old → ¬ CommitsBy (lacked_text carried at) [] old db
 completes_none carried at low first old db so h =
     let r = (step_at carried at low).reads in
-    go (commits_as [] (lacked_text carried at) CreateTable old db (ap (λ sch. command_of (understood sch (lacked_text carried at))) so.schema ∙ r.command) (subst (λ sch. IsPlain (understood sch (lacked_text carried at))) (sym so.schema) r.plain) h)
+    go (commits_as [] (lacked_text carried at) CreateTable old db
+    (ap (λ sch. command_of (understood sch (lacked_text carried at))) so.schema ∙ r.command) (subst (λ sch. IsPlain (understood sch (lacked_text carried at))) (sym so.schema) r.plain) h)
   where
     go : MayCommit old None CreateTable (statement_of (lacked_text carried at) (understood old.now.schema (lacked_text carried at))) [] db → ⊥
     go (inl (inl is, same)) = cc
@@ -168,17 +181,20 @@ unfolding everything
 all_tables false = refl
 all_tables true = refl
 
-rows_completed : (carried : Bool) (old new : Trees) → KeepsRows (old_schema carried).tables old new → AreEmpty (fresh_tables carried (length (lacked_texts carried))) new → rows_at carried new ≡ completed carried (rows_at carried old)
+rows_completed : (carried : Bool) (old new : Trees) → KeepsRows (old_schema carried).tables old new
+    → AreEmpty (fresh_tables carried (length (lacked_texts carried))) new → rows_at carried new ≡ completed carried (rows_at carried old)
 rows_completed false old new k e = rw (k.0, k.1.0, k.1.1.0, k.1.1.1.0, k.1.1.1.1.0, k.1.1.1.1.1.0, k.1.1.1.1.1.1.1.0, k.1.1.1.1.1.1.1.1.0, e.0, e.1.0) refl
 rows_completed true old new k e = rw (k.0, k.1.0, k.1.1.0, k.1.1.1.0, k.1.1.1.1.0, k.1.1.1.1.1.0, k.1.1.1.1.1.1.1.0, e.0, e.1.0, e.1.1.0, e.1.1.1.0) refl
 
-pub all_completed : (carried : Bool) (first new : State) → IsLive new → IsBegunOn first → is_carried first.now.trees ≡ carried → Completing carried (length (lacked_texts carried)) first new → CompletesTables first new
+pub all_completed : (carried : Bool) (first new : State) → IsLive new → IsBegunOn first → is_carried first.now.trees ≡ carried
+    → Completing carried (length (lacked_texts carried)) first new → CompletesTables first new
 all_completed carried first new live begun is so =
     let schema : new.now.schema ≡ schema_of carried = so.schema ∙ last_is carried in
     let now : is_carried new.now.trees ≡ carried = carried_is carried new.now schema (live so.on.is_open).0 in
     let old_kept = kept_still (old_schema carried).tables first.now.trees new.now.trees so.others (subst (λ c. AreKept (old_schema c).tables first.now.trees) is begun.old.1) in
     let fresh = keyed_none (fresh_tables carried (length (lacked_texts carried))) new.now.trees so.fresh in
-    let kept = subst (λ ts. AreKept ts new.now.trees) (sym (all_tables carried)) (joined (λ t. AreKeyed (new.now.trees t.tree)) (old_schema carried).tables (fresh_tables carried (length (lacked_texts carried))) old_kept fresh) in
+    let kept = subst (λ ts. AreKept ts new.now.trees) (sym (all_tables carried))
+    (joined (λ t. AreKeyed (new.now.trees t.tree)) (old_schema carried).tables (fresh_tables carried (length (lacked_texts carried))) old_kept fresh) in
     let rows : rows_in new.now.trees ≡ completed (is_carried first.now.trees) (rows_in first.now.trees) =
     ap (λ c. rows_at c new.now.trees) now ∙ rows_completed carried first.now.trees new.now.trees so.others so.fresh ∙ (λ i. completed (sym is i) (rows_at (sym is i) first.now.trees)) in
     record {

@@ -46,7 +46,8 @@ one_row order [] all = absurd all
 one_row order (row ∷ []) all = ap (λ r. r ∷ []) (summary_is order row all.0)
 one_row order (row ∷ other ∷ more) all = absurd all.1
 
-pub counted : (from : Join) (terms : List Term) (db : Trees) (params : Row) (rows : List Row) → IsAnswer (count_of from terms) db params rows → rows ≡ (count (length (matches db terms from (params ∷ []))) ∷ []) ∷ []
+pub counted : (from : Join) (terms : List Term) (db : Trees) (params : Row) (rows : List Row) → IsAnswer (count_of from terms) db params rows
+    → rows ≡ (count (length (matches db terms from (params ∷ []))) ∷ []) ∷ []
 counted from terms db params rows a =
     let g = a.grouped in
     let order = g.grouping.0 in
@@ -76,7 +77,8 @@ unfolding QueriesRow
 row_open sql params old new row (inl h) = h.1.0.was_open
 row_open sql params old new row (inr h) = shown_open sql params old new _ h.1
 
-module _ (sql : List ℕ) (at : (carried : Bool) → ℕ) (terms : List Term) (tallies : (c : Bool) → Tallies (schema_of c) sql (at c) terms) (placed : (c : Bool) (db : Trees) → overlay db [] (at c) ≡ db (at c)) (old new : State) (params : Row) (tables : HasTables old) where
+module _ (sql : List ℕ) (at : (carried : Bool) → ℕ) (terms : List Term) (tallies : (c : Bool) → Tallies (schema_of c) sql (at c) terms)
+    (placed : (c : Bool) (db : Trees) → overlay db [] (at c) ≡ db (at c)) (old new : State) (params : Row) (tables : HasTables old) where
   abbrev c : Bool
   c = is_carried old.now.trees
 
@@ -113,7 +115,8 @@ module _ (sql : List ℕ) (at : (carried : Bool) → ℕ) (terms : List Term) (t
     tallied =
         let first = (first_as sql params old new (schema_of c) tallied_kept.0 _ (tallies c).is.0 (tallies c).plain (tallies c).is.1 row h).1 in
         let all = counted (inner (at c) end) terms (overlay old.now.trees []) params _ (first.1 Null) in
-        let some = ap length (flat_if (passes params terms) (λ r. params ∷ r ∷ []) (overlay old.now.trees [] (at c))) ∙ length-map _ _ ∙ ap (λ l. length (filter (passes params terms) l)) (placed c old.now.trees) in
+        let some = ap length (flat_if (passes params terms) (λ r. params ∷ r ∷ []) (overlay old.now.trees [] (at c))) ∙ length-map _ _
+        ∙ ap (λ l. length (filter (passes params terms) l)) (placed c old.now.trees) in
         one_of _ _ _ _ all ∙ ap (λ n. count n ∷ []) some
 
 -- the rows that pass are as many as the records that pass
@@ -127,11 +130,14 @@ same_number : (x y : ℕ) → Int (pos x) ≡ Int (pos y) → x ≡ y
 same_number x y e = cc
 
 -- the number that is read of the answer
-pub reads_count : (row : Row) (m n : ℕ) → row ≡ count m ∷ [] → m ≡ n → (r : Result ℕ Error) → IfOk r (λ x. (0 < length row) × (column row 0 ≡ Int (pos x))) → IfOk r (λ x. x ≡ min n 9223372036854775807)
-reads_count row m n is same r h = if_ok r _ _ (λ (x : ℕ) (it : (0 < length row) × (column row 0 ≡ Int (pos x))). same_number _ _ (sym it.1 ∙ ap (λ l. column l 0) is) ∙ ap (λ k. min k 9223372036854775807) same) h
+pub reads_count : (row : Row) (m n : ℕ) → row ≡ count m ∷ [] → m ≡ n → (r : Result ℕ Error)
+    → IfOk r (λ x. (0 < length row) × (column row 0 ≡ Int (pos x))) → IfOk r (λ x. x ≡ min n 9223372036854775807)
+reads_count row m n is same r h =
+    if_ok r _ _ (λ (x : ℕ) (it : (0 < length row) × (column row 0 ≡ Int (pos x))). same_number _ _ (sym it.1 ∙ ap (λ l. column l 0) is) ∙ ap (λ k. min k 9223372036854775807) same) h
 
 -- what the reading of a count makes of its row
-module _ (sql : List ℕ) (at : (carried : Bool) → ℕ) (terms : List Term) (tallies : (c : Bool) → Tallies (schema_of c) sql (at c) terms) (placed : (c : Bool) (db : Trees) → overlay db [] (at c) ≡ db (at c)) (old new : State) (params : Row) (tables : HasTables old) where
+module _ (sql : List ℕ) (at : (carried : Bool) → ℕ) (terms : List Term) (tallies : (c : Bool) → Tallies (schema_of c) sql (at c) terms)
+    (placed : (c : Bool) (db : Trees) → overlay db [] (at c) ≡ db (at c)) (old new : State) (params : Row) (tables : HasTables old) where
   abbrev Counts : ℕ → Type 0
   Counts n = (row : Row) × QueriesRow sql params old new (Ok row) × (0 < length row) × (column row 0 ≡ Int (pos n))
 
@@ -149,6 +155,8 @@ module _ (sql : List ℕ) (at : (carried : Bool) → ℕ) (terms : List Term) (t
   counted_fails (Err e) (inl fails) = inl (row_fails sql at terms tallies placed old new params tables e fails)
   counted_fails (Err e) (inr it) = inr (it.2 _ (ap (λ l. column l 0) (tallied sql at terms tallies placed old new params tables it.0 it.1)), it.0, it.1)
 
-  pub counted_is : (k : ℕ) (r : Result ℕ Error) → ((row : Row) → QueriesRow sql params old new (Ok row) → length (filter (passes params terms) (old.now.trees (at (is_carried old.now.trees)))) ≡ k) → IfOk r Counts → IfOk r (λ x. x ≡ min k 9223372036854775807)
+  pub counted_is : (k : ℕ) (r : Result ℕ Error)
+      → ((row : Row) → QueriesRow sql params old new (Ok row) → length (filter (passes params terms) (old.now.trees (at (is_carried old.now.trees)))) ≡ k)
+      → IfOk r Counts → IfOk r (λ x. x ≡ min k 9223372036854775807)
   counted_is k (Ok n) is it = reads_count it.0 _ k (tallied sql at terms tallies placed old new params tables it.0 it.1) (is it.0 it.1) (Ok n) (it.2, it.3)
   counted_is k (Err e) is it = tt

@@ -16,11 +16,11 @@ use Rattle.sqlite.specs.Listing.{understood}
 use Rattle.sqlite.specs.State.{State, IsLive, mode_of, Executes, CommitsBy, Shown}
 use Rattle.sqlite.proofs.Callers.{IsPlain, command_of}
 use Rattle.mailsql.specs.Tables as tables
-use Rattle.mailsql.specs.Tables.{schema_of, to_mail}
+use Rattle.mailsql.specs.Tables.{schema_of}
 use Rattle.mailsql.proofs.Statements as st
 use Rattle.mailsql.specs.Rows as m
 use Rattle.mailsql.specs.Changes as ch
-use Rattle.mailsql.specs.Rows.{Name, Rows, is_carried, rows_in, IsKept, IsReady, MayLeave, Changes, same_int}
+use Rattle.mailsql.specs.Rows.{Name, Rows, is_carried, rows_in, IsKept, IsReady, MayLeave, Changes}
 use Rattle.mailsql.proofs.RowLemmas.{next_last, appended}
 use Rattle.mailsql.proofs.WriteLemmas.{inserted}
 use Rattle.mailsql.proofs.KeptLemmas.{applied_kept, keyed_apart}
@@ -51,7 +51,8 @@ add_count_tail : Name → Name → ℤ → Row
 add_count_tail maildrop class k = Text maildrop ∷ Text class ∷ Int k ∷ []
 
 add_count_does : (maildrop : Name) (class : Name) (k : ℤ) (limit : Option ℕ) (s : State) (text : List ℕ) (tally : Tally) (after : Database) → IsKept s.now → IsDatabase s.now
-    → Does limit (mode_of s) (Text maildrop ∷ Text class ∷ Int k ∷ []) s.now text None st.add_count_command (Ok (tally, after)) → ch.AddsCount (record { maildrop = maildrop; class = class; k = k }) (rows_in s.now.trees) (rows_in after.trees) × IsKept after
+    → Does limit (mode_of s) (Text maildrop ∷ Text class ∷ Int k ∷ []) s.now text None st.add_count_command (Ok (tally, after))
+    → ch.AddsCount (record { maildrop = maildrop; class = class; k = k }) (rows_in s.now.trees) (rows_in after.trees) × IsKept after
 unfolding add_count_tail
 add_count_does maildrop class k limit s text tally after kept sound h =
     let db = s.now.trees in
@@ -62,19 +63,24 @@ add_count_does maildrop class k limit s text tally after kept sound h =
     let tail = add_count_tail maildrop class k in
     let rows : next 6 ≡ put_row (Int (next_rowid (db 6)) ∷ tail) (db 6) = simp (cast_null, cast_int) at made.1.rows in
     let last = rows ∙ next_last Chosen tail (db 6) kept.1.1.1.1.0 in
-    let change = frame.counts_alone db next (framed db next _ (λ e. absurd (omega arith)) made.1) ∙ ap (λ l. let r : Rows = record (rows_in db) { counts = l } in r) (appended m.count_of (db 6) (next 6) (Int (next_rowid (db 6)) ∷ tail) last) in (
+    let change = frame.counts_alone db next (framed db next _ (λ e. absurd (omega arith)) made.1)
+    ∙ ap (λ l. let r : Rows = record (rows_in db) { counts = l } in r) (appended m.count_of (db 6) (next 6) (Int (next_rowid (db 6)) ∷ tail) last) in (
       ap (λ (d : Database). rows_in d.trees) made.2 ∙ change,
       kept_framed db next after made.2 (framed db next _ (λ e. absurd (omega arith)) made.1).same (applied_kept db next _ made.1 kept.1),
     )
 
 module _ (old new : State) (maildrop : Name) (class : Name) (k : ℤ) (live : IsLive old) where
-  pub add_count_ok : (count : ℕ) → IsReady old → Executes st.add_count_text (Text maildrop ∷ Text class ∷ Int k ∷ []) old new (Ok count) → Changes (ch.AddsCount (record { maildrop = maildrop; class = class; k = k })) old new
+  pub add_count_ok : (count : ℕ) → IsReady old → Executes st.add_count_text (Text maildrop ∷ Text class ∷ Int k ∷ []) old new (Ok count)
+      → Changes (ch.AddsCount (record { maildrop = maildrop; class = class; k = k })) old new
   add_count_ok count ready h =
-      changes st.add_count_text (Text maildrop ∷ Text class ∷ Int k ∷ []) (λ _. st.add_count_command) add_count_is add_count_plain (λ c e. cc) (λ c n e. cc) (λ c a b t n r. r) (ch.AddsCount (record { maildrop = maildrop; class = class; k = k })) (add_count_does maildrop class k) old new count ready live h
+      changes st.add_count_text (Text maildrop ∷ Text class ∷ Int k ∷ []) (λ _. st.add_count_command) add_count_is add_count_plain (λ c e. cc)
+      (λ c n e. cc) (λ c a b t n r. r) (ch.AddsCount (record { maildrop = maildrop; class = class; k = k })) (add_count_does maildrop class k) old new count ready live h
 
-  pub add_count_commits : (db : Trees) → CommitsBy st.add_count_text (Text maildrop ∷ Text class ∷ Int k ∷ []) old db → MayLeave (ch.AddsCount (record { maildrop = maildrop; class = class; k = k })) old db
+  pub add_count_commits : (db : Trees) → CommitsBy st.add_count_text (Text maildrop ∷ Text class ∷ Int k ∷ []) old db
+      → MayLeave (ch.AddsCount (record { maildrop = maildrop; class = class; k = k })) old db
   add_count_commits db h =
-      commits st.add_count_text (Text maildrop ∷ Text class ∷ Int k ∷ []) (λ _. st.add_count_command) add_count_is add_count_plain (λ c e. cc) (λ c n e. cc) (λ c a b t n r. r) (ch.AddsCount (record { maildrop = maildrop; class = class; k = k })) (add_count_does maildrop class k) old db live h
+      commits st.add_count_text (Text maildrop ∷ Text class ∷ Int k ∷ []) (λ _. st.add_count_command) add_count_is add_count_plain (λ c e. cc)
+      (λ c n e. cc) (λ c a b t n r. r) (ch.AddsCount (record { maildrop = maildrop; class = class; k = k })) (add_count_does maildrop class k) old db live h
 
 abbrev pub clear_count_command : Command
 clear_count_command = Delete 3 (record { lets = []; body = st.clear_count_query })
@@ -90,7 +96,8 @@ clear_count_plain false = (refl, refl)
 clear_count_plain true = (refl, refl)
 
 clear_count_does : (maildrop : Name) (class : Name) (limit : Option ℕ) (s : State) (text : List ℕ) (tally : Tally) (after : Database) → IsKept s.now → IsDatabase s.now
-    → Does limit (mode_of s) (Text maildrop ∷ Text class ∷ []) s.now text None clear_count_command (Ok (tally, after)) → ch.ClearsCount maildrop class (rows_in s.now.trees) (rows_in after.trees) × IsKept after
+    → Does limit (mode_of s) (Text maildrop ∷ Text class ∷ []) s.now text None clear_count_command (Ok (tally, after))
+    → ch.ClearsCount maildrop class (rows_in s.now.trees) (rows_in after.trees) × IsKept after
 clear_count_does maildrop class limit s text tally after kept sound h =
     let db = s.now.trees in
     let params = Text maildrop ∷ Text class ∷ [] in
@@ -100,7 +107,9 @@ clear_count_does maildrop class limit s text tally after kept sound h =
     let it = removed limit (schema_of (is_carried db)) (tables.counts_at 6) params 3 terms db tally after (still.still_counts (is_carried db)) refl here in
     let same = shown_rows 6 terms (col 1 0 ∷ []) [] db params it.0 (record { ordered = it.1.ordered; same = it.1.same; sorted = it.1.sorted; shown = it.1.shown }) in
     let rows = it.4 ∙ without_shown (db 6) (passes params terms) it.0 (keyed_apart (db 6) keyed, keyed.1) same in
-    let left = ap (map m.count_of) rows ∙ kept_map m.count_of (passes params terms) (m.is_count maildrop class) (db 6) (λ r has. let it = typed.counts_typed s.now kept.0 sound r has in ap₂ ◌&&◌ (column_text (column r 1) maildrop it.0) (and_true _ ∙ column_text (column r 2) class it.1)) in
+    let left = ap (map m.count_of) rows
+    ∙ kept_map m.count_of (passes params terms) (m.is_count maildrop class) (db 6)
+    (λ r has. let it = typed.counts_typed s.now kept.0 sound r has in ap₂ ◌&&◌ (column_text (column r 1) maildrop it.0) (and_true _ ∙ column_text (column r 2) class it.1)) in
     let change = frame.counts_alone db it.2 (framed db it.2 _ (λ e. absurd (omega arith)) it.3) ∙ ap (λ l. let r : Rows = record (rows_in db) { counts = l } in r) left in (
       ap (λ (d : Database). rows_in d.trees) it.5 ∙ change,
       kept_framed db it.2 after it.5 (framed db it.2 _ (λ e. absurd (omega arith)) it.3).same (applied_kept db it.2 _ it.3 kept.1),
@@ -109,11 +118,13 @@ clear_count_does maildrop class limit s text tally after kept sound h =
 module _ (old new : State) (maildrop : Name) (class : Name) (live : IsLive old) where
   pub clear_count_ok : (count : ℕ) → IsReady old → Executes st.clear_count_text (Text maildrop ∷ Text class ∷ []) old new (Ok count) → Changes (ch.ClearsCount maildrop class) old new
   clear_count_ok count ready h =
-      changes st.clear_count_text (Text maildrop ∷ Text class ∷ []) (λ _. clear_count_command) clear_count_is clear_count_plain (λ c e. cc) (λ c n e. cc) (λ c a b t n r. r) (ch.ClearsCount maildrop class) (clear_count_does maildrop class) old new count ready live h
+      changes st.clear_count_text (Text maildrop ∷ Text class ∷ []) (λ _. clear_count_command) clear_count_is clear_count_plain (λ c e. cc)
+      (λ c n e. cc) (λ c a b t n r. r) (ch.ClearsCount maildrop class) (clear_count_does maildrop class) old new count ready live h
 
   pub clear_count_commits : (db : Trees) → CommitsBy st.clear_count_text (Text maildrop ∷ Text class ∷ []) old db → MayLeave (ch.ClearsCount maildrop class) old db
   clear_count_commits db h =
-      commits st.clear_count_text (Text maildrop ∷ Text class ∷ []) (λ _. clear_count_command) clear_count_is clear_count_plain (λ c e. cc) (λ c n e. cc) (λ c a b t n r. r) (ch.ClearsCount maildrop class) (clear_count_does maildrop class) old db live h
+      commits st.clear_count_text (Text maildrop ∷ Text class ∷ []) (λ _. clear_count_command) clear_count_is clear_count_plain (λ c e. cc)
+      (λ c n e. cc) (λ c a b t n r. r) (ch.ClearsCount maildrop class) (clear_count_does maildrop class) old db live h
 
 pub find_count_asks : (c : Bool) → Asks (schema_of c) st.find_count_text 6 st.find_count_terms st.count_columns st.count_names
 unfolding understood everything

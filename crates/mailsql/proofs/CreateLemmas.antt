@@ -40,7 +40,8 @@ pub record Grows (before : Schema) (made : Table) (old new : Database) : Type 0 
 
 module _ (text : List ℕ) (made : Table) (before : Schema) (is : Makes text made before) where
   -- a table with no AUTOINCREMENT, or not the first
-  pub grows : (limit : Option ℕ) (s : State) (tally : Tally) (after : Database) → s.now.schema ≡ before → Does limit (mode_of s) [] s.now text None CreateTable (Ok (tally, after)) → lacks_sequence (created before made) ≡ false → Grows before made s.now after
+  pub grows : (limit : Option ℕ) (s : State) (tally : Tally) (after : Database) → s.now.schema ≡ before
+      → Does limit (mode_of s) [] s.now text None CreateTable (Ok (tally, after)) → lacks_sequence (created before made) ≡ false → Grows before made s.now after
   grows limit s tally after ours h still =
       let all = went h in
       let first = went all.1 in
@@ -144,7 +145,8 @@ lacks = record { meta = refl; clerks = refl; maildrops = refl; counts = refl; de
 -- ---- one text after another
 
 abbrev DoesAt : ℕ → Type 1
-DoesAt at = (limit : Option ℕ) (s : State) (tally : Tally) (after : Database) → IsBare (stage at) s.now → Does limit (mode_of s) [] s.now (create_text at) None CreateTable (Ok (tally, after)) → IsBare (stage (suc at)) after
+DoesAt at = (limit : Option ℕ) (s : State) (tally : Tally) (after : Database) → IsBare (stage at) s.now
+    → Does limit (mode_of s) [] s.now (create_text at) None CreateTable (Ok (tally, after)) → IsBare (stage (suc at)) after
 
 does_at : (at : ℕ) → at < 10 → DoesAt at
 does_at zero low limit s tally after bare h = makes_one _ _ _ meta_makes limit s tally after bare h lacks.meta
@@ -165,7 +167,8 @@ pub record Reads (at : ℕ) : Type 0 where
   pub plain : IsPlain (understood (stage at) (create_text at))
 
 read_as : (text : List ℕ) (made : Table) (at : ℕ) → create_text at ≡ text → Makes text made (stage at) → Reads at
-read_as text made at is m = subst (λ txt. (command_of (understood (stage at) txt) ≡ CreateTable) → (statement_of txt (understood (stage at) txt) ≡ txt) → IsPlain (understood (stage at) txt) → Reads at) is
+read_as text made at is m = subst
+    (λ txt. (command_of (understood (stage at) txt) ≡ CreateTable) → (statement_of txt (understood (stage at) txt) ≡ txt) → IsPlain (understood (stage at) txt) → Reads at) is
     (λ c s p. record { command = c; statement = s; plain = p }) m.command m.statement m.plain
 
 reads_at : (at : ℕ) → at < 10 → Reads at
@@ -182,7 +185,8 @@ reads_at (suc (suc (suc (suc (suc (suc (suc (suc (suc zero))))))))) low = read_a
 reads_at (suc (suc (suc (suc (suc (suc (suc (suc (suc (suc n)))))))))) low = absurd (omega arith)
 
 -- the next table is made, in the transaction that is under way
-pub creates_next : (at next : ℕ) → next ≡ suc at → at < 10 → (first old new : State) (count : ℕ) → IsBegun first → IsBare (stage at) old.now → GoesOn first old → Executes (create_text at) [] old new (Ok count)
+pub creates_next : (at next : ℕ) → next ≡ suc at → at < 10 → (first old new : State) (count : ℕ) → IsBegun first → IsBare (stage at) old.now
+    → GoesOn first old → Executes (create_text at) [] old new (Ok count)
     → IsBare (stage next) new.now × GoesOn first new
 creates_next at next is low first old new count begun bare on h =
     let r = reads_at at low in
@@ -195,7 +199,8 @@ creates_next at next is low first old new count begun bare on h =
 pub creates_none : (at : ℕ) → at < 10 → (first old : State) (db : Trees) → IsBegun first → IsBare (stage at) old.now → GoesOn first old → ¬ CommitsBy (create_text at) [] old db
 creates_none at low first old db begun bare on h =
     let r = reads_at at low in
-    go (commits_as [] (create_text at) CreateTable old db (ap (λ sch. command_of (understood sch (create_text at))) bare.0 ∙ r.command) (subst (λ sch. IsPlain (understood sch (create_text at))) (sym bare.0) r.plain) h)
+    go (commits_as [] (create_text at) CreateTable old db (ap (λ sch. command_of (understood sch (create_text at))) bare.0 ∙ r.command)
+    (subst (λ sch. IsPlain (understood sch (create_text at))) (sym bare.0) r.plain) h)
   where
     go : MayCommit old None CreateTable (statement_of (create_text at) (understood old.now.schema (create_text at))) [] db → ⊥
     go (inl (inl is, same)) = cc

@@ -1,5 +1,6 @@
 -- The sheets of a text.
-use Rattle.std.proofs.Common.{◌≡◌, ◌⊎◌, inl, inr, ℕ, zero, suc, ◌+◌, ◌*◌, ◌-◌, ◌<◌, ◌≤◌, min, ℤ, pos, ◌<ℤ◌, List, [], ◌∷◌, ◌++◌, length, map, take, drop, Some, Bool, true, false, cond, refl, sym, ap, ap₂, ◌∙◌, arith, append_assoc, append-nil, length-take, length-drop, take_all, is_eq}
+use Rattle.std.proofs.Common.{◌≡◌, ◌⊎◌, inl, inr, ℕ, zero, suc, ◌+◌, ◌*◌, ◌-◌, ◌<◌, ◌≤◌, min, ℤ, pos, ◌<ℤ◌, List, [], ◌∷◌, ◌++◌, length, map, take, drop, Some, Bool, true, false}
+use Rattle.std.proofs.Common.{cond, refl, sym, ap, ap₂, ◌∙◌, arith, append_assoc, append-nil, length-take, length-drop, take_all, is_eq}
 use Rattle.std.specs.Prelude.{◌&&◌}
 use Rattle.std.proofs.lemmas.Int.{ints}
 use Rattle.std.specs.declared.cmp.Ordering.TheVariants.{Less}
@@ -30,7 +31,8 @@ first_joined mail text zero = refl
 first_joined mail text (suc n) =
     let next : suc n ≡ n + 1 = omega arith in
     let end : n * 4096 + 4096 ≡ suc n * 4096 = omega arith in
-    ap (λ k. joined (first_sheets k mail text)) next ∙ ap joined (first_more mail text n) ∙ joined-append (first_sheets n mail text) (sheet_at mail text n ∷ []) ∙ ap₂ (λ (a b : List ℕ). a ++ b) (first_joined mail text n) (append-nil (octets_at text n))
+    ap (λ k. joined (first_sheets k mail text)) next ∙ ap joined (first_more mail text n)
+    ∙ joined-append (first_sheets n mail text) (sheet_at mail text n ∷ []) ∙ ap₂ (λ (a b : List ℕ). a ++ b) (first_joined mail text n) (append-nil (octets_at text n))
     ∙ sym (take-add (n * 4096) 4096 text) ∙ ap (λ k. take k text) end
 
 -- ---- sizes
@@ -67,7 +69,8 @@ module _ {X : Type 0} (f : ℕ → X) (p : X → Bool) (place : ℕ) (here : p (
   find_at a zero low high = absurd (omega arith)
   find_at a (suc n) low high = go (eq-or-lt_of_le low) (λ less. find_at (a + 1) n (omega arith) (omega arith))
     where
-      go : (a ≡ place) ⊎ (a < place) → (a < place → find p (map f (range_with_len (a + 1) n)) ≡ Some (f place)) → cond (p (f a)) (Some (f a)) (find p (map f (range_with_len (a + 1) n))) ≡ Some (f place)
+      go : (a ≡ place) ⊎ (a < place) → (a < place → find p (map f (range_with_len (a + 1) n)) ≡ Some (f place))
+          → cond (p (f a)) (Some (f a)) (find p (map f (range_with_len (a + 1) n))) ≡ Some (f place)
       go (inl same) more = rw same (rw here refl)
       go (inr less) more = rw (before a less) (more less)
 
@@ -81,7 +84,8 @@ cut mail text =
       text_is = first_joined mail text n ∙ take_all (n * 4096) text e.0;
       are_whole = λ place low. whole_at text place n e.1 low;
       are_sized = λ place low. sized_at text place n e.1 low;
-      are_found = λ place low. find_at (sheet_at mail text) (is_sheet mail (pos place)) place (ap₂ ◌&&◌ (same_itself mail) (same_itself (pos place))) (λ k less. ap₂ ◌&&◌ (same_itself mail) (apart k place less)) 0 n (omega arith) (omega arith);
+      are_found = λ place low. find_at (sheet_at mail text) (is_sheet mail (pos place)) place (ap₂ ◌&&◌ (same_itself mail) (same_itself (pos place)))
+          (λ k less. ap₂ ◌&&◌ (same_itself mail) (apart k place less)) 0 n (omega arith) (omega arith);
     }
 
 pub sheets_are_the_text : SheetsAreTheText

@@ -17,7 +17,7 @@ use Rattle.mailsql.specs.Tables.{schema_of}
 use Rattle.mailsql.proofs.Statements as st
 use Rattle.mailsql.specs.Rows as m
 use Rattle.mailsql.specs.Changes as ch
-use Rattle.mailsql.specs.Rows.{Name, Rows, is_carried, rows_in, IsKept, IsReady, MayLeave, Changes, same_int}
+use Rattle.mailsql.specs.Rows.{Name, Rows, is_carried, rows_in, IsKept, IsReady, MayLeave, Changes}
 use Rattle.mailsql.proofs.RowLemmas.{next_last, appended}
 use Rattle.mailsql.proofs.WriteLemmas.{inserted}
 use Rattle.mailsql.proofs.KeptLemmas.{applied_kept}
@@ -43,8 +43,10 @@ add_deposit_plain true = (refl, refl)
 add_deposit_tail : Name → Name → Name → ℤ → List ℕ → Row
 add_deposit_tail maildrop id class k digest = Text maildrop ∷ Text id ∷ Text class ∷ Int k ∷ Blob digest ∷ []
 
-add_deposit_does : (maildrop : Name) (id : Name) (class : Name) (k : ℤ) (digest : List ℕ) (limit : Option ℕ) (s : State) (text : List ℕ) (tally : Tally) (after : Database) → IsKept s.now → IsDatabase s.now
-    → Does limit (mode_of s) (Text maildrop ∷ Text id ∷ Text class ∷ Int k ∷ Blob digest ∷ []) s.now text None st.add_deposit_command (Ok (tally, after)) → ch.AddsDeposit (record { maildrop = maildrop; id = id; class = class; k = k; digest = digest }) (rows_in s.now.trees) (rows_in after.trees) × IsKept after
+add_deposit_does : (maildrop : Name) (id : Name) (class : Name) (k : ℤ) (digest : List ℕ) (limit : Option ℕ) (s : State) (text : List ℕ) (tally : Tally) (after : Database)
+    → IsKept s.now → IsDatabase s.now
+    → Does limit (mode_of s) (Text maildrop ∷ Text id ∷ Text class ∷ Int k ∷ Blob digest ∷ []) s.now text None st.add_deposit_command (Ok (tally, after))
+    → ch.AddsDeposit (record { maildrop = maildrop; id = id; class = class; k = k; digest = digest }) (rows_in s.now.trees) (rows_in after.trees) × IsKept after
 unfolding add_deposit_tail
 add_deposit_does maildrop id class k digest limit s text tally after kept sound h =
     let db = s.now.trees in
@@ -55,19 +57,27 @@ add_deposit_does maildrop id class k digest limit s text tally after kept sound 
     let tail = add_deposit_tail maildrop id class k digest in
     let rows : next 8 ≡ put_row (Int (next_rowid (db 8)) ∷ tail) (db 8) = simp (cast_null, cast_int) at made.1.rows in
     let last = rows ∙ next_last Chosen tail (db 8) kept.1.1.1.1.1.0 in
-    let change = frame.deposits_alone db next (framed db next _ (λ e. absurd (omega arith)) made.1) ∙ ap (λ l. let r : Rows = record (rows_in db) { deposits = l } in r) (appended m.deposit_of (db 8) (next 8) (Int (next_rowid (db 8)) ∷ tail) last) in (
+    let change = frame.deposits_alone db next (framed db next _ (λ e. absurd (omega arith)) made.1)
+    ∙ ap (λ l. let r : Rows = record (rows_in db) { deposits = l } in r) (appended m.deposit_of (db 8) (next 8) (Int (next_rowid (db 8)) ∷ tail) last) in (
       ap (λ (d : Database). rows_in d.trees) made.2 ∙ change,
       kept_framed db next after made.2 (framed db next _ (λ e. absurd (omega arith)) made.1).same (applied_kept db next _ made.1 kept.1),
     )
 
 module _ (old new : State) (maildrop : Name) (id : Name) (class : Name) (k : ℤ) (digest : List ℕ) (live : IsLive old) where
-  pub add_deposit_ok : (count : ℕ) → IsReady old → Executes st.add_deposit_text (Text maildrop ∷ Text id ∷ Text class ∷ Int k ∷ Blob digest ∷ []) old new (Ok count) → Changes (ch.AddsDeposit (record { maildrop = maildrop; id = id; class = class; k = k; digest = digest })) old new
+  pub add_deposit_ok : (count : ℕ) → IsReady old
+      → Executes st.add_deposit_text (Text maildrop ∷ Text id ∷ Text class ∷ Int k ∷ Blob digest ∷ []) old new (Ok count)
+      → Changes (ch.AddsDeposit (record { maildrop = maildrop; id = id; class = class; k = k; digest = digest })) old new
   add_deposit_ok count ready h =
-      changes st.add_deposit_text (Text maildrop ∷ Text id ∷ Text class ∷ Int k ∷ Blob digest ∷ []) (λ _. st.add_deposit_command) add_deposit_is add_deposit_plain (λ c e. cc) (λ c n e. cc) (λ c a b t n r. r) (ch.AddsDeposit (record { maildrop = maildrop; id = id; class = class; k = k; digest = digest })) (add_deposit_does maildrop id class k digest) old new count ready live h
+      changes st.add_deposit_text (Text maildrop ∷ Text id ∷ Text class ∷ Int k ∷ Blob digest ∷ [])
+      (λ _. st.add_deposit_command) add_deposit_is add_deposit_plain (λ c e. cc) (λ c n e. cc) (λ c a b t n r. r)
+      (ch.AddsDeposit (record { maildrop = maildrop; id = id; class = class; k = k; digest = digest })) (add_deposit_does maildrop id class k digest) old new count ready live h
 
-  pub add_deposit_commits : (db : Trees) → CommitsBy st.add_deposit_text (Text maildrop ∷ Text id ∷ Text class ∷ Int k ∷ Blob digest ∷ []) old db → MayLeave (ch.AddsDeposit (record { maildrop = maildrop; id = id; class = class; k = k; digest = digest })) old db
+  pub add_deposit_commits : (db : Trees) → CommitsBy st.add_deposit_text (Text maildrop ∷ Text id ∷ Text class ∷ Int k ∷ Blob digest ∷ []) old db
+      → MayLeave (ch.AddsDeposit (record { maildrop = maildrop; id = id; class = class; k = k; digest = digest })) old db
   add_deposit_commits db h =
-      commits st.add_deposit_text (Text maildrop ∷ Text id ∷ Text class ∷ Int k ∷ Blob digest ∷ []) (λ _. st.add_deposit_command) add_deposit_is add_deposit_plain (λ c e. cc) (λ c n e. cc) (λ c a b t n r. r) (ch.AddsDeposit (record { maildrop = maildrop; id = id; class = class; k = k; digest = digest })) (add_deposit_does maildrop id class k digest) old db live h
+      commits st.add_deposit_text (Text maildrop ∷ Text id ∷ Text class ∷ Int k ∷ Blob digest ∷ [])
+      (λ _. st.add_deposit_command) add_deposit_is add_deposit_plain (λ c e. cc) (λ c n e. cc) (λ c a b t n r. r)
+      (ch.AddsDeposit (record { maildrop = maildrop; id = id; class = class; k = k; digest = digest })) (add_deposit_does maildrop id class k digest) old db live h
 
 pub find_deposit_asks : (c : Bool) → Asks (schema_of c) st.find_deposit_text 8 st.find_deposit_terms st.deposit_columns st.deposit_names
 unfolding understood everything

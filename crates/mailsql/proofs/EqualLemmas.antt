@@ -43,7 +43,8 @@ pub column_test : (op : CompareOp) (v : Value) (n : ℤ) → IsInt v → is_true
 column_test op v n it = ap (λ x. is_true (binary (Compare op Binary) x (Int n))) it.1 ∙ int_test op it.0 n ∙ sym (ap (λ x. test op (int_cmp (id_in x) n)) it.1)
 
 -- what is left of the rows is what is left of the records
-pub kept_map : {X : Type 0} (f : Row → X) (p : Row → Bool) (q : X → Bool) (rows : List Row) → ((r : Row) → Has rows r → p r ≡ q (f r)) → map f (filter (λ r. not (p r)) rows) ≡ filter (λ x. not (q x)) (map f rows)
+pub kept_map : {X : Type 0} (f : Row → X) (p : Row → Bool) (q : X → Bool) (rows : List Row) → ((r : Row) → Has rows r → p r ≡ q (f r))
+    → map f (filter (λ r. not (p r)) rows) ≡ filter (λ x. not (q x)) (map f rows)
 kept_map f p q [] same = refl
 kept_map f p q (row ∷ rows) same = rw (sym (same row (inl refl))) (go (p row) (kept_map f p q rows (λ r h. same r (inr h))))
   where

@@ -42,7 +42,8 @@ some_passes : (p : Row → Bool) (q : Name → Bool) (rows : List Row) → AllBy
 some_passes p q [] all = refl
 some_passes p q (row ∷ rows) all = rw (sym all.0) (go (p row) (some_passes p q rows all.1))
   where
-    go : (b : Bool) → (length (filter p rows) == 0) ≡ not (list_any q (map maildrop_of rows)) → (length (cond b (row ∷ filter p rows) (filter p rows)) == 0) ≡ not (b || list_any q (map maildrop_of rows))
+    go : (b : Bool) → (length (filter p rows) == 0) ≡ not (list_any q (map maildrop_of rows))
+        → (length (cond b (row ∷ filter p rows) (filter p rows)) == 0) ≡ not (b || list_any q (map maildrop_of rows))
     go true more = grind (arith, nat_tests)
     go false more = more
 
@@ -54,10 +55,12 @@ pub found : (old new : State) (name : Name) (rows : List Row) → HasTables old 
     → ((length rows == 0) ≡ not (has_name name (rows_in old.now.trees).maildrops)) × IsUnchanged old new
 found old new name rows tables live h =
     let ours = (tables (shown_open find_maildrop_text (Text name ∷ []) old new rows h)).0 in
-    let still = unchanged find_maildrop_text (Text name ∷ []) old new rows 4 _ _ _ _ (schema_of (is_carried old.now.trees)) ours (find_maildrop_is (is_carried old.now.trees)) (find_maildrop_plain (is_carried old.now.trees)) refl h in
+    let still = unchanged find_maildrop_text (Text name ∷ []) old new rows 4 _ _ _ _ (schema_of (is_carried old.now.trees)) ours
+    (find_maildrop_is (is_carried old.now.trees)) (find_maildrop_plain (is_carried old.now.trees)) refl h in
     let sound = (live still.0.was_open).0 in
     let params = Text name ∷ [] in
-    let it = answers find_maildrop_text params old new rows 4 _ _ _ _ (schema_of (is_carried old.now.trees)) ours (find_maildrop_is (is_carried old.now.trees)) (find_maildrop_plain (is_carried old.now.trees)) refl h in
+    let it = answers find_maildrop_text params old new rows 4 _ _ _ _ (schema_of (is_carried old.now.trees)) ours
+    (find_maildrop_is (is_carried old.now.trees)) (find_maildrop_plain (is_carried old.now.trees)) refl h in
     let same = length_permutation _ _ (shown_rows 4 (eq (col 1 1) (col 0 0) ∷ []) (col 1 1 ∷ []) [] old.now.trees params rows it) in
     let some = some_passes (passes params (eq (col 1 1) (col 0 0) ∷ [])) (λ x. bytes_eq x name) (old.now.trees 4) (each (passes_name name) _ (maildrops_typed old.now ours sound)) in
     (ap (λ n. n == 0) (same ∙ length-map _ _) ∙ some, still)

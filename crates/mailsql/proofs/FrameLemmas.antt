@@ -43,11 +43,13 @@ pub record Frame (carried : Bool) (at : ℕ) (db next : Trees) : Type 0 where
   pub bodies : (carried ≡ true → 10 ≢ at) → bodies_at carried next ≡ bodies_at carried db
   pub same : is_carried next ≡ is_carried db
 
-mail_stays : (carried : Bool) (db next : Trees) (edit : Edit) → Applies (schema_of carried) Enforced db edit next → mail_tree carried ≢ edit.table.tree → next (mail_tree carried) ≡ db (mail_tree carried)
+mail_stays : (carried : Bool) (db next : Trees) (edit : Edit) → Applies (schema_of carried) Enforced db edit next
+    → mail_tree carried ≢ edit.table.tree → next (mail_tree carried) ≡ db (mail_tree carried)
 mail_stays false db next edit h = h.tables.1.1.1.1.1.0
 mail_stays true db next edit h = h.tables.1.1.1.1.1.1.1.1.1.1.1.0
 
-bodies_stay : (carried : Bool) (db next : Trees) (edit : Edit) → Applies (schema_of carried) Enforced db edit next → (carried ≡ true → 10 ≢ edit.table.tree) → bodies_at carried next ≡ bodies_at carried db
+bodies_stay : (carried : Bool) (db next : Trees) (edit : Edit) → Applies (schema_of carried) Enforced db edit next
+    → (carried ≡ true → 10 ≢ edit.table.tree) → bodies_at carried next ≡ bodies_at carried db
 bodies_stay false db next edit h apart = refl
 bodies_stay true db next edit h apart = ap (map body_of) (h.tables.1.1.1.1.1.0 (apart refl))
 
@@ -56,7 +58,28 @@ last_below false = tt
 last_below true = (λ e. absurd (omega arith), tt)
 
 no_index : (carried : Bool) → IsNoIndex (schema_of carried) catalog_tree
-no_index carried = (λ e. absurd (omega arith), (λ e. absurd (omega arith), (λ e. absurd (omega arith), (λ e. absurd (omega arith), (λ e. absurd (omega arith), (λ e. absurd (omega arith), (λ e. absurd (omega arith), (λ e. absurd (omega arith), (λ e. absurd (omega arith), (λ e. absurd (omega arith), (λ e. absurd (omega arith), last_below carried)))))))))))
+no_index carried = (
+  λ e. absurd (omega arith),
+  (
+    λ e. absurd (omega arith),
+    (
+      λ e. absurd (omega arith),
+      (
+        λ e. absurd (omega arith),
+        (
+          λ e. absurd (omega arith),
+          (
+            λ e. absurd (omega arith),
+            (
+              λ e. absurd (omega arith),
+              (λ e. absurd (omega arith), (λ e. absurd (omega arith), (λ e. absurd (omega arith), (λ e. absurd (omega arith), last_below carried)))),
+            ),
+          ),
+        ),
+      ),
+    ),
+  ),
+)
 
 -- the list of the trees tells the same
 pub same_carried : (db next : Trees) → next catalog_tree ≡ db catalog_tree → is_carried next ≡ is_carried db
@@ -81,10 +104,26 @@ framed {carried} db next edit apart h = record {
 }
 
 pub frame_none : (carried : Bool) (at : ℕ) (db : Trees) → Frame carried at db db
-frame_none carried at db = record { meta = λ _. refl; clerks = λ _. refl; maildrops = λ _. refl; counts = λ _. refl; deposits = λ _. refl; mail = λ _. refl; sequence = λ _. refl; rules = λ _. refl; sheets = λ _. refl; groups = λ _. refl; members = λ _. refl; bodies = λ _. refl; same = refl }
+frame_none carried at db = record {
+  meta = λ _. refl;
+  clerks = λ _. refl;
+  maildrops = λ _. refl;
+  counts = λ _. refl;
+  deposits = λ _. refl;
+  mail =
+      λ _. refl;
+  sequence = λ _. refl;
+  rules = λ _. refl;
+  sheets = λ _. refl;
+  groups = λ _. refl;
+  members = λ _. refl;
+  bodies = λ _. refl;
+  same = refl;
+}
 
 -- the store is kept
-pub kept_framed : (db next : Trees) (after : Database) → after ≡ record { schema = schema_of (is_carried db); trees = next } → is_carried next ≡ is_carried db → AreKept (schema_of (is_carried db)).tables next → IsKept after
+pub kept_framed : (db next : Trees) (after : Database) → after ≡ record { schema = schema_of (is_carried db); trees = next }
+    → is_carried next ≡ is_carried db → AreKept (schema_of (is_carried db)).tables next → IsKept after
 kept_framed db next after is same all =
     let it : Database = record { schema = schema_of (is_carried db); trees = next } in
     let kept : IsKept it = (ap schema_of (sym same), subst (λ c. AreKept (schema_of c).tables next) (sym same) all) in

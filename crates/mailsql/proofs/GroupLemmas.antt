@@ -74,7 +74,8 @@ add_group_does name limit s text tally after kept sound h =
     let tail = add_group_tail name in
     let rows : next 17 ≡ put_row (Int (next_rowid (db 17)) ∷ tail) (db 17) = simp (cast_null, cast_int) at made.1.rows in
     let last = rows ∙ next_last Chosen tail (db 17) kept.1.1.1.1.1.1.1.1.1.1.0 in
-    let change = frame.groups_alone db next (framed db next _ (λ e. absurd (omega arith)) made.1) ∙ ap (λ l. let r : Rows = record (rows_in db) { groups = l } in r) (appended m.group_of (db 17) (next 17) (Int (next_rowid (db 17)) ∷ tail) last
+    let change = frame.groups_alone db next (framed db next _ (λ e. absurd (omega arith)) made.1)
+    ∙ ap (λ l. let r : Rows = record (rows_in db) { groups = l } in r) (appended m.group_of (db 17) (next 17) (Int (next_rowid (db 17)) ∷ tail) last
     ∙ ap (λ n. map m.group_of (db 17) ++ (let g : m.Group = record { place = n; name = name } in g) ∷ []) (sym (place_from (pos 1) (db 17)))) in (
       ap (λ (d : Database). rows_in d.trees) made.2 ∙ change,
       kept_framed db next after made.2 (framed db next _ (λ e. absurd (omega arith)) made.1).same (applied_kept db next _ made.1 kept.1),
@@ -83,11 +84,13 @@ add_group_does name limit s text tally after kept sound h =
 module _ (old new : State) (name : Name) (live : IsLive old) where
   pub add_group_ok : (count : ℕ) → IsReady old → Executes st.add_group_text (Text name ∷ []) old new (Ok count) → Changes (ch.AddsGroup name) old new
   add_group_ok count ready h =
-      changes st.add_group_text (Text name ∷ []) (λ _. st.add_group_command) add_group_is add_group_plain (λ c e. cc) (λ c n e. cc) (λ c a b t n r. r) (ch.AddsGroup name) (add_group_does name) old new count ready live h
+      changes st.add_group_text (Text name ∷ []) (λ _. st.add_group_command) add_group_is add_group_plain (λ c e. cc) (λ c n e. cc) (λ c a b t n r. r)
+      (ch.AddsGroup name) (add_group_does name) old new count ready live h
 
   pub add_group_commits : (db : Trees) → CommitsBy st.add_group_text (Text name ∷ []) old db → MayLeave (ch.AddsGroup name) old db
   add_group_commits db h =
-      commits st.add_group_text (Text name ∷ []) (λ _. st.add_group_command) add_group_is add_group_plain (λ c e. cc) (λ c n e. cc) (λ c a b t n r. r) (ch.AddsGroup name) (add_group_does name) old db live h
+      commits st.add_group_text (Text name ∷ []) (λ _. st.add_group_command) add_group_is add_group_plain (λ c e. cc) (λ c n e. cc) (λ c a b t n r. r)
+      (ch.AddsGroup name) (add_group_does name) old db live h
 
 -- the test looks the same from both sides
 same_back : (a b : ℤ) → m.same_int a b ≡ m.same_int b a
@@ -137,12 +140,14 @@ clear_groups_does limit s text tally after kept sound h =
     let picked = selected 17 terms (col 1 0 ∷ []) [] (overlay db []) params shown (asked.1.answer Null) in
     let same = shown_rows 17 terms (col 1 0 ∷ []) [] db params shown (record { ordered = picked.ordered; same = picked.same; sorted = picked.sorted; shown = picked.shown }) in
     let next = wrote.0 in
-    let it = swept carried (groups_at 17) (members_at 19) (codes "groups") (groups_acting carried) db next (ids_of shown) kept.1 (cascades carried (groups_at 17) (members_at 19) (codes "groups") (groups_acting carried) db next (ids_of shown) wrote.1) in
+    let it = swept carried (groups_at 17) (members_at 19) (codes "groups") (groups_acting carried) db next (ids_of shown) kept.1
+    (cascades carried (groups_at 17) (members_at 19) (codes "groups") (groups_acting carried) db next (ids_of shown) wrote.1) in
     let is = λ (r : Row) (t : Has (db 17) r). let yes : passes params terms r ≡ true = refl in yes in
     let groups = ap (map m.group_of) (it.parents ∙ without_shown (db 17) (passes params terms) shown (keyed_apart (db 17) keyed, keyed.1) same) ∙ nothing_kept m.group_of (db 17) in
     let q = λ (r : Row). list_any (is_child_of (cascade (members_at 19) (codes "groups") (map (row_at (db 17)) (ids_of shown))) r) (pairs (map (row_at (db 17)) (ids_of shown)) []) in
     let members = ap (map m.member_of) it.children ∙ kept_map m.member_of q (λ mem. list_any (λ (g : m.Group). true && m.same_int mem.group g.place) (map m.group_of (db 17))) (db 19) (λ r t.
-    child_is (db 17) shown (passes params terms) keyed same (members_at 19) (codes "groups") m.group_of (λ g. true) (λ g. g.place) r (id_in (column r 1)) (number_is (column r 1) (members_in s.now kept.0 sound r t).0) is (λ y. refl))
+    child_is (db 17) shown (passes params terms) keyed same (members_at 19) (codes "groups") m.group_of (λ g. true) (λ g. g.place) r
+    (id_in (column r 1)) (number_is (column r 1) (members_in s.now kept.0 sound r t).0) is (λ y. refl))
     ∙ none_left (map m.member_of (db 19)) (map m.group_of (db 17)) (members_have_groups s.now kept.0 sound kept.1) in
     let change = groups_swept db it.mid next it.first it.second ∙ (λ i. let rows : Rows = record (rows_in db) { groups = groups i; members = members i } in rows) in
     let trees = ap (λ (w : Written). w.trees) (same_value wrote.2) in
@@ -155,7 +160,8 @@ clear_groups_does limit s text tally after kept sound h =
 module _ (old new : State) (live : IsLive old) where
   pub clear_groups_ok : (count : ℕ) → IsReady old → Executes st.clear_groups_text ([]) old new (Ok count) → Changes (ch.ClearsGroups) old new
   clear_groups_ok count ready h =
-      changes st.clear_groups_text ([]) (λ _. clear_groups_command) clear_groups_is clear_groups_plain (λ c e. cc) (λ c n e. cc) (λ c a b t n r. r) (ch.ClearsGroups) (clear_groups_does) old new count ready live h
+      changes st.clear_groups_text ([]) (λ _. clear_groups_command) clear_groups_is clear_groups_plain (λ c e. cc) (λ c n e. cc) (λ c a b t n r. r)
+      (ch.ClearsGroups) (clear_groups_does) old new count ready live h
 
   pub clear_groups_commits : (db : Trees) → CommitsBy st.clear_groups_text ([]) old db → MayLeave (ch.ClearsGroups) old db
   clear_groups_commits db h =

@@ -10,7 +10,7 @@ use Rattle.sqlite_sql.specs.Program.{overlay}
 use Rattle.mailsql.specs.Tables.{schema_of, mail_tree}
 use Rattle.mailsql.proofs.Statements as st
 use Rattle.mailsql.specs.Rows as m
-use Rattle.mailsql.specs.Rows.{Name, Rows, is_carried, rows_in, AreKeyed, AreKept, IsKept, IsReady, MayLeave, Changes, same_int}
+use Rattle.mailsql.specs.Rows.{Name, rows_in, AreKeyed, AreKept}
 use Rattle.mailsql.proofs.TypedLemmas as typed
 use Rattle.mailsql.proofs.EqualLemmas.{column_text}
 use Rattle.mailsql.proofs.FindLemmas.{and_true}

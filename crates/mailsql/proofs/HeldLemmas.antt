@@ -22,7 +22,8 @@ use Rattle.sqlite_rules.proofs.ListLemmas.{all_has}
 use Rattle.sqlite.specs.Values.{IsInt}
 use Rattle.sqlite.specs.Effect.{Database, IsDatabase}
 use Rattle.mailsql.specs.Tables.{schema_of, mail_tree, meta_at, clerks_at, maildrops_at, counts_at, deposits_at, mail_at, rules_at, sheets_at, groups_at, members_at}
-use Rattle.mailsql.specs.Rows.{IsOurs, is_carried, AreKeyed, HoldsOctets, HoldsNumber, HoldsMetaRow, HoldsClerk, HoldsName, HoldsCount, HoldsDeposit, HoldsMessage, HoldsSheet, HoldsRule, HoldsGroup, HoldsMember}
+use Rattle.mailsql.specs.Rows.{IsOurs, is_carried, AreKeyed, HoldsOctets, HoldsNumber, HoldsMetaRow, HoldsClerk, HoldsName, HoldsCount, HoldsDeposit, HoldsMessage, HoldsSheet}
+use Rattle.mailsql.specs.Rows.{HoldsRule, HoldsGroup, HoldsMember}
 use Rattle.mailsql.proofs.TypedLemmas.{IsText}
 
 abbrev pub IsBlob : Value → Type 0
@@ -72,7 +73,8 @@ kind_held kind.Blob (Blob b) typed present = (b, refl)
 kind_held kind.Real v typed present = tt
 kind_held kind.Any v typed present = tt
 
-column_held : (here : Bool) (c : Column) (v : Value) → (here || (c.is_strict && c.not_null)) ≡ true → cond here (is_null v) (suits c v) ≡ true → (here || not c.not_null || not (is_null v)) ≡ true → IsOfColumn here c.kind v
+column_held : (here : Bool) (c : Column) (v : Value) → (here || (c.is_strict && c.not_null)) ≡ true → cond here (is_null v) (suits c v) ≡ true
+    → (here || not c.not_null || not (is_null v)) ≡ true → IsOfColumn here c.kind v
 column_held true c v ours typed present = tt
 column_held false c v ours typed present =
     let strict = and_parts c.is_strict c.not_null ours in
@@ -91,7 +93,8 @@ this_place at = omega arith
 next_place : (at j : ℕ) → at + 1 + suc j ≡ at + 1 + 1 + j
 next_place at j = omega arith
 
-columns_held : (key : Option ℕ) (at : ℕ) (cs : List Column) (vs row : Row) → ((j : ℕ) → column vs j ≡ column row (at + 1 + j)) → are_required key at cs ≡ true → are_typed key at cs vs ≡ true → are_present key at cs row ≡ true
+columns_held : (key : Option ℕ) (at : ℕ) (cs : List Column) (vs row : Row) → ((j : ℕ) → column vs j ≡ column row (at + 1 + j))
+    → are_required key at cs ≡ true → are_typed key at cs vs ≡ true → are_present key at cs row ≡ true
     → Holds key at cs row
 columns_held key at [] vs row same ours typed present = tt
 columns_held key at (c ∷ cs) [] row same ours typed present =
@@ -114,7 +117,8 @@ behind : (row : Row) (j : ℕ) → column (drop 1 row) j ≡ column row (0 + 1 +
 behind [] j = refl
 behind (v ∷ vs) j = let next : suc j ≡ 0 + 1 + j = omega arith in ap (column (v ∷ vs)) next
 
-pub row_held : (schema : Schema) (db : Trees) (t : Table) (row : Row) → are_required t.key 0 t.columns ≡ true → passes Datatype schema db t row ≡ true → passes NotNull schema db t row ≡ true → Holds t.key 0 t.columns row
+pub row_held : (schema : Schema) (db : Trees) (t : Table) (row : Row) → are_required t.key 0 t.columns ≡ true → passes Datatype schema db t row ≡ true
+    → passes NotNull schema db t row ≡ true → Holds t.key 0 t.columns row
 row_held schema db t row ours typed present = columns_held t.key 0 t.columns (drop 1 row) row (behind row) ours (and_parts _ _ typed).0 present
 
 pub both : {P Q X : Row → Type 0} → ((row : Row) → P row → Q row → X row) → (rows : List Row) → AllByRecursion P rows → AllByRecursion Q rows → AllByRecursion X rows
@@ -147,7 +151,9 @@ module _ (db : Database) (ours : IsOurs db) (sound : IsDatabase db) where
   obeys : Obeys (schema_of (is_carried db.trees)) db.trees
   obeys = subst (λ s. Obeys s db.trees) ours sound.obeys
 
-  pub row_in : (t : Table) → are_required t.key 0 t.columns ≡ true → AllByRecursion (λ row. passes Datatype (schema_of (is_carried db.trees)) db.trees t row ≡ true) (db.trees t.tree) → AllByRecursion (λ row. passes NotNull (schema_of (is_carried db.trees)) db.trees t row ≡ true) (db.trees t.tree)
+  pub row_in : (t : Table) → are_required t.key 0 t.columns ≡ true
+      → AllByRecursion (λ row. passes Datatype (schema_of (is_carried db.trees)) db.trees t row ≡ true) (db.trees t.tree)
+      → AllByRecursion (λ row. passes NotNull (schema_of (is_carried db.trees)) db.trees t row ≡ true) (db.trees t.tree)
       → (r : Row) → Has (db.trees t.tree) r → Holds t.key 0 t.columns r
   row_in t required typed present r = all_has _ (db.trees t.tree) r (both (λ row. row_held (schema_of (is_carried db.trees)) db.trees t row required) (db.trees t.tree) typed present)
 

@@ -37,10 +37,15 @@ keyed_put : (news rows : List Row) → list_all (λ r. is_int (rowid r)) news �
 keyed_put [] rows h k = k
 keyed_put (n ∷ news) rows h k = let parts = and_parts _ _ h in keyed_put news (put_row n rows) parts.1 (IsTable-put_row n rows k.0, all-put_row _ n rows parts.0 k.1)
 
-tables_kept : (at : ℕ) (db next : Trees) (tables : List Table) → AllByRecursion (λ t. t.tree ≢ at → next t.tree ≡ db t.tree) tables → (AreKeyed (db at) → AreKeyed (next at)) → AreKept tables db → AreKept tables next
+tables_kept : (at : ℕ) (db next : Trees) (tables : List Table) → AllByRecursion (λ t. t.tree ≢ at → next t.tree ≡ db t.tree) tables
+    → (AreKeyed (db at) → AreKeyed (next at)) → AreKept tables db → AreKept tables next
 tables_kept at db next [] same made all = tt
 tables_kept at db next (t ∷ ts) same made all = (
-  elim (cases_eq t.tree at) as (λ _. AreKeyed (next t.tree)) [ inl e ↦ subst (λ n. AreKeyed (next n)) (sym e) (made (subst (λ n. AreKeyed (db n)) e all.0)) | inr ne ↦ subst AreKeyed (sym (same.0 ne)) all.0 ],
+  elim (cases_eq t.tree at) as (λ _. AreKeyed (next t.tree)) [
+    | inl e ↦ subst (λ n. AreKeyed (next n)) (sym e)
+        (made (subst (λ n. AreKeyed (db n)) e all.0))
+    | inr ne ↦ subst AreKeyed (sym (same.0 ne)) all.0
+  ],
   tables_kept at db next ts same.1 made all.1,
 )
 

@@ -28,8 +28,11 @@ use Rattle.sqlite_rules.proofs.TableLemmas.{int_is}
 use Rattle.sqlite.specs.Effect.{Database, IsDatabase}
 use Rattle.sqlite.specs.State.{State, IsLive}
 use Rattle.mailsql.specs.Apart.{are_apart, AreRising, AreApart}
-use Rattle.mailsql.specs.Tables.{schema_of, mail_tree, meta_at, clerks_at, maildrops_at, counts_at, deposits_at, mail_at, rules_at, sheets_at, groups_at, members_at, key_of, clerks_key_of, plain_order, to_maildrops, to_mail, to_groups}
-use Rattle.mailsql.specs.Rows.{IsOurs, is_carried, IsReady, AreKeyed, AreKept, same_int, has_name, MetaRow, Clerk, Count, Deposit, Message, Sheet, Rule, Group, Member, Body, bodies_at, rows_in, meta_row_of, clerk_of, maildrop_of, count_of, deposit_of, message_of, sheet_of, rule_of, group_of, member_of, body_of, text_at, number_at}
+use Rattle.mailsql.specs.Tables.{schema_of, mail_tree, meta_at, clerks_at, maildrops_at, counts_at, deposits_at, mail_at, rules_at, sheets_at, groups_at, members_at, key_of}
+use Rattle.mailsql.specs.Tables.{clerks_key_of, plain_order, to_maildrops, to_mail, to_groups}
+use Rattle.mailsql.specs.Rows.{IsOurs, is_carried, IsReady, AreKeyed, AreKept, same_int, has_name, MetaRow, Clerk, Count, Deposit, Message, Sheet, Rule, Group, Member, Body}
+use Rattle.mailsql.specs.Rows.{bodies_at, rows_in, meta_row_of, clerk_of, maildrop_of, count_of, deposit_of, message_of, sheet_of, rule_of, group_of, member_of, body_of, text_at}
+use Rattle.mailsql.specs.Rows.{number_at}
 use Rattle.mailsql.proofs.TypedLemmas.{IsText, IsInt, meta_rows_typed, clerks_typed, names_typed, counts_typed, deposits_typed, messages_typed, sheets_typed}
 use Rattle.mailsql.proofs.HeldLemmas.{row_in, members_in, messages_in}
 use Rattle.mailsql.proofs.HeadLemmas.{mail_keyed}
@@ -71,11 +74,14 @@ all_mapped f p (r ∷ rows) h = and_from (p (f r)) (list_all p (map f rows)) (h 
 
 -- ---- rows whose rowids rise
 
-apart_rows : {X : Type 0} (f : Row → X) (same : X → X → Bool) (rows : List Row) → IsTable rows → ((a b : Row) → Has rows a → Has rows b → value_cmp (rowid a) (rowid b) ≡ Less → same (f a) (f b) ≡ false) → are_apart same (map f rows) ≡ true
+apart_rows : {X : Type 0} (f : Row → X) (same : X → X → Bool) (rows : List Row) → IsTable rows
+    → ((a b : Row) → Has rows a → Has rows b → value_cmp (rowid a) (rowid b) ≡ Less → same (f a) (f b) ≡ false) → are_apart same (map f rows) ≡ true
 apart_rows f same [] up h = refl
 apart_rows f same (r ∷ rows) up h =
-    let here : list_any (same (f r)) (map f rows) ≡ false = none_mapped f (same (f r)) rows (λ x there. h r x (inl refl) (inr there) (all_has (λ b. value_cmp (rowid r) (rowid b) ≡ Less) rows x up.0 there)) in
-    and_from (not (list_any (same (f r)) (map f rows))) (are_apart same (map f rows)) (not_from_false (list_any (same (f r)) (map f rows)) here) (apart_rows f same rows up.1 (λ a b ha hb. h a b (inr ha) (inr hb)))
+    let here : list_any (same (f r)) (map f rows) ≡ false =
+    none_mapped f (same (f r)) rows (λ x there. h r x (inl refl) (inr there) (all_has (λ b. value_cmp (rowid r) (rowid b) ≡ Less) rows x up.0 there)) in
+    and_from (not (list_any (same (f r)) (map f rows))) (are_apart same (map f rows)) (not_from_false (list_any (same (f r)) (map f rows)) here)
+    (apart_rows f same rows up.1 (λ a b ha hb. h a b (inr ha) (inr hb)))
 
 pub id_is : (rows : List Row) → AreKeyed rows → (r : Row) → Has rows r → IsInt (rowid r)
 id_is rows keyed r h = (id_in (rowid r), int_is (rowid r) (all_has (λ x. is_int (rowid x) ≡ true) rows r keyed.1 h))
@@ -92,7 +98,8 @@ ids_differ a b x y less = ap₂ differ x.1 y.1 ∙ truth_back (is_ne (value_cmp 
 id_below : (a b : ℤ) → int_cmp a b ≡ Less → a <ℤ b
 id_below a b h = grind (arith, ints, nat_tests)
 
-below_each : (r : Row) (rows : List Row) → IsTrue (is_int (rowid r)) → AllByRecursion (λ x. IsTrue (is_int (rowid x))) rows → AllByRecursion (λ x. value_cmp (rowid r) (rowid x) ≡ Less) rows → AllByRecursion (λ (b : Body). (body_of r).head.key <ℤ b.head.key) (map body_of rows)
+below_each : (r : Row) (rows : List Row) → IsTrue (is_int (rowid r)) → AllByRecursion (λ x. IsTrue (is_int (rowid x))) rows
+    → AllByRecursion (λ x. value_cmp (rowid r) (rowid x) ≡ Less) rows → AllByRecursion (λ (b : Body). (body_of r).head.key <ℤ b.head.key) (map body_of rows)
 below_each r [] int ints_are less = tt
 below_each r (x ∷ rows) int ints_are less =
     let here = sym (value_cmp-Int (id_in (rowid r)) (id_in (rowid x))) ∙ sym (ap₂ value_cmp (int_is (rowid r) int) (int_is (rowid x) ints_are.0)) ∙ less.0 in
@@ -157,7 +164,8 @@ unfolding same_name joined
 groups_key false = refl
 groups_key true = refl
 
-held_by : (db : Trees) (places : List ℕ) (r : Row) (k : Option ParentKey) (tree : ℕ) (at : List ℕ) → k ≡ Some (tree, at, plain_order) → is_held db places r k ≡ true → list_any (λ parent. agree plain_order at parent places r) (db tree) ≡ true
+held_by : (db : Trees) (places : List ℕ) (r : Row) (k : Option ParentKey) (tree : ℕ) (at : List ℕ) → k ≡ Some (tree, at, plain_order)
+    → is_held db places r k ≡ true → list_any (λ parent. agree plain_order at parent places r) (db tree) ≡ true
 held_by db places r k tree at e h = subst (λ o. is_held db places r o ≡ true) e h
 
 text_there : (r : Row) (p : ℕ) → IsText (column r p) → has_null (p ∷ []) r ≡ false
@@ -215,7 +223,8 @@ module _ (db : Database) (ours : IsOurs db) (sound : IsDatabase db) (kept : AreK
 
   counts_apart : are_apart (λ (a b : Count). bytes_eq a.maildrop b.maildrop && bytes_eq a.class b.class) (map count_of (db.trees 6)) ≡ true
   counts_apart =
-      apart_keys count_of (λ (a b : Count). bytes_eq a.maildrop b.maildrop && bytes_eq a.class b.class) (counts_at 6) (key_of (codes "counts") 6 (1 ∷ 2 ∷ [])) (schema_of c) db.trees (inr (inr (inr (inl refl)))) refl kept.1.1.1.0 (obeys.rules Unique).1.1.1.0
+      apart_keys count_of (λ (a b : Count). bytes_eq a.maildrop b.maildrop && bytes_eq a.class b.class) (counts_at 6)
+      (key_of (codes "counts") 6 (1 ∷ 2 ∷ [])) (schema_of c) db.trees (inr (inr (inr (inl refl)))) refl kept.1.1.1.0 (obeys.rules Unique).1.1.1.0
       (λ a b ha hb.
       let x = counts_typed db ours sound a ha in
       let y = counts_typed db ours sound b hb in
@@ -223,7 +232,8 @@ module _ (db : Database) (ours : IsOurs db) (sound : IsDatabase db) (kept : AreK
 
   deposits_apart : are_apart (λ (a b : Deposit). bytes_eq a.maildrop b.maildrop && bytes_eq a.id b.id) (map deposit_of (db.trees 8)) ≡ true
   deposits_apart =
-      apart_keys deposit_of (λ (a b : Deposit). bytes_eq a.maildrop b.maildrop && bytes_eq a.id b.id) (deposits_at 8) (key_of (codes "deposits") 8 (1 ∷ 2 ∷ [])) (schema_of c) db.trees (inr (inr (inr (inr (inl refl))))) refl kept.1.1.1.1.0 (obeys.rules Unique).1.1.1.1.0
+      apart_keys deposit_of (λ (a b : Deposit). bytes_eq a.maildrop b.maildrop && bytes_eq a.id b.id) (deposits_at 8)
+      (key_of (codes "deposits") 8 (1 ∷ 2 ∷ [])) (schema_of c) db.trees (inr (inr (inr (inr (inl refl))))) refl kept.1.1.1.1.0 (obeys.rules Unique).1.1.1.1.0
       (λ a b ha hb.
       let x = deposits_typed db ours sound a ha in
       let y = deposits_typed db ours sound b hb in
@@ -231,7 +241,8 @@ module _ (db : Database) (ours : IsOurs db) (sound : IsDatabase db) (kept : AreK
 
   messages_apart : are_apart (λ (a b : Message). bytes_eq a.maildrop b.maildrop && bytes_eq a.class b.class && same_int a.k b.k) (map message_of (db.trees (mail_tree c))) ≡ true
   messages_apart =
-      apart_keys message_of (λ (a b : Message). bytes_eq a.maildrop b.maildrop && bytes_eq a.class b.class && same_int a.k b.k) (mail_at (mail_tree c)) (key_of (codes "mail") (mail_tree c) (2 ∷ 3 ∷ 4 ∷ [])) (schema_of c) db.trees (mail_index c) (mail_guard c)
+      apart_keys message_of (λ (a b : Message). bytes_eq a.maildrop b.maildrop && bytes_eq a.class b.class && same_int a.k b.k)
+      (mail_at (mail_tree c)) (key_of (codes "mail") (mail_tree c) (2 ∷ 3 ∷ 4 ∷ [])) (schema_of c) db.trees (mail_index c) (mail_guard c)
       (mail_keyed c db.trees kept) (mail_passes c db.trees Unique obeys)
       (λ a b ha hb.
       let x = messages_in db ours sound a ha in
@@ -240,7 +251,8 @@ module _ (db : Database) (ours : IsOurs db) (sound : IsDatabase db) (kept : AreK
 
   rules_apart : are_apart (λ (a b : Rule). bytes_eq a.name b.name) (map rule_of (db.trees 13)) ≡ true
   rules_apart =
-      apart_keys rule_of (λ (a b : Rule). bytes_eq a.name b.name) (rules_at 13) (key_of (codes "rules") 13 (2 ∷ [])) (schema_of c) db.trees (inr (inr (inr (inr (inr (inr (inl refl))))))) refl kept.1.1.1.1.1.1.1.0 (obeys.rules Unique).1.1.1.1.1.1.1.0
+      apart_keys rule_of (λ (a b : Rule). bytes_eq a.name b.name) (rules_at 13) (key_of (codes "rules") 13 (2 ∷ [])) (schema_of c) db.trees
+      (inr (inr (inr (inr (inr (inr (inl refl))))))) refl kept.1.1.1.1.1.1.1.0 (obeys.rules Unique).1.1.1.1.1.1.1.0
       (λ a b ha hb.
       let x = row_in db ours sound (rules_at 13) refl (obeys.rules Datatype).1.1.1.1.1.1.1.0 (obeys.rules NotNull).1.1.1.1.1.1.1.0 a ha in
       let y = row_in db ours sound (rules_at 13) refl (obeys.rules Datatype).1.1.1.1.1.1.1.0 (obeys.rules NotNull).1.1.1.1.1.1.1.0 b hb in
@@ -248,7 +260,8 @@ module _ (db : Database) (ours : IsOurs db) (sound : IsDatabase db) (kept : AreK
 
   sheets_apart : are_apart (λ (a b : Sheet). same_int a.mail b.mail && same_int a.place b.place) (map sheet_of (db.trees 15)) ≡ true
   sheets_apart =
-      apart_keys sheet_of (λ (a b : Sheet). same_int a.mail b.mail && same_int a.place b.place) (sheets_at 15) (key_of (codes "sheets") 15 (1 ∷ 2 ∷ [])) (schema_of c) db.trees (inr (inr (inr (inr (inr (inr (inr (inl refl)))))))) refl kept.1.1.1.1.1.1.1.1.0 (obeys.rules Unique).1.1.1.1.1.1.1.1.0
+      apart_keys sheet_of (λ (a b : Sheet). same_int a.mail b.mail && same_int a.place b.place) (sheets_at 15)
+      (key_of (codes "sheets") 15 (1 ∷ 2 ∷ [])) (schema_of c) db.trees (inr (inr (inr (inr (inr (inr (inr (inl refl)))))))) refl kept.1.1.1.1.1.1.1.1.0 (obeys.rules Unique).1.1.1.1.1.1.1.1.0
       (λ a b ha hb.
       let x = sheets_typed db ours sound a ha in
       let y = sheets_typed db ours sound b hb in
@@ -256,7 +269,8 @@ module _ (db : Database) (ours : IsOurs db) (sound : IsDatabase db) (kept : AreK
 
   groups_apart : are_apart (λ (a b : Group). bytes_eq a.name b.name) (map group_of (db.trees 17)) ≡ true
   groups_apart =
-      apart_keys group_of (λ (a b : Group). bytes_eq a.name b.name) (groups_at 17) (key_of (codes "groups") 17 (2 ∷ [])) (schema_of c) db.trees (inr (inr (inr (inr (inr (inr (inr (inr (inl refl))))))))) refl kept.1.1.1.1.1.1.1.1.1.0 (obeys.rules Unique).1.1.1.1.1.1.1.1.1.0
+      apart_keys group_of (λ (a b : Group). bytes_eq a.name b.name) (groups_at 17) (key_of (codes "groups") 17 (2 ∷ [])) (schema_of c) db.trees
+      (inr (inr (inr (inr (inr (inr (inr (inr (inl refl))))))))) refl kept.1.1.1.1.1.1.1.1.1.0 (obeys.rules Unique).1.1.1.1.1.1.1.1.1.0
       (λ a b ha hb.
       let x = row_in db ours sound (groups_at 17) refl (obeys.rules Datatype).1.1.1.1.1.1.1.1.1.0 (obeys.rules NotNull).1.1.1.1.1.1.1.1.1.0 a ha in
       let y = row_in db ours sound (groups_at 17) refl (obeys.rules Datatype).1.1.1.1.1.1.1.1.1.0 (obeys.rules NotNull).1.1.1.1.1.1.1.1.1.0 b hb in
@@ -270,7 +284,9 @@ module _ (db : Database) (ours : IsOurs db) (sound : IsDatabase db) (kept : AreK
 
   members_apart : are_apart (λ (a b : Member). same_int a.group b.group && same_int a.place b.place) (map member_of (db.trees 19)) ≡ true
   members_apart =
-      apart_keys member_of (λ (a b : Member). same_int a.group b.group && same_int a.place b.place) (members_at 19) (key_of (codes "members") 19 (1 ∷ 2 ∷ [])) (schema_of c) db.trees (inr (inr (inr (inr (inr (inr (inr (inr (inr (inl refl)))))))))) refl kept.1.1.1.1.1.1.1.1.1.1.0 (obeys.rules Unique).1.1.1.1.1.1.1.1.1.1.0
+      apart_keys member_of (λ (a b : Member). same_int a.group b.group && same_int a.place b.place) (members_at 19)
+      (key_of (codes "members") 19 (1 ∷ 2 ∷ [])) (schema_of c) db.trees
+      (inr (inr (inr (inr (inr (inr (inr (inr (inr (inl refl)))))))))) refl kept.1.1.1.1.1.1.1.1.1.1.0 (obeys.rules Unique).1.1.1.1.1.1.1.1.1.1.0
       (λ a b ha hb.
       let x = members_in db ours sound a ha in
       let y = members_in db ours sound b hb in
@@ -278,7 +294,8 @@ module _ (db : Database) (ours : IsOurs db) (sound : IsDatabase db) (kept : AreK
 
   member_clerks_apart : are_apart (λ (a b : Member). same_int a.group b.group && bytes_eq a.clerk b.clerk) (map member_of (db.trees 19)) ≡ true
   member_clerks_apart =
-      apart_keys member_of (λ (a b : Member). same_int a.group b.group && bytes_eq a.clerk b.clerk) (members_at 19) (clerks_key_of 19) (schema_of c) db.trees (inr (inr (inr (inr (inr (inr (inr (inr (inr (inr (inl refl))))))))))) refl kept.1.1.1.1.1.1.1.1.1.1.0 (obeys.rules Unique).1.1.1.1.1.1.1.1.1.1.0
+      apart_keys member_of (λ (a b : Member). same_int a.group b.group && bytes_eq a.clerk b.clerk) (members_at 19) (clerks_key_of 19)
+      (schema_of c) db.trees (inr (inr (inr (inr (inr (inr (inr (inr (inr (inr (inl refl))))))))))) refl kept.1.1.1.1.1.1.1.1.1.1.0 (obeys.rules Unique).1.1.1.1.1.1.1.1.1.1.0
       (λ a b ha hb.
       let x = members_in db ours sound a ha in
       let y = members_in db ours sound b hb in
@@ -294,7 +311,8 @@ module _ (db : Database) (ours : IsOurs db) (sound : IsDatabase db) (kept : AreK
   has_maildrop r there =
       let text = messages_typed db ours sound r there in
       let pass = all_has (λ row. passes ForeignKey (schema_of c) db.trees (mail_at (mail_tree c)) row ≡ true) (db.trees (mail_tree c)) r (mail_passes c db.trees ForeignKey obeys) there in
-      let has = or_second (has_null (2 ∷ []) r) (is_held db.trees (2 ∷ []) r (parent_key (schema_of c).tables to_maildrops)) (text_there r 2 text) (and_parts (has_parent (schema_of c).tables db.trees r to_maildrops) true pass).0 in
+      let has = or_second (has_null (2 ∷ []) r) (is_held db.trees (2 ∷ []) r (parent_key (schema_of c).tables to_maildrops)) (text_there r 2 text)
+      (and_parts (has_parent (schema_of c).tables db.trees r to_maildrops) true pass).0 in
       let it = some_has (λ parent. agree plain_order (1 ∷ []) parent (2 ∷ []) r) (db.trees 4) (held_by db.trees (2 ∷ []) r _ 4 (1 ∷ []) (names_key c) has) in
       let is = one_agrees 1 2 it.0 r _ (same_text (column it.0 1) (column r 2) (names_typed db ours sound it.0 it.1) text) in
       some_from (λ x. bytes_eq x (text_at r 2)) (map maildrop_of (db.trees 4)) (maildrop_of it.0) (has_mapped maildrop_of (db.trees 4) it.0 it.1) (sym is ∙ it.2)
@@ -303,7 +321,8 @@ module _ (db : Database) (ours : IsOurs db) (sound : IsDatabase db) (kept : AreK
   has_message r there =
       let int = (sheets_typed db ours sound r there).0 in
       let pass = all_has (λ row. passes ForeignKey (schema_of c) db.trees (sheets_at 15) row ≡ true) (db.trees 15) r (obeys.rules ForeignKey).1.1.1.1.1.1.1.1.0 there in
-      let has = or_second (has_null (1 ∷ []) r) (is_held db.trees (1 ∷ []) r (parent_key (schema_of c).tables to_mail)) (number_there r 1 int) (and_parts (has_parent (schema_of c).tables db.trees r to_mail) true pass).0 in
+      let has = or_second (has_null (1 ∷ []) r) (is_held db.trees (1 ∷ []) r (parent_key (schema_of c).tables to_mail)) (number_there r 1 int)
+      (and_parts (has_parent (schema_of c).tables db.trees r to_mail) true pass).0 in
       let it = some_has (λ parent. agree plain_order (0 ∷ []) parent (1 ∷ []) r) (db.trees (mail_tree c)) (held_by db.trees (1 ∷ []) r _ (mail_tree c) (0 ∷ []) (mail_key c) has) in
       let is = one_agrees 0 1 it.0 r _ (same_number (column it.0 0) (column r 1) (id_is (db.trees (mail_tree c)) (mail_keyed c db.trees kept) it.0 it.1) int) in
       some_from (λ (m : Message). same_int m.key (number_at r 1)) (map message_of (db.trees (mail_tree c))) (message_of it.0) (has_mapped message_of (db.trees (mail_tree c)) it.0 it.1) (sym is ∙ it.2)
@@ -312,7 +331,8 @@ module _ (db : Database) (ours : IsOurs db) (sound : IsDatabase db) (kept : AreK
   has_group r there =
       let int = (members_in db ours sound r there).0 in
       let pass = all_has (λ row. passes ForeignKey (schema_of c) db.trees (members_at 19) row ≡ true) (db.trees 19) r (obeys.rules ForeignKey).1.1.1.1.1.1.1.1.1.1.0 there in
-      let has = or_second (has_null (1 ∷ []) r) (is_held db.trees (1 ∷ []) r (parent_key (schema_of c).tables to_groups)) (number_there r 1 int) (and_parts (has_parent (schema_of c).tables db.trees r to_groups) true pass).0 in
+      let has = or_second (has_null (1 ∷ []) r) (is_held db.trees (1 ∷ []) r (parent_key (schema_of c).tables to_groups)) (number_there r 1 int)
+      (and_parts (has_parent (schema_of c).tables db.trees r to_groups) true pass).0 in
       let it = some_has (λ parent. agree plain_order (0 ∷ []) parent (1 ∷ []) r) (db.trees 17) (held_by db.trees (1 ∷ []) r _ 17 (0 ∷ []) (groups_key c) has) in
       let is = one_agrees 0 1 it.0 r _ (same_number (column it.0 0) (column r 1) (id_is (db.trees 17) kept.1.1.1.1.1.1.1.1.1.0 it.0 it.1) int) in
       some_from (λ (g : Group). same_int g.place (number_at r 1)) (map group_of (db.trees 17)) (group_of it.0) (has_mapped group_of (db.trees 17) it.0 it.1) (sym is ∙ it.2)

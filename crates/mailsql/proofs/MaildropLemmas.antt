@@ -16,11 +16,11 @@ use Rattle.sqlite.specs.Listing.{understood}
 use Rattle.sqlite.specs.State.{State, IsLive, mode_of, Executes, CommitsBy, Shown}
 use Rattle.sqlite.proofs.Callers.{IsPlain, command_of}
 use Rattle.mailsql.specs.Tables as tables
-use Rattle.mailsql.specs.Tables.{schema_of, to_mail}
+use Rattle.mailsql.specs.Tables.{schema_of}
 use Rattle.mailsql.proofs.Statements as st
 use Rattle.mailsql.specs.Rows as m
 use Rattle.mailsql.specs.Changes as ch
-use Rattle.mailsql.specs.Rows.{Name, Rows, is_carried, rows_in, IsKept, IsReady, MayLeave, Changes, same_int}
+use Rattle.mailsql.specs.Rows.{Name, Rows, is_carried, rows_in, IsKept, IsReady, MayLeave, Changes}
 use Rattle.mailsql.proofs.RowLemmas.{next_last, appended}
 use Rattle.mailsql.proofs.WriteLemmas.{inserted}
 use Rattle.mailsql.proofs.KeptLemmas.{applied_kept, keyed_apart}
@@ -62,7 +62,8 @@ add_maildrop_does name limit s text tally after kept sound h =
     let tail = add_maildrop_tail name in
     let rows : next 4 ≡ put_row (Int (next_rowid (db 4)) ∷ tail) (db 4) = simp (cast_null, cast_int) at made.1.rows in
     let last = rows ∙ next_last Chosen tail (db 4) kept.1.1.1.0 in
-    let change = frame.maildrops_alone db next (framed db next _ (λ e. absurd (omega arith)) made.1) ∙ ap (λ l. let r : Rows = record (rows_in db) { maildrops = l } in r) (appended m.maildrop_of (db 4) (next 4) (Int (next_rowid (db 4)) ∷ tail) last) in (
+    let change = frame.maildrops_alone db next (framed db next _ (λ e. absurd (omega arith)) made.1)
+    ∙ ap (λ l. let r : Rows = record (rows_in db) { maildrops = l } in r) (appended m.maildrop_of (db 4) (next 4) (Int (next_rowid (db 4)) ∷ tail) last) in (
       ap (λ (d : Database). rows_in d.trees) made.2 ∙ change,
       kept_framed db next after made.2 (framed db next _ (λ e. absurd (omega arith)) made.1).same (applied_kept db next _ made.1 kept.1),
     )
@@ -70,11 +71,13 @@ add_maildrop_does name limit s text tally after kept sound h =
 module _ (old new : State) (name : Name) (live : IsLive old) where
   pub add_maildrop_ok : (count : ℕ) → IsReady old → Executes st.add_maildrop_text (Text name ∷ []) old new (Ok count) → Changes (ch.AddsMaildrop name) old new
   add_maildrop_ok count ready h =
-      changes st.add_maildrop_text (Text name ∷ []) (λ _. st.add_maildrop_command) add_maildrop_is add_maildrop_plain (λ c e. cc) (λ c n e. cc) (λ c a b t n r. r) (ch.AddsMaildrop name) (add_maildrop_does name) old new count ready live h
+      changes st.add_maildrop_text (Text name ∷ []) (λ _. st.add_maildrop_command) add_maildrop_is add_maildrop_plain (λ c e. cc) (λ c n e. cc)
+      (λ c a b t n r. r) (ch.AddsMaildrop name) (add_maildrop_does name) old new count ready live h
 
   pub add_maildrop_commits : (db : Trees) → CommitsBy st.add_maildrop_text (Text name ∷ []) old db → MayLeave (ch.AddsMaildrop name) old db
   add_maildrop_commits db h =
-      commits st.add_maildrop_text (Text name ∷ []) (λ _. st.add_maildrop_command) add_maildrop_is add_maildrop_plain (λ c e. cc) (λ c n e. cc) (λ c a b t n r. r) (ch.AddsMaildrop name) (add_maildrop_does name) old db live h
+      commits st.add_maildrop_text (Text name ∷ []) (λ _. st.add_maildrop_command) add_maildrop_is add_maildrop_plain (λ c e. cc) (λ c n e. cc)
+      (λ c a b t n r. r) (ch.AddsMaildrop name) (add_maildrop_does name) old db live h
 
 abbrev pub drop_maildrop_command : Command
 drop_maildrop_command = Delete 2 (record { lets = []; body = st.drop_maildrop_query })
@@ -100,7 +103,8 @@ drop_maildrop_does name limit s text tally after kept sound h =
     let it = removed limit (schema_of (is_carried db)) (tables.maildrops_at 4) params 2 terms db tally after (still.still_maildrops (is_carried db)) refl here in
     let same = shown_rows 4 terms (col 1 0 ∷ []) [] db params it.0 (record { ordered = it.1.ordered; same = it.1.same; sorted = it.1.sorted; shown = it.1.shown }) in
     let rows = it.4 ∙ without_shown (db 4) (passes params terms) it.0 (keyed_apart (db 4) keyed, keyed.1) same in
-    let left = ap (map m.maildrop_of) rows ∙ kept_map m.maildrop_of (passes params terms) (λ n. bytes_eq n name) (db 4) (λ r has. let it = typed.names_typed s.now kept.0 sound r has in and_true _ ∙ column_text (column r 1) name it) in
+    let left = ap (map m.maildrop_of) rows
+    ∙ kept_map m.maildrop_of (passes params terms) (λ n. bytes_eq n name) (db 4) (λ r has. let it = typed.names_typed s.now kept.0 sound r has in and_true _ ∙ column_text (column r 1) name it) in
     let change = frame.maildrops_alone db it.2 (framed db it.2 _ (λ e. absurd (omega arith)) it.3) ∙ ap (λ l. let r : Rows = record (rows_in db) { maildrops = l } in r) left in (
       ap (λ (d : Database). rows_in d.trees) it.5 ∙ change,
       kept_framed db it.2 after it.5 (framed db it.2 _ (λ e. absurd (omega arith)) it.3).same (applied_kept db it.2 _ it.3 kept.1),
@@ -109,11 +113,13 @@ drop_maildrop_does name limit s text tally after kept sound h =
 module _ (old new : State) (name : Name) (live : IsLive old) where
   pub drop_maildrop_ok : (count : ℕ) → IsReady old → Executes st.drop_maildrop_text (Text name ∷ []) old new (Ok count) → Changes (ch.DropsMaildrop name) old new
   drop_maildrop_ok count ready h =
-      changes st.drop_maildrop_text (Text name ∷ []) (λ _. drop_maildrop_command) drop_maildrop_is drop_maildrop_plain (λ c e. cc) (λ c n e. cc) (λ c a b t n r. r) (ch.DropsMaildrop name) (drop_maildrop_does name) old new count ready live h
+      changes st.drop_maildrop_text (Text name ∷ []) (λ _. drop_maildrop_command) drop_maildrop_is drop_maildrop_plain (λ c e. cc) (λ c n e. cc)
+      (λ c a b t n r. r) (ch.DropsMaildrop name) (drop_maildrop_does name) old new count ready live h
 
   pub drop_maildrop_commits : (db : Trees) → CommitsBy st.drop_maildrop_text (Text name ∷ []) old db → MayLeave (ch.DropsMaildrop name) old db
   drop_maildrop_commits db h =
-      commits st.drop_maildrop_text (Text name ∷ []) (λ _. drop_maildrop_command) drop_maildrop_is drop_maildrop_plain (λ c e. cc) (λ c n e. cc) (λ c a b t n r. r) (ch.DropsMaildrop name) (drop_maildrop_does name) old db live h
+      commits st.drop_maildrop_text (Text name ∷ []) (λ _. drop_maildrop_command) drop_maildrop_is drop_maildrop_plain (λ c e. cc) (λ c n e. cc)
+      (λ c a b t n r. r) (ch.DropsMaildrop name) (drop_maildrop_does name) old db live h
 
 pub all_maildrops_asks : (c : Bool) → Asks (schema_of c) st.all_maildrops_text 4 [] st.maildrop_columns st.maildrop_names
 unfolding understood everything

@@ -40,7 +40,8 @@ add_member_tail : ℤ → ℤ → Name → Row
 add_member_tail group place clerk = Int group ∷ Int place ∷ Text clerk ∷ []
 
 add_member_does : (group : ℤ) (place : ℤ) (clerk : Name) (limit : Option ℕ) (s : State) (text : List ℕ) (tally : Tally) (after : Database) → IsKept s.now → IsDatabase s.now
-    → Does limit (mode_of s) (Int group ∷ Int place ∷ Text clerk ∷ []) s.now text None st.add_member_command (Ok (tally, after)) → ch.AddsMember (record { group = group; place = place; clerk = clerk }) (rows_in s.now.trees) (rows_in after.trees) × IsKept after
+    → Does limit (mode_of s) (Int group ∷ Int place ∷ Text clerk ∷ []) s.now text None st.add_member_command (Ok (tally, after))
+    → ch.AddsMember (record { group = group; place = place; clerk = clerk }) (rows_in s.now.trees) (rows_in after.trees) × IsKept after
 unfolding add_member_tail
 add_member_does group place clerk limit s text tally after kept sound h =
     let db = s.now.trees in
@@ -51,19 +52,24 @@ add_member_does group place clerk limit s text tally after kept sound h =
     let tail = add_member_tail group place clerk in
     let rows : next 19 ≡ put_row (Int (next_rowid (db 19)) ∷ tail) (db 19) = simp (cast_null, cast_int) at made.1.rows in
     let last = rows ∙ next_last Chosen tail (db 19) kept.1.1.1.1.1.1.1.1.1.1.1.0 in
-    let change = frame.members_alone db next (framed db next _ (λ e. absurd (omega arith)) made.1) ∙ ap (λ l. let r : Rows = record (rows_in db) { members = l } in r) (appended m.member_of (db 19) (next 19) (Int (next_rowid (db 19)) ∷ tail) last) in (
+    let change = frame.members_alone db next (framed db next _ (λ e. absurd (omega arith)) made.1)
+    ∙ ap (λ l. let r : Rows = record (rows_in db) { members = l } in r) (appended m.member_of (db 19) (next 19) (Int (next_rowid (db 19)) ∷ tail) last) in (
       ap (λ (d : Database). rows_in d.trees) made.2 ∙ change,
       kept_framed db next after made.2 (framed db next _ (λ e. absurd (omega arith)) made.1).same (applied_kept db next _ made.1 kept.1),
     )
 
 module _ (old new : State) (group : ℤ) (place : ℤ) (clerk : Name) (live : IsLive old) where
-  pub add_member_ok : (count : ℕ) → IsReady old → Executes st.add_member_text (Int group ∷ Int place ∷ Text clerk ∷ []) old new (Ok count) → Changes (ch.AddsMember (record { group = group; place = place; clerk = clerk })) old new
+  pub add_member_ok : (count : ℕ) → IsReady old → Executes st.add_member_text (Int group ∷ Int place ∷ Text clerk ∷ []) old new (Ok count)
+      → Changes (ch.AddsMember (record { group = group; place = place; clerk = clerk })) old new
   add_member_ok count ready h =
-      changes st.add_member_text (Int group ∷ Int place ∷ Text clerk ∷ []) (λ _. st.add_member_command) add_member_is add_member_plain (λ c e. cc) (λ c n e. cc) (λ c a b t n r. r) (ch.AddsMember (record { group = group; place = place; clerk = clerk })) (add_member_does group place clerk) old new count ready live h
+      changes st.add_member_text (Int group ∷ Int place ∷ Text clerk ∷ []) (λ _. st.add_member_command) add_member_is add_member_plain (λ c e. cc)
+      (λ c n e. cc) (λ c a b t n r. r) (ch.AddsMember (record { group = group; place = place; clerk = clerk })) (add_member_does group place clerk) old new count ready live h
 
-  pub add_member_commits : (db : Trees) → CommitsBy st.add_member_text (Int group ∷ Int place ∷ Text clerk ∷ []) old db → MayLeave (ch.AddsMember (record { group = group; place = place; clerk = clerk })) old db
+  pub add_member_commits : (db : Trees) → CommitsBy st.add_member_text (Int group ∷ Int place ∷ Text clerk ∷ []) old db
+      → MayLeave (ch.AddsMember (record { group = group; place = place; clerk = clerk })) old db
   add_member_commits db h =
-      commits st.add_member_text (Int group ∷ Int place ∷ Text clerk ∷ []) (λ _. st.add_member_command) add_member_is add_member_plain (λ c e. cc) (λ c n e. cc) (λ c a b t n r. r) (ch.AddsMember (record { group = group; place = place; clerk = clerk })) (add_member_does group place clerk) old db live h
+      commits st.add_member_text (Int group ∷ Int place ∷ Text clerk ∷ []) (λ _. st.add_member_command) add_member_is add_member_plain (λ c e. cc)
+      (λ c n e. cc) (λ c a b t n r. r) (ch.AddsMember (record { group = group; place = place; clerk = clerk })) (add_member_does group place clerk) old db live h
 
 pub all_members_asks : (c : Bool) → Asks (schema_of c) st.all_members_text 19 [] st.member_columns st.member_names
 unfolding understood everything

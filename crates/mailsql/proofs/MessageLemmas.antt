@@ -66,7 +66,8 @@ sequence_is false = refl
 sequence_is true = refl
 
 -- the count in sqlite_sequence, written or not, leaves the other tables
-count_alone : (carried : Bool) (db : Trees) (c : Option Row) (top : ℤ) (next : Trees) → Edited (schema_of carried) Enforced db (counting db (mail_at (mail_tree carried)) (sequence_at 12) top c) (Ok next)
+count_alone : (carried : Bool) (db : Trees) (c : Option Row) (top : ℤ) (next : Trees)
+    → Edited (schema_of carried) Enforced db (counting db (mail_at (mail_tree carried)) (sequence_at 12) top c) (Ok next)
     → (edit : Edit) × (edit.table.tree ≡ 12) × Applies (schema_of carried) Enforced db edit next
 count_alone false db None top next h = (_, refl, one_step (schema_of false) Enforced db next _ refl h)
 count_alone false db (Some r) top next h = (_, refl, one_step (schema_of false) Enforced db next _ refl h)
@@ -83,22 +84,26 @@ only_sequence carried db next edit at h = record { frame = subst (λ t. Frame ca
 same_sequence : (carried : Bool) (db : Trees) → OnlySequence carried db db
 same_sequence carried db = record { frame = frame_none carried 12 db; kept = λ k. k }
 
-counted_alone : (carried : Bool) (task : Task) → task ≡ record task { schema = schema_of carried; keys = Enforced; table = mail_at (mail_tree carried) } → (mid next : Trees) (c : Option Row) (top : ℤ) (b : Bool)
+counted_alone : (carried : Bool) (task : Task)
+    → task ≡ record task { schema = schema_of carried; keys = Enforced; table = mail_at (mail_tree carried) } → (mid next : Trees) (c : Option Row) (top : ℤ) (b : Bool)
     → MatchBool b (CountsIn task mid c top (Some (sequence_at 12)) (Ok next)) (Gives mid (Ok next)) → OnlySequence carried mid next
-counted_alone carried task is mid next c top true h = let it = count_alone carried mid c top next (subst (λ (t : Task). Edited t.schema t.keys mid (counting mid t.table (sequence_at 12) top c) (Ok next)) is h) in only_sequence carried mid next it.0 it.1 it.2
+counted_alone carried task is mid next c top true h = let it =
+    count_alone carried mid c top next (subst (λ (t : Task). Edited t.schema t.keys mid (counting mid t.table (sequence_at 12) top c) (Ok next)) is h) in only_sequence carried mid next it.0 it.1 it.2
 counted_alone carried task is mid next c top false h = subst (OnlySequence carried mid) (sym (same_value h)) (same_sequence carried mid)
 
 raised_alone : (carried : Bool) (limit : Option ℕ) (params : Row) (mid next : Trees) (c : Option Row) (top : ℤ)
     → Counts (record { limit = limit; keys = Enforced; schema = schema_of carried; table = mail_at (mail_tree carried); params = params }) mid c top (Ok next) → OnlySequence carried mid next
 raised_alone carried limit params mid next c top h =
     let task : Task = record { limit = limit; keys = Enforced; schema = schema_of carried; table = mail_at (mail_tree carried); params = params } in
-    counted_alone carried task refl mid next c top (is_lt (int_cmp (count_of c) top)) (subst (λ o. MatchBool (is_lt (int_cmp (count_of c) top)) (CountsIn task mid c top o (Ok next)) (Gives mid (Ok next))) (sequence_is carried) h)
+    counted_alone carried task refl mid next c top (is_lt (int_cmp (count_of c) top))
+    (subst (λ o. MatchBool (is_lt (int_cmp (count_of c) top)) (CountsIn task mid c top o (Ok next)) (Gives mid (Ok next))) (sequence_is carried) h)
 
 -- the place is that of mail
 abbrev pub insert_command : List Term → (carried : Bool) → Command
 insert_command terms carried = Insert (mail_place carried) (Values terms 6)
 
-insert_on : (terms : List Term) (carried : Bool) (limit : Option ℕ) (s : State) (params : Row) (text : List ℕ) (tally : Tally) (after : Database) → Does limit (mode_of s) params (record s.now { schema = schema_of carried }) text None (insert_command terms carried) (Ok (tally, after))
+insert_on : (terms : List Term) (carried : Bool) (limit : Option ℕ) (s : State) (params : Row) (text : List ℕ) (tally : Tally) (after : Database)
+    → Does limit (mode_of s) params (record s.now { schema = schema_of carried }) text None (insert_command terms carried) (Ok (tally, after))
     → OnRows (task_of limit (schema_of carried) (mail_at (mail_tree carried)) params) plain_mode None (insert_command terms carried) s.now.trees (Ok (tally, after))
 insert_on terms false limit s params text tally after h = h
 insert_on terms true limit s params text tally after h = h
@@ -107,7 +112,9 @@ no_deeds : (carried : Bool) (news : List Row) → works (schema_of carried) Enfo
 no_deeds carried news = nothing_acts (schema_of carried) 0 (mail_tree carried) news (schema_of carried).tables
 
 -- INSERT of one row, whose values these terms give
-insert_steps : (terms : List Term) (params : Row) (sources : List Row) → ((carried : Bool) → value_rows (stamped (mail_at (mail_tree carried)) params) 6 (length terms / 6) terms ≡ sources) → (limit : Option ℕ) (s : State) (text : List ℕ) (tally : Tally) (after : Database) → IsKept s.now
+insert_steps : (terms : List Term) (params : Row) (sources : List Row)
+    → ((carried : Bool) → value_rows (stamped (mail_at (mail_tree carried)) params) 6 (length terms / 6) terms ≡ sources)
+    → (limit : Option ℕ) (s : State) (text : List ℕ) (tally : Tally) (after : Database) → IsKept s.now
     → Does limit (mode_of s) params s.now text None (insert_command terms (is_carried s.now.trees)) (Ok (tally, after))
     → (mid next : Trees) × Applies (schema_of (is_carried s.now.trees)) Enforced s.now.trees (edit (is_carried s.now.trees) sources s.now.trees) mid × OnlySequence (is_carried s.now.trees) mid next
     × (after ≡ record { schema = schema_of (is_carried s.now.trees); trees = next })
@@ -117,7 +124,8 @@ insert_steps terms params sources gives limit s text tally after kept h =
     let mail = mail_at (mail_tree carried) in
     let db = s.now.trees in
     let task : Task = record { limit = limit; keys = Enforced; schema = schema_of carried; table = mail; params = params } in
-    let here = insert_on terms carried limit s params text tally after (subst (λ sch. Does limit (mode_of s) params (record s.now { schema = sch }) text None (insert_command terms carried) (Ok (tally, after))) kept.0 h) in
+    let here = insert_on terms carried limit s params text tally after
+    (subst (λ sch. Does limit (mode_of s) params (record s.now { schema = sch }) text None (insert_command terms carried) (Ok (tally, after))) kept.0 h) in
     let done = went here in
     let end = same_value (went (went done.2).2).2 in
     let now = ap (λ (p : Tally × Database). p.1) end in
@@ -149,7 +157,8 @@ key_for carried db = at_least (rowids_for (mail_at (mail_tree carried)) (count_o
 message_tail : Name → Name → ℤ → ℤ → Row
 message_tail maildrop class k octets = Null ∷ Text maildrop ∷ Text class ∷ Int k ∷ Int octets ∷ []
 
-message_alone : (db mid next : Trees) → Frame (is_carried db) (mail_tree (is_carried db)) db mid → Frame (is_carried db) 12 mid next → rows_in next ≡ record (rows_in db) { messages = map message_of (mid (mail_tree (is_carried db))) }
+message_alone : (db mid next : Trees) → Frame (is_carried db) (mail_tree (is_carried db)) db mid → Frame (is_carried db) 12 mid next
+    → rows_in next ≡ record (rows_in db) { messages = map message_of (mid (mail_tree (is_carried db))) }
 message_alone db mid next a b =
     let same : is_carried next ≡ is_carried db = b.same ∙ a.same in
     let meta : next 0 ≡ db 0 = b.meta (λ e. absurd (omega arith)) ∙ a.meta (mail_apart (is_carried db) 0 (λ e. absurd (omega arith)) (λ e. absurd (omega arith))) in
@@ -189,7 +198,8 @@ add_message_does maildrop class k octets limit s text tally after kept h =
     let first = framed db mid _ (not_mail carried catalog_tree (λ e. absurd (omega arith)) (λ e. absurd (omega arith))) edited in
     let alone = message_alone db mid next first it.3.frame in
     let change : AddsMessage (record { key = key_for carried db; maildrop = maildrop; class = class; k = k; octets = octets }) (rows_in db) (rows_in next) = record {
-      added = alone ∙ ap (λ l. let m : Rows = record (rows_in db) { messages = l } in m) (appended message_of (db (mail_tree carried)) (mid (mail_tree carried)) (Int (key_for carried db) ∷ tail) last);
+      added = alone ∙ ap (λ l. let m : Rows = record (rows_in db) { messages = l } in m)
+          (appended message_of (db (mail_tree carried)) (mid (mail_tree carried)) (Int (key_for carried db) ∷ tail) last);
       above = all_above (key_for carried db) (db (mail_tree carried)) (next_above chosen (db (mail_tree carried)) keyed);
     } in (
       key_for carried db,
@@ -201,7 +211,8 @@ add_message_does maildrop class k octets limit s text tally after kept h =
 abbrev pub add_message_record : Name → Name → ℤ → ℤ → ℤ → Message
 add_message_record maildrop class k octets key = record { key = key; maildrop = maildrop; class = class; k = k; octets = octets }
 
-message_written : (c : Bool) (old new : State) (text : List ℕ) (params : Row) (count : ℕ) → Runs old new None (add_message_command c) text params count → WritesTo old new None (add_message_command c) text params count
+message_written : (c : Bool) (old new : State) (text : List ℕ) (params : Row) (count : ℕ)
+    → Runs old new None (add_message_command c) text params count → WritesTo old new None (add_message_command c) text params count
 message_written c old new text params count h = h
 
 module _ (old new : State) (maildrop class : Name) (k octets : ℤ) (live : IsLive old) where
@@ -209,14 +220,16 @@ module _ (old new : State) (maildrop class : Name) (k octets : ℤ) (live : IsLi
       → Changes (AddsMessage (add_message_record maildrop class k octets new.last_rowid)) old new
   add_message_ok count ready h =
       let c = is_carried old.now.trees in
-      let w = message_written c old new _ _ count (runs_as add_message_text (message_params maildrop class k octets) old new (schema_of c) ready.1.0 (add_message_command c) (add_message_is c) (add_message_plain c) count h) in
+      let w = message_written c old new _ _ count
+      (runs_as add_message_text (message_params maildrop class k octets) old new (schema_of c) ready.1.0 (add_message_command c) (add_message_is c) (add_message_plain c) count h) in
       let it = add_message_does maildrop class k octets old.step_limit old (statement_of add_message_text (understood (schema_of c) add_message_text)) w.tally new.now ready.1 w.changed in
       let last : new.last_rowid ≡ it.0 = w.last_rowid ∙ ap (λ o. unwrap_or o old.last_rowid) it.3 in
       record { change = subst (λ key. AddsMessage (add_message_record maildrop class k octets key) (rows_in old.now.trees) (rows_in new.now.trees)) (sym last) it.1; kept = it.2; shown = w.shown }
 
   pub add_message_commits : (db : Trees) → CommitsBy add_message_text (message_params maildrop class k octets) old db → MayLeave (Arrives maildrop class k octets) old db
   add_message_commits db h =
-      commits add_message_text (message_params maildrop class k octets) add_message_command add_message_is add_message_plain (λ c e. cc) (λ c n e. cc) (λ c a b t n r. r) (Arrives maildrop class k octets)
+      commits add_message_text (message_params maildrop class k octets) add_message_command add_message_is add_message_plain (λ c e. cc) (λ c n e. cc)
+      (λ c a b t n r. r) (Arrives maildrop class k octets)
       (λ limit s text tally after kept sound d. let it = add_message_does maildrop class k octets limit s text tally after kept d in ((it.0, it.1), it.2)) old db live h
 
 -- ---- under a given key
@@ -241,7 +254,9 @@ add_keyed_does m limit s text tally after kept sound h =
     let first = framed db mid _ (not_mail carried catalog_tree (λ e. absurd (omega arith)) (λ e. absurd (omega arith))) edited in
     let alone = message_alone db mid next first it.3.frame in
     let change : AddsKeyed m (rows_in db) (rows_in next) = λ above. record {
-      added = alone ∙ ap (λ l. let r : Rows = record (rows_in db) { messages = l } in r) (appended message_of (db (mail_tree carried)) (mid (mail_tree carried)) (Int m.key ∷ tail) (rows ∙ put_last m.key tail (db (mail_tree carried)) keyed.1 (keys_below m.key (db (mail_tree carried)) above)));
+      added = alone ∙ ap (λ l. let r : Rows = record (rows_in db) { messages = l } in r)
+          (appended message_of (db (mail_tree carried)) (mid (mail_tree carried)) (Int m.key ∷ tail)
+          (rows ∙ put_last m.key tail (db (mail_tree carried)) keyed.1 (keys_below m.key (db (mail_tree carried)) above)));
       above = above;
     } in (
       subst (λ (d : Database). AddsKeyed m (rows_in db) (rows_in d.trees)) (sym it.4) change,
@@ -250,7 +265,9 @@ add_keyed_does m limit s text tally after kept sound h =
 
 module _ (old new : State) (m : Message) (live : IsLive old) where
   pub add_keyed_ok : (count : ℕ) → IsReady old → Executes add_keyed_text (keyed_params m) old new (Ok count) → Changes (AddsKeyed m) old new
-  add_keyed_ok count ready h = changes add_keyed_text (keyed_params m) add_keyed_command add_keyed_is add_keyed_plain (λ c e. cc) (λ c n e. cc) (λ c a b t n r. r) (AddsKeyed m) (add_keyed_does m) old new count ready live h
+  add_keyed_ok count ready h = changes add_keyed_text (keyed_params m) add_keyed_command add_keyed_is add_keyed_plain (λ c e. cc) (λ c n e. cc)
+      (λ c a b t n r. r) (AddsKeyed m) (add_keyed_does m) old new count ready live h
 
   pub add_keyed_commits : (db : Trees) → CommitsBy add_keyed_text (keyed_params m) old db → MayLeave (AddsKeyed m) old db
-  add_keyed_commits db h = commits add_keyed_text (keyed_params m) add_keyed_command add_keyed_is add_keyed_plain (λ c e. cc) (λ c n e. cc) (λ c a b t n r. r) (AddsKeyed m) (add_keyed_does m) old db live h
+  add_keyed_commits db h = commits add_keyed_text (keyed_params m) add_keyed_command add_keyed_is add_keyed_plain (λ c e. cc) (λ c n e. cc)
+      (λ c a b t n r. r) (AddsKeyed m) (add_keyed_does m) old db live h

@@ -63,7 +63,8 @@ same_order a b x y =
     then-Equal (value_cmp (column a.0 0) (column b.0 0)) ∙ ap₂ value_cmp (ap (λ r. column r 0) x.1) (ap (λ r. column r 0) y.1) ∙ value_cmp-Int x.0 y.0
     ∙ sym (ap₂ (λ v w. int_cmp (id_in v) (id_in w)) x.2 y.2)
 
-places_rise : (ordered : List Output) → ((k : ℕ) (d : Output) → k < length ordered → IsPlaced (get_or ordered k d)) → IsSorted (output_cmp members_query) ordered → IsSorted (on (λ (m : Member). m.place) int_cmp) (map member_in ordered)
+places_rise : (ordered : List Output) → ((k : ℕ) (d : Output) → k < length ordered → IsPlaced (get_or ordered k d))
+    → IsSorted (output_cmp members_query) ordered → IsSorted (on (λ (m : Member). m.place) int_cmp) (map member_in ordered)
 places_rise ordered all sorted k d low within =
     let inside : k + 1 < length ordered = rw length-map at within in
     let none : Output = ([], []) in
@@ -72,7 +73,9 @@ places_rise ordered all sorted k d low within =
 
 module _ (old new : State) (group : ℤ) (rows : List Row) (tables : HasTables old) (h : Shown members_text (Int group ∷ []) old new rows) where
   pub by_place_same : IsUnchanged old new
-  by_place_same = unchanged members_text (Int group ∷ []) old new rows 19 members_terms member_columns by_place member_names (schema_of (is_carried old.now.trees)) (tables (shown_open members_text (Int group ∷ []) old new rows h)).0 (members_is (is_carried old.now.trees)) (members_plain (is_carried old.now.trees)) refl h
+  by_place_same = unchanged members_text (Int group ∷ []) old new rows 19 members_terms member_columns by_place member_names
+      (schema_of (is_carried old.now.trees)) (tables (shown_open members_text (Int group ∷ []) old new rows h)).0
+      (members_is (is_carried old.now.trees)) (members_plain (is_carried old.now.trees)) refl h
 
   pub by_place_shows : IsLive old → IsByPlace (filter (is_member_of group) (rows_in old.now.trees).members) (map (λ r. member_of (Null ∷ r)) rows)
   unfolding member_in
@@ -80,15 +83,19 @@ module _ (old new : State) (group : ℤ) (rows : List Row) (tables : HasTables o
       let params = Int group ∷ [] in
       let ours = (tables (shown_open members_text params old new rows h)).0 in
       let typed = members_in old.now ours (live by_place_same.0.was_open).0 in
-      let it = answers members_text params old new rows 19 members_terms member_columns by_place member_names (schema_of (is_carried old.now.trees)) ours (members_is (is_carried old.now.trees)) (members_plain (is_carried old.now.trees)) refl h in
+      let it = answers members_text params old new rows 19 members_terms member_columns by_place member_names
+      (schema_of (is_carried old.now.trees)) ours (members_is (is_carried old.now.trees)) (members_plain (is_carried old.now.trees)) refl h in
       let passing = filter (passes params members_terms) (old.now.trees 19) in
       let each = all_from _ passing (λ r has. (typed r (has_filtered (passes params members_terms) (old.now.trees 19) r has).0).1) in
       let asked : map member_in (map (out params) passing) ≡ filter (is_member_of group) (map member_of (old.now.trees 19)) =
-      map-map member_in (out params) passing ∙ filter_map member_of (passes params members_terms) (is_member_of group) (old.now.trees 19) (λ r has. and_true _ ∙ column_int (column r 1) group (typed r has).0) in
-      let read : map (λ r. member_of (Null ∷ r)) rows ≡ map member_in it.ordered = ap (map (λ r. member_of (Null ∷ r))) it.shown ∙ map-map (λ r. member_of (Null ∷ r)) (λ (o : Output). o.1) it.ordered in
+      map-map member_in (out params) passing
+      ∙ filter_map member_of (passes params members_terms) (is_member_of group) (old.now.trees 19) (λ r has. and_true _ ∙ column_int (column r 1) group (typed r has).0) in
+      let read : map (λ r. member_of (Null ∷ r)) rows ≡ map member_in it.ordered = ap (map (λ r. member_of (Null ∷ r))) it.shown
+      ∙ map-map (λ r. member_of (Null ∷ r)) (λ (o : Output). o.1) it.ordered in
       record {
         same = subst₂ IsPermutation asked (sym read) (IsPermutation-map member_in _ _ it.same);
-        rise = subst (IsSorted (on (λ (m : Member). m.place) int_cmp)) (sym read) (places_rise it.ordered (All-permutation IsPlaced _ _ it.same (All-from_recursion IsPlaced (map (out params) passing) (all_placed params passing each))) it.sorted);
+        rise = subst (IsSorted (on (λ (m : Member). m.place) int_cmp)) (sym read)
+            (places_rise it.ordered (All-permutation IsPlaced _ _ it.same (All-from_recursion IsPlaced (map (out params) passing) (all_placed params passing each))) it.sorted);
       }
 
   -- each row that was shown holds a member
@@ -97,7 +104,8 @@ module _ (old new : State) (group : ℤ) (rows : List Row) (tables : HasTables o
       let params = Int group ∷ [] in
       let ours = (tables (shown_open members_text params old new rows h)).0 in
       let held = members_held old.now ours (live by_place_same.0.was_open).0 in
-      let it = answers members_text params old new rows 19 members_terms member_columns by_place member_names (schema_of (is_carried old.now.trees)) ours (members_is (is_carried old.now.trees)) (members_plain (is_carried old.now.trees)) refl h in
+      let it = answers members_text params old new rows 19 members_terms member_columns by_place member_names
+      (schema_of (is_carried old.now.trees)) ours (members_is (is_carried old.now.trees)) (members_plain (is_carried old.now.trees)) refl h in
       let same = shown_rows 19 members_terms member_columns by_place old.now.trees params rows it in
       let P : Row → Type 0 = λ r. HoldsMember (Null ∷ r) in
       let each = all_of_map P (λ r. column r 1 ∷ column r 2 ∷ column r 3 ∷ []) _ (all_from _ _ (λ r has. held r (has_filtered (passes params members_terms) (old.now.trees 19) r has).0)) in

@@ -23,7 +23,8 @@ pub flat_if : (p : Row → Bool) (f : Row → Env) (rows : List Row) → flat_ma
 flat_if p f [] = refl
 flat_if p f (r ∷ rows) = go (p r) (flat_if p f rows)
   where
-    go : (b : Bool) → flat_map (λ x. cond (p x) (f x ∷ []) []) rows ≡ map f (filter p rows) → cond b (f r ∷ []) [] ++ flat_map (λ x. cond (p x) (f x ∷ []) []) rows ≡ map f (cond b (r ∷ filter p rows) (filter p rows))
+    go : (b : Bool) → flat_map (λ x. cond (p x) (f x ∷ []) []) rows ≡ map f (filter p rows)
+        → cond b (f r ∷ []) [] ++ flat_map (λ x. cond (p x) (f x ∷ []) []) rows ≡ map f (cond b (r ∷ filter p rows) (filter p rows))
     go true more = ap (λ l. f r ∷ l) more
     go false more = more
 
@@ -67,14 +68,16 @@ pub shown_open : (sql : List ℕ) (params : Row) (old new : State) (rows : List 
 unfolding Shown
 shown_open sql params old new rows h = rows_open old new sql h.0 _ rows _ h.2
 
-pub shown_same : (sql : List ℕ) (params : Row) (old new : State) (rows : List Row) (schema : Schema) → old.now.schema ≡ schema → IsPlain (understood schema sql) → Shown sql params old new rows → IsUnchanged old new
+pub shown_same : (sql : List ℕ) (params : Row) (old new : State) (rows : List Row) (schema : Schema) → old.now.schema ≡ schema
+    → IsPlain (understood schema sql) → Shown sql params old new rows → IsUnchanged old new
 unfolding Shown
 shown_same sql params old new rows schema ours plain h =
     let known = sym h.1.is ∙ ap (λ s. understood s sql) ours in
     let bare = subst IsPlain (sym known) plain in
     (rw bare.0 at h.2).3
 
-module _ (sql : List ℕ) (params : Row) (old new : State) (rows : List Row) (t : ℕ) (terms project : List Term) (order : List (Term × Key)) (names : List (List ℕ)) (schema : Schema) (ours : old.now.schema ≡ schema)
+module _ (sql : List ℕ) (params : Row) (old new : State) (rows : List Row) (t : ℕ) (terms project : List Term) (order : List (Term × Key))
+    (names : List (List ℕ)) (schema : Schema) (ours : old.now.schema ≡ schema)
     (is : (command_of (understood schema sql) ≡ select_of (query_of (inner t end) terms project order) names) × (reads_listing schema sql ≡ false)) (plain : IsPlain (understood schema sql))
     (placed : overlay old.now.trees [] t ≡ old.now.trees t) (h : Shown sql params old new rows) where
   pub unchanged : IsUnchanged old new
@@ -84,4 +87,11 @@ module _ (sql : List ℕ) (params : Row) (old new : State) (rows : List Row) (t 
   answers =
       let read = reads_as sql params old new schema ours _ is.0 plain is.1 rows h in
       let it = selected t terms project order (overlay old.now.trees []) params rows (read.answer Null) in
-      record { ordered = it.ordered; same = subst (λ l. IsPermutation (map (λ r. output (query_of (inner t end) terms project order) (params ∷ r ∷ [])) (filter (passes params terms) l)) it.ordered) placed it.same; sorted = it.sorted; shown = it.shown }
+      record {
+        ordered = it.ordered;
+        same =
+            subst (λ l. IsPermutation (map (λ r. output (query_of (inner t end) terms project order) (params ∷ r ∷ [])) (filter (passes params terms) l)) it.ordered) placed it.same;
+        sorted =
+            it.sorted;
+        shown = it.shown;
+      }

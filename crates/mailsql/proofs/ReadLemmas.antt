@@ -49,15 +49,18 @@ module _ (schema : Schema) (sql : List ℕ) (t : ℕ) (terms project : List Term
   -- every record
   pub everything_of : {X : Type 0} (f read : Row → X) → AreKeyed (old.now.trees t) → ((r : Row) → read (eval_all project (params ∷ r ∷ [])) ≡ f r) → ((r : Row) → passes params terms r ≡ true)
       → map read rows ≡ map f (old.now.trees t)
-  everything_of f read keyed reads all = listed_of f read (λ x. true) keyed reads (λ r has. all r) ∙ filter_all (λ x. true) (map f (old.now.trees t)) (all_of (λ x. true ≡ true) (λ x. refl) (map f (old.now.trees t)))
+  everything_of f read keyed reads all = listed_of f read (λ x. true) keyed reads (λ r has. all r)
+      ∙ filter_all (λ x. true) (map f (old.now.trees t)) (all_of (λ x. true ≡ true) (λ x. refl) (map f (old.now.trees t)))
 
   -- what holds of each row that passes, as it is shown
   pub each_of : (Holds : Row → Type 0) → AreKeyed (old.now.trees t) → ((r : Row) → Has (old.now.trees t) r → Holds (eval_all project (params ∷ r ∷ []))) → AllByRecursion Holds rows
-  each_of Holds keyed held = subst (AllByRecursion Holds) (sym (shown_of keyed)) (all_of_map Holds (λ r. eval_all project (params ∷ r ∷ [])) _ (all_from _ _ (λ r has. held r (has_filtered (passes params terms) (old.now.trees t) r has).0)))
+  each_of Holds keyed held = subst (AllByRecursion Holds) (sym (shown_of keyed))
+      (all_of_map Holds (λ r. eval_all project (params ∷ r ∷ [])) _ (all_from _ _ (λ r has. held r (has_filtered (passes params terms) (old.now.trees t) r has).0)))
 
 -- ---- over a store of ours, in either order of the tables
 
-module _ (sql : List ℕ) (at : (carried : Bool) → ℕ) (terms project : List Term) (names : List (List ℕ)) (asks : (c : Bool) → Asks (schema_of c) sql (at c) terms project names) (placed : (c : Bool) (db : Trees) → overlay db [] (at c) ≡ db (at c))
+module _ (sql : List ℕ) (at : (carried : Bool) → ℕ) (terms project : List Term) (names : List (List ℕ))
+    (asks : (c : Bool) → Asks (schema_of c) sql (at c) terms project names) (placed : (c : Bool) (db : Trees) → overlay db [] (at c) ≡ db (at c))
     (old new : State) (params : Row) (rows : List Row) (tables : HasTables old) (h : Shown sql params old new rows) where
   abbrev c : Bool
   c = is_carried old.now.trees

@@ -29,7 +29,8 @@ module _ (limit : Option ℕ) (schema : Schema) (table : Table) (params : Row) (
   -- the rows whose rowids the query shows are taken out
   pub removed : ((olds : List Row) → works schema Enforced 0 table.tree olds [] ≡ []) → overlay db [] table.tree ≡ db table.tree
       → OnRows (task_of limit schema table params) plain_mode None (Delete at (record { lets = []; body = query_of (inner table.tree end) terms (col 1 0 ∷ []) [] })) db (Ok (tally, after))
-      → (rows : List Row) × Selected table.tree terms (col 1 0 ∷ []) [] (overlay db []) params rows × (next : Trees) × Applies schema Enforced db (remove_edit rows) next × (next table.tree ≡ without_all (db table.tree) (ids_of rows))
+      → (rows : List Row) × Selected table.tree terms (col 1 0 ∷ []) [] (overlay db []) params rows × (next : Trees)
+      × Applies schema Enforced db (remove_edit rows) next × (next table.tree ≡ without_all (db table.tree) (ids_of rows))
       × (after ≡ record { schema = schema; trees = next })
   removed still placed h =
       let done = went h in

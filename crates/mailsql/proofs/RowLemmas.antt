@@ -48,13 +48,15 @@ next_above rowids [] keyed = tt
 next_above rowids (x ∷ rows) keyed = raised rowids (next_rowid (x ∷ rows)) (x ∷ rows) (below_next x rows keyed.0 keyed.1)
 
 -- a row whose rowid is above each that is there comes last
-pub put_last : (id : ℤ) (rest : Row) (rows : List Row) → AllByRecursion (λ r. IsTrue (is_int (rowid r))) rows → AllByRecursion (λ r. id_in (rowid r) <ℤ id) rows → put_row (Int id ∷ rest) rows ≡ rows ++ (Int id ∷ rest) ∷ []
+pub put_last : (id : ℤ) (rest : Row) (rows : List Row) → AllByRecursion (λ r. IsTrue (is_int (rowid r))) rows
+    → AllByRecursion (λ r. id_in (rowid r) <ℤ id) rows → put_row (Int id ∷ rest) rows ≡ rows ++ (Int id ∷ rest) ∷ []
 put_last id rest [] ints_are below = refl
 put_last id rest (r ∷ rows) ints_are below =
     let less : value_cmp (rowid r) (Int id) ≡ Less = ap (λ v. value_cmp v (Int id)) (int_is (rowid r) ints_are.0) ∙ value_cmp-Int (id_in (rowid r)) id ∙ less_is (id_in (rowid r)) id below.0 in
     rw less (ap (λ l. r ∷ l) (put_last id rest rows ints_are.1 below.1))
 
-pub next_last : (rowids : Rowids) (rest : Row) (rows : List Row) → AreKeyed rows → put_row (Int (at_least rowids (next_rowid rows)) ∷ rest) rows ≡ rows ++ (Int (at_least rowids (next_rowid rows)) ∷ rest) ∷ []
+pub next_last : (rowids : Rowids) (rest : Row) (rows : List Row) → AreKeyed rows
+    → put_row (Int (at_least rowids (next_rowid rows)) ∷ rest) rows ≡ rows ++ (Int (at_least rowids (next_rowid rows)) ∷ rest) ∷ []
 next_last rowids rest rows keyed = put_last (at_least rowids (next_rowid rows)) rest rows keyed.1 (next_above rowids rows keyed)
 
 -- the records, with one more

@@ -16,11 +16,11 @@ use Rattle.sqlite.specs.Listing.{understood}
 use Rattle.sqlite.specs.State.{State, IsLive, mode_of, Executes, CommitsBy, Shown}
 use Rattle.sqlite.proofs.Callers.{IsPlain, command_of}
 use Rattle.mailsql.specs.Tables as tables
-use Rattle.mailsql.specs.Tables.{schema_of, to_mail}
+use Rattle.mailsql.specs.Tables.{schema_of}
 use Rattle.mailsql.proofs.Statements as st
 use Rattle.mailsql.specs.Rows as m
 use Rattle.mailsql.specs.Changes as ch
-use Rattle.mailsql.specs.Rows.{Name, Rows, is_carried, rows_in, IsKept, IsReady, MayLeave, Changes, same_int}
+use Rattle.mailsql.specs.Rows.{Name, Rows, is_carried, rows_in, IsKept, IsReady, MayLeave, Changes}
 use Rattle.mailsql.proofs.RowLemmas.{next_last, appended}
 use Rattle.mailsql.proofs.WriteLemmas.{inserted}
 use Rattle.mailsql.proofs.KeptLemmas.{applied_kept, keyed_apart}
@@ -52,32 +52,44 @@ add_rule_plain true = (refl, refl)
 add_rule_tail : Name → ℤ → Name → Name → Name → ℤ → Row
 add_rule_tail name effect clerk maildrop class actions = Null ∷ Text name ∷ Int effect ∷ Text clerk ∷ Text maildrop ∷ Text class ∷ Int actions ∷ []
 
-add_rule_does : (name : Name) (effect : ℤ) (clerk : Name) (maildrop : Name) (class : Name) (actions : ℤ) (limit : Option ℕ) (s : State) (text : List ℕ) (tally : Tally) (after : Database) → IsKept s.now → IsDatabase s.now
-    → Does limit (mode_of s) (Text name ∷ Int effect ∷ Text clerk ∷ Text maildrop ∷ Text class ∷ Int actions ∷ []) s.now text None st.add_rule_command (Ok (tally, after)) → ch.AddsRule name effect clerk maildrop class actions (rows_in s.now.trees) (rows_in after.trees) × IsKept after
+add_rule_does : (name : Name) (effect : ℤ) (clerk : Name) (maildrop : Name) (class : Name) (actions : ℤ) (limit : Option ℕ) (s : State) (text : List ℕ) (tally : Tally) (after : Database)
+    → IsKept s.now → IsDatabase s.now
+    → Does limit (mode_of s) (Text name ∷ Int effect ∷ Text clerk ∷ Text maildrop ∷ Text class ∷ Int actions ∷ []) s.now text None st.add_rule_command (Ok (tally, after))
+    → ch.AddsRule name effect clerk maildrop class actions (rows_in s.now.trees) (rows_in after.trees) × IsKept after
 unfolding add_rule_tail
 add_rule_does name effect clerk maildrop class actions limit s text tally after kept sound h =
     let db = s.now.trees in
     let params = Text name ∷ Int effect ∷ Text clerk ∷ Text maildrop ∷ Text class ∷ Int actions ∷ [] in
     let here = subst (λ sch. Does limit (mode_of s) params (record s.now { schema = sch }) text None st.add_rule_command (Ok (tally, after))) kept.0 h in
-    let made = inserted limit (schema_of (is_carried db)) _ 13 _ (Some 0) (0 ∷ []) _ _ ([]) params 7 8 (lit Null ∷ lit Null ∷ col 0 0 ∷ col 0 1 ∷ col 0 2 ∷ col 0 3 ∷ col 0 4 ∷ col 0 5 ∷ []) db tally after here in
+    let made = inserted limit (schema_of (is_carried db)) _ 13 _ (Some 0) (0 ∷ []) _ _ ([]) params 7 8
+    (lit Null ∷ lit Null ∷ col 0 0 ∷ col 0 1 ∷ col 0 2 ∷ col 0 3 ∷ col 0 4 ∷ col 0 5 ∷ []) db tally after here in
     let next = made.0 in
     let tail = add_rule_tail name effect clerk maildrop class actions in
     let rows : next 13 ≡ put_row (Int (next_rowid (db 13)) ∷ tail) (db 13) = simp (cast_null, cast_int) at made.1.rows in
     let last = rows ∙ next_last Chosen tail (db 13) kept.1.1.1.1.1.1.1.1.0 in
-    let change = frame.rules_alone db next (framed db next _ (λ e. absurd (omega arith)) made.1) ∙ ap (λ l. let r : Rows = record (rows_in db) { rules = l } in r) (appended m.rule_of (db 13) (next 13) (Int (next_rowid (db 13)) ∷ tail) last
-    ∙ ap (λ n. map m.rule_of (db 13) ++ (let r : m.Rule = record { place = n; name = name; effect = effect; clerk = clerk; maildrop = maildrop; class = class; actions = actions } in r) ∷ []) (sym (place_from (pos 1) (db 13)))) in (
+    let change = frame.rules_alone db next (framed db next _ (λ e. absurd (omega arith)) made.1)
+    ∙ ap (λ l. let r : Rows = record (rows_in db) { rules = l } in r) (appended m.rule_of (db 13) (next 13) (Int (next_rowid (db 13)) ∷ tail) last
+    ∙ ap (λ n. map m.rule_of (db 13) ++ (let r : m.Rule = record { place = n; name = name; effect = effect; clerk = clerk; maildrop = maildrop; class = class; actions = actions } in r) ∷ [])
+    (sym (place_from (pos 1) (db 13)))) in (
       ap (λ (d : Database). rows_in d.trees) made.2 ∙ change,
       kept_framed db next after made.2 (framed db next _ (λ e. absurd (omega arith)) made.1).same (applied_kept db next _ made.1 kept.1),
     )
 
 module _ (old new : State) (name : Name) (effect : ℤ) (clerk : Name) (maildrop : Name) (class : Name) (actions : ℤ) (live : IsLive old) where
-  pub add_rule_ok : (count : ℕ) → IsReady old → Executes st.add_rule_text (Text name ∷ Int effect ∷ Text clerk ∷ Text maildrop ∷ Text class ∷ Int actions ∷ []) old new (Ok count) → Changes (ch.AddsRule name effect clerk maildrop class actions) old new
+  pub add_rule_ok : (count : ℕ) → IsReady old
+      → Executes st.add_rule_text (Text name ∷ Int effect ∷ Text clerk ∷ Text maildrop ∷ Text class ∷ Int actions ∷ []) old new (Ok count)
+      → Changes (ch.AddsRule name effect clerk maildrop class actions) old new
   add_rule_ok count ready h =
-      changes st.add_rule_text (Text name ∷ Int effect ∷ Text clerk ∷ Text maildrop ∷ Text class ∷ Int actions ∷ []) (λ _. st.add_rule_command) add_rule_is add_rule_plain (λ c e. cc) (λ c n e. cc) (λ c a b t n r. r) (ch.AddsRule name effect clerk maildrop class actions) (add_rule_does name effect clerk maildrop class actions) old new count ready live h
+      changes st.add_rule_text (Text name ∷ Int effect ∷ Text clerk ∷ Text maildrop ∷ Text class ∷ Int actions ∷ [])
+      (λ _. st.add_rule_command) add_rule_is add_rule_plain (λ c e. cc) (λ c n e. cc) (λ c a b t n r. r)
+      (ch.AddsRule name effect clerk maildrop class actions) (add_rule_does name effect clerk maildrop class actions) old new count ready live h
 
-  pub add_rule_commits : (db : Trees) → CommitsBy st.add_rule_text (Text name ∷ Int effect ∷ Text clerk ∷ Text maildrop ∷ Text class ∷ Int actions ∷ []) old db → MayLeave (ch.AddsRule name effect clerk maildrop class actions) old db
+  pub add_rule_commits : (db : Trees)
+      → CommitsBy st.add_rule_text (Text name ∷ Int effect ∷ Text clerk ∷ Text maildrop ∷ Text class ∷ Int actions ∷ []) old db → MayLeave (ch.AddsRule name effect clerk maildrop class actions) old db
   add_rule_commits db h =
-      commits st.add_rule_text (Text name ∷ Int effect ∷ Text clerk ∷ Text maildrop ∷ Text class ∷ Int actions ∷ []) (λ _. st.add_rule_command) add_rule_is add_rule_plain (λ c e. cc) (λ c n e. cc) (λ c a b t n r. r) (ch.AddsRule name effect clerk maildrop class actions) (add_rule_does name effect clerk maildrop class actions) old db live h
+      commits st.add_rule_text (Text name ∷ Int effect ∷ Text clerk ∷ Text maildrop ∷ Text class ∷ Int actions ∷ [])
+      (λ _. st.add_rule_command) add_rule_is add_rule_plain (λ c e. cc) (λ c n e. cc) (λ c a b t n r. r)
+      (ch.AddsRule name effect clerk maildrop class actions) (add_rule_does name effect clerk maildrop class actions) old db live h
 
 abbrev pub clear_rules_command : Command
 clear_rules_command = Delete 7 (record { lets = []; body = st.clear_rules_query })
@@ -112,7 +124,8 @@ clear_rules_does limit s text tally after kept sound h =
 module _ (old new : State) (live : IsLive old) where
   pub clear_rules_ok : (count : ℕ) → IsReady old → Executes st.clear_rules_text ([]) old new (Ok count) → Changes (ch.ClearsRules) old new
   clear_rules_ok count ready h =
-      changes st.clear_rules_text ([]) (λ _. clear_rules_command) clear_rules_is clear_rules_plain (λ c e. cc) (λ c n e. cc) (λ c a b t n r. r) (ch.ClearsRules) (clear_rules_does) old new count ready live h
+      changes st.clear_rules_text ([]) (λ _. clear_rules_command) clear_rules_is clear_rules_plain (λ c e. cc) (λ c n e. cc) (λ c a b t n r. r)
+      (ch.ClearsRules) (clear_rules_does) old new count ready live h
 
   pub clear_rules_commits : (db : Trees) → CommitsBy st.clear_rules_text ([]) old db → MayLeave (ch.ClearsRules) old db
   clear_rules_commits db h =

@@ -45,7 +45,8 @@ add_sheet_tail : ℤ → ℤ → List ℕ → Row
 add_sheet_tail mail place octets = Int mail ∷ Int place ∷ Blob octets ∷ []
 
 add_sheet_does : (mail : ℤ) (place : ℤ) (octets : List ℕ) (limit : Option ℕ) (s : State) (text : List ℕ) (tally : Tally) (after : Database) → IsKept s.now → IsDatabase s.now
-    → Does limit (mode_of s) (Int mail ∷ Int place ∷ Blob octets ∷ []) s.now text None st.add_sheet_command (Ok (tally, after)) → ch.AddsSheet (record { mail = mail; place = place; octets = octets }) (rows_in s.now.trees) (rows_in after.trees) × IsKept after
+    → Does limit (mode_of s) (Int mail ∷ Int place ∷ Blob octets ∷ []) s.now text None st.add_sheet_command (Ok (tally, after))
+    → ch.AddsSheet (record { mail = mail; place = place; octets = octets }) (rows_in s.now.trees) (rows_in after.trees) × IsKept after
 unfolding add_sheet_tail
 add_sheet_does mail place octets limit s text tally after kept sound h =
     let db = s.now.trees in
@@ -56,19 +57,24 @@ add_sheet_does mail place octets limit s text tally after kept sound h =
     let tail = add_sheet_tail mail place octets in
     let rows : next 15 ≡ put_row (Int (next_rowid (db 15)) ∷ tail) (db 15) = simp (cast_null, cast_int) at made.1.rows in
     let last = rows ∙ next_last Chosen tail (db 15) kept.1.1.1.1.1.1.1.1.1.0 in
-    let change = frame.sheets_alone db next (framed db next _ (λ e. absurd (omega arith)) made.1) ∙ ap (λ l. let r : Rows = record (rows_in db) { sheets = l } in r) (appended m.sheet_of (db 15) (next 15) (Int (next_rowid (db 15)) ∷ tail) last) in (
+    let change = frame.sheets_alone db next (framed db next _ (λ e. absurd (omega arith)) made.1)
+    ∙ ap (λ l. let r : Rows = record (rows_in db) { sheets = l } in r) (appended m.sheet_of (db 15) (next 15) (Int (next_rowid (db 15)) ∷ tail) last) in (
       ap (λ (d : Database). rows_in d.trees) made.2 ∙ change,
       kept_framed db next after made.2 (framed db next _ (λ e. absurd (omega arith)) made.1).same (applied_kept db next _ made.1 kept.1),
     )
 
 module _ (old new : State) (mail : ℤ) (place : ℤ) (octets : List ℕ) (live : IsLive old) where
-  pub add_sheet_ok : (count : ℕ) → IsReady old → Executes st.add_sheet_text (Int mail ∷ Int place ∷ Blob octets ∷ []) old new (Ok count) → Changes (ch.AddsSheet (record { mail = mail; place = place; octets = octets })) old new
+  pub add_sheet_ok : (count : ℕ) → IsReady old → Executes st.add_sheet_text (Int mail ∷ Int place ∷ Blob octets ∷ []) old new (Ok count)
+      → Changes (ch.AddsSheet (record { mail = mail; place = place; octets = octets })) old new
   add_sheet_ok count ready h =
-      changes st.add_sheet_text (Int mail ∷ Int place ∷ Blob octets ∷ []) (λ _. st.add_sheet_command) add_sheet_is add_sheet_plain (λ c e. cc) (λ c n e. cc) (λ c a b t n r. r) (ch.AddsSheet (record { mail = mail; place = place; octets = octets })) (add_sheet_does mail place octets) old new count ready live h
+      changes st.add_sheet_text (Int mail ∷ Int place ∷ Blob octets ∷ []) (λ _. st.add_sheet_command) add_sheet_is add_sheet_plain (λ c e. cc)
+      (λ c n e. cc) (λ c a b t n r. r) (ch.AddsSheet (record { mail = mail; place = place; octets = octets })) (add_sheet_does mail place octets) old new count ready live h
 
-  pub add_sheet_commits : (db : Trees) → CommitsBy st.add_sheet_text (Int mail ∷ Int place ∷ Blob octets ∷ []) old db → MayLeave (ch.AddsSheet (record { mail = mail; place = place; octets = octets })) old db
+  pub add_sheet_commits : (db : Trees) → CommitsBy st.add_sheet_text (Int mail ∷ Int place ∷ Blob octets ∷ []) old db
+      → MayLeave (ch.AddsSheet (record { mail = mail; place = place; octets = octets })) old db
   add_sheet_commits db h =
-      commits st.add_sheet_text (Int mail ∷ Int place ∷ Blob octets ∷ []) (λ _. st.add_sheet_command) add_sheet_is add_sheet_plain (λ c e. cc) (λ c n e. cc) (λ c a b t n r. r) (ch.AddsSheet (record { mail = mail; place = place; octets = octets })) (add_sheet_does mail place octets) old db live h
+      commits st.add_sheet_text (Int mail ∷ Int place ∷ Blob octets ∷ []) (λ _. st.add_sheet_command) add_sheet_is add_sheet_plain (λ c e. cc)
+      (λ c n e. cc) (λ c a b t n r. r) (ch.AddsSheet (record { mail = mail; place = place; octets = octets })) (add_sheet_does mail place octets) old db live h
 
 pub find_sheet_asks : (c : Bool) → Asks (schema_of c) st.find_sheet_text 15 st.find_sheet_terms st.sheet_columns st.sheet_names
 unfolding understood everything

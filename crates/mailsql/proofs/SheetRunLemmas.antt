@@ -29,13 +29,15 @@ module _ (mail : ℤ) (text : List ℕ) where
   one_more : (n next : ℕ) → n + 1 ≡ next → (a b c : Rows) → AddsFirstSheets n mail text a b → AddsSheet (sheet_at mail text n) b c → AddsFirstSheets next mail text a c
   one_more n next is a b c p q =
       q ∙ ap (λ (r : Rows). let w : Rows = record r { sheets = r.sheets ++ sheet_at mail text n ∷ [] } in w) p
-      ∙ ap (λ l. let w : Rows = record a { sheets = l } in w) (append_assoc a.sheets (first_sheets n mail text) (sheet_at mail text n ∷ []) ∙ ap (λ l. a.sheets ++ l) (sym (first_more mail text n) ∙ ap (λ k. first_sheets k mail text) is))
+      ∙ ap (λ l. let w : Rows = record a { sheets = l } in w)
+      (append_assoc a.sheets (first_sheets n mail text) (sheet_at mail text n ∷ []) ∙ ap (λ l. a.sheets ++ l) (sym (first_more mail text n) ∙ ap (λ k. first_sheets k mail text) is))
 
   module _ (first mid last : State) (n next : ℕ) (is : n + 1 ≡ next) (low : n < sheet_count text) where
     pub added : Changes (AddsFirstSheets n mail text) first mid → (IsReady mid → Changes (AddsSheet (sheet_at mail text n)) mid last) → Changes (AddsFirstSheets next mail text) first last
     added = changes_then (AddsFirstSheets n mail text) (AddsSheet (sheet_at mail text n)) (AddsFirstSheets next mail text) (one_more n next is) first mid last
 
-    pub stops_between : (HasCleanDisk mid → IsReady first → Changes (AddsFirstSheets n mail text) first mid) → Survives first mid (MayLeave (AddsSomeSheets mail text) first) → Survives mid last (MayLeave (AddsSheet (sheet_at mail text n)) mid)
+    pub stops_between : (HasCleanDisk mid → IsReady first → Changes (AddsFirstSheets n mail text) first mid)
+        → Survives first mid (MayLeave (AddsSomeSheets mail text) first) → Survives mid last (MayLeave (AddsSheet (sheet_at mail text n)) mid)
         → Survives first last (MayLeave (AddsSomeSheets mail text) first)
     stops_between does one two =
         survives_then first mid last _ _ _ (λ _ db may. may)

@@ -11,7 +11,8 @@ use Rattle.sqlite.specs.declared.error.Error.{Error}
 use Rattle.sqlite.specs.Effect.{Database, IsDatabase}
 use Rattle.sqlite.specs.Does.{Tally, Does}
 use Rattle.sqlite.specs.Listing.{understood}
-use Rattle.sqlite.specs.State.{State, IsLive, mode_of, Runs, Writes, Executes, ExecutesIn, RunsCommand, CommitsBy, MayCommit, Fails, IsNotRun, IsUnchanged, FailsToQuery, FailsToShow, Survives, CommitsShowing}
+use Rattle.sqlite.specs.State.{State, IsLive, mode_of, Runs, Writes, Executes, ExecutesIn, RunsCommand, CommitsBy, MayCommit, Fails, IsNotRun, IsUnchanged, FailsToQuery}
+use Rattle.sqlite.specs.State.{FailsToShow, Survives, CommitsShowing}
 use Rattle.sqlite.proofs.StateLemmas.{survives_weaker}
 use Rattle.sqlite.proofs.Callers.{IsPlain, command_of, statement_of, runs_as, never_commits}
 use Rattle.mailsql.specs.Tables.{schema_of, old_schema}
@@ -29,7 +30,8 @@ command_undone : (old new : State) (sql : List ℕ) (c : Compiled) (params : Row
 command_undone old new sql c params e (inl refused) = inl refused.1
 command_undone old new sql c params e (inr failed) = failed_undone old new _ e failed
 
-alone_undone : (b : Bool) (old new : State) (sql : List ℕ) (c : Compiled) (params : Row) (e : Error) (R : Type 0) → MatchBool b (R × IsUnchanged old new) (RunsCommand old new sql c params (Err e)) → IsUndone old new
+alone_undone : (b : Bool) (old new : State) (sql : List ℕ) (c : Compiled) (params : Row) (e : Error) (R : Type 0)
+    → MatchBool b (R × IsUnchanged old new) (RunsCommand old new sql c params (Err e)) → IsUndone old new
 alone_undone true old new sql c params e R h = inl h.1
 alone_undone false old new sql c params e R h = command_undone old new sql c params e h
 
@@ -54,7 +56,8 @@ module _ (carried : Bool) (sql : List ℕ) (params : Row) (command : Command) (i
     (no_commit : command ≡ Commit → ⊥) (no_release : (name : List ℕ) → command ≡ Release name → ⊥)
     (runs : (old new : State) (text : List ℕ) (count : ℕ) → Runs old new None command text params count → Writes old new None command text params count)
     (Change : Rows → Rows → Type 0)
-    (does : (limit : Option ℕ) (s : State) (text : List ℕ) (tally : Tally) (after : Database) → is_carried s.now.trees ≡ carried → IsKept s.now → IsDatabase s.now → Does limit (mode_of s) params s.now text None command (Ok (tally, after)) → Change (rows_in s.now.trees) (rows_in after.trees) × IsKept after) where
+    (does : (limit : Option ℕ) (s : State) (text : List ℕ) (tally : Tally) (after : Database) → is_carried s.now.trees ≡ carried → IsKept s.now
+    → IsDatabase s.now → Does limit (mode_of s) params s.now text None command (Ok (tally, after)) → Change (rows_in s.now.trees) (rows_in after.trees) × IsKept after) where
   ours_is : (s : State) → is_carried s.now.trees ≡ carried → IsOurs s.now → s.now.schema ≡ schema_of carried
   ours_is s e ours = ours ∙ ap schema_of e
 
@@ -64,7 +67,8 @@ module _ (carried : Bool) (sql : List ℕ) (params : Row) (command : Command) (i
       let made = does old.step_limit old _ w.tally new.now e ready.1 (live ready.0).0 w.changed in
       record { change = made.0; kept = made.1; shown = w.shown }
 
-  commits_as : (old : State) (db : Trees) → is_carried old.now.trees ≡ carried → IsOurs old.now → CommitsBy sql params old db → MayCommit old None command (statement_of sql (understood (schema_of carried) sql)) params db
+  commits_as : (old : State) (db : Trees) → is_carried old.now.trees ≡ carried → IsOurs old.now → CommitsBy sql params old db
+      → MayCommit old None command (statement_of sql (understood (schema_of carried) sql)) params db
   unfolding CommitsBy
   commits_as old db e ours h =
       let known = sym h.1.is ∙ ap (λ s. understood s sql) (ours_is old e ours) in
@@ -82,14 +86,18 @@ module _ (carried : Bool) (sql : List ℕ) (params : Row) (command : Command) (i
 
 -- ---- in either
 
-module _ (sql : List ℕ) (params : Row) (command : (carried : Bool) → Command) (is : (c : Bool) → command_of (understood (schema_of c) sql) ≡ command c) (plain : (c : Bool) → IsPlain (understood (schema_of c) sql))
+module _ (sql : List ℕ) (params : Row) (command : (carried : Bool) → Command)
+    (is : (c : Bool) → command_of (understood (schema_of c) sql) ≡ command c) (plain : (c : Bool) → IsPlain (understood (schema_of c) sql))
     (no_commit : (c : Bool) → command c ≡ Commit → ⊥) (no_release : (c : Bool) (name : List ℕ) → command c ≡ Release name → ⊥)
     (runs : (c : Bool) (old new : State) (text : List ℕ) (count : ℕ) → Runs old new None (command c) text params count → Writes old new None (command c) text params count)
     (Change : Rows → Rows → Type 0)
-    (does : (limit : Option ℕ) (s : State) (text : List ℕ) (tally : Tally) (after : Database) → IsKept s.now → IsDatabase s.now → Does limit (mode_of s) params s.now text None (command (is_carried s.now.trees)) (Ok (tally, after)) → Change (rows_in s.now.trees) (rows_in after.trees) × IsKept after) where
-  does_in : (carried : Bool) (limit : Option ℕ) (s : State) (text : List ℕ) (tally : Tally) (after : Database) → is_carried s.now.trees ≡ carried → IsKept s.now → IsDatabase s.now → Does limit (mode_of s) params s.now text None (command carried) (Ok (tally, after))
+    (does : (limit : Option ℕ) (s : State) (text : List ℕ) (tally : Tally) (after : Database) → IsKept s.now → IsDatabase s.now
+    → Does limit (mode_of s) params s.now text None (command (is_carried s.now.trees)) (Ok (tally, after)) → Change (rows_in s.now.trees) (rows_in after.trees) × IsKept after) where
+  does_in : (carried : Bool) (limit : Option ℕ) (s : State) (text : List ℕ) (tally : Tally) (after : Database) → is_carried s.now.trees ≡ carried
+      → IsKept s.now → IsDatabase s.now → Does limit (mode_of s) params s.now text None (command carried) (Ok (tally, after))
       → Change (rows_in s.now.trees) (rows_in after.trees) × IsKept after
-  does_in carried limit s text tally after e kept sound h = does limit s text tally after kept sound (subst (λ c. Does limit (mode_of s) params s.now text None (command c) (Ok (tally, after))) (sym e) h)
+  does_in carried limit s text tally after e kept sound h =
+      does limit s text tally after kept sound (subst (λ c. Does limit (mode_of s) params s.now text None (command c) (Ok (tally, after))) (sym e) h)
 
   pub changes : (old new : State) (count : ℕ) → IsReady old → IsLive old → Executes sql params old new (Ok count) → Changes Change old new
   changes old new count = let c = is_carried old.now.trees in changes_in c sql params (command c) (is c) (plain c) (no_commit c) (no_release c) (runs c) Change (does_in c) old new count refl
@@ -98,16 +106,22 @@ module _ (sql : List ℕ) (params : Row) (command : (carried : Bool) → Command
   commits old db = let c = is_carried old.now.trees in commits_in c sql params (command c) (is c) (plain c) (no_commit c) (no_release c) (runs c) Change (does_in c) old db refl
 
 -- nor over an older store
-pub never_old : (sql : List ℕ) (params : Row) (old new : State) → ((c : Bool) → IsPlain (understood (old_schema c) sql)) → Survives old new (CommitsShowing sql params old) → Survives old new (λ _. IsOldSchema old.now → ⊥)
-never_old sql params old new plain = survives_weaker old new _ _ (λ _ db may ours. never_commits sql params old db (subst (λ s. IsPlain (understood s sql)) (sym ours) (plain (is_carried old.now.trees))) may)
+pub never_old : (sql : List ℕ) (params : Row) (old new : State) → ((c : Bool) → IsPlain (understood (old_schema c) sql))
+    → Survives old new (CommitsShowing sql params old) → Survives old new (λ _. IsOldSchema old.now → ⊥)
+never_old sql params old new plain =
+    survives_weaker old new _ _ (λ _ db may ours. never_commits sql params old db (subst (λ s. IsPlain (understood s sql)) (sym ours) (plain (is_carried old.now.trees))) may)
 
 -- a query over a store in one order of the tables commits nothing
-pub never_in : (carried : Bool) (sql : List ℕ) (params : Row) (old new : State) → IsPlain (understood (schema_of carried) sql) → Survives old new (CommitsShowing sql params old) → Survives old new (λ _. is_carried old.now.trees ≡ carried → ¬ IsOurs old.now)
-never_in carried sql params old new plain = survives_weaker old new _ _ (λ _ db may is ours. never_commits sql params old db (subst (λ s. IsPlain (understood s sql)) (sym (ours ∙ ap schema_of is)) plain) may)
+pub never_in : (carried : Bool) (sql : List ℕ) (params : Row) (old new : State) → IsPlain (understood (schema_of carried) sql)
+    → Survives old new (CommitsShowing sql params old) → Survives old new (λ _. is_carried old.now.trees ≡ carried → ¬ IsOurs old.now)
+never_in carried sql params old new plain =
+    survives_weaker old new _ _ (λ _ db may is ours. never_commits sql params old db (subst (λ s. IsPlain (understood s sql)) (sym (ours ∙ ap schema_of is)) plain) may)
 
 -- a query that is no write with RETURNING commits nothing
-pub never : (sql : List ℕ) (params : Row) (old new : State) → ((c : Bool) → IsPlain (understood (schema_of c) sql)) → Survives old new (CommitsShowing sql params old) → Survives old new (λ _. ¬ IsOurs old.now)
-never sql params old new plain = survives_weaker old new _ _ (λ _ db may ours. never_commits sql params old db (subst (λ s. IsPlain (understood s sql)) (sym ours) (plain (is_carried old.now.trees))) may)
+pub never : (sql : List ℕ) (params : Row) (old new : State) → ((c : Bool) → IsPlain (understood (schema_of c) sql))
+    → Survives old new (CommitsShowing sql params old) → Survives old new (λ _. ¬ IsOurs old.now)
+never sql params old new plain =
+    survives_weaker old new _ _ (λ _ db may ours. never_commits sql params old db (subst (λ s. IsPlain (understood s sql)) (sym ours) (plain (is_carried old.now.trees))) may)
 
 -- nothing happened yet
 pub survives_nothing : (s : State) (P : Trees → Type 0) → Survives s s P

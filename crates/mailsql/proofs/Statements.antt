@@ -14,7 +14,12 @@ use Rattle.sqlite_schema.specs.declared.command.Command.{Command}
 use Rattle.sqlite_schema.specs.declared.command.Command.TheVariants.{Select, Insert}
 use Rattle.sqlite_schema.specs.declared.command.Source.TheVariants.{Values}
 use Rattle.mailsql.specs.Tables.{mail_tree, mail_place}
-pub use Rattle.mailsql.specs.Statements.{add_meta_row_text, drop_meta_row_text, find_meta_row_text, all_meta_rows_text, add_clerk_text, drop_clerk_text, find_clerk_text, all_clerks_text, clerk_count_text, add_maildrop_text, drop_maildrop_text, find_maildrop_text, all_maildrops_text, maildrop_count_text, add_count_text, clear_count_text, find_count_text, all_counts_text, add_deposit_text, find_deposit_text, all_deposits_text, add_message_text, add_keyed_text, remove_message_text, heads_text, all_messages_text, message_count_text, add_sheet_text, find_sheet_text, sheets_between_text, sheet_count_text, add_rule_text, clear_rules_text, all_rules_text, add_group_text, clear_groups_text, all_groups_text, add_member_text, members_text, all_members_text, old_messages_text, find_body_text, clear_bodies_text}
+pub use Rattle.mailsql.specs.Statements.{add_meta_row_text, drop_meta_row_text, find_meta_row_text, all_meta_rows_text, add_clerk_text, drop_clerk_text, find_clerk_text}
+pub use Rattle.mailsql.specs.Statements.{all_clerks_text, clerk_count_text, add_maildrop_text, drop_maildrop_text, find_maildrop_text, all_maildrops_text, maildrop_count_text}
+pub use Rattle.mailsql.specs.Statements.{add_count_text, clear_count_text, find_count_text, all_counts_text, add_deposit_text, find_deposit_text, all_deposits_text}
+pub use Rattle.mailsql.specs.Statements.{add_message_text, add_keyed_text, remove_message_text, heads_text, all_messages_text, message_count_text, add_sheet_text, find_sheet_text}
+pub use Rattle.mailsql.specs.Statements.{sheets_between_text, sheet_count_text, add_rule_text, clear_rules_text, all_rules_text, add_group_text, clear_groups_text, all_groups_text}
+pub use Rattle.mailsql.specs.Statements.{add_member_text, members_text, all_members_text, old_messages_text, find_body_text, clear_bodies_text}
 
 abbrev pub query_of : Join → List Term → List Term → List (Term × Key) → Query
 query_of from filter project order = record {

@@ -46,8 +46,11 @@ message_count_tallies false = record { is = (refl, refl); plain = (refl, refl) }
 message_count_tallies true = record { is = (refl, refl); plain = (refl, refl) }
 
 module _ (old new : State) (maildrop : Name) (tables : m.HasTables old) (row : Row) (h : QueriesRow st.message_count_text (Text maildrop ∷ []) old new (Ok row)) where
-  pub message_count_is : IsLive old → length (filter (passes (Text maildrop ∷ []) st.message_count_terms) (old.now.trees (mail_tree (is_carried old.now.trees)))) ≡ length (filter (m.is_in maildrop) (rows_in old.now.trees).messages)
+  pub message_count_is : IsLive old
+      → length (filter (passes (Text maildrop ∷ []) st.message_count_terms) (old.now.trees (mail_tree (is_carried old.now.trees)))) ≡ length
+      (filter (m.is_in maildrop) (rows_in old.now.trees).messages)
   message_count_is live =
       let ours = tallied_kept _ _ _ message_count_tallies mail_placed old new _ tables row h in
       let ty = typed.messages_typed old.now ours.0 (tallied_sound _ _ _ message_count_tallies mail_placed old new _ tables row h live) in
-      as_many m.message_of (passes (Text maildrop ∷ []) st.message_count_terms) (m.is_in maildrop) (old.now.trees (mail_tree (is_carried old.now.trees))) (λ r has. and_true _ ∙ column_text (column r 2) maildrop (ty r has))
+      as_many m.message_of (passes (Text maildrop ∷ []) st.message_count_terms) (m.is_in maildrop)
+      (old.now.trees (mail_tree (is_carried old.now.trees))) (λ r has. and_true _ ∙ column_text (column r 2) maildrop (ty r has))

@@ -3,7 +3,8 @@ use Rattle.std.proofs.Common.{◌≡◌, Ok, refl}
 use Rattle.sqlite_tied.specs.Compute.{everything}
 use Rattle.sqlite_resolve.specs.Compile.{table_defined_by}
 use Rattle.sqlite.specs.Does.{sequence_text}
-use Rattle.mailsql.specs.Tables.{meta_text, meta_at, clerks_text, clerks_at, maildrops_text, maildrops_at, counts_text, counts_at, deposits_text, deposits_at, mail_text, mail_at, rules_text, rules_at, sheets_text, sheets_at, groups_text, groups_at, members_text, members_at, sequence_at}
+use Rattle.mailsql.specs.Tables.{meta_text, meta_at, clerks_text, clerks_at, maildrops_text, maildrops_at, counts_text, counts_at, deposits_text, deposits_at, mail_text, mail_at}
+use Rattle.mailsql.specs.Tables.{rules_text, rules_at, sheets_text, sheets_at, groups_text, groups_at, members_text, members_at, sequence_at}
 
 pub meta_is : table_defined_by meta_text ≡ Ok (meta_at 0)
 unfolding everything

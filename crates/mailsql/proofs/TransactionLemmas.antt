@@ -52,15 +52,18 @@ module _ (old new : State) (count : ℕ) where
   pub rolls_back : Executes rollback_text [] old new (Ok count) → IsTrue old.in_transaction × IsRolledBack old new × (count ≡ 0)
   rolls_back h = runs_as rollback_text [] old new old.now.schema refl Rollback (rollback_is old.now.schema) (rollback_plain old.now.schema) count h
 
-pub begun : {X : Type 0} (old new : State) (r : Result X Error) → OnOk r ((count : ℕ) × Executes begin_text [] old new (Ok count)) → OnOk r ((old.in_transaction ≡ false) × Shows old new old.now old.committed true)
+pub begun : {X : Type 0} (old new : State) (r : Result X Error) → OnOk r ((count : ℕ) × Executes begin_text [] old new (Ok count))
+    → OnOk r ((old.in_transaction ≡ false) × Shows old new old.now old.committed true)
 begun old new (Ok x) ran = let it = begins old new ran.0 ran.1 in (it.0, it.1)
 begun old new (Err e) ran = tt
 
-pub committed : {X : Type 0} (old new : State) (r : Result X Error) → OnOk r ((count : ℕ) × Executes commit_text [] old new (Ok count)) → OnOk r (IsTrue old.in_transaction × Shows old new old.now old.now false)
+pub committed : {X : Type 0} (old new : State) (r : Result X Error) → OnOk r ((count : ℕ) × Executes commit_text [] old new (Ok count))
+    → OnOk r (IsTrue old.in_transaction × Shows old new old.now old.now false)
 committed old new (Ok x) ran = let it = commits old new ran.0 ran.1 in (it.0, it.1)
 committed old new (Err e) ran = tt
 
-pub commits_as : (params : Row) (sql : List ℕ) (command : Command) (old : State) (db : Trees) → command_of (understood old.now.schema sql) ≡ command → IsPlain (understood old.now.schema sql) → CommitsBy sql params old db
+pub commits_as : (params : Row) (sql : List ℕ) (command : Command) (old : State) (db : Trees) → command_of (understood old.now.schema sql) ≡ command
+    → IsPlain (understood old.now.schema sql) → CommitsBy sql params old db
     → MayCommit old None command (statement_of sql (understood old.now.schema sql)) params db
 unfolding CommitsBy
 commits_as params sql command old db is plain h =
@@ -109,7 +112,8 @@ no_such schema s e has (inr (c, is, inl more)) = let h = rollback_shape s.now.sc
 no_such schema s e has (inr (c, is, inr (inl given))) = let h = rollback_shape s.now.schema in let n : length c.names ≡ 0 = ap names_of (sym is) ∙ h.1 in given.0 (sym n)
 no_such schema s e has (inr (c, is, inr (inr timed))) = timed.0 (subst IsPlain is (rollback_plain s.now.schema)).1
 
-command_fails : (old new : State) (c : Compiled) (params : Row) (e : Error) → c.command ≡ Rollback → c.returning ≡ None → IsTrue old.in_transaction → RunsCommand old new rollback_text c params (Err e) → IsRolledBack old new
+command_fails : (old new : State) (c : Compiled) (params : Row) (e : Error) → c.command ≡ Rollback → c.returning ≡ None → IsTrue old.in_transaction
+    → RunsCommand old new rollback_text c params (Err e) → IsRolledBack old new
 command_fails old new c params e is none inside (inr failed) = failed.3
 command_fails old new c params e is none inside (inl (inl (inl (code, inl begins)), same)) = absurd (let x = sym is ∙ begins.0 in cc)
 command_fails old new c params e is none inside (inl (inl (inl (code, inr ends)), same)) = absurd (true≢false (sym inside ∙ ends.1))
@@ -136,7 +140,8 @@ rollback_fails old new e inside (inr ran) =
     alone_fails _ old new ran.0 _ e _ (shows_none ran.0 is none) is none inside ran.2
 
 -- so whatever it answers, the transaction is rolled back
-pub rollback_undoes : {X : Type 0} (old new : State) (r : Result X Error) → IsTrue old.in_transaction → OnOk r ((count : ℕ) × Executes rollback_text [] old new (Ok count)) → IfErr r (λ e. Executes rollback_text [] old new (Err e))
+pub rollback_undoes : {X : Type 0} (old new : State) (r : Result X Error) → IsTrue old.in_transaction
+    → OnOk r ((count : ℕ) × Executes rollback_text [] old new (Ok count)) → IfErr r (λ e. Executes rollback_text [] old new (Err e))
     → IsRolledBack old new
 rollback_undoes old new (Ok x) inside ran fails = (rolls_back old new ran.0 ran.1).1
 rollback_undoes old new (Err e) inside ran fails = rollback_fails old new e inside fails

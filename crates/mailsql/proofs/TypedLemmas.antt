@@ -64,7 +64,8 @@ is_int_value (Real x) typed present = absurd (true≢false (sym typed))
 is_int_value (Text t) typed present = absurd (true≢false (sym typed))
 is_int_value (Blob x) typed present = absurd (true≢false (sym typed))
 
-count_typed : (schema : Schema) (db : Trees) (row : Row) → passes Datatype schema db (counts_at 6) row ≡ true → passes NotNull schema db (counts_at 6) row ≡ true → IsText (column row 1) × IsText (column row 2)
+count_typed : (schema : Schema) (db : Trees) (row : Row) → passes Datatype schema db (counts_at 6) row ≡ true
+    → passes NotNull schema db (counts_at 6) row ≡ true → IsText (column row 1) × IsText (column row 2)
 count_typed schema db [] t p = absurd (true≢false (sym p))
 count_typed schema db (i ∷ []) t p = absurd (true≢false (sym p))
 count_typed schema db (i ∷ a ∷ []) t p = absurd (true≢false (sym (and_parts _ _ p).1))
@@ -73,7 +74,8 @@ count_typed schema db (i ∷ a ∷ b ∷ rest) t p =
     let present = and_parts _ _ p in
     (is_text a typed.0 present.0, is_text b (and_parts _ _ typed.1).0 (and_parts _ _ present.1).0)
 
-deposit_typed : (schema : Schema) (db : Trees) (row : Row) → passes Datatype schema db (deposits_at 8) row ≡ true → passes NotNull schema db (deposits_at 8) row ≡ true → IsText (column row 1) × IsText (column row 2)
+deposit_typed : (schema : Schema) (db : Trees) (row : Row) → passes Datatype schema db (deposits_at 8) row ≡ true
+    → passes NotNull schema db (deposits_at 8) row ≡ true → IsText (column row 1) × IsText (column row 2)
 deposit_typed schema db [] t p = absurd (true≢false (sym p))
 deposit_typed schema db (i ∷ []) t p = absurd (true≢false (sym p))
 deposit_typed schema db (i ∷ a ∷ []) t p = absurd (true≢false (sym (and_parts _ _ p).1))
@@ -100,7 +102,8 @@ clerk_typed schema db [] t p = absurd (true≢false (sym p))
 clerk_typed schema db (i ∷ []) t p = absurd (true≢false (sym p))
 clerk_typed schema db (i ∷ a ∷ rest) t p = is_text a (and_parts _ _ (and_parts _ _ t).0).0 (and_parts _ _ p).0
 
-sheet_typed : (schema : Schema) (db : Trees) (row : Row) → passes Datatype schema db (sheets_at 15) row ≡ true → passes NotNull schema db (sheets_at 15) row ≡ true → IsInt (column row 1) × IsInt (column row 2)
+sheet_typed : (schema : Schema) (db : Trees) (row : Row) → passes Datatype schema db (sheets_at 15) row ≡ true
+    → passes NotNull schema db (sheets_at 15) row ≡ true → IsInt (column row 1) × IsInt (column row 2)
 sheet_typed schema db [] t p = absurd (true≢false (sym p))
 sheet_typed schema db (i ∷ []) t p = absurd (true≢false (sym p))
 sheet_typed schema db (i ∷ a ∷ []) t p = absurd (true≢false (sym (and_parts _ _ p).1))
@@ -121,7 +124,8 @@ old_meta_rows_typed true db obeys r = all_has _ (db 0) r (both (meta_row_typed (
 -- in a store of any version
 pub first_meta_rows_typed : (schema : Schema) (db : Trees) (others : List Table) → schema.tables ≡ meta_at 0 ∷ others → Obeys schema db → (r : Row) → Has (db 0) r → IsText (column r 1)
 first_meta_rows_typed schema db others is obeys r =
-    let held : (rule : Constraint) → AllByRecursion (λ row. passes rule schema db (meta_at 0) row ≡ true) (db 0) = λ rule. (subst (AllByRecursion (λ t. AllByRecursion (λ row. passes rule schema db t row ≡ true) (db t.tree))) is (obeys.rules rule)).0 in
+    let held : (rule : Constraint) → AllByRecursion (λ row. passes rule schema db (meta_at 0) row ≡ true) (db 0) =
+    λ rule. (subst (AllByRecursion (λ t. AllByRecursion (λ row. passes rule schema db t row ≡ true) (db t.tree))) is (obeys.rules rule)).0 in
     all_has _ (db 0) r (both (meta_row_typed schema db) (db 0) (held Datatype) (held NotNull))
 
 module _ (db : Database) (ours : IsOurs db) (sound : IsDatabase db) where
@@ -147,4 +151,5 @@ module _ (db : Database) (ours : IsOurs db) (sound : IsDatabase db) where
   messages_typed r = all_has _ (db.trees (mail_tree (is_carried db.trees))) r (mail_typed (is_carried db.trees) db.trees obeys)
 
   pub sheets_typed : (r : Row) → Has (db.trees 15) r → IsInt (column r 1) × IsInt (column r 2)
-  sheets_typed r = all_has _ (db.trees 15) r (both (sheet_typed (schema_of (is_carried db.trees)) db.trees) (db.trees 15) (obeys.rules Datatype).1.1.1.1.1.1.1.1.0 (obeys.rules NotNull).1.1.1.1.1.1.1.1.0)
+  sheets_typed r = all_has _ (db.trees 15) r
+      (both (sheet_typed (schema_of (is_carried db.trees)) db.trees) (db.trees 15) (obeys.rules Datatype).1.1.1.1.1.1.1.1.0 (obeys.rules NotNull).1.1.1.1.1.1.1.1.0)

@@ -11,7 +11,8 @@ use Rattle.mailsql.proofs.EqualLemmas.{same_itself}
 pub begun : (old new : State) → IsEmpty old → Shows old new old.now old.committed true → IsBegun new
 begun old new empty shows = record { is_open = shows.is_open; inside = shows.mode; bare = (ap (λ (d : Database). d.schema) shows.now_is ∙ empty.2, tt) }
 
-pub stands_new : (first made marked new : State) (meta_row : MetaRow) → MakesTables first made → (IsReady made → Changes (AddsMetaRow meta_row) made marked) → Shows marked new marked.now marked.now false
+pub stands_new : (first made marked new : State) (meta_row : MetaRow) → MakesTables first made
+    → (IsReady made → Changes (AddsMetaRow meta_row) made marked) → Shows marked new marked.now marked.now false
     → Stands new (record no_rows { meta_rows = meta_row ∷ [] })
 stands_new first made marked new meta_row m does shows =
     let it = does (m.on.is_open, m.kept) in
@@ -22,7 +23,8 @@ stands_new first made marked new meta_row m does shows =
       rows_are = ap (λ (d : Database). rows_in d.trees) shows.now_is ∙ it.change ∙ ap (λ (r : Rows). let x : Rows = record r { meta_rows = r.meta_rows ++ meta_row ∷ [] } in x) m.rows;
     }
 
-pub step : (Change : Rows → Rows → Type 0) (old new : State) (rows after : Rows) → (IsReady old → Changes Change old new) → (Change rows (rows_in new.now.trees) → rows_in new.now.trees ≡ after) → Stands old rows
+pub step : (Change : Rows → Rows → Type 0) (old new : State) (rows after : Rows) → (IsReady old → Changes Change old new)
+    → (Change rows (rows_in new.now.trees) → rows_in new.now.trees ≡ after) → Stands old rows
     → Stands new after
 step Change old new rows after does is s =
     let it = does (s.is_open, s.kept) in

@@ -42,7 +42,8 @@ filter-filter : (p q : Row → Bool) (rows : List Row) → filter p (filter q ro
 filter-filter p q [] = refl
 filter-filter p q (r ∷ rows) = go (q r) (filter-filter p q rows)
   where
-    go : (b : Bool) → filter p (filter q rows) ≡ filter (λ x. q x && p x) rows → filter p (cond b (r ∷ filter q rows) (filter q rows)) ≡ cond (b && p r) (r ∷ filter (λ x. q x && p x) rows) (filter (λ x. q x && p x) rows)
+    go : (b : Bool) → filter p (filter q rows) ≡ filter (λ x. q x && p x) rows
+        → filter p (cond b (r ∷ filter q rows) (filter q rows)) ≡ cond (b && p r) (r ∷ filter (λ x. q x && p x) rows) (filter (λ x. q x && p x) rows)
     go true more = rw more
     go false more = more
 
@@ -71,7 +72,8 @@ bool_same false true f g = g refl
 bool_same false false f g = refl
 
 -- each row that passes is among those that are shown, by its rowid
-module _ (rows : List Row) (p : Row → Bool) (shown : List Row) (keyed : AreApart rows × AllByRecursion (λ r. IsTrue (is_int (rowid r))) rows) (same : IsPermutation (map (λ r. rowid r ∷ []) (filter p rows)) shown) where
+module _ (rows : List Row) (p : Row → Bool) (shown : List Row) (keyed : AreApart rows × AllByRecursion (λ r. IsTrue (is_int (rowid r))) rows)
+    (same : IsPermutation (map (λ r. rowid r ∷ []) (filter p rows)) shown) where
   id_is : (r : Row) → Has rows r → rowid r ≡ Int (id_in (rowid r))
   id_is r h = int_is (rowid r) (all_has (λ x. IsTrue (is_int (rowid x))) rows r keyed.1 h)
 

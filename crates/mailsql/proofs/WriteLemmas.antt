@@ -51,13 +51,16 @@ no_work depth tree child ref (Some deed) (Some key) = go (key.0 == tree)
 
 no_works : (schema : Schema) (depth tree : ℕ) (news : List Row) (child : Table) (refs : List Reference) → filter_map (work_for schema Enforced depth tree [] news child) refs ≡ []
 no_works schema depth tree news child [] = refl
-no_works schema depth tree news child (ref ∷ refs) = rw (no_work depth tree child ref (deed_for Enforced (length news == 0) ref) (parent_key schema.tables ref)) (no_works schema depth tree news child refs)
+no_works schema depth tree news child (ref ∷ refs) =
+    rw (no_work depth tree child ref (deed_for Enforced (length news == 0) ref) (parent_key schema.tables ref)) (no_works schema depth tree news child refs)
 
-pub nothing_acts : (schema : Schema) (depth tree : ℕ) (news : List Row) (tables : List Table) → flat_map (λ (child : Table). filter_map (work_for schema Enforced depth tree [] news child) child.references) tables ≡ []
+pub nothing_acts : (schema : Schema) (depth tree : ℕ) (news : List Row) (tables : List Table)
+    → flat_map (λ (child : Table). filter_map (work_for schema Enforced depth tree [] news child) child.references) tables ≡ []
 nothing_acts schema depth tree news [] = refl
 nothing_acts schema depth tree news (child ∷ tables) = rw (no_works schema depth tree news child child.references) (nothing_acts schema depth tree news tables)
 
-module _ (limit : Option ℕ) (schema : Schema) (name : List ℕ) (tree : ℕ) (columns : List Column) (key : Option ℕ) (primary : List ℕ) (uniques : List (List ℕ)) (orders : List Order) (references : List Reference)
+module _ (limit : Option ℕ) (schema : Schema) (name : List ℕ) (tree : ℕ) (columns : List Column) (key : Option ℕ) (primary : List ℕ)
+    (uniques : List (List ℕ)) (orders : List Order) (references : List Reference)
     (params : Row) (at width : ℕ) (terms : List Term) (db : Trees) (tally : Tally) (after : Database) where
   abbrev pub table : Table
   table = table_of name tree columns key primary uniques orders references false
@@ -77,5 +80,7 @@ module _ (limit : Option ℕ) (schema : Schema) (name : List ℕ) (tree : ℕ) (
       let written = went (went given.2).2 in
       let counted = went written.2 in
       let trees : done.0.trees ≡ written.0 = ap (λ (it : Written). it.trees) (same_value counted.2) ∙ same_value counted.1 in
-      let step : Applies schema Enforced db edit written.0 = one_step schema _ db written.0 edit (nothing_acts schema 0 tree edit.news schema.tables) (subst (λ all. Writes schema Enforced db (edit_of db table [] Chosen 0 all) (Ok written.0)) given.1.1 written.1) in
+      let step : Applies schema Enforced db edit written.0 =
+      one_step schema _ db written.0 edit (nothing_acts schema 0 tree edit.news schema.tables)
+      (subst (λ all. Writes schema Enforced db (edit_of db table [] Chosen 0 all) (Ok written.0)) given.1.1 written.1) in
       (written.0, step, now ∙ ap (λ (t : Trees). let d : Database = record { schema = schema; trees = t } in d) trees)

@@ -4,7 +4,6 @@ ghost use Rattle.std.specs.Prelude.{◌≡◌, IfOk, IfErr, OnOk, OnErr, [], ◌
 ghost use Rattle.sqlite.specs.Held.{state};
 ghost use Rattle.sqlite.specs.State.{HasCleanDisk, IsUnchanged, Survives};
 ghost use Rattle.mailsql.specs.Changes as changes;
-ghost use Rattle.mailsql.specs.Rows as rows;
 ghost use Rattle.mailsql.specs.Rows.{IsOurs, IsReady, HasTables, MayLeave, Changes, IsUndone};
 ghost use Rattle.mailsql.specs.Rows.{rows_in};
 ghost use Rattle.sqlite_value.specs.declared.value.Value.TheVariants.{Int, Text};

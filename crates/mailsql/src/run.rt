@@ -1,7 +1,7 @@
 //! How each function of the crate runs its statement: what the statement did or showed, and what
 //! its error tells.
 
-ghost use Rattle.std.specs.Prelude.{◌≡◌, ◌<◌, ◌⊎◌, ℕ, Ok, Err, pos, map, length, slice_get, List};
+ghost use Rattle.std.specs.Prelude.{◌≡◌, ◌<◌, ℕ, Ok, Err, pos, map, length, slice_get, List};
 ghost use Rattle.std.specs.Prelude.{IfOk, IfErr, OnOk, OnErr};
 ghost use Rattle.std.specs.Option.{option_map};
 ghost use Rattle.sqlite_value.specs.declared.value.Value.TheVariants.{Int};

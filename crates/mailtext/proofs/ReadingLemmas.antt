@@ -1,5 +1,6 @@
 -- What a client reads of stuffed lines.
-use Rattle.std.proofs.Common.{◌≡◌, ℕ, ◌+◌, ◌-◌, ◌<◌, ◌≤◌, List, [], ◌∷◌, ◌++◌, true, false, map, length, take, drop, get_or, refl, sym, ◌∙◌, ap, arith, append_assoc, append-nil, add_assoc, zero-add, subst, eqb, ⊎_elim, Option, Some, None}
+use Rattle.std.proofs.Common.{◌≡◌, ℕ, ◌+◌, ◌-◌, ◌<◌, ◌≤◌, List, [], ◌∷◌, ◌++◌, true, false, map, length, take, drop, get_or, refl, sym, ◌∙◌, ap, arith, append_assoc, append-nil}
+use Rattle.std.proofs.Common.{add_assoc, zero-add, subst, eqb, ⊎_elim, Option, Some, None}
 use Rattle.std.proofs.lemmas.List.{length-append, map-append, take_at, drop_more, drop-drop, take-append-drop, length-take, length-drop}
 use Rattle.std.proofs.lemmas.Bool.{cases_Bool, and_right}
 use Rattle.std.specs.Prelude.{codes}

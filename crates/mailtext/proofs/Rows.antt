@@ -1,6 +1,6 @@
 -- A worked row of byte-stuffing: the lines of a message with dots, as they are sent.
-use Rattle.std.proofs.Common.{◌≡◌, List, [], ◌∷◌, ◌++◌, refl}
-use Rattle.std.specs.Prelude.{ℕ, codes}
+use Rattle.std.proofs.Common.{◌≡◌, [], ◌∷◌, ◌++◌, refl}
+use Rattle.std.specs.Prelude.{codes}
 use Rattle.mailtext.specs.Text.{stuffed_lines, line_end}
 
 -- a line that begins with a dot is sent with one more, and no other is

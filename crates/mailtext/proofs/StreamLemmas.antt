@@ -1,7 +1,9 @@
 -- Texts that come in pieces: what is sent of them, and what belongs to TOP's part.
-use Rattle.std.proofs.Common.{◌≡◌, ℕ, zero, suc, ◌+◌, ◌-◌, ◌<◌, ◌≤◌, List, [], ◌∷◌, ◌++◌, Bool, true, false, ◌&&◌, length, take, drop, get_or, set, refl, sym, ◌∙◌, ap, ap₂, arith, append_assoc, append-nil, add-one, eqb, eqb-true, ne_eqb, ⊎_elim}
+use Rattle.std.proofs.Common.{◌≡◌, ℕ, zero, suc, ◌+◌, ◌-◌, ◌<◌, ◌≤◌, List, [], ◌∷◌, ◌++◌, Bool, true, false, ◌&&◌, length, take, drop, get_or, set, refl, sym, ◌∙◌, ap, ap₂, arith}
+use Rattle.std.proofs.Common.{append_assoc, append-nil, add-one, eqb, eqb-true, ne_eqb, ⊎_elim}
 use Rattle.std.proofs.lemmas.Bool.{cases_Bool, and_parts}
-use Rattle.std.proofs.lemmas.List.{drop_more, drop_all, drop-drop, take-append-drop, take_at, take_more, take_rest, take-take, drop_at, drop-append-le, length-append, length-drop, length-take, length-take-le}
+use Rattle.std.proofs.lemmas.List.{drop_more, drop_all, drop-drop, take-append-drop, take_at, take_more, take_rest, take-take, drop_at, drop-append-le, length-append, length-drop}
+use Rattle.std.proofs.lemmas.List.{length-take, length-take-le}
 use Rattle.memchr.specs.Find.{Nowhere, OccursAt}
 use borrow.Rule.Slice.PartMut.{put_mid}
 use Rattle.mailtext.specs.Text.{line_end, lines_of, ended, kept_form, stuffed, stuffed_lines, top_part}

@@ -6,7 +6,7 @@ use Rattle.std.proofs.lemmas.List.{drop_more, length-append, length-take-le, tak
 use Rattle.std.proofs.lemmas.Bool.{cases_Bool}
 use Rattle.std.specs.Prelude.{◌⊎◌, ◌↔◌}
 use Rattle.memchr.specs.Find.{Nowhere, Passes, is_byte}
-use Rattle.mailtext.specs.Text.{line_end, lines_of, onto_first_line, begins_with_newline, ended, kept_form, stuffed_lines, without_dot, without_return}
+use Rattle.mailtext.specs.Text.{line_end, lines_of, ended, kept_form, stuffed_lines, without_dot, without_return}
 use Rattle.mailtext.specs.Written.{written, dotted}
 use Rattle.mailtext.specs.declared.lines.Dots.{Dots}
 use Rattle.mailtext.specs.declared.lines.Dots.TheVariants.{Kept, Doubled, Dropped}

@@ -1,6 +1,6 @@
 //! An office: one function for each event.
 ghost use Rattle.std.specs.Prelude.{◌≡◌, ◌⊎◌, ◌<◌, ◌≤◌, ◌↔◌, not, true, false, ℕ, List, length};
-ghost use Rattle.std.specs.Prelude.{take, min, None, IfOk, IfErr, OnOk, OnErr, MatchResult};
+ghost use Rattle.std.specs.Prelude.{take, min, None, Ok, IfOk, IfErr, OnOk, OnErr, MatchResult};
 ghost use Rattle.office.specs.Events.{Trace, given};
 ghost use Rattle.office.specs.Seen.{event_seen, command_seen, outcome_seen, followed_by};
 ghost use Rattle.office.specs.Events as event;
@@ -10,7 +10,8 @@ ghost use Rattle.office.specs.Expected.{Succeeds};
 ghost use Rattle.office.specs.Outcomes.{event_tag_of, HasCause, HasMemory};
 ghost use Rattle.creds.specs.Names.{is_host};
 ghost use Rattle.vault.specs.Changes.{Contents};
-ghost use Rattle.vault.specs.Calls.{has_grown};
+ghost use Rattle.vault.specs.Call.{Looks};
+ghost use Rattle.vault.specs.Calls.{has_grown, IsAnswer};
 ghost use Rattle.office.specs.History.{Done, Failed, NoMemory};
 ghost use Rattle.office.specs.Stands.{OfEachTrace, StandsFor, Keeps, lent_by, vault_of};
 ghost use Rattle.office.specs.Taken.{IsAdmitted, AreAdmitted, IsSentExactly};
@@ -581,6 +582,19 @@ impl<V: Vault> Office<V> {
         ensures { (T : Trace) → StandsFor V.holds self.now T → result ≡ not (is_open T c) }
     {
         !self.connections.contains_key(&c)
+    }
+
+    /// Has the store do what it has put off, as [`Vault::maintain`] does, for a time in which no
+    /// client waits. It is no event: the office stands for the trace that it stood for, also if the
+    /// store refuses.
+    pub fn maintain(&mut self) -> Result<(), VaultFault>
+        ensures stands { OfEachTrace V.Vault self.old self.new (λ T.
+            StandsFor V.holds self.new T) }
+        ensures answer { IsAnswer (Ok tt) result }
+        ensures looks { Looks V.holds V.faults V.is_clean V.is_up V.may_leave
+            (vault_of self.old) (vault_of self.new) result }
+    {
+        self.vault.maintain()
     }
 
     /// Ends the office, and gives its vault back.

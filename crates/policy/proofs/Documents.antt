@@ -17,7 +17,8 @@ few_groups : (gs : List Value) → length gs ≤ 100 → nat_le (items_len (item
 few_groups gs n = rw (items_len_view gs) (grind (arith, nat_tests, n))
 
 -- its first fault is a group's
-pub groups_faulty : (ms : Members) (gs rs : List Value) (e : PolicyFault) → tables_at (get_member (codes "group") ms) ≡ Some (items_view gs) → tables_at (get_member (codes "rule") ms) ≡ Some (items_view rs)
+pub groups_faulty : (ms : Members) (gs rs : List Value) (e : PolicyFault) → tables_at (get_member (codes "group") ms) ≡ Some (items_view gs)
+    → tables_at (get_member (codes "rule") ms) ≡ Some (items_view rs)
     → all_keys is_top_key ms ≡ true → length rs ≤ 1000 → length gs ≤ 100 → groups_from 1 [] (items_view gs) ≡ Err e → rules_in ms ≡ Err e
 unfolding rules_in
 groups_faulty ms gs rs e a b k m n g = rw (a, b, k, few_rules rs m, few_groups gs n, g) refl

@@ -1,14 +1,18 @@
 -- A rule's number of a fault is that of the first rule that has one.
-use Rattle.std.proofs.Common.{◌≡◌, ◌⊎◌, inl, inr, ⊎_elim, ℕ, suc, ◌+◌, Bool, true, false, not, ◌||◌, List, [], ◌∷◌, ◌++◌, length, Option, Some, None, Result, Ok, Err, refl, sym, ◌∙◌, ap, subst, append-nil, append_assoc, arith}
+use Rattle.std.proofs.Common.{◌≡◌, ◌⊎◌, inl, inr, ⊎_elim, ℕ, suc, ◌+◌, Bool, true, false, not, ◌||◌, List, [], ◌∷◌, ◌++◌, length, Option, Some, None, Result, Ok, Err, refl, sym}
+use Rattle.std.proofs.Common.{◌∙◌, ap, subst, append-nil, append_assoc, arith}
 use Rattle.std.specs.Prelude.{codes, nat_le}
 use Rattle.toml.specs.Data.{Data, Items, no_items, item, Members, get_member, as_table}
 use Rattle.toml.specs.Parse.{parse_document}
 use Rattle.policy.specs.Policy.{Group, Policy, are_known, has_group, is_any, most_groups, most_rules}
 use Rattle.policy.specs.WrittenText.{fault_number}
-use Rattle.policy.specs.PolicyText.{◌>>=◌, value_or, demand, all_keys, is_group_key, name_at, members_of, group_of, group_at, groups_from, is_rule_key, rule_name_of, clerks_of, pattern_of, effect_of, actions_of, has_name, Settings, settings_of, subject_of, decided, rule_of, rule_at, rules_from, tables_at, is_top_key, items_len, rules_in, rules_of}
+use Rattle.policy.specs.PolicyText.{◌>>=◌, value_or, demand, all_keys, is_group_key, name_at, members_of, group_of, group_at, groups_from, is_rule_key, rule_name_of, clerks_of}
+use Rattle.policy.specs.PolicyText.{pattern_of, effect_of, actions_of, has_name, Settings, settings_of, subject_of, decided, rule_of, rule_at, rules_from, tables_at, is_top_key}
+use Rattle.policy.specs.PolicyText.{items_len, rules_in, rules_of}
 use Rattle.policy.specs.FirstFault.{first_items, item_at, IsFirstFault, IsFirstFaultOf, NumbersTheFirstFault}
 use Rattle.policy.specs.declared.fault.PolicyFault.{PolicyFault}
-use Rattle.policy.specs.declared.fault.PolicyFault.TheVariants.{NotToml, GroupKeys, GroupName, GroupDouble, GroupMembers, MissingKey, UnknownKey, BadName, UnknownGroup, DoubleName, BadEffect, BadActions, OpenWithClass, TooMany, TooManyGroups}
+use Rattle.policy.specs.declared.fault.PolicyFault.TheVariants.{NotToml, GroupKeys, GroupName, GroupDouble, GroupMembers, MissingKey, UnknownKey, BadName, UnknownGroup, DoubleName}
+use Rattle.policy.specs.declared.fault.PolicyFault.TheVariants.{BadEffect, BadActions, OpenWithClass, TooMany, TooManyGroups}
 use Rattle.policy.specs.declared.read.Subject.{Subject}
 use Rattle.policy.specs.declared.rule.Rule.{Rule}
 
@@ -31,7 +35,8 @@ pub demanded : {B : Type 0} (P : PolicyFault → Type 0) (b : Bool) (e : PolicyF
 demanded P false e g p h f q = told P e f p q
 demanded P true e g p h f q = h f q
 
-pub bound : {A B : Type 0} (P : PolicyFault → Type 0) (r : Result A PolicyFault) (g : A → Result B PolicyFault) → ((f : PolicyFault) → r ≡ Err f → P f) → ((x : A) (f : PolicyFault) → g x ≡ Err f → P f)
+pub bound : {A B : Type 0} (P : PolicyFault → Type 0) (r : Result A PolicyFault) (g : A → Result B PolicyFault)
+    → ((f : PolicyFault) → r ≡ Err f → P f) → ((x : A) (f : PolicyFault) → g x ≡ Err f → P f)
     → (f : PolicyFault) → (r >>= g) ≡ Err f → P f
 bound P (Err e) g p h f q = told P e f (p e refl) q
 bound P (Ok x) g p h f q = h x f q
@@ -142,7 +147,8 @@ first_step groups k before d ds m f (Ok r) is on h number =
       faulty = subst (λ (xs : List Rule). rule_at groups m xs w.rule ≡ Err f) joined w.faulty;
     }
 
-first_from : (groups : List Group) (k : ℕ) (before : List Rule) (ds : Items) (m : ℕ) (f : PolicyFault) → rules_from groups k before ds ≡ Err f → fault_number f ≡ Some m → FirstFrom groups k before ds m f
+first_from : (groups : List Group) (k : ℕ) (before : List Rule) (ds : Items) (m : ℕ) (f : PolicyFault) → rules_from groups k before ds ≡ Err f
+    → fault_number f ≡ Some m → FirstFrom groups k before ds m f
 unfolding rules_from
 first_from groups k before no_items m f h number = cc
 first_from groups k before (item d ds) m f h number =

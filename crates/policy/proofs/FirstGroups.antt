@@ -1,14 +1,18 @@
 -- A group's number of a fault is that of the first group that has one.
-use Rattle.std.proofs.Common.{◌≡◌, ◌⊎◌, inl, inr, ⊎_elim, ℕ, ◌+◌, Bool, true, false, not, ◌||◌, List, [], ◌∷◌, ◌++◌, length, Option, Some, None, Result, Ok, Err, refl, sym, ◌∙◌, ap, subst, append-nil, append_assoc, arith}
+use Rattle.std.proofs.Common.{◌≡◌, ◌⊎◌, inl, inr, ⊎_elim, ℕ, ◌+◌, Bool, true, false, not, ◌||◌, List, [], ◌∷◌, ◌++◌, length, Option, Some, None, Result, Ok, Err, refl, sym, ◌∙◌}
+use Rattle.std.proofs.Common.{ap, subst, append-nil, append_assoc, arith}
 use Rattle.std.specs.Prelude.{codes, nat_le}
 use Rattle.toml.specs.Data.{Data, Items, no_items, item, Members, get_member, as_table}
 use Rattle.toml.specs.Parse.{parse_document}
 use Rattle.policy.specs.Policy.{Group, Policy, are_known, has_group, is_any, most_groups, most_rules}
 use Rattle.policy.specs.WrittenText.{group_number}
-use Rattle.policy.specs.PolicyText.{◌>>=◌, value_or, demand, all_keys, is_group_key, name_at, members_of, group_of, group_at, groups_from, is_rule_key, rule_name_of, clerks_of, pattern_of, effect_of, actions_of, has_name, Settings, settings_of, subject_of, decided, rule_of, rule_at, rules_from, tables_at, is_top_key, items_len, rules_in, rules_of}
+use Rattle.policy.specs.PolicyText.{◌>>=◌, value_or, demand, all_keys, is_group_key, name_at, members_of, group_of, group_at, groups_from, is_rule_key, rule_name_of, clerks_of}
+use Rattle.policy.specs.PolicyText.{pattern_of, effect_of, actions_of, has_name, Settings, settings_of, subject_of, decided, rule_of, rule_at, rules_from, tables_at, is_top_key}
+use Rattle.policy.specs.PolicyText.{items_len, rules_in, rules_of}
 use Rattle.policy.specs.FirstFault.{first_items, item_at, IsFirstGroupFault, IsFirstGroupFaultOf, NumbersTheFirstGroup}
 use Rattle.policy.specs.declared.fault.PolicyFault.{PolicyFault}
-use Rattle.policy.specs.declared.fault.PolicyFault.TheVariants.{NotToml, GroupKeys, GroupName, GroupDouble, GroupMembers, MissingKey, UnknownKey, BadName, UnknownGroup, DoubleName, BadEffect, BadActions, OpenWithClass, TooMany, TooManyGroups}
+use Rattle.policy.specs.declared.fault.PolicyFault.TheVariants.{NotToml, GroupKeys, GroupName, GroupDouble, GroupMembers, MissingKey, UnknownKey, BadName, UnknownGroup, DoubleName}
+use Rattle.policy.specs.declared.fault.PolicyFault.TheVariants.{BadEffect, BadActions, OpenWithClass, TooMany, TooManyGroups}
 use Rattle.policy.specs.declared.read.Subject.{Subject}
 use Rattle.policy.specs.declared.rule.Rule.{Rule}
 use Rattle.policy.proofs.FirstFaults.{valued, demanded, bound, never}

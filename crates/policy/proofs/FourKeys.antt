@@ -48,7 +48,8 @@ has_one-is c d r = at r.clerk r.maildrop
     none b = refl
 
     at : (p : Clerks) (m : Pattern)
-        → (((same_clerks p (clerks.Is c) && same_pattern m (Is d) || same_clerks p (clerks.Is c) && same_pattern m Any) || same_clerks p clerks.Any && same_pattern m (Is d)) || same_clerks p clerks.Any && same_pattern m Any)
+        → (((same_clerks p (clerks.Is c) && same_pattern m (Is d) || same_clerks p (clerks.Is c) && same_pattern m Any) || same_clerks p clerks.Any
+        && same_pattern m (Is d)) || same_clerks p clerks.Any && same_pattern m Any)
         ≡ (names_one p c && fits m d)
     at clerks.Any Any = refl
     at clerks.Any (Is v) = last (bytes_eq v d)

@@ -1,5 +1,6 @@
 -- Where the parts of the reading have their faults.
-use Rattle.std.proofs.Common.{◌≡◌, ℕ, zero, suc, ◌+◌, ◌<◌, Bool, true, false, not, List, [], ◌∷◌, length, get_or, drop, codes, Option, Some, None, cond, is_some, String, Global, string_bytes, refl, sym, subst, ◌∙◌, arith}
+use Rattle.std.proofs.Common.{◌≡◌, ℕ, zero, suc, ◌+◌, ◌<◌, Bool, true, false, not, List, [], ◌∷◌, length, get_or, drop, codes, Option, Some, None, cond, is_some, String, Global}
+use Rattle.std.proofs.Common.{string_bytes, refl, sym, subst, ◌∙◌, arith}
 use Rattle.std.specs.Prelude.{option_and_then, if◌then◌else◌}
 use Rattle.std.specs.List.{position, position_from}
 use Rattle.std.specs.Map.{keys_of}
@@ -77,13 +78,15 @@ are_tables_at None es h = let e : no_items ≡ es = cc in rw (← e) refl
 are_tables_at (Some d) es h = of_array (as_array d) es h
 
 -- a fault of the table at a place is one of the array
-pub group_lies : (vs : List Value) (i : ℕ) (d : Value) (ms : Members) (p : PlacedFault) → i < length vs → as_table (view (get_or vs i d)) ≡ Some ms → LiesInGroup (i + 1) ms p → LiesInGroups (items_view vs) p
+pub group_lies : (vs : List Value) (i : ℕ) (d : Value) (ms : Members) (p : PlacedFault) → i < length vs → as_table (view (get_or vs i d)) ≡ Some ms
+    → LiesInGroup (i + 1) ms p → LiesInGroups (items_view vs) p
 group_lies vs i d ms p h t lies =
     let there = item_there vs i d h in
     let next : i + 1 ≡ suc i = omega arith in
     (suc i, rw next at lies.0, rw (there, t) lies.1)
 
-pub rule_lies : (vs : List Value) (i : ℕ) (d : Value) (ms : Members) (p : PlacedFault) → i < length vs → as_table (view (get_or vs i d)) ≡ Some ms → LiesInRule (i + 1) ms p → LiesInRules (items_view vs) p
+pub rule_lies : (vs : List Value) (i : ℕ) (d : Value) (ms : Members) (p : PlacedFault) → i < length vs → as_table (view (get_or vs i d)) ≡ Some ms
+    → LiesInRule (i + 1) ms p → LiesInRules (items_view vs) p
 rule_lies vs i d ms p h t lies =
     let there = item_there vs i d h in
     let next : i + 1 ≡ suc i = omega arith in
@@ -120,7 +123,8 @@ module _ (n : ℕ) (ms : Members) (s : Settings) (are : AreValuesOf ms s) where
 -- ---- the members of a group
 
 -- one more name
-pub names_before-next : (vs : List Value) (i : ℕ) (d : Value) (name : List ℕ) → i < length vs → name_at (view (get_or vs i d)) ≡ Some name → names_before (items_view (drop i vs)) ≡ names_before (items_view (drop (i + 1) vs)) + 1
+pub names_before-next : (vs : List Value) (i : ℕ) (d : Value) (name : List ℕ) → i < length vs → name_at (view (get_or vs i d)) ≡ Some name
+    → names_before (items_view (drop i vs)) ≡ names_before (items_view (drop (i + 1) vs)) + 1
 names_before-next vs i d name h e = rw (items_view-drop vs i d h, e) refl
 
 -- an item that is no name

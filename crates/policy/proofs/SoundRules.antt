@@ -16,8 +16,10 @@ use Rattle.policy.specs.declared.rule.Pattern.{Pattern}
 use Rattle.policy.specs.declared.rule.Pattern.TheVariants.{Any, Is}
 use Rattle.policy.specs.declared.rule.Rule.{Rule}
 use Rattle.policy.specs.declared.read.Subject.{Subject}
-use Rattle.policy.specs.Policy.{Group, Policy, default_rule, are_clerks, are_distinct, are_members, are_sound_groups, has_group, is_sound_group, is_sound_policy, know_groups, most_groups, same_group, same_name, is_any, is_pattern, lists_any, is_sound_rule, are_sound_rules, most_rules}
-use Rattle.policy.specs.PolicyText.{clerks_named, clerks_of, name_at, is_sound_subject, has_name, rule_name_of, named, pattern_of, action_of, with_action, with_item, with_items, no_actions, actions_of_items, actions_of}
+use Rattle.policy.specs.Policy.{Group, Policy, default_rule, are_clerks, are_distinct, are_members, are_sound_groups, has_group, is_sound_group, is_sound_policy, know_groups}
+use Rattle.policy.specs.Policy.{most_groups, same_group, same_name, is_any, is_pattern, lists_any, is_sound_rule, are_sound_rules, most_rules}
+use Rattle.policy.specs.PolicyText.{clerks_named, clerks_of, name_at, is_sound_subject, has_name, rule_name_of, named, pattern_of, action_of, with_action, with_item, with_items}
+use Rattle.policy.specs.PolicyText.{no_actions, actions_of_items, actions_of}
 
 -- a chain of two that ends in a value
 and_then-some : {A B : Type 0} (f : A → Option B) (o : Option A) (b : B) → option_and_then f o ≡ Some b → (a : A) × (o ≡ Some a) × (f a ≡ Some b)
@@ -151,7 +153,8 @@ pub is_sound_group-by : (g : Group) → is_name g.name ≡ true → list_all is_
 is_sound_group-by g n f m = rw (n, f, m) refl
 
 -- sound groups of their own names, and not too many
-pub are_sound_groups-by : (groups : List Group) → list_all is_sound_group groups ≡ true → are_distinct same_group groups ≡ true → nat_le (length groups) most_groups ≡ true → are_sound_groups groups ≡ true
+pub are_sound_groups-by : (groups : List Group) → list_all is_sound_group groups ≡ true → are_distinct same_group groups ≡ true
+    → nat_le (length groups) most_groups ≡ true → are_sound_groups groups ≡ true
 are_sound_groups-by groups s d f = rw (s, d, f) refl
 
 -- a sound policy, from its parts
@@ -180,4 +183,5 @@ five-first false b c d e f g h p q = absurd (cc)
 pub is_sound_rule-by : (s : Subject) (r : Rule) → r.name ≡ s.name → r.clerk ≡ s.clerk → r.maildrop ≡ s.maildrop → r.class ≡ s.class → is_sound_subject s ≡ true → lists_any r.actions ≡ true
     → (not r.actions.open || is_any s.class) ≡ true → is_sound_rule r ≡ true
 is_sound_rule-by s r n k m c sound f g =
-    rw (n, k, m, c) (five-first (is_name s.name) (not (bytes_eq s.name default_rule)) (are_clerks s.clerk) (is_pattern s.maildrop) (is_pattern s.class) (lists_any r.actions) (not r.actions.open || is_any s.class) sound f g)
+    rw (n, k, m, c) (five-first (is_name s.name) (not (bytes_eq s.name default_rule)) (are_clerks s.clerk) (is_pattern s.maildrop)
+    (is_pattern s.class) (lists_any r.actions) (not r.actions.open || is_any s.class) sound f g)

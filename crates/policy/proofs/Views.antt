@@ -19,7 +19,8 @@ all_keys-view p [] = refl
 all_keys-view p (e ∷ es) = rw (all_keys-view p es)
 
 -- one more item
-pub with_items-next : (a b : Actions) (vs : List Value) (i : ℕ) (d : Value) → i < length vs → with_item a (view (get_or vs i d)) ≡ Some b → with_items a (items_view (drop i vs)) ≡ with_items b (items_view (drop (i + 1) vs))
+pub with_items-next : (a b : Actions) (vs : List Value) (i : ℕ) (d : Value) → i < length vs → with_item a (view (get_or vs i d)) ≡ Some b
+    → with_items a (items_view (drop i vs)) ≡ with_items b (items_view (drop (i + 1) vs))
 unfolding with_items
 with_items-next a b vs i d h e = rw (items_view-drop vs i d h, e)
 
@@ -87,7 +88,8 @@ unfolding rules_from
 rules_from-next groups n before r vs i d h e = rw (items_view-drop vs i d h, e)
 
 -- a rule with a fault
-pub rules_from-stop : (groups : List Group) (n : ℕ) (before : List Rule) (e : PolicyFault) (vs : List Value) (i : ℕ) (d : Value) → i < length vs → rule_at groups n before (view (get_or vs i d)) ≡ Err e
+pub rules_from-stop : (groups : List Group) (n : ℕ) (before : List Rule) (e : PolicyFault) (vs : List Value) (i : ℕ) (d : Value) → i < length vs
+    → rule_at groups n before (view (get_or vs i d)) ≡ Err e
     → rules_from groups n before (items_view (drop i vs)) ≡ Err e
 unfolding rules_from
 rules_from-stop groups n before e vs i d h q = rw (items_view-drop vs i d h, q)

@@ -1,5 +1,5 @@
 //! The rules about one clerk and one maildrop.
-ghost use Rattle.std.specs.Prelude.{◌≡◌, ◌≤◌, length, filter};
+ghost use Rattle.std.specs.Prelude.{◌≡◌, length, filter};
 ghost use Rattle.policy.specs.Lane.{is_about, rules_about};
 ghost use Rattle.policy.specs.Policy.{decide};
 

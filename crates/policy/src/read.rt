@@ -13,7 +13,7 @@ ghost use Rattle.policy.specs.PolicyText.{clerks_named, clerks_of, has_name, see
 ghost use Rattle.policy.specs.PolicyText.{is_sound_subject, subject_of, decided, rule_of, rules_in};
 ghost use Rattle.policy.specs.PolicyText.{rules_of, rule_name_of, pattern_of, effect_of};
 ghost use Rattle.policy.specs.PolicyText.{actions_of, actions_of_items, with_action, with_item};
-ghost use Rattle.policy.specs.PolicyText.{is_rule_key, all_keys, is_top_key, are_tables, tables_of};
+ghost use Rattle.policy.specs.PolicyText.{is_rule_key, is_top_key, are_tables, tables_of};
 ghost use Rattle.policy.specs.PolicyText.{tables_at, rule_at, rules_from};
 ghost use Rattle.policy.specs.Places.{AreValuesOf, IsStray, LiesInRule, LiesInRules, place_in};
 ghost use Rattle.policy.specs.Places.{place_of};

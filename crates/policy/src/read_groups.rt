@@ -8,7 +8,7 @@ ghost use Rattle.toml.specs.Data.{Members, as_array, as_table};
 ghost use Rattle.toml.specs.View.{view, table_view, items_view};
 ghost use Rattle.creds.specs.Names.{is_name};
 ghost use Rattle.policy.specs.Policy.{are_members, are_sound_groups, has_group, is_sound_group};
-ghost use Rattle.policy.specs.PolicyText.{all_keys, group_at, group_of, groups_from, is_group_key};
+ghost use Rattle.policy.specs.PolicyText.{group_at, group_of, groups_from, is_group_key};
 ghost use Rattle.policy.specs.PolicyText.{are_tables, members_of, name_at, names_from};
 ghost use Rattle.policy.specs.Places.{IsStray, LiesInGroup, LiesInGroups, names_before};
 ghost use Rattle.policy.specs.Places.{of_names, of_members as place_in_members};

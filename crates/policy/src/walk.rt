@@ -4,7 +4,7 @@ ghost use Rattle.policy.specs.declared.key.Key.{Key};
 ghost use Rattle.policy.specs.Index.{IsIndexOf, has_key, place_from};
 ghost use Rattle.policy.specs.Lane.{AreStarts, group_start, group_starts, is_about_action};
 ghost use Rattle.policy.specs.Lane.{is_about_group, is_about_groups, is_about_one};
-ghost use Rattle.policy.specs.Policy.{Group, fits_class, lists};
+ghost use Rattle.policy.specs.Policy.{Group};
 
 use crate::decide::{actions_list, class_fits};
 use crate::group_starts::GroupStart;

@@ -1,5 +1,6 @@
 -- What a cutter does to a stream.
-use Rattle.std.proofs.Common.{◌≡◌, ℕ, ◌+◌, ◌<◌, ◌≤◌, List, [], ◌∷◌, ◌++◌, Bool, true, false, cond, length, take, drop, map, refl, sym, ◌∙◌, ap, ap₂, arith, append_assoc, append-nil, add-one, ◌==◌, ⊎_elim, take_all, length-append, le-ltb}
+use Rattle.std.proofs.Common.{◌≡◌, ℕ, ◌+◌, ◌<◌, ◌≤◌, List, [], ◌∷◌, ◌++◌, Bool, true, false, cond, length, take, drop, map, refl, sym, ◌∙◌, ap, ap₂, arith, append_assoc}
+use Rattle.std.proofs.Common.{append-nil, add-one, ◌==◌, ⊎_elim, take_all, length-append, le-ltb}
 use Rattle.std.proofs.lemmas.List.{length-take}
 use Rattle.std.proofs.Math.Seq.{drop-length}
 use Rattle.std.proofs.lemmas.Bool.{cases_lt}
@@ -43,7 +44,8 @@ Through s ps first whole rest =
 
 one_more : (s : List ℕ) (b : ℕ) (bs m : List ℕ) (t : Bool)
     → Through (s ++ b ∷ []) (pieces (bs ++ m)) (before_newline bs) (has_newline bs) (drop (through_newline bs) bs ++ m)
-    → Through s (cond t ([] ∷ pieces (bs ++ m)) (onto_first b (pieces (bs ++ m)))) (cond t [] (b ∷ before_newline bs)) (cond t true (has_newline bs)) (drop (cond t 1 (through_newline bs + 1)) (b ∷ bs) ++ m)
+    → Through s (cond t ([] ∷ pieces (bs ++ m)) (onto_first b (pieces (bs ++ m)))) (cond t [] (b ∷ before_newline bs)) (cond t true (has_newline bs))
+    (drop (cond t 1 (through_newline bs + 1)) (b ∷ bs) ++ m)
 one_more s b bs m true rest =
     ap₂ (λ x ps. x ∷ map cut_of ps) (cut_of-short (s ++ [])) (sym (prefixed-nil (pieces (bs ++ m))))
 one_more s b bs m false rest = rw (prefixed-onto s b (pieces (bs ++ m)), add-one, ← append_assoc s (b ∷ []) (before_newline bs)) rest
@@ -83,7 +85,8 @@ has-taken : (p : List ℕ) → has_newline (taken p) ≡ has_newline p
 has-taken [] = refl
 has-taken (b ∷ bs) = rw (taken-cons b bs) (has_by b bs (b == 10) refl (has-taken bs))
 
-through_by : (b : ℕ) (bs : List ℕ) (t : Bool) → b == 10 ≡ t → through_newline (taken bs) ≡ length (taken bs) → through_newline (cond t (b ∷ []) (b ∷ taken bs)) ≡ length (cond t (b ∷ []) (b ∷ taken bs))
+through_by : (b : ℕ) (bs : List ℕ) (t : Bool) → b == 10 ≡ t → through_newline (taken bs) ≡ length (taken bs)
+    → through_newline (cond t (b ∷ []) (b ∷ taken bs)) ≡ length (cond t (b ∷ []) (b ∷ taken bs))
 through_by b bs true e h = rw e refl
 through_by b bs false e h = rw (e, h, add-one) refl
 

@@ -1,5 +1,6 @@
 -- What a cutter holds as octets come one by one.
-use Rattle.std.proofs.Common.{◌≡◌, ℕ, ◌+◌, ◌<◌, ◌≤◌, List, [], ◌∷◌, ◌++◌, Bool, true, false, length, take, drop, sym, ◌∙◌, ap, ap₂, arith, append_assoc, append-nil, eqb, get_or, set, take_all, length-take}
+use Rattle.std.proofs.Common.{◌≡◌, ℕ, ◌+◌, ◌<◌, ◌≤◌, List, [], ◌∷◌, ◌++◌, Bool, true, false, length, take, drop, sym, ◌∙◌, ap, ap₂, arith, append_assoc, append-nil, eqb, get_or}
+use Rattle.std.proofs.Common.{set, take_all, length-take}
 use Rattle.std.proofs.lemmas.List.{drop_more, take_more_set, drop_all, take-append-le}
 use Rattle.popline.specs.Cutting.{Held, begun, before_newline, has_newline, through_newline, fed}
 

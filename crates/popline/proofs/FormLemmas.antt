@@ -1,5 +1,6 @@
 -- The form of every reply.
-use Rattle.std.proofs.Common.{◌≡◌, ℕ, ◌+◌, ◌^◌, ◌<◌, ◌≤◌, List, [], ◌∷◌, ◌++◌, Bool, true, false, ◌==◌, cond, length, refl, sym, ◌∙◌, ap, subst, arith, ⊎_elim, inl, inr, append_assoc, length-append, length-take, codes, lit≤, lit<, append-nil}
+use Rattle.std.proofs.Common.{◌≡◌, ℕ, ◌+◌, ◌^◌, ◌<◌, ◌≤◌, List, [], ◌∷◌, ◌++◌, Bool, true, false, ◌==◌, cond, length, refl, sym, ◌∙◌, ap, subst, arith, ⊎_elim, inl, inr}
+use Rattle.std.proofs.Common.{append_assoc, length-append, length-take, codes, lit≤, lit<, append-nil}
 use Rattle.std.proofs.lemmas.Bool.{cases_Bool, eqb-true}
 use Rattle.std.proofs.lemmas.Fmt.{length-decimal-le, decimal_is_IsNumeral}
 use Rattle.std.specs.Str.Parse.{IsNumeral}
@@ -7,7 +8,9 @@ use Rattle.std.specs.Char.{digit_value}
 use Rattle.std.specs.Fmt.{decimal}
 use Rattle.creds.specs.Uid.{uid_text}
 use Rattle.popline.specs.Cutting.{through_newline, taken}
-use Rattle.popline.specs.Replies.{Reply, Greeting, LineTooLong, UnknownCommand, WrongState, BadArguments, Capabilities, SendPass, LoginFailed, LoginFailedClosing, DeniedBy, NoSuchMaildrop, InUse, MaildropHas, DropListing, ScanListing, ScanLine, UidListing, UidLine, Message, TopPart, Marked, Okay, NoSuchMessage, AlreadyMarked, Bye, RemovalDenied, RemovalFailed, StoreFailed, timestamp, one_line, scan_text, uid_row_text, capabilities, bytes_of}
+use Rattle.popline.specs.Replies.{Reply, Greeting, LineTooLong, UnknownCommand, WrongState, BadArguments, Capabilities, SendPass, LoginFailed, LoginFailedClosing, DeniedBy}
+use Rattle.popline.specs.Replies.{NoSuchMaildrop, InUse, MaildropHas, DropListing, ScanListing, ScanLine, UidListing, UidLine, Message, TopPart, Marked, Okay, NoSuchMessage}
+use Rattle.popline.specs.Replies.{AlreadyMarked, Bye, RemovalDenied, RemovalFailed, StoreFailed, timestamp, one_line, scan_text, uid_row_text, capabilities, bytes_of}
 use Rattle.popline.specs.ReplyForm.{begins_with_bracket, has_code, BeginsWithStatus, IsWellFormed, FormOfReplies}
 use Rattle.std.specs.List.{flat_map}
 

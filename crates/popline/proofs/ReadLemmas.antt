@@ -13,7 +13,8 @@ use Rattle.creds.specs.declared.login_name.LoginName.{LoginName}
 use Rattle.popline.specs.declared.command.Keyword.{Keyword}
 use Rattle.popline.specs.declared.command.Keyword.TheVariants as keyword
 use Rattle.popline.specs.declared.command.LineFault.TheVariants.{Syntax}
-use Rattle.popline.specs.Commands.{Command, Capa, User, Pass, Apop, Quit, Stat, ListAll, ListOne, UidlAll, UidlOne, Retr, Top, Dele, Rset, Noop, keyword_of, lowered, keyword_in, keywords, is_space, arguments, number_of, digest_of, with_arguments, with_password, command_with, command_by, command_of, both}
+use Rattle.popline.specs.Commands.{Command, Capa, User, Pass, Apop, Quit, Stat, ListAll, ListOne, UidlAll, UidlOne, Retr, Top, Dele, Rset, Noop, keyword_of, lowered, keyword_in}
+use Rattle.popline.specs.Commands.{keywords, is_space, arguments, number_of, digest_of, with_arguments, with_password, command_with, command_by, command_of, both}
 use Rattle.popline.specs.Spelling.{word_of, IsWord, IsNumeral, IsLogin, IsDigest, ReadsWhatIsSpelled}
 use Rattle.popline.proofs.HexDigits.{decoded}
 use Rattle.popline.proofs.Solid.{Without, without, without-append, keyword_without, position_at, before_at, after_at, AllSolid, before_join, arguments-join}

@@ -1,5 +1,7 @@
 -- What is read is what is spelled.
-use Rattle.std.proofs.Common.{◌≡◌, ℕ, zero, suc, ◌+◌, ◌-◌, ◌^◌, ◌<◌, ◌≤◌, List, [], ◌∷◌, ◌++◌, Bool, true, false, ◌==◌, ◌&&◌, cond, not, length, take, drop, get_or, map, min, refl, sym, ◌∙◌, ap, ap₂, subst, arith, ⊎_elim, take_all, Option, Some, None, Result, Ok, Err, option_map, ok_or, nat_lt, lt-ltb, le-ltb, replicate, add_comm, add-one, rules, zero-lt-suc, length-drop}
+use Rattle.std.proofs.Common.{◌≡◌, ℕ, zero, suc, ◌+◌, ◌-◌, ◌^◌, ◌<◌, ◌≤◌, List, [], ◌∷◌, ◌++◌, Bool, true, false, ◌==◌, ◌&&◌, cond, not, length, take, drop, get_or, map, min, refl}
+use Rattle.std.proofs.Common.{sym, ◌∙◌, ap, ap₂, subst, arith, ⊎_elim, take_all, Option, Some, None, Result, Ok, Err, option_map, ok_or, nat_lt, lt-ltb, le-ltb, replicate}
+use Rattle.std.proofs.Common.{add_comm, add-one, rules, zero-lt-suc, length-drop}
 use Rattle.std.proofs.lemmas.Bool.{and_parts, cases_Bool, cases_lt, eqb-true}
 use Rattle.std.proofs.lemmas.Option.{option_and_then_some}
 use Rattle.std.proofs.lemmas.List.Sums.{split_at_first, passes_at_first}
@@ -17,7 +19,9 @@ use Rattle.popline.specs.declared.command.Keyword.{Keyword}
 use Rattle.popline.specs.declared.command.Keyword.TheVariants as keyword
 use Rattle.popline.specs.declared.command.LineFault.{LineFault}
 use Rattle.popline.specs.declared.command.LineFault.TheVariants.{Unknown, Syntax}
-use Rattle.popline.specs.Commands.{Command, Capa, User, Pass, Apop, Quit, Stat, ListAll, ListOne, UidlAll, UidlOne, Retr, Top, Dele, Rset, Noop, keyword_of, lowered, is_spelled, keyword_in, keywords, is_space, trimmed, arguments, value_of, number_of, digest_of, alone, with_one, with_two, with_arguments, with_password, command_with, command_by, both}
+use Rattle.popline.specs.Commands.{Command, Capa, User, Pass, Apop, Quit, Stat, ListAll, ListOne, UidlAll, UidlOne, Retr, Top, Dele, Rset, Noop, keyword_of, lowered, is_spelled}
+use Rattle.popline.specs.Commands.{keyword_in, keywords, is_space, trimmed, arguments, value_of, number_of, digest_of, alone, with_one, with_two, with_arguments, with_password}
+use Rattle.popline.specs.Commands.{command_with, command_by, both}
 use Rattle.popline.specs.Spelling.{word_of, IsWord, IsNumeral, IsLogin, IsDigest, AreArguments, IsSpelling, SpellsWhatIsRead}
 use Rattle.popline.proofs.HexDigits.{written}
 use Rattle.popline.proofs.Words.{split_nowhere}

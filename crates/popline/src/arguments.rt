@@ -2,7 +2,7 @@
 
 ghost use Rattle.std.specs.Prelude.{◌≡◌, ◌==◌, ◌<◌, ◌∷◌, [], ◌+◌, ◌-◌, ◌*◌, ◌^◌, length, IfSome};
 ghost use Rattle.std.specs.Prelude.{MatchOption, position, min};
-ghost use Rattle.std.specs.List.{list_all, before_first, after_first, slice_split, fold};
+ghost use Rattle.std.specs.List.{list_all, before_first, after_first, slice_split};
 ghost use Rattle.creds.specs.Names.{is_digit};
 ghost use Rattle.popline.specs.Commands.{is_space, trimmed, number_of, value_of, digest_of};
 

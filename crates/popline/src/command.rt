@@ -2,10 +2,9 @@
 
 ghost use Rattle.std.specs.Prelude.{◌≡◌, map};
 ghost use Rattle.popline.specs.Commands.{command_of, command_with, keywords, keyword_in};
-ghost use Rattle.popline.specs.Commands.{keyword_of, is_spelled, lowered, with_arguments};
+ghost use Rattle.popline.specs.Commands.{keyword_of, is_spelled, lowered};
 ghost use Rattle.popline.specs.Commands.{alone as alone_of, with_one as with_one_of};
 ghost use Rattle.popline.specs.Commands.{with_two as with_two_of, with_password};
-ghost use Rattle.popline.specs.Commands.{arguments as arguments_of};
 ghost use Rattle.popline.specs.Seen.{reading_seen, command_seen, found_seen, keyword_row_seen};
 
 use crate::arguments::{read_digest, read_number, split_once, split_word, without_trailing_spaces};

@@ -1,6 +1,6 @@
 //! What a POP3 server says, octet by octet (RFC 1939, 3 to 7; RFC 2449, 5 and 8).
 
-ghost use Rattle.std.specs.Prelude.{◌≡◌, ◌++◌, ℕ, List, IfOk, OnOk, OnErr, codes, string_bytes};
+ghost use Rattle.std.specs.Prelude.{◌≡◌, ◌++◌, ℕ, List, IfOk, OnOk, OnErr, string_bytes};
 ghost use Rattle.popline.specs.Replies.{bytes_of};
 ghost use Rattle.popline.specs.Seen.{reply_seen};
 

@@ -173,4 +173,9 @@ impl<V: Vault> Vault for Recent<V> {
         let set = self.vault.set_policy(policy);
         after_change(&mut self.kept, &mut self.totals, set)
     }
+
+    fn maintain(&mut self) -> Result<(), VaultFault> {
+        let maintained = self.vault.maintain();
+        after_look(&mut self.kept, &mut self.totals, maintained)
+    }
 }

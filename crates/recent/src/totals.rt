@@ -5,7 +5,7 @@ ghost use Rattle.std.specs.List.{list_any};
 ghost use Rattle.vault.specs.declared.answer.Head.{Head as HeadSeen};
 ghost use Rattle.vault.specs.Records.{most_maildrops};
 ghost use Rattle.vault.specs.Call.{Looks};
-ghost use Rattle.recent.specs.Recalling.{fresh, stale_if, changed_in, marked};
+ghost use Rattle.recent.specs.Recalling.{fresh, changed_in, marked};
 ghost use Rattle.recent.specs.Counting.{summed, CountsOne, CountsRows, CountsKept};
 
 use creds::Name;

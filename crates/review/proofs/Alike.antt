@@ -78,7 +78,8 @@ no_member wanted name (g ∷ groups) e =
     at true false q h = h
     at false c q h = h
 
-clerk_alike : (groups : List Group) (w : Clerks) (name : List ℕ) → list_any (λ g. has_member g name) groups ≡ false → clerks_name w name ≡ false → has_clerk groups w (Named name) ≡ has_clerk groups w Others
+clerk_alike : (groups : List Group) (w : Clerks) (name : List ℕ) → list_any (λ g. has_member g name) groups ≡ false → clerks_name w name ≡ false
+    → has_clerk groups w (Named name) ≡ has_clerk groups w Others
 clerk_alike groups clerks.Any name h e = refl
 clerk_alike groups (clerks.Is wanted) name h e = e
 clerk_alike groups (clerks.MembersOf wanted) name h e = no_member wanted name groups h
@@ -94,15 +95,19 @@ others_maildrop p clerk name asked e =
     ap decision_of (find_unless (is_asked p.groups clerk (Named name) asked) (is_asked p.groups clerk Others asked) (λ r. pattern_names r.maildrop name)
     (λ (r : Rule) (q : pattern_names r.maildrop name ≡ false). ap (λ (b : Bool). has_clerk p.groups r.clerk clerk && (b && is_about asked r)) (pattern_alike r.maildrop name q)) p.rules e)
 
-others_read : (p : Policy) (clerk maildrop : Label) (name : List ℕ) → names_class p name ≡ false → decide_for p clerk maildrop (column.Read (Named name)) ≡ decide_for p clerk maildrop (column.Read Others)
+others_read : (p : Policy) (clerk maildrop : Label) (name : List ℕ) → names_class p name ≡ false
+    → decide_for p clerk maildrop (column.Read (Named name)) ≡ decide_for p clerk maildrop (column.Read Others)
 others_read p clerk maildrop name e =
     ap decision_of (find_unless (is_asked p.groups clerk maildrop (column.Read (Named name))) (is_asked p.groups clerk maildrop (column.Read Others)) (λ r. pattern_names r.class name)
-    (λ (r : Rule) (q : pattern_names r.class name ≡ false). ap (λ (b : Bool). has_clerk p.groups r.clerk clerk && (fits_label r.maildrop maildrop && (r.actions.read && b))) (pattern_alike r.class name q)) p.rules e)
+    (λ (r : Rule) (q : pattern_names r.class name ≡ false). ap
+    (λ (b : Bool). has_clerk p.groups r.clerk clerk && (fits_label r.maildrop maildrop && (r.actions.read && b))) (pattern_alike r.class name q)) p.rules e)
 
-others_remove : (p : Policy) (clerk maildrop : Label) (name : List ℕ) → names_class p name ≡ false → decide_for p clerk maildrop (column.Remove (Named name)) ≡ decide_for p clerk maildrop (column.Remove Others)
+others_remove : (p : Policy) (clerk maildrop : Label) (name : List ℕ) → names_class p name ≡ false
+    → decide_for p clerk maildrop (column.Remove (Named name)) ≡ decide_for p clerk maildrop (column.Remove Others)
 others_remove p clerk maildrop name e =
     ap decision_of (find_unless (is_asked p.groups clerk maildrop (column.Remove (Named name))) (is_asked p.groups clerk maildrop (column.Remove Others)) (λ r. pattern_names r.class name)
-    (λ (r : Rule) (q : pattern_names r.class name ≡ false). ap (λ (b : Bool). has_clerk p.groups r.clerk clerk && (fits_label r.maildrop maildrop && (r.actions.remove && b))) (pattern_alike r.class name q)) p.rules e)
+    (λ (r : Rule) (q : pattern_names r.class name ≡ false). ap
+    (λ (b : Bool). has_clerk p.groups r.clerk clerk && (fits_label r.maildrop maildrop && (r.actions.remove && b))) (pattern_alike r.class name q)) p.rules e)
 
 pub alike : OthersAreAlike
 alike = record { clerk = others_clerk; maildrop = others_maildrop; reading = others_read; removing = others_remove }

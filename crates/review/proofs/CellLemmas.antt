@@ -1,8 +1,7 @@
 -- The cells of a clerk, by the rules that are about the clerk.
-use Rattle.std.proofs.Common.{◌≡◌, ℕ, List, map, refl, ap, ◌∙◌}
+use Rattle.std.proofs.Common.{◌≡◌, List, refl, ap}
 use Rattle.std.specs.List.{flat_map}
 use Rattle.policy.specs.Policy.{Policy}
-use Rattle.review.specs.declared.cells.Verdict.{Verdict}
 use Rattle.review.specs.declared.label.Label.{Label}
 use Rattle.review.specs.declared.question.Column.{Column}
 use Rattle.review.specs.CellSteps.{cell_among, json_among, json_clerk, row_of, verdicts_among}

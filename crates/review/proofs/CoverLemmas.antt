@@ -59,7 +59,8 @@ of_all test clerk (m ∷ names) e h =
     let both = and_parts (test m) (list_all test names) e in
     at (bytes_eq m clerk) refl h both.0 (λ (later : list_any (λ n. bytes_eq n clerk) names ≡ true). of_all test clerk names both.1 later)
   where
-    at : (b : Bool) → bytes_eq m clerk ≡ b → (b || list_any (λ n. bytes_eq n clerk) names) ≡ true → test m ≡ true → (list_any (λ n. bytes_eq n clerk) names ≡ true → test clerk ≡ true) → test clerk ≡ true
+    at : (b : Bool) → bytes_eq m clerk ≡ b → (b || list_any (λ n. bytes_eq n clerk) names) ≡ true → test m ≡ true
+        → (list_any (λ n. bytes_eq n clerk) names ≡ true → test clerk ≡ true) → test clerk ≡ true
     at true same k one others = subst (λ (n : List ℕ). test n ≡ true) (same_names m clerk same) one
     at false same k one others = others k
 

@@ -19,7 +19,7 @@ use Rattle.policy.specs.declared.rule.Pattern.TheVariants.{Any, Is}
 use Rattle.policy.specs.declared.rule.Rule.{Rule}
 use Rattle.policy.specs.Policy.{Group, Policy, has_member}
 use Rattle.review.specs.declared.label.Label.TheVariants.{Named, Others}
-use Rattle.review.specs.Names.{Kept, NamesAreTold, classes_in, clerk_of, clerks_in, is_of, labels, maildrops_in, name_in, put_names}
+use Rattle.review.specs.Names.{NamesAreTold, classes_in, clerk_of, clerks_in, is_of, labels, maildrops_in, name_in, put_names}
 use Rattle.review.specs.Questions.{clerks_name, names_class, names_clerk, names_maildrop, pattern_names}
 
 pub put_names-append : (names xs ys : List (List ℕ)) → put_names names (xs ++ ys) ≡ put_names (put_names names xs) ys

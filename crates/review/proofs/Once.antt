@@ -1,6 +1,6 @@
 -- No question is asked twice: the labels differ, so do the columns, and so do the questions over them.
 use Rattle.std.proofs.lemmas.List.Kept.{AllPairs-cons}
-use Rattle.std.proofs.Common.{◌≡◌, ◌≢◌, ◌<◌, ℕ, Bool, true, false, not, ◌&&◌, List, [], ◌∷◌, ◌++◌, length, map, Option, Some, None, refl, sym, ap, ◌∙◌, true≢false, cond, zero, suc, arith}
+use Rattle.std.proofs.Common.{◌≡◌, ◌≢◌, ℕ, Bool, true, false, not, ◌&&◌, List, [], ◌∷◌, ◌++◌, map, Option, Some, None, refl, sym, ap, ◌∙◌, true≢false, cond, zero, suc, arith}
 use Rattle.std.specs.Prelude.{⊤}
 use Rattle.std.specs.BTreeSet.{insert_key}
 use Rattle.std.specs.Cmp.Lexicographic.{nat_list_cmp_total, slice_cmp}
@@ -15,7 +15,7 @@ use Rattle.review.specs.declared.label.Label.TheVariants.{Named, Others}
 use Rattle.review.specs.declared.question.Column.{Column}
 use Rattle.review.specs.declared.question.Column.TheVariants as column
 use Rattle.review.specs.declared.question.Question.{Question}
-use Rattle.review.specs.Differences.{answer, becomes, becoming, differences, questions}
+use Rattle.review.specs.Differences.{answer, becomes, differences, questions}
 use Rattle.review.specs.Names.{Kept, classes_in, clerks_in, labels, maildrops_in, put_names}
 use Rattle.review.specs.Questions.{columns}
 use Rattle.review.specs.Review.{ToldOnce, asked_of, chosen, classes_of, clerks_of, maildrops_of}

@@ -26,7 +26,8 @@ flat_if : {X : Type 0} (t : X → Bool) (f : X → List ℕ) (xs : List X) → f
 flat_if t f [] = refl
 flat_if t f (x ∷ xs) = at (t x) (flat_if t f xs)
   where
-    at : (b : Bool) → flat_map (λ y. text_if (t y) (f y)) xs ≡ flat_map f (filter t xs) → text_if b (f x) ++ flat_map (λ y. text_if (t y) (f y)) xs ≡ flat_map f (cond b (x ∷ filter t xs) (filter t xs))
+    at : (b : Bool) → flat_map (λ y. text_if (t y) (f y)) xs ≡ flat_map f (filter t xs)
+        → text_if b (f x) ++ flat_map (λ y. text_if (t y) (f y)) xs ≡ flat_map f (cond b (x ∷ filter t xs) (filter t xs))
     at true e = ap (λ (ys : List ℕ). f x ++ ys) e
     at false e = e
 

@@ -1,9 +1,8 @@
 -- What a clerk may do in a maildrop: the decisions about its columns, and the words for them.
-use Rattle.std.specs.Prelude.{ℕ, Bool, true, false, ◌&&◌, ◌||◌, not, List, [], ◌∷◌, ◌++◌, map, codes}
+use Rattle.std.specs.Prelude.{ℕ, Bool, true, false, not, List, [], ◌∷◌, ◌++◌, map, codes}
 use Rattle.std.specs.Prelude.{Option, Some, None}
 use Rattle.std.specs.List.{flat_map, list_any}
 use Rattle.policy.specs.Policy.{Policy}
-use Rattle.policy.specs.declared.decide.Decision.{Decision}
 use Rattle.review.specs.declared.cells.Verdict.{Verdict}
 use Rattle.review.specs.declared.label.Label.{Label}
 use Rattle.review.specs.declared.label.Label.TheVariants.{Named, Others}
@@ -31,12 +30,12 @@ class_of true (column.Read class) = None
 class_of false (column.Remove class) = None
 class_of true (column.Remove class) = Some class
 
--- it is allowed, where that is asked for, else denied
+-- it is allowed, if that is asked for, else denied
 abbrev pub agrees : (wanted is : Bool) → Bool
 agrees true is = is
 agrees false is = not is
 
--- the class, where the test holds
+-- the class, if the test holds
 abbrev pub class_if : Bool → Option Label → List Label
 class_if holds None = []
 class_if false (Some class) = []

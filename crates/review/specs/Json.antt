@@ -1,11 +1,10 @@
 -- A review as JSON (RFC 8259): for each clerk and maildrop the rules that decide, by number.
-use Rattle.std.specs.Prelude.{ℕ, ◌+◌, ◌==◌, Bool, true, false, ◌&&◌, not, List, [], ◌∷◌, ◌++◌, codes}
+use Rattle.std.specs.Prelude.{ℕ, ◌+◌, ◌==◌, Bool, true, false, ◌&&◌, not, List, [], ◌++◌, codes}
 use Rattle.std.specs.Prelude.{Option, Some, None}
 use Rattle.std.specs.Fmt.{decimal}
 use Rattle.std.specs.List.{flat_map, position}
 use Rattle.std.specs.Str.{bytes_eq}
 use Rattle.policy.specs.Policy.{Policy}
-use Rattle.policy.specs.WrittenText.{quoted}
 use Rattle.policy.specs.declared.decide.Decision.{Decision}
 use Rattle.policy.specs.declared.rule.Rule.{Rule}
 use Rattle.review.specs.declared.cells.Verdict.{Verdict}
@@ -35,7 +34,7 @@ decision_number rules d = signed d.allowed (number_of rules d.rule)
 
 -- ---- lists
 
--- a text in quotes, behind a comma; no name needs an escape
+-- a text in quotes, after a comma; no name needs an escape
 unfoldable pub comma_quoted : List ℕ → List ℕ
 comma_quoted text = codes ",\"" ++ text ++ codes "\""
 
@@ -47,7 +46,7 @@ labels_list labels = rest_of (flat_map (λ label. comma_quoted (label_text label
 abbrev pub rules_list : List Rule → List ℕ
 rules_list rules = rest_of (flat_map (λ r. comma_quoted r.name) rules)
 
--- a decision about what is read, or what is removed, behind a comma
+-- a decision about what is read, or what is removed, after a comma
 abbrev pub comma_number : Option Label → (number : List ℕ) → List ℕ
 comma_number None number = []
 comma_number (Some class) number = codes "," ++ number
@@ -69,7 +68,7 @@ open_number rules (column.Remove class) d = []
 
 -- ---- cells
 
--- a clerk and a maildrop, behind a comma
+-- a clerk and a maildrop, after a comma
 unfoldable pub pair_text : (clerk maildrop : Label) → List ℕ
 pair_text clerk maildrop =
     tagged (codes ",\n{\"clerk\":\"") clerk (codes "\",")

@@ -5,10 +5,10 @@ ghost use Rattle.std.specs.Str.{bytes_eq};
 ghost use Rattle.review.specs.Cells.{rest_of};
 ghost use Rattle.review.specs.CellSteps.{json_among, json_clerk};
 ghost use Rattle.review.specs.Differences.{label_text, text_if};
-ghost use Rattle.review.specs.Json.{comma_number, comma_quoted, decision_number, json_cell};
-ghost use Rattle.review.specs.Json.{json_of, json_rows, json_text, labels_list, number_at};
+ghost use Rattle.review.specs.Json.{comma_number, comma_quoted, decision_number};
+ghost use Rattle.review.specs.Json.{json_of, json_rows, json_text};
 ghost use Rattle.review.specs.Json.{number_of, numbers_list, numbers_text, open_number, pair_text};
-ghost use Rattle.review.specs.Json.{rules_list, signed, verdict_number};
+ghost use Rattle.review.specs.Json.{signed, verdict_number};
 ghost use Rattle.review.specs.Questions.{columns};
 
 use crate::cells::{Verdict, class_of, put_rest, put_tagged, verdicts};

@@ -29,7 +29,7 @@ pub fn told_once()
 {}
 
 /// Whatever the policy's text is, nothing of it can begin or end a tag of the page, or the value of
-/// an attribute: where it stands there is no `<`, `>`, `"` or `'`.
+/// an attribute: in it there is no `<`, `>`, `"` or `'`.
 pub fn text_has_no_markup()
     ensures { NoMarkup }
 {}

@@ -1,7 +1,6 @@
 //! What a review asks a policy.
-ghost use Rattle.std.specs.Prelude.{◌≡◌, ◌∷◌, [], IfOk, Some};
-ghost use Rattle.std.specs.List.{filter};
-ghost use Rattle.policy.specs.Policy.{decision_of, default_rule};
+ghost use Rattle.std.specs.Prelude.{◌≡◌, IfOk, Some};
+ghost use Rattle.policy.specs.Policy.{default_rule};
 ghost use Rattle.review.specs.Differences.{column_text};
 ghost use Rattle.review.specs.Questions.{columns, fits_label, is_about};
 ghost use Rattle.review.specs.Steps.{decide_among, of_clerk, of_maildrop, of_member};

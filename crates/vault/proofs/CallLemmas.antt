@@ -1,7 +1,7 @@
 -- The words of specs/Call and specs/Parts: of one part, and of two parts one after the other.
 use Rattle.std.proofs.Common.{◌≡◌, ◌≤◌, ℕ, true, Result, Ok, Err, ap, true≢false, arith}
 use Rattle.std.proofs.lemmas.Bool.Decides.{nat_tests}
-use Rattle.std.specs.Prelude.{◌||◌, ⊤, is_ok, nat_lt, nat_le}
+use Rattle.std.specs.Prelude.{⊤, is_ok}
 use Rattle.vault.specs.declared.fault.VaultFault.{VaultFault}
 use Rattle.vault.specs.declared.fault.VaultFault.TheVariants as fault
 use Rattle.vault.specs.declared.vault.Vault.{Ghosts}

@@ -23,7 +23,7 @@ use Rattle.vault.specs.declared.record.Keyed.{Keyed}
 use Rattle.vault.specs.declared.record.Message.{Message}
 use Rattle.vault.specs.declared.record.Receipt.{Receipt}
 use Rattle.vault.specs.Records.{Records, is_sound_message, is_sound_receipt, is_counted, is_one_of, is_receipt_for, in_maildrop, receipts_of, receipt_of, class_count, octets_of, same_id, same_uid, same_message, most_octets, most_messages, most_deposits}
-use Rattle.vault.specs.Changes.{Contents, AreSound, records_of, with_deposit, message_for, receipt_for, deposit_answer, deposit_answered, known_or_conflict, is_full, DepositAnswer, Accepted, KnownAs, kept_in}
+use Rattle.vault.specs.Changes.{Contents, AreSound, records_of, with_deposit, message_for, receipt_for, deposit_answer, deposit_answered, is_full, KnownAs, kept_in}
 use Rattle.vault.specs.Changes as changes
 use Rattle.vault.specs.Calls.{IsAnswer, IsRefusal, IsDeposited, deposit_result, deposit_answer_in, present_in}
 use Rattle.vault.specs.Plain.{HoldsKept, with_message}

@@ -6,7 +6,7 @@ pub mod TotalLemmas
 pub mod ClerkLemmas
 pub mod KindLemmas
 pub mod MailLemmas
-pub mod PageLemmas
+pub mod SheetLemmas
 pub mod DepositLemmas
 pub mod StopLemmas
 pub mod CallLemmas

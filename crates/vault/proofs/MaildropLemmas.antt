@@ -9,7 +9,7 @@ use Rattle.vault.specs.declared.fault.VaultFault.{VaultFault}
 use Rattle.vault.specs.declared.record.Keyed.{Keyed}
 use Rattle.vault.specs.declared.record.Message.{Message}
 use Rattle.vault.specs.Records.{Records, is_sound_message, is_one_of, most_maildrops}
-use Rattle.vault.specs.Changes.{Contents, AreSound, records_of, with_maildrop, with_maildrops, put_answer, put_maildrop_answer, PutAnswer, WasNew, WasThere, NoRoom, without_maildrop, drop_answer, Gone, kept_in}
+use Rattle.vault.specs.Changes.{Contents, AreSound, records_of, with_maildrop, with_maildrops, put_answer, put_maildrop_answer, WasNew, NoRoom, without_maildrop, drop_answer, Gone, kept_in}
 use Rattle.vault.specs.Changes as changes
 use Rattle.vault.specs.Calls.{IsAnswer, put_result, drop_result, present_in}
 use Rattle.vault.proofs.ListLemmas.{all_last, all_weaker, all_filter, distinct_last, distinct_filter, filter_fits, filter_in, found, any_of, any_in, any_front, none_kept, not_false, bytes_are, In}

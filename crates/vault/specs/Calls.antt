@@ -15,7 +15,7 @@ use Rattle.vault.specs.declared.fault.VaultFault.TheVariants as fault
 use Rattle.vault.specs.declared.record.Clerk.{Clerk}
 use Rattle.vault.specs.declared.record.Keyed.{Keyed}
 use Rattle.vault.specs.Records.{in_maildrop, receipts_of, credential_in, is_one_of}
-use Rattle.vault.specs.Changes.{Contents, AreSound, DepositAnswer, Accepted, KnownAs, deposit_answer, receipt_for, message_for, with_deposit, heads, IsPage, without_keys, with_messages, with_clerk, without_clerk, with_clerks, PutAnswer, WasNew, WasThere, NoRoom, put_clerk_answer, put_maildrop_answer, with_maildrop, without_maildrop, with_maildrops, DropAnswer, Gone, NotThere, drop_answer, totals, with_policy, records_of}
+use Rattle.vault.specs.Changes.{Contents, DepositAnswer, Accepted, KnownAs, deposit_answer, receipt_for, message_for, with_deposit, heads, IsPage, without_keys, with_messages, with_clerk, without_clerk, with_clerks, PutAnswer, WasNew, WasThere, NoRoom, put_clerk_answer, put_maildrop_answer, with_maildrop, without_maildrop, with_maildrops, DropAnswer, Gone, NotThere, drop_answer, totals, with_policy, records_of}
 use Rattle.vault.specs.Changes as changes
 
 -- ---- every call

@@ -3,7 +3,7 @@ pub mod Changes
 pub mod Calls
 pub mod Clerks
 pub mod Stops
-pub mod Pages
+pub mod Sheets
 pub mod Plain
 pub mod Faults
 pub mod Refusals

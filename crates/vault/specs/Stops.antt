@@ -1,9 +1,9 @@
 -- What a store may hold when it is opened again after its device stopped (a crash, the power gone).
-use Rattle.std.specs.Prelude.{◌≡◌, ◌⊎◌, ℕ, List, ⊤, Result, Ok, Err, refl}
+use Rattle.std.specs.Prelude.{◌≡◌, ◌⊎◌, ⊤, Result, Ok, Err, refl}
 use Rattle.std.proofs.Common.{subst}
 use Rattle.vault.specs.declared.fault.VaultFault.{VaultFault}
 use Rattle.vault.specs.declared.fault.VaultFault.TheVariants as fault
-use Rattle.vault.specs.Records.{Records, Agree}
+use Rattle.vault.specs.Records.{Agree}
 use Rattle.vault.specs.Changes.{Contents, records_of}
 
 -- the two contents have records that agree

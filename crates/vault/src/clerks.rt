@@ -1,7 +1,6 @@
 //! Clerks of a store in memory, and their credentials.
-ghost use Rattle.std.specs.Prelude.{◌≡◌, ◌≢◌, ℕ, List, [], ◌∷◌, ◌++◌, length, map, is_ok, is_some};
-ghost use Rattle.std.specs.Prelude.{true, if◌then◌else◌, find, option_map, IfOk};
-ghost use Rattle.std.specs.Str.{bytes_eq};
+ghost use Rattle.std.specs.Prelude.{◌≡◌, ◌≢◌, length, map, is_ok, is_some};
+ghost use Rattle.std.specs.Prelude.{true, if◌then◌else◌, find, IfOk};
 ghost use Rattle.creds.specs.Names.{is_name, by_name};
 ghost use Rattle.vault.specs.Records.{credential_in, is_sound_credential};
 ghost use Rattle.vault.specs.Changes.{put_clerk_answer, with_credential, with_clerk, without_clerk};

@@ -1,6 +1,6 @@
 //! Deposits into a store in memory: how each is answered, and how it is kept.
-ghost use Rattle.std.specs.Prelude.{◌≡◌, ◌&&◌, find, option_copied, ◌+◌, ◌≤◌, ℕ, List, [], ◌∷◌};
-ghost use Rattle.std.specs.Prelude.{◌++◌, length, is_ok, true, if◌then◌else◌, IfOk, OnOk, OnErr};
+ghost use Rattle.std.specs.Prelude.{◌≡◌, ◌&&◌, find, option_copied, ◌+◌, ℕ, List, [], ◌∷◌};
+ghost use Rattle.std.specs.Prelude.{◌++◌, length, is_ok, true, if◌then◌else◌};
 ghost use Rattle.std.specs.Str.{bytes_eq};
 ghost use Rattle.creds.specs.Names.{is_name, is_deposit_id};
 ghost use Rattle.creds.specs.Digests.{text_digest};
@@ -15,8 +15,8 @@ use crate::answer::Deposited;
 use crate::fault::VaultFault;
 use crate::lists::{count_in, has_name};
 use crate::message_key::MessageKey;
-use crate::pages::PagedText;
 use crate::record::{Keyed, Message, Receipt};
+use crate::sheets::SheetText;
 use creds::{DepositId, Name, Uid};
 use mailtext::MailText;
 use std::alloc::{AllocError, Global};
@@ -159,7 +159,7 @@ pub(crate) fn accept(
         maildrop: asked.maildrop,
         class: asked.class,
         k,
-        text: PagedText::copy_of(alloc, text)?,
+        text: SheetText::copy_of(alloc, text)?,
     };
     let receipt = Receipt {
         maildrop: asked.maildrop,

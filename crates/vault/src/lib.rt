@@ -1,4 +1,4 @@
-//! What a mail store keeps (clerks, maildrops, messages, deposits and the policy), its thirteen
+//! What a mail store keeps (clerks, maildrops, messages, deposits and the policy), its fourteen
 //! calls (the trait `Vault`), and a store in memory.
 #![tactic(auto)]
 
@@ -9,10 +9,10 @@ mod fault;
 mod lists;
 mod mail;
 mod message_key;
-mod pages;
 mod plain;
 mod record;
 mod refusing;
+mod sheets;
 mod vault;
 
 pub use answer::{ClerkKind, CredentialKind, Deposited, Head, Total};
@@ -21,8 +21,8 @@ pub use deposits::{MAX_DEPOSITS, MAX_MESSAGES};
 pub use fault::VaultFault;
 pub use lists::{MAX_MAILDROPS, in_order};
 pub use message_key::MessageKey;
-pub use pages::PagedText;
 pub use plain::PlainVault;
 pub use record::{Clerk, Keyed, Message, Receipt};
 pub use refusing::Refusing;
+pub use sheets::SheetText;
 pub use vault::Vault;

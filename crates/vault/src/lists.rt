@@ -1,9 +1,7 @@
 //! The lists of a store in memory: names of maildrops, their order, and totals.
-ghost use Rattle.std.specs.Prelude.{◌≡◌, ◌≢◌, ◌≤◌, ◌-◌, ◌^◌, ℕ, List, length, filter, map, min};
+ghost use Rattle.std.specs.Prelude.{◌≡◌, ◌≢◌, ◌-◌, ◌^◌, length, filter, map, min};
 ghost use Rattle.std.specs.Prelude.{sum_by, true, not, is_ok, if◌then◌else◌, unwrap_or, position};
-ghost use Rattle.std.specs.Prelude.{OnErr, OnOk, IfOk, insert};
-ghost use Rattle.std.specs.List.{list_any};
-ghost use Rattle.std.specs.Str.{bytes_eq};
+ghost use Rattle.std.specs.Prelude.{OnOk, IfOk, insert};
 ghost use Rattle.creds.specs.Names.{is_name, comes_before, put_by_name, by_name};
 ghost use Rattle.vault.specs.Records.{is_one_of};
 ghost use Rattle.vault.specs.Changes.{kept_in, put_maildrop_answer, with_maildrop, drop_answer};

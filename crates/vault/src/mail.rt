@@ -1,9 +1,7 @@
 //! Messages of a store in memory: their heads, their pages, and their removal.
-ghost use Rattle.std.specs.Prelude.{◌≡◌, ◌≢◌, ◌==◌, ◌≤◌, ℕ, [], length, map, min, take, drop};
-ghost use Rattle.std.specs.Prelude.{filter, not, ◌&&◌, if◌then◌else◌, IfOk, option_map};
+ghost use Rattle.std.specs.Prelude.{◌≡◌, ◌≢◌, ◌==◌, ◌≤◌, length, map, take};
+ghost use Rattle.std.specs.Prelude.{filter, ◌&&◌, if◌then◌else◌, IfOk};
 ghost use Rattle.std.specs.Prelude.{option_copied, find};
-ghost use Rattle.std.specs.List.{list_any};
-ghost use Rattle.std.specs.Str.{bytes_eq};
 ghost use Rattle.vault.specs.Records.{is_one_of};
 ghost use Rattle.vault.specs.Changes.{head_of, kept_in, IsPage, is_named, without_keys};
 ghost use Rattle.vault.specs.Calls.{IsAnswer, seen_as, text_under};

@@ -1,9 +1,9 @@
 //! A mail store in memory.
-ghost use Rattle.std.specs.Prelude.{◌≡◌, ◌≢◌, true, is_ok};
+ghost use Rattle.std.specs.Prelude.{◌≡◌, ◌≢◌, true, Ok, is_ok};
 ghost use Rattle.std.proofs.Common.{◌∙◌, sym};
 ghost use Rattle.vault.specs.Stops.{says_same};
 ghost use Rattle.vault.specs.Plain.{HoldsKept, LooksKept, CommitsKept, no_contents};
-ghost use Rattle.vault.specs.Calls.{IsPaged, AreRemoved, IsCredential, IsClerkDropped};
+ghost use Rattle.vault.specs.Calls.{IsAnswer, IsPaged, AreRemoved, IsCredential, IsClerkDropped};
 ghost use Rattle.vault.specs.Calls.{IsMaildropDropped};
 ghost use Rattle.vault.specs.Changes.{Contents};
 
@@ -186,6 +186,15 @@ impl Vault for PlainVault {
     fn set_policy(&mut self, policy: &Policy) -> Result<(), VaultFault> {
         let _ = policy.rules();
         self.policy = policy.try_copy()?;
+        Ok(())
+    }
+
+    /// It is never refused: nothing was put off.
+    fn maintain(&mut self) -> Result<(), VaultFault>
+        ensures answer { IsAnswer (Ok tt) result }
+        ensures looks { LooksKept self.old self.new result }
+        ensures succeeds { is_ok result ≡ true }
+    {
         Ok(())
     }
 }

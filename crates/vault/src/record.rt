@@ -1,6 +1,6 @@
 //! The records that a vault keeps.
 use crate::message_key::MessageKey;
-use crate::pages::PagedText;
+use crate::sheets::SheetText;
 use creds::{Credential, DepositId, Name};
 
 /// A clerk, with a credential of one kind. It has no `Debug`, as the credential has none.
@@ -22,7 +22,7 @@ pub struct Message {
     /// Its number among the deposits of its class ever accepted in the maildrop, counted from 1.
     pub k: u64,
     /// Its text, in the kept form.
-    pub text: PagedText,
+    pub text: SheetText,
 }
 
 /// A message under its key.

@@ -1,8 +1,8 @@
 //! A vault that refuses one of its calls, to test the layers above a vault.
-ghost use Rattle.std.specs.Prelude.{◌≡◌, ◌-◌, if◌then◌else◌};
+ghost use Rattle.std.specs.Prelude.{◌≡◌, ◌-◌, Ok, if◌then◌else◌};
 ghost use Rattle.vault.specs.Changes.{Contents};
 ghost use Rattle.vault.specs.Call.{Looks, Commits};
-ghost use Rattle.vault.specs.Calls.{seen_as, IsDeposited, AreHeads, IsPaged, AreRemoved};
+ghost use Rattle.vault.specs.Calls.{seen_as, IsAnswer, IsDeposited, AreHeads, IsPaged, AreRemoved};
 ghost use Rattle.vault.specs.Calls.{IsCredential, IsClerkPut, IsClerkDropped, IsMaildropAdded};
 ghost use Rattle.vault.specs.Calls.{IsMaildropDropped, AreTotals, IsPolicy, IsPolicySet};
 ghost use Rattle.vault.specs.Clerks.{AreClerkKinds};
@@ -282,5 +282,17 @@ impl<V: Vault> Vault for Refusing<V> {
             return Err(VaultFault::Store);
         }
         self.vault.set_policy(policy)
+    }
+
+    fn maintain(&mut self) -> Result<(), VaultFault>
+        ensures answer { IsAnswer (Ok tt) result }
+        ensures looks { Looks (over V.holds) (faults_of V.faults) (over V.is_clean)
+            (over V.is_up) (over V.may_leave) self.old self.new result }
+        ensures turn { IsInTurn V.faults self.old self.new result }
+    {
+        if self.countdown.is_due() {
+            return Err(VaultFault::Store);
+        }
+        self.vault.maintain()
     }
 }

@@ -1,9 +1,9 @@
 //! The calls that every mail store answers, and what they promise.
-ghost use Rattle.std.specs.Prelude.{◌≡◌, ◌≤◌, ℕ, List};
+ghost use Rattle.std.specs.Prelude.{ℕ, Ok};
 ghost use Rattle.vault.specs.Changes.{Contents, AreSound};
 ghost use Rattle.vault.specs.Stops.{SaySame};
 ghost use Rattle.vault.specs.Call.{Looks, Commits};
-ghost use Rattle.vault.specs.Calls.{seen_as, IsDeposited, AreHeads, IsPaged, AreRemoved};
+ghost use Rattle.vault.specs.Calls.{seen_as, IsAnswer, IsDeposited, AreHeads, IsPaged, AreRemoved};
 ghost use Rattle.vault.specs.Calls.{IsCredential, IsClerkPut, IsClerkDropped, IsMaildropAdded};
 ghost use Rattle.vault.specs.Calls.{IsMaildropDropped, AreTotals, IsPolicy, IsPolicySet};
 ghost use Rattle.vault.specs.Clerks.{AreClerkKinds};
@@ -162,6 +162,13 @@ pub trait Vault {
             → IsPolicySet (holds self.new) c policy.now result }
         ensures commits { Commits holds faults is_clean is_up may_leave self.old self.new
             (λ c Held. IsPolicySet Held c policy.now) result };
+
+    /// Does what the store has put off, for a time in which no client waits: one that keeps a log
+    /// copies it into its database file, if it is long. Nothing is changed. A store that is never
+    /// asked does this in a later call.
+    fn maintain(&mut self) -> Result<(), VaultFault>
+        ensures answer { IsAnswer (Ok tt) result }
+        ensures looks { Looks holds faults is_clean is_up may_leave self.old self.new result };
 
     /// The contents that a clean store holds are sound.
     ghost sound: { (vault : Self) (c : Contents) → holds vault c → is_clean vault → AreSound c };

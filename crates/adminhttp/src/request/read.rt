@@ -1,6 +1,6 @@
 //! The reader of requests.
 
-ghost use Rattle.std.specs.Prelude.{◌≡◌, ◌≢◌, length, IfOk, IfErr, IfSome, Ok, Err};
+ghost use Rattle.std.specs.Prelude.{◌≡◌, ◌≢◌, IfOk, IfErr, IfSome, Ok, Err};
 ghost use Rattle.std.specs.Str.{IsUtf8};
 ghost use Rattle.office.specs.Seen.{command_seen};
 ghost use Rattle.adminhttp.specs.Head.{headers_of, LieIn};

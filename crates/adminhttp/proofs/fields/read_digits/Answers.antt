@@ -1,5 +1,4 @@
-use Rattle.std.proofs.Common.{◌≡◌, ◌+◌, ◌-◌, ◌*◌, ◌<◌, get_or, sym, refl, arith}
-use Rattle.std.proofs.lemmas.Bool.Decides.{nat_tests}
+use Rattle.std.proofs.Common.{◌*◌, refl, arith}
 use Rattle.adminhttp.proofs.FieldLemmas.{too_many, digit_at}
 use Rattle.adminhttp.proofs.fields.read_digits.Goals as goal
 

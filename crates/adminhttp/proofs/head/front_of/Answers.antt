@@ -1,5 +1,5 @@
 use Rattle.std.proofs.Common.{sym, take_all, arith}
-use Rattle.std.proofs.lemmas.List.{length-take, length-take-le}
+use Rattle.std.proofs.lemmas.List.{length-take-le}
 use Rattle.adminhttp.proofs.HeadLemmas.{length_take_le}
 use Rattle.adminhttp.proofs.head.front_of.Goals as goal
 

@@ -1,7 +1,5 @@
-use Rattle.std.proofs.Common.{◌≡◌, ◌≤◌, ◌+◌, length, drop, sym, ◌∙◌, ap, arith}
-use Rattle.std.proofs.Math.ListN.{drop_of_length-le}
+use Rattle.std.proofs.Common.{drop, sym, ◌∙◌, arith}
 use Rattle.std.proofs.lemmas.List.{take_rest}
-use Rattle.adminhttp.specs.Lines.{empty_line, empty_lines}
 use Rattle.adminhttp.proofs.LineLemmas.{no_empty_lines, lines_passed, lines_end}
 use Rattle.adminhttp.proofs.lines.empty_lines_len.Goals as goal
 

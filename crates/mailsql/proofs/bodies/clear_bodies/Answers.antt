@@ -5,7 +5,8 @@ use Rattle.mailsql.proofs.BodyLemmas.{clear_bodies_ok, clear_bodies_commits}
 use Rattle.mailsql.proofs.bodies.clear_bodies.Goals as goal
 
 pub returns-clause-ok : goal.returns-clause-ok
-returns-clause-ok g c clean ready carried = on_ok_then _ (λ it. clear_bodies_ok (state g.S.Store c.args.conn.now) (state g.S.Store c.run.new.conn) carried c.run.ensures.live it.0 ready it.1) (c.run.ensures.ok clean)
+returns-clause-ok g c clean ready carried =
+    on_ok_then _ (λ it. clear_bodies_ok (state g.S.Store c.args.conn.now) (state g.S.Store c.run.new.conn) carried c.run.ensures.live it.0 ready it.1) (c.run.ensures.ok clean)
 
 pub returns-clause-err : goal.returns-clause-err
 returns-clause-err g c = c.run.ensures.err
@@ -14,4 +15,5 @@ pub returns-clause-cause : goal.returns-clause-cause
 returns-clause-cause g c clean = c.run.ensures.cause clean
 
 pub returns-clause-survives : goal.returns-clause-survives
-returns-clause-survives g c = survives_weaker _ _ _ _ (λ _ db may carried. clear_bodies_commits (state g.S.Store c.args.conn.now) (state g.S.Store c.run.new.conn) carried c.run.ensures.live db may) c.run.ensures.survives
+returns-clause-survives g c = survives_weaker _ _ _ _
+    (λ _ db may carried. clear_bodies_commits (state g.S.Store c.args.conn.now) (state g.S.Store c.run.new.conn) carried c.run.ensures.live db may) c.run.ensures.survives

@@ -6,16 +6,20 @@ use Rattle.mailsql.proofs.TallyLemmas.{clerk_count_tallies, clerk_count_is}
 use Rattle.mailsql.proofs.clerks.clerk_count.Goals as goal
 
 pub returns-clause-ok : goal.returns-clause-ok
-returns-clause-ok g c clean tables = counted_is _ _ _ clerk_count_tallies (λ _ db. refl) (state g.S.Store c.args.conn.now) (state g.S.Store c.count.new.conn) _ tables _ _ (λ row h. clerk_count_is (state g.S.Store c.args.conn.now)) (c.count.ensures.ok clean)
+returns-clause-ok g c clean tables =
+    counted_is _ _ _ clerk_count_tallies (λ _ db. refl) (state g.S.Store c.args.conn.now) (state g.S.Store c.count.new.conn) _ tables _ _
+    (λ row h. clerk_count_is (state g.S.Store c.args.conn.now)) (c.count.ensures.ok clean)
 
 pub returns-clause-same : goal.returns-clause-same
 returns-clause-same g c clean tables = counted_same _ _ _ clerk_count_tallies (λ _ db. refl) (state g.S.Store c.args.conn.now) (state g.S.Store c.count.new.conn) _ tables _ (c.count.ensures.ok clean)
 
 pub returns-clause-err : goal.returns-clause-err
-returns-clause-err g c clean tables = counted_undone _ _ _ clerk_count_tallies (λ _ db. refl) (state g.S.Store c.args.conn.now) (state g.S.Store c.count.new.conn) _ tables _ (c.count.ensures.err clean)
+returns-clause-err g c clean tables =
+    counted_undone _ _ _ clerk_count_tallies (λ _ db. refl) (state g.S.Store c.args.conn.now) (state g.S.Store c.count.new.conn) _ tables _ (c.count.ensures.err clean)
 
 pub returns-clause-cause : goal.returns-clause-cause
-returns-clause-cause g c clean tables = counted_fails _ _ _ clerk_count_tallies (λ _ db. refl) (state g.S.Store c.args.conn.now) (state g.S.Store c.count.new.conn) _ tables _ (c.count.ensures.err clean)
+returns-clause-cause g c clean tables =
+    counted_fails _ _ _ clerk_count_tallies (λ _ db. refl) (state g.S.Store c.args.conn.now) (state g.S.Store c.count.new.conn) _ tables _ (c.count.ensures.err clean)
 
 pub returns-clause-survives : goal.returns-clause-survives
 returns-clause-survives g c = never _ _ (state g.S.Store c.args.conn.now) (state g.S.Store c.count.new.conn) (λ b. (clerk_count_tallies b).plain) c.count.ensures.survives

@@ -14,7 +14,11 @@ returns-in-Ok-clause-ok g c clean ready =
     let s2 = state g.S.Store c.add_count.new.conn in
     let clean1 : HasCleanDisk s1 = omega (arith, c.add_count.ensures.survives.clean) in
     let one = c.in-Ok.ensures.ok clean1 ready in
-    on_ok_then _ (λ two. changes_then (ClearsCount c.args.maildrop.now c.args.class.now) (AddsCount (record { maildrop = c.args.maildrop.now; class = c.args.class.now; k = c.args.k })) (SetsCount (record { maildrop = c.args.maildrop.now; class = c.args.class.now; k = c.args.k })) (λ x y z p q. q ∙ ap (λ (r : Rows). let w : Rows = record r { counts = r.counts ++ (record { maildrop = c.args.maildrop.now; class = c.args.class.now; k = c.args.k }) ∷ [] } in w) p) s0 s1 s2 one (λ _. two))
+    on_ok_then _ (λ two. changes_then (ClearsCount c.args.maildrop.now c.args.class.now)
+    (AddsCount (record { maildrop = c.args.maildrop.now; class = c.args.class.now; k = c.args.k }))
+    (SetsCount (record { maildrop = c.args.maildrop.now; class = c.args.class.now; k = c.args.k }))
+    (λ x y z p q. q ∙ ap (λ (r : Rows). let w : Rows =
+    record r { counts = r.counts ++ (record { maildrop = c.args.maildrop.now; class = c.args.class.now; k = c.args.k }) ∷ [] } in w) p) s0 s1 s2 one (λ _. two))
     (simp (to_z-of_z, c.ranges.k) at (c.add_count.ensures.ok clean (one.shown.is_open, one.kept)))
 
 pub returns-in-Ok-clause-err : goal.returns-in-Ok-clause-err
@@ -31,13 +35,20 @@ returns-in-Ok-clause-survives g c =
     let s0 = state g.S.Store c.args.conn.now in
     let s1 = state g.S.Store c.clear_count.new.conn in
     let s2 = state g.S.Store c.add_count.new.conn in
-    stops_then (ClearsCount c.args.maildrop.now c.args.class.now) (AddsCount (record { maildrop = c.args.maildrop.now; class = c.args.class.now; k = c.args.k })) (SetsCount (record { maildrop = c.args.maildrop.now; class = c.args.class.now; k = c.args.k })) (λ x y z p q. q ∙ ap (λ (r : Rows). let w : Rows = record r { counts = r.counts ++ (record { maildrop = c.args.maildrop.now; class = c.args.class.now; k = c.args.k }) ∷ [] } in w) p) s0 s1 s2 (λ clean1 ready. c.in-Ok.ensures.ok clean1 ready) c.clear_count.ensures.survives (simp (to_z-of_z, c.ranges.k) at c.add_count.ensures.survives)
+    stops_then (ClearsCount c.args.maildrop.now c.args.class.now)
+    (AddsCount (record { maildrop = c.args.maildrop.now; class = c.args.class.now; k = c.args.k }))
+    (SetsCount (record { maildrop = c.args.maildrop.now; class = c.args.class.now; k = c.args.k }))
+    (λ x y z p q. q ∙ ap (λ (r : Rows). let w : Rows = record r { counts = r.counts ++ (record { maildrop = c.args.maildrop.now; class = c.args.class.now; k = c.args.k }) ∷ [] } in w) p) s0 s1 s2
+    (λ clean1 ready. c.in-Ok.ensures.ok clean1 ready) c.clear_count.ensures.survives (simp (to_z-of_z, c.ranges.k) at c.add_count.ensures.survives)
 
 pub returns-in-Err-clause-err : goal.returns-in-Err-clause-err
 returns-in-Err-clause-err g c clean ready inside = halts_first (state g.S.Store c.args.conn.now) (state g.S.Store c.clear_count.new.conn) inside (c.in-Err.ensures.err clean)
 
 pub returns-in-Err-clause-survives : goal.returns-in-Err-clause-survives
-returns-in-Err-clause-survives g c = stops_first (ClearsCount c.args.maildrop.now c.args.class.now) (SetsCount (record { maildrop = c.args.maildrop.now; class = c.args.class.now; k = c.args.k })) (state g.S.Store c.args.conn.now) (state g.S.Store c.clear_count.new.conn) c.clear_count.ensures.survives
+returns-in-Err-clause-survives g c =
+    stops_first (ClearsCount c.args.maildrop.now c.args.class.now)
+    (SetsCount (record { maildrop = c.args.maildrop.now; class = c.args.class.now; k = c.args.k })) (state g.S.Store c.args.conn.now)
+    (state g.S.Store c.clear_count.new.conn) c.clear_count.ensures.survives
 
 pub returns-in-Ok-clause-cause : goal.returns-in-Ok-clause-cause
 returns-in-Ok-clause-cause g c clean ready =

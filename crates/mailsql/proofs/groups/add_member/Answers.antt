@@ -6,7 +6,9 @@ use Rattle.mailsql.proofs.MemberLemmas.{add_member_ok, add_member_commits}
 use Rattle.mailsql.proofs.groups.add_member.Goals as goal
 
 pub returns-clause-ok : goal.returns-clause-ok
-returns-clause-ok g c clean ready = on_ok_then _ (λ it. add_member_ok (state g.S.Store c.args.conn.now) (state g.S.Store c.run.new.conn) c.args.group c.args.place c.args.clerk.now c.run.ensures.live it.0 ready it.1) (simp (to_z-of_z, c.ranges.group, c.ranges.place) at (c.run.ensures.ok clean))
+returns-clause-ok g c clean ready =
+    on_ok_then _ (λ it. add_member_ok (state g.S.Store c.args.conn.now) (state g.S.Store c.run.new.conn) c.args.group c.args.place c.args.clerk.now c.run.ensures.live it.0 ready it.1)
+    (simp (to_z-of_z, c.ranges.group, c.ranges.place) at (c.run.ensures.ok clean))
 
 pub returns-clause-err : goal.returns-clause-err
 returns-clause-err g c = c.run.ensures.err
@@ -15,4 +17,6 @@ pub returns-clause-cause : goal.returns-clause-cause
 returns-clause-cause g c clean = simp (to_z-of_z, c.ranges.group, c.ranges.place) at (c.run.ensures.cause clean)
 
 pub returns-clause-survives : goal.returns-clause-survives
-returns-clause-survives g c = survives_weaker _ _ _ _ (λ _ db may. add_member_commits (state g.S.Store c.args.conn.now) (state g.S.Store c.run.new.conn) c.args.group c.args.place c.args.clerk.now c.run.ensures.live db may) (simp (to_z-of_z, c.ranges.group, c.ranges.place) at (c.run.ensures.survives))
+returns-clause-survives g c = survives_weaker _ _ _ _
+    (λ _ db may. add_member_commits (state g.S.Store c.args.conn.now) (state g.S.Store c.run.new.conn) c.args.group c.args.place c.args.clerk.now c.run.ensures.live db may)
+    (simp (to_z-of_z, c.ranges.group, c.ranges.place) at (c.run.ensures.survives))

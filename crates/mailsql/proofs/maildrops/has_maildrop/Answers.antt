@@ -19,7 +19,8 @@ returns-in-Ok-clause-ok g c clean ours =
     ap not (c.is_empty.ensures ∙ ap (λ n. n == 0) len ∙ it.0) ∙ not-not _
 
 pub returns-in-Ok-clause-same : goal.returns-in-Ok-clause-same
-returns-in-Ok-clause-same g c clean ours = (found (state g.S.Store c.args.conn.now) (state g.S.Store c.query_all.new.self) c.args.name.now _ ours c.schema-schema.ensures.live ((c.in-Ok.ensures.ok clean))).1
+returns-in-Ok-clause-same g c clean ours =
+    (found (state g.S.Store c.args.conn.now) (state g.S.Store c.query_all.new.self) c.args.name.now _ ours c.schema-schema.ensures.live ((c.in-Ok.ensures.ok clean))).1
 
 pub returns-in-Ok-clause-survives : goal.returns-in-Ok-clause-survives
 returns-in-Ok-clause-survives g c = never _ _ (state g.S.Store c.args.conn.now) (state g.S.Store c.query_all.new.self) find_maildrop_plain c.query_all.ensures.survives

@@ -5,7 +5,8 @@ use Rattle.mailsql.proofs.MetaLemmas.{drop_meta_row_ok, drop_meta_row_commits}
 use Rattle.mailsql.proofs.meta.drop_meta_row.Goals as goal
 
 pub returns-clause-ok : goal.returns-clause-ok
-returns-clause-ok g c clean ready = on_ok_then _ (λ it. drop_meta_row_ok (state g.S.Store c.args.conn.now) (state g.S.Store c.run.new.conn) c.args.name.now c.run.ensures.live it.0 ready it.1) (c.run.ensures.ok clean)
+returns-clause-ok g c clean ready =
+    on_ok_then _ (λ it. drop_meta_row_ok (state g.S.Store c.args.conn.now) (state g.S.Store c.run.new.conn) c.args.name.now c.run.ensures.live it.0 ready it.1) (c.run.ensures.ok clean)
 
 pub returns-clause-err : goal.returns-clause-err
 returns-clause-err g c = c.run.ensures.err
@@ -14,4 +15,5 @@ pub returns-clause-cause : goal.returns-clause-cause
 returns-clause-cause g c clean = c.run.ensures.cause clean
 
 pub returns-clause-survives : goal.returns-clause-survives
-returns-clause-survives g c = survives_weaker _ _ _ _ (λ _ db may. drop_meta_row_commits (state g.S.Store c.args.conn.now) (state g.S.Store c.run.new.conn) c.args.name.now c.run.ensures.live db may) c.run.ensures.survives
+returns-clause-survives g c = survives_weaker _ _ _ _
+    (λ _ db may. drop_meta_row_commits (state g.S.Store c.args.conn.now) (state g.S.Store c.run.new.conn) c.args.name.now c.run.ensures.live db may) c.run.ensures.survives

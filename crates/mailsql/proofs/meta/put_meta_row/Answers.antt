@@ -14,7 +14,9 @@ returns-in-Ok-clause-ok g c clean ready =
     let s2 = state g.S.Store c.add_meta_row.new.conn in
     let clean1 : HasCleanDisk s1 = omega (arith, c.add_meta_row.ensures.survives.clean) in
     let one = c.in-Ok.ensures.ok clean1 ready in
-    on_ok_then _ (λ two. changes_then (DropsMetaRow c.args.name.now) (AddsMetaRow (record { name = c.args.name.now; value = c.args.value })) (PutsMetaRow (record { name = c.args.name.now; value = c.args.value })) (λ x y z p q. q ∙ ap (λ (r : Rows). let w : Rows = record r { meta_rows = r.meta_rows ++ (record { name = c.args.name.now; value = c.args.value }) ∷ [] } in w) p) s0 s1 s2 one (λ _. two))
+    on_ok_then _ (λ two. changes_then (DropsMetaRow c.args.name.now) (AddsMetaRow (record { name = c.args.name.now; value = c.args.value }))
+    (PutsMetaRow (record { name = c.args.name.now; value = c.args.value }))
+    (λ x y z p q. q ∙ ap (λ (r : Rows). let w : Rows = record r { meta_rows = r.meta_rows ++ (record { name = c.args.name.now; value = c.args.value }) ∷ [] } in w) p) s0 s1 s2 one (λ _. two))
     (simp (to_z-of_z, c.ranges.value) at (c.add_meta_row.ensures.ok clean (one.shown.is_open, one.kept)))
 
 pub returns-in-Ok-clause-err : goal.returns-in-Ok-clause-err
@@ -31,13 +33,18 @@ returns-in-Ok-clause-survives g c =
     let s0 = state g.S.Store c.args.conn.now in
     let s1 = state g.S.Store c.drop_meta_row.new.conn in
     let s2 = state g.S.Store c.add_meta_row.new.conn in
-    stops_then (DropsMetaRow c.args.name.now) (AddsMetaRow (record { name = c.args.name.now; value = c.args.value })) (PutsMetaRow (record { name = c.args.name.now; value = c.args.value })) (λ x y z p q. q ∙ ap (λ (r : Rows). let w : Rows = record r { meta_rows = r.meta_rows ++ (record { name = c.args.name.now; value = c.args.value }) ∷ [] } in w) p) s0 s1 s2 (λ clean1 ready. c.in-Ok.ensures.ok clean1 ready) c.drop_meta_row.ensures.survives (simp (to_z-of_z, c.ranges.value) at c.add_meta_row.ensures.survives)
+    stops_then (DropsMetaRow c.args.name.now) (AddsMetaRow (record { name = c.args.name.now; value = c.args.value }))
+    (PutsMetaRow (record { name = c.args.name.now; value = c.args.value }))
+    (λ x y z p q. q ∙ ap (λ (r : Rows). let w : Rows = record r { meta_rows = r.meta_rows ++ (record { name = c.args.name.now; value = c.args.value }) ∷ [] } in w) p) s0 s1 s2
+    (λ clean1 ready. c.in-Ok.ensures.ok clean1 ready) c.drop_meta_row.ensures.survives (simp (to_z-of_z, c.ranges.value) at c.add_meta_row.ensures.survives)
 
 pub returns-in-Err-clause-err : goal.returns-in-Err-clause-err
 returns-in-Err-clause-err g c clean ready inside = halts_first (state g.S.Store c.args.conn.now) (state g.S.Store c.drop_meta_row.new.conn) inside (c.in-Err.ensures.err clean)
 
 pub returns-in-Err-clause-survives : goal.returns-in-Err-clause-survives
-returns-in-Err-clause-survives g c = stops_first (DropsMetaRow c.args.name.now) (PutsMetaRow (record { name = c.args.name.now; value = c.args.value })) (state g.S.Store c.args.conn.now) (state g.S.Store c.drop_meta_row.new.conn) c.drop_meta_row.ensures.survives
+returns-in-Err-clause-survives g c =
+    stops_first (DropsMetaRow c.args.name.now) (PutsMetaRow (record { name = c.args.name.now; value = c.args.value }))
+    (state g.S.Store c.args.conn.now) (state g.S.Store c.drop_meta_row.new.conn) c.drop_meta_row.ensures.survives
 
 pub returns-in-Ok-clause-cause : goal.returns-in-Ok-clause-cause
 returns-in-Ok-clause-cause g c clean ready =

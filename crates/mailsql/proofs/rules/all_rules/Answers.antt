@@ -7,7 +7,8 @@ use Rattle.mailsql.proofs.HeldLemmas.{rules_held}
 use Rattle.mailsql.proofs.rules.all_rules.Goals as goal
 
 pub returns-clause-ok : goal.returns-clause-ok
-returns-clause-ok g c clean tables = asked_ok _ _ _ _ _ _ _ (c.list.ensures.ok clean) (λ all rows shown e. e ∙ all_rules_shows (state g.S.Store c.args.conn.now) (state g.S.Store c.list.new.conn) rows tables shown)
+returns-clause-ok g c clean tables =
+    asked_ok _ _ _ _ _ _ _ (c.list.ensures.ok clean) (λ all rows shown e. e ∙ all_rules_shows (state g.S.Store c.args.conn.now) (state g.S.Store c.list.new.conn) rows tables shown)
 
 pub returns-clause-same : goal.returns-clause-same
 returns-clause-same g c clean tables = asked_same _ _ _ _ _ all_rules_asks (λ _ db. refl) (state g.S.Store c.args.conn.now) (state g.S.Store c.list.new.conn) _ tables _ _ (c.list.ensures.ok clean)
@@ -16,7 +17,9 @@ pub returns-clause-err : goal.returns-clause-err
 returns-clause-err g c clean tables = asked_undone _ _ _ _ _ all_rules_asks (λ _ db. refl) (state g.S.Store c.args.conn.now) (state g.S.Store c.list.new.conn) _ tables _ _ (c.list.ensures.err clean)
 
 pub returns-clause-cause : goal.returns-clause-cause
-returns-clause-cause g c clean tables = asked_fails _ _ _ _ _ all_rules_asks (λ _ db. refl) (state g.S.Store c.args.conn.now) (state g.S.Store c.list.new.conn) _ tables _ _ c.list.ensures.live (λ kept. kept.1.1.1.1.1.1.1.1.0) (λ kept sound. rules_held _ kept.0 sound kept.1.1.1.1.1.1.1.1.0) (c.list.ensures.err clean)
+returns-clause-cause g c clean tables =
+    asked_fails _ _ _ _ _ all_rules_asks (λ _ db. refl) (state g.S.Store c.args.conn.now)
+    (state g.S.Store c.list.new.conn) _ tables _ _ c.list.ensures.live (λ kept. kept.1.1.1.1.1.1.1.1.0) (λ kept sound. rules_held _ kept.0 sound kept.1.1.1.1.1.1.1.1.0) (c.list.ensures.err clean)
 
 pub returns-clause-survives : goal.returns-clause-survives
 returns-clause-survives g c = never _ _ (state g.S.Store c.args.conn.now) (state g.S.Store c.list.new.conn) (λ b. (all_rules_asks b).plain) c.list.ensures.survives

@@ -14,4 +14,5 @@ pub returns-clause-cause : goal.returns-clause-cause
 returns-clause-cause g c clean = c.run.ensures.cause clean
 
 pub returns-clause-survives : goal.returns-clause-survives
-returns-clause-survives g c = survives_weaker _ _ _ _ (λ _ db may. clear_rules_commits (state g.S.Store c.args.conn.now) (state g.S.Store c.run.new.conn) c.run.ensures.live db may) c.run.ensures.survives
+returns-clause-survives g c = survives_weaker _ _ _ _
+    (λ _ db may. clear_rules_commits (state g.S.Store c.args.conn.now) (state g.S.Store c.run.new.conn) c.run.ensures.live db may) c.run.ensures.survives

@@ -12,7 +12,8 @@ use Rattle.mailsql.proofs.sheets.add_sheets.Goals as goal
 pub loop-place-init : goal.loop-place-init
 loop-place-init g c = (
   survives_nothing _ _,
-  λ clean ready. none_added c.args.mail c.args.text.now (state g.S.Store c.args.conn.now) ready (λ off. c.is_autocommit-settled.ensures.settled (c.is_autocommit-settled.ensures.value ∙ ap not off) ready.0),
+  λ clean ready. none_added c.args.mail c.args.text.now (state g.S.Store c.args.conn.now) ready
+      (λ off. c.is_autocommit-settled.ensures.settled (c.is_autocommit-settled.ensures.value ∙ ap not off) ready.0),
 )
 
 pub loop-place-preserved : goal.loop-place-preserved

@@ -61,4 +61,5 @@ pub returns-clause-ok : goal.returns-clause-ok
 returns-clause-ok g c clean begun is =
     let it = c.loop-at.invariant.1 clean begun is in
     let end : c.loop-at.at ≡ length (lacked_texts c.args.is_first) = omega (arith, c.loop-at-test.false, c.loop-at.auto.at-end, c.lacked-count.ensures) in
-    all_completed c.args.is_first (state g.S.Store c.args.conn.now) (state g.S.Store c.loop-at.conn) c.schema-schema.ensures.live begun is (subst (λ n. Completing c.args.is_first n (state g.S.Store c.args.conn.now) (state g.S.Store c.loop-at.conn)) end it)
+    all_completed c.args.is_first (state g.S.Store c.args.conn.now) (state g.S.Store c.loop-at.conn) c.schema-schema.ensures.live begun is
+    (subst (λ n. Completing c.args.is_first n (state g.S.Store c.args.conn.now) (state g.S.Store c.loop-at.conn)) end it)

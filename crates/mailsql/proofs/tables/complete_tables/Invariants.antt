@@ -8,4 +8,5 @@ use Rattle.mailsql.proofs.tables.complete_tables.Given as goal
 abbrev pub invariant-loop-at : goal.invariant-loop-at
 invariant-loop-at g l =
     Survives (state g.S.Store l.fn.conn) (state g.S.Store l.conn) (λ _. IsBegunOn (state g.S.Store l.fn.conn) → is_carried (state g.S.Store l.fn.conn).now.trees ≡ l.is_first → ⊥)
-    × (HasCleanDisk (state g.S.Store l.conn) → IsBegunOn (state g.S.Store l.fn.conn) → is_carried (state g.S.Store l.fn.conn).now.trees ≡ l.is_first → Completing l.is_first l.at (state g.S.Store l.fn.conn) (state g.S.Store l.conn))
+    × (HasCleanDisk (state g.S.Store l.conn) → IsBegunOn (state g.S.Store l.fn.conn) → is_carried (state g.S.Store l.fn.conn).now.trees ≡ l.is_first
+    → Completing l.is_first l.at (state g.S.Store l.fn.conn) (state g.S.Store l.conn))

@@ -36,7 +36,8 @@ returns-in_err-add_deposit-clause-cause c rows s =
     let w1 = step (AddsMaildrop orders) s0 s1 rows r1 (c.in_ok-add_maildrop.ensures.ok (memory_is_clean c.add_maildrop.new.conn)) (λ e. e) s in
     let e = c.in_err-add_deposit.field-0.0 in
     let cause = c.in_err-add_deposit.ensures.cause (memory_is_clean c.add_deposit.new.conn) in
-    if_passed_on c.from_residual-in_err-add_deposit.result e FailsToArrive c.from_residual-in_err-add_deposit.ensures.1 (inr (inl (c.add_maildrop.new.conn, c.add_deposit.new.conn, at_rest _ _ w1, cause)))
+    if_passed_on c.from_residual-in_err-add_deposit.result e FailsToArrive c.from_residual-in_err-add_deposit.ensures.1
+    (inr (inl (c.add_maildrop.new.conn, c.add_deposit.new.conn, at_rest _ _ w1, cause)))
 
 pub returns-clause-cause : goal.returns-clause-cause
 returns-clause-cause c rows s =

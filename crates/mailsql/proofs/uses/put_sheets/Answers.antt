@@ -15,7 +15,8 @@ returns-clause-stands c rows s =
     let s1 = state over_memory c.add_sheet.new.conn in
     let s2 = state over_memory c.add_sheet-2.new.conn in
     let r1 : Rows = record rows { sheets = rows.sheets ++ sheet_at_place c.args.key (pos 0) c.args.first.now ∷ [] } in
-    let w1 = step (AddsSheet (sheet_at_place c.args.key (pos 0) c.args.first.now)) s0 s1 rows r1 (λ ready. simp (to_z-of_z, c.ranges.key) at (c.in_ok-add_sheet.ensures.ok (memory_is_clean c.add_sheet.new.conn) ready)) (λ e. e) s in
+    let w1 = step (AddsSheet (sheet_at_place c.args.key (pos 0) c.args.first.now)) s0 s1 rows r1
+    (λ ready. simp (to_z-of_z, c.ranges.key) at (c.in_ok-add_sheet.ensures.ok (memory_is_clean c.add_sheet.new.conn) ready)) (λ e. e) s in
     on_ok_then _ (λ does. step (AddsSheet (sheet_at_place c.args.key (pos 1) c.args.second.now)) s1 s2 r1 (with_sheets c.args.key c.args.first.now c.args.second.now rows) (λ _. does) (λ e. e) w1)
     (simp (to_z-of_z, c.ranges.key) at (c.add_sheet-2.ensures.ok (memory_is_clean c.add_sheet-2.new.conn) (w1.is_open, w1.kept)))
 
@@ -30,6 +31,7 @@ returns-clause-cause c rows s =
     let s0 = state over_memory c.args.conn.now in
     let s1 = state over_memory c.add_sheet.new.conn in
     let r1 : Rows = record rows { sheets = rows.sheets ++ sheet_at_place c.args.key (pos 0) c.args.first.now ∷ [] } in
-    let w1 = step (AddsSheet (sheet_at_place c.args.key (pos 0) c.args.first.now)) s0 s1 rows r1 (λ ready. simp (to_z-of_z, c.ranges.key) at (c.in_ok-add_sheet.ensures.ok (memory_is_clean c.add_sheet.new.conn) ready)) (λ e. e) s in
+    let w1 = step (AddsSheet (sheet_at_place c.args.key (pos 0) c.args.first.now)) s0 s1 rows r1
+    (λ ready. simp (to_z-of_z, c.ranges.key) at (c.in_ok-add_sheet.ensures.ok (memory_is_clean c.add_sheet.new.conn) ready)) (λ e. e) s in
     if_err _ _ (FailsToPutSheets c.args.key c.args.first.now c.args.second.now) (λ e cause. inr (c.add_sheet.new.conn, c.add_sheet-2.new.conn, at_rest _ _ w1, cause))
     (simp (to_z-of_z, c.ranges.key) at (c.add_sheet-2.ensures.cause (memory_is_clean c.add_sheet-2.new.conn)))

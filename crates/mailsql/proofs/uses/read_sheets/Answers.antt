@@ -38,4 +38,5 @@ returns-in_err-second-clause-cause c rows s =
     let w1 = still s0 s1 rows (c.in_ok-first.ensures.same (memory_is_clean c.find_sheet.new.conn) (λ _. s.kept)) s in
     let e = c.in_err-second.field-0.0 in
     let cause = simp (to_z-of_z, c.ranges.key) at (c.in_err-second.ensures.cause (memory_is_clean c.find_sheet-2.new.conn) (λ _. w1.kept)) in
-    if_passed_on c.from_residual-in_err-second.result e (FailsToReadSheets c.args.key) c.from_residual-in_err-second.ensures.1 (inr (c.find_sheet.new.conn, c.find_sheet-2.new.conn, at_rest _ _ w1, cause))
+    if_passed_on c.from_residual-in_err-second.result e (FailsToReadSheets c.args.key) c.from_residual-in_err-second.ensures.1
+    (inr (c.find_sheet.new.conn, c.find_sheet-2.new.conn, at_rest _ _ w1, cause))

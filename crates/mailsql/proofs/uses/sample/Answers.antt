@@ -27,7 +27,8 @@ returns-clause-saw c =
     let h = still s2 s3 rows (c.in_ok-heads.ensures.same (memory_is_clean c.heads.new.conn) (λ _. p.kept)) p in
     let before = simp (to_z-of_z, fits) at (c.in_ok-before.ensures.found rows h) in
     let b = c.in_ok-before.ensures.same rows h in
-    let gone = step (RemovesMessage key orders) s4 s5 rows (left_of key rows) (λ ready. simp (to_z-of_z, fits) at (c.in_ok-remove_message.ensures.ok (memory_is_clean c.remove_message.new.conn) ready)) (λ e. e) b in
+    let gone = step (RemovesMessage key orders) s4 s5 rows (left_of key rows)
+    (λ ready. simp (to_z-of_z, fits) at (c.in_ok-remove_message.ensures.ok (memory_is_clean c.remove_message.new.conn) ready)) (λ e. e) b in
     let after = simp (to_z-of_z, fits) at (c.in_ok-after.ensures.found (left_of key rows) gone) in
     rw (to_z-of_z fits) record {
       heads = heads ∙ ap (λ (r : Rows). filter (is_in orders) r.messages) p.rows_are ∙ full_heads key two first second;
@@ -43,7 +44,8 @@ returns-in_err-conn-clause-cause c =
 
 pub returns-in_err-key-clause-cause : goal.returns-in_err-key-clause-cause
 returns-in_err-key-clause-cause c =
-    if_passed_on c.from_residual-in_err-key.result c.in_err-key.field-0.0 (FailsToSample c.args.first.now c.args.second.now) c.from_residual-in_err-key.ensures.1 (inr (inl (c.in_err-key.ensures.cause (marked (pos 2)) c.in_ok-conn.ensures.stands)))
+    if_passed_on c.from_residual-in_err-key.result c.in_err-key.field-0.0
+    (FailsToSample c.args.first.now c.args.second.now) c.from_residual-in_err-key.ensures.1 (inr (inl (c.in_err-key.ensures.cause (marked (pos 2)) c.in_ok-conn.ensures.stands)))
 
 pub returns-in_err-put_sheets-clause-cause : goal.returns-in_err-put_sheets-clause-cause
 returns-in_err-put_sheets-clause-cause c =
@@ -52,7 +54,8 @@ returns-in_err-put_sheets-clause-cause c =
     let two = pos 2 in
     let a = c.in_ok-key.ensures.stands (marked two) c.in_ok-conn.ensures.stands in
     let cause = simp (to_z-of_z, fits) at (c.in_err-put_sheets.ensures.cause (arrived key (marked two)) a) in
-    if_passed_on c.from_residual-in_err-put_sheets.result c.in_err-put_sheets.field-0.0 (FailsToSample c.args.first.now c.args.second.now) c.from_residual-in_err-put_sheets.ensures.1 (inr (inr (key, inl cause)))
+    if_passed_on c.from_residual-in_err-put_sheets.result c.in_err-put_sheets.field-0.0
+    (FailsToSample c.args.first.now c.args.second.now) c.from_residual-in_err-put_sheets.ensures.1 (inr (inr (key, inl cause)))
 
 pub returns-in_err-heads-clause-cause : goal.returns-in_err-heads-clause-cause
 returns-in_err-heads-clause-cause c =
@@ -65,7 +68,9 @@ returns-in_err-heads-clause-cause c =
     let rows : Rows = full key two first second in
     let s2 = state over_memory c.put_sheets.new.conn in
     let p = simp (to_z-of_z, fits) at (c.in_ok-put_sheets.ensures.stands (arrived key (marked two)) a) in
-    if_passed_on c.from_residual-in_err-heads.result c.in_err-heads.field-0.0 (FailsToSample c.args.first.now c.args.second.now) c.from_residual-in_err-heads.ensures.1 (inr (inr (key, inr (inl (c.put_sheets.new.conn, c.heads.new.conn, at_rest _ _ p, (c.in_err-heads.ensures.cause (memory_is_clean c.heads.new.conn) (λ _. p.kept)))))))
+    if_passed_on c.from_residual-in_err-heads.result c.in_err-heads.field-0.0
+    (FailsToSample c.args.first.now c.args.second.now) c.from_residual-in_err-heads.ensures.1
+    (inr (inr (key, inr (inl (c.put_sheets.new.conn, c.heads.new.conn, at_rest _ _ p, (c.in_err-heads.ensures.cause (memory_is_clean c.heads.new.conn) (λ _. p.kept)))))))
 
 pub returns-in_err-before-clause-cause : goal.returns-in_err-before-clause-cause
 returns-in_err-before-clause-cause c =
@@ -81,7 +86,8 @@ returns-in_err-before-clause-cause c =
     let s3 = state over_memory c.heads.new.conn in
     let h = still s2 s3 rows (c.in_ok-heads.ensures.same (memory_is_clean c.heads.new.conn) (λ _. p.kept)) p in
     let cause = simp (to_z-of_z, fits) at (c.in_err-before.ensures.cause rows h) in
-    if_passed_on c.from_residual-in_err-before.result c.in_err-before.field-0.0 (FailsToSample c.args.first.now c.args.second.now) c.from_residual-in_err-before.ensures.1 (inr (inr (key, inr (inr (inl cause)))))
+    if_passed_on c.from_residual-in_err-before.result c.in_err-before.field-0.0
+    (FailsToSample c.args.first.now c.args.second.now) c.from_residual-in_err-before.ensures.1 (inr (inr (key, inr (inr (inl cause)))))
 
 pub returns-in_err-remove_message-clause-cause : goal.returns-in_err-remove_message-clause-cause
 returns-in_err-remove_message-clause-cause c =
@@ -99,7 +105,9 @@ returns-in_err-remove_message-clause-cause c =
     let s4 = state over_memory c.read_sheets.new.conn in
     let b = c.in_ok-before.ensures.same rows h in
     let cause = simp (to_z-of_z, fits) at (c.in_err-remove_message.ensures.cause (memory_is_clean c.remove_message.new.conn)) in
-    if_passed_on c.from_residual-in_err-remove_message.result c.in_err-remove_message.field-0.0 (FailsToSample c.args.first.now c.args.second.now) c.from_residual-in_err-remove_message.ensures.1 (inr (inr (key, inr (inr (inr (c.read_sheets.new.conn, c.remove_message.new.conn, at_rest _ _ b, cause))))))
+    if_passed_on c.from_residual-in_err-remove_message.result c.in_err-remove_message.field-0.0
+    (FailsToSample c.args.first.now c.args.second.now) c.from_residual-in_err-remove_message.ensures.1
+    (inr (inr (key, inr (inr (inr (c.read_sheets.new.conn, c.remove_message.new.conn, at_rest _ _ b, cause))))))
 
 pub returns-in_err-after-clause-cause : goal.returns-in_err-after-clause-cause
 returns-in_err-after-clause-cause c =
@@ -117,6 +125,8 @@ returns-in_err-after-clause-cause c =
     let s4 = state over_memory c.read_sheets.new.conn in
     let b = c.in_ok-before.ensures.same rows h in
     let s5 = state over_memory c.remove_message.new.conn in
-    let gone = step (RemovesMessage key orders) s4 s5 rows (left_of key rows) (λ ready. simp (to_z-of_z, fits) at (c.in_ok-remove_message.ensures.ok (memory_is_clean c.remove_message.new.conn) ready)) (λ e. e) b in
+    let gone = step (RemovesMessage key orders) s4 s5 rows (left_of key rows)
+    (λ ready. simp (to_z-of_z, fits) at (c.in_ok-remove_message.ensures.ok (memory_is_clean c.remove_message.new.conn) ready)) (λ e. e) b in
     let cause = simp (to_z-of_z, fits) at (c.in_err-after.ensures.cause (left_of key rows) gone) in
-    if_passed_on c.from_residual-in_err-after.result c.in_err-after.field-0.0 (FailsToSample c.args.first.now c.args.second.now) c.from_residual-in_err-after.ensures.1 (inr (inr (key, inr (inr (inl cause)))))
+    if_passed_on c.from_residual-in_err-after.result c.in_err-after.field-0.0
+    (FailsToSample c.args.first.now c.args.second.now) c.from_residual-in_err-after.ensures.1 (inr (inr (key, inr (inr (inl cause)))))

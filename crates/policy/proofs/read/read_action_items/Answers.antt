@@ -9,7 +9,8 @@ pub returns-in_err-actions : goal.returns-in_err-actions
 returns-in_err-actions c =
     let failed : with_item c.loop-item.actions (view c.item-item.result) ≡ None = sym c.with_one_item.ensures ∙ c.in_err-actions.was in
     let at = rw c.item-item.is at failed in
-    c.from_residual.ensures ∙ sym (actions_of_items-some c.args.items.now (omega arith) ∙ c.loop-item.invariant ∙ with_items-stop c.loop-item.actions c.args.items.now c.loop-item.item-index c.item-item.result (omega arith) at)
+    c.from_residual.ensures ∙ sym (actions_of_items-some c.args.items.now (omega arith) ∙ c.loop-item.invariant
+    ∙ with_items-stop c.loop-item.actions c.args.items.now c.loop-item.item-index c.item-item.result (omega arith) at)
 
 pub loop-item-preserved : goal.loop-item-preserved
 loop-item-preserved c =

@@ -20,7 +20,8 @@ returns-in_err-rule-clause-fault c =
     let read : rule_at c.args.groups.now (c.loop-i.i + 1) c.deref.result.now (view c.index-values-i.result) ≡ Err c.in_err-rule.field-0.0.fault = c.in_err-rule.ensures.fault in
     let at = rw (c.deref.ensures.value, c.index-values-i.is) at read in
     let stop : rules_from c.args.groups.now 1 [] (items_view c.args.values.now) ≡ Err c.in_err-rule.field-0.0.fault =
-    c.loop-i.invariant.owed ∙ rules_from-stop c.args.groups.now (c.loop-i.i + 1) c.loop-i.rules.items c.in_err-rule.field-0.0.fault c.args.values.now c.loop-i.i c.index-values-i.result (omega arith) at in
+    c.loop-i.invariant.owed ∙ rules_from-stop c.args.groups.now
+    (c.loop-i.i + 1) c.loop-i.rules.items c.in_err-rule.field-0.0.fault c.args.values.now c.loop-i.i c.index-values-i.result (omega arith) at in
     search rules
 
 pub returns-in_err-rule-clause-place : goal.returns-in_err-rule-clause-place
@@ -36,7 +37,8 @@ loop-i-preserved c =
     let read : rule_at c.args.groups.now (c.loop-i.i + 1) c.deref.result.now (view c.index-values-i.result) ≡ Ok c.in_ok-rule.rule = c.in_ok-rule.ensures.ok in
     let at = rw (c.deref.ensures.value, c.index-values-i.is) at read in
     let pushed : c.push.new.self.items ≡ c.loop-i.rules.items ++ c.in_ok-rule.rule ∷ [] = grind (arith, common_steps) in
-    let owed = c.loop-i.invariant.owed ∙ rules_from-next c.args.groups.now (c.loop-i.i + 1) c.loop-i.rules.items c.in_ok-rule.rule c.args.values.now c.loop-i.i c.index-values-i.result (omega arith) at in
+    let owed = c.loop-i.invariant.owed
+    ∙ rules_from-next c.args.groups.now (c.loop-i.i + 1) c.loop-i.rules.items c.in_ok-rule.rule c.args.values.now c.loop-i.i c.index-values-i.result (omega arith) at in
     let own : has_name c.loop-i.rules.items c.in_ok-rule.rule.name ≡ false = rw c.deref.ensures.value at c.in_ok-rule.ensures.own_name in
     rw pushed (record {
       owed = owed;

@@ -5,5 +5,6 @@ use Rattle.popline.proofs.texts.greeting.Goals as goal
 
 pub returns : goal.returns
 returns c =
-    let h : string_bytes c.in_ok-text.text ≡ codes "+OK POP3 server ready <" ++ (decimal c.args.number ++ (codes "." ++ (decimal c.args.boot ++ (codes "@" ++ (c.args.host.now ++ codes ">\r\n"))))) = c.in_ok-text.ensures.ok in
+    let h : string_bytes c.in_ok-text.text ≡ codes "+OK POP3 server ready <"
+    ++ (decimal c.args.number ++ (codes "." ++ (decimal c.args.boot ++ (codes "@" ++ (c.args.host.now ++ codes ">\r\n"))))) = c.in_ok-text.ensures.ok in
     rw h (simp append_assoc)

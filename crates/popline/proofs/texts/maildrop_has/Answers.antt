@@ -5,5 +5,6 @@ use Rattle.popline.proofs.texts.maildrop_has.Goals as goal
 
 pub returns : goal.returns
 returns c =
-    let h : string_bytes c.in_ok-text.text ≡ codes "+OK maildrop has " ++ (decimal c.args.messages ++ (codes " messages (" ++ (decimal c.args.octets ++ codes " octets)\r\n"))) = c.in_ok-text.ensures.ok in
+    let h : string_bytes c.in_ok-text.text ≡ codes "+OK maildrop has "
+    ++ (decimal c.args.messages ++ (codes " messages (" ++ (decimal c.args.octets ++ codes " octets)\r\n"))) = c.in_ok-text.ensures.ok in
     rw h (simp append_assoc)

@@ -1,5 +1,4 @@
-use Rattle.std.proofs.Common.{◌≡◌, ◌++◌, map, take}
-use Rattle.std.specs.List.{flat_map}
+use Rattle.std.proofs.Common.{◌≡◌, take}
 use Rattle.review.specs.Cells.{classes_by}
 use Rattle.review.proofs.cells.classes_by.Given as goal
 

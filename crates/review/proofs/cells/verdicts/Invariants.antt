@@ -1,5 +1,4 @@
-use Rattle.std.proofs.Common.{◌≡◌, ◌++◌, map, take}
-use Rattle.std.specs.List.{flat_map}
+use Rattle.std.proofs.Common.{◌≡◌, map, take}
 use Rattle.review.specs.CellSteps.{verdict_among}
 use Rattle.review.proofs.cells.verdicts.Given as goal
 

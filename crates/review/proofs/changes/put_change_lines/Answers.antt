@@ -13,7 +13,8 @@ returns c =
     let told = λ (ms : List Label) (cs : List Label). flat_map (told_clerk change.allowed change.old.now change.new.now ms c.args.asked.now) cs in
     let clerks = c.args.names.now.clerks.items in
     let maildrops = c.args.names.now.maildrops.items in
-    let all : told c.deref-2.result.now c.deref.result.now ≡ change_lines change.old.now change.new.now (becoming change.allowed change.old.now change.new.now (questions clerks maildrops c.args.asked.now)) =
+    let all : told c.deref-2.result.now c.deref.result.now ≡ change_lines change.old.now change.new.now
+    (becoming change.allowed change.old.now change.new.now (questions clerks maildrops c.args.asked.now)) =
     ap (λ (ms : List Label). told ms c.deref.result.now) c.deref-2.ensures.value ∙ ap (told maildrops) c.deref.ensures.value
     ∙ all_clerks change.allowed change.old.now change.new.now clerks maildrops c.args.asked.now in
     subst (λ (text : List ℕ). OnOk c.put_clerks.result (c.put_clerks.new.out.items ≡ c.args.out.now.items ++ text)) all c.put_clerks.ensures

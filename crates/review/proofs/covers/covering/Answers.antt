@@ -39,5 +39,6 @@ returns-in-Some-clause-never c =
 pub returns-in-None-clause-first : goal.returns-in-None-clause-first
 returns-in-None-clause-first c =
     let past : length c.rules-rules.result.now ≤ c.args.place = c.in-None.ensures.lookup.3 in
-    let none : slice_get c.args.policy.now.rules c.args.place ≡ None = ap (λ (rs : List Rule). slice_get rs c.args.place) (sym c.rules-rules.ensures.value) ∙ slice_get_past c.rules-rules.result.now c.args.place past in
+    let none : slice_get c.args.policy.now.rules c.args.place ≡ None = ap (λ (rs : List Rule). slice_get rs c.args.place) (sym c.rules-rules.ensures.value)
+    ∙ slice_get_past c.rules-rules.result.now c.args.place past in
     ap (cover_among c.args.policy.now.groups (take c.args.place c.args.policy.now.rules)) (sym none)

@@ -1,5 +1,4 @@
-use Rattle.std.proofs.Common.{◌≡◌, ◌++◌, map, take}
-use Rattle.std.specs.List.{flat_map}
+use Rattle.std.proofs.Common.{◌≡◌, ◌++◌, take}
 use Rattle.review.specs.Escape.{escaped}
 use Rattle.review.proofs.escape.put_escaped.Given as goal
 

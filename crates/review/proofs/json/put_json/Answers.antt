@@ -1,4 +1,4 @@
-use Rattle.std.proofs.Common.{◌≡◌, ◌++◌, codes, ℕ, List, subst}
+use Rattle.std.proofs.Common.{◌≡◌, codes, ℕ, List, subst}
 use Rattle.std.specs.Prelude.{OnOk}
 use Rattle.review.specs.Json.{json_of}
 use Rattle.review.proofs.Pieces.{last, more}

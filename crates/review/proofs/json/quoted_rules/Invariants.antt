@@ -1,7 +1,6 @@
-use Rattle.std.proofs.Common.{◌≡◌, ◌++◌, map, take}
+use Rattle.std.proofs.Common.{◌≡◌, take}
 use Rattle.std.specs.List.{flat_map}
 use Rattle.review.specs.Json.{comma_quoted}
-use Rattle.policy.specs.declared.rule.Rule.{Rule}
 use Rattle.review.proofs.json.quoted_rules.Given as goal
 
 abbrev pub invariant-loop-rule : goal.invariant-loop-rule

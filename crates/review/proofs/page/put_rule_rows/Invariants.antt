@@ -1,5 +1,4 @@
-use Rattle.std.proofs.Common.{◌≡◌, ◌++◌, map, take}
-use Rattle.std.specs.List.{flat_map}
+use Rattle.std.proofs.Common.{◌≡◌, ◌++◌}
 use Rattle.review.specs.Page.{rule_row}
 use Rattle.review.specs.Places.{texts_of}
 use Rattle.review.proofs.page.put_rule_rows.Given as goal

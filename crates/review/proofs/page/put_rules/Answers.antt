@@ -1,4 +1,4 @@
-use Rattle.std.proofs.Common.{◌≡◌, ◌++◌, ◌∙◌, ap, codes, ℕ, List, subst}
+use Rattle.std.proofs.Common.{◌≡◌, ℕ, List, subst}
 use Rattle.std.specs.Prelude.{OnOk}
 use Rattle.review.specs.Page.{rules_end}
 use Rattle.review.proofs.Pieces.{last, more}

@@ -1,4 +1,4 @@
-use Rattle.std.proofs.Common.{◌≡◌, ◌++◌, [], ◌∙◌, ap, ℕ, Bool, false, not, List, refl, subst}
+use Rattle.std.proofs.Common.{◌≡◌, [], ◌∙◌, ap, ℕ, Bool, false, not, List, refl, subst}
 use Rattle.std.specs.Prelude.{IfOk}
 use Rattle.policy.specs.Policy.{Policy}
 use Rattle.review.specs.declared.choice.Format.{Format}

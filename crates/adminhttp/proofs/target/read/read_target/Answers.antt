@@ -1,6 +1,5 @@
-use Rattle.std.proofs.Common.{◌≡◌, Option, ap, ◌∙◌}
+use Rattle.std.proofs.Common.{Option, ap, ◌∙◌}
 use Rattle.adminhttp.specs.Steps.{value_or}
-use Rattle.adminhttp.specs.Targets.{target_of}
 use Rattle.adminhttp.specs.declared.target.Target.{Target}
 use Rattle.adminhttp.specs.declared.refusal.Refusal.TheVariants.{NotFound}
 use Rattle.adminhttp.proofs.Routing.{found_target}

@@ -34,7 +34,8 @@ loop-i-preserved c =
             open_yet = inv.open_yet;
             taken = taken_more c.args.piece.now c.loop-i.i c.loop-i-test.true t inv.taken;
             whole = whole_more c.args.piece.now c.loop-i.i c.loop-i-test.true t inv.whole;
-            octets = octets_more (begun c.args.self.now ++ before_newline c.args.piece.now) c.args.piece.now c.loop-i.self-inside.buffer c.loop-i.i c.loop-i.self-inside.len c.loop-i-test.true t in_buffer inv.octets;
+            octets = octets_more (begun c.args.self.now
+                ++ before_newline c.args.piece.now) c.args.piece.now c.loop-i.self-inside.buffer c.loop-i.i c.loop-i.self-inside.len c.loop-i-test.true t in_buffer inv.octets;
           })
       | else-self-lt255 w ↦
           let full : 255 ≤ c.loop-i.self-inside.len = w.if-self-lt255.false in
@@ -45,7 +46,8 @@ loop-i-preserved c =
             open_yet = inv.open_yet;
             taken = taken_more c.args.piece.now c.loop-i.i c.loop-i-test.true t inv.taken;
             whole = whole_more c.args.piece.now c.loop-i.i c.loop-i-test.true t inv.whole;
-            octets = octets_full (begun c.args.self.now ++ before_newline c.args.piece.now) c.args.piece.now c.loop-i.self-inside.buffer c.loop-i.i c.loop-i.self-inside.len c.loop-i-test.true t full all inv.octets;
+            octets = octets_full (begun c.args.self.now
+                ++ before_newline c.args.piece.now) c.args.piece.now c.loop-i.self-inside.buffer c.loop-i.i c.loop-i.self-inside.len c.loop-i-test.true t full all inv.octets;
           })
     ]
 
@@ -63,5 +65,6 @@ returns-clause-stream c =
     let d = drop_all c.loop-i.i c.args.piece.now past in
     let n : length c.args.piece.now ≡ through_newline c.args.piece.now =
     let k : c.loop-i.i + 0 ≡ through_newline c.args.piece.now = rw d at inv.taken in omega arith in
-    let h : ◌≡◌ {A = Held} (record { octets = take c.loop-i.self-inside.len c.loop-i.self-inside.buffer; whole = c.loop-i.self-inside.whole }) (fed c.args.self.now c.args.piece.now) = returns-clause-held c in
+    let h : ◌≡◌ {A = Held} (record { octets = take c.loop-i.self-inside.len c.loop-i.self-inside.buffer; whole = c.loop-i.self-inside.whole }) (fed c.args.self.now c.args.piece.now) =
+    returns-clause-held c in
     coming-fed c.args.self.now _ c.args.piece.now (length c.args.piece.now) h n

@@ -1,37 +1,37 @@
-//! Message texts in memory, as pages.
+//! Message texts in memory, as sheets.
 ghost use Rattle.std.specs.Prelude.{◌≡◌, ◌≤◌, ℕ, true, length, take, IfOk};
 ghost use Rattle.std.specs.List.{concat};
 ghost use Rattle.vault.specs.Changes.{IsPage};
-ghost use Rattle.vault.specs.Pages.{are_pages};
+ghost use Rattle.vault.specs.Sheets.{are_sheets};
 
 use mailtext::MailText;
 use std::alloc::{AllocError, Global};
 use std::marker::Model;
 
-/// The octets of a page. The last page of a text may have fewer.
-pub const PAGE_OCTETS: usize = 4096;
+/// The octets of a sheet. The last sheet of a text may have fewer.
+pub const SHEET_OCTETS: usize = 4096;
 
-/// A page of a text. Contracts see its octets.
+/// A sheet of a text. Contracts see its octets.
 #[derive(Drop)]
-struct Page {
+struct Sheet {
     octets: Vec<u8>,
 }
 
-impl Model for Page {
+impl Model for Sheet {
     ghost use Rattle.std.specs.Prelude.{List, ℕ};
 
     ghost Value = { List ℕ };
 
-    ghost view = { λ page. page.octets.items };
+    ghost view = { λ sheet. sheet.octets.items };
 }
 
-impl Page {
-    /// A page of a copy of these octets. An `Err` is want of memory.
-    fn copy_of(alloc: Global, octets: &[u8]) -> Result<Page, AllocError>
-        ensures { IfOk result (λ page. page ≡ octets.now) }
+impl Sheet {
+    /// A sheet of a copy of these octets. An `Err` is want of memory.
+    fn copy_of(alloc: Global, octets: &[u8]) -> Result<Sheet, AllocError>
+        ensures { IfOk result (λ sheet. sheet ≡ octets.now) }
     {
         let octets = Vec::from_slice(alloc, octets)?;
-        Ok(Page { octets })
+        Ok(Sheet { octets })
     }
 
     fn octets(&self) -> &[u8]
@@ -56,51 +56,51 @@ fn copy_from(octets: &[u8], from: usize, buffer: &mut [u8]) -> usize
     len
 }
 
-/// A copy of the octets as pages.
-fn pages_of(alloc: Global, octets: &[u8]) -> Result<Vec<Page>, AllocError>
-    ensures octets { IfOk result (λ pages. concat pages.items ≡ octets.now) }
-    ensures pages { IfOk result (λ pages. are_pages pages.items ≡ true) }
+/// A copy of the octets as sheets.
+fn sheets_of(alloc: Global, octets: &[u8]) -> Result<Vec<Sheet>, AllocError>
+    ensures octets { IfOk result (λ sheets. concat sheets.items ≡ octets.now) }
+    ensures sheets { IfOk result (λ sheets. are_sheets sheets.items ≡ true) }
 {
-    let mut pages = Vec::new(alloc);
+    let mut sheets = Vec::new(alloc);
     let mut left = octets;
     while !left.is_empty() {
-        let page = &left[..left.len().min(PAGE_OCTETS)];
-        pages.push(Page::copy_of(alloc, page)?)?;
-        left = &left[page.len()..];
+        let sheet = &left[..left.len().min(SHEET_OCTETS)];
+        sheets.push(Sheet::copy_of(alloc, sheet)?)?;
+        left = &left[sheet.len()..];
     }
-    Ok(pages)
+    Ok(sheets)
 }
 
-/// A text as pages of [`PAGE_OCTETS`], each allocated by itself, so that a long text needs no long
+/// A text as sheets of [`SHEET_OCTETS`], each allocated by itself, so that a long text needs no long
 /// allocation. Contracts see its octets.
 #[derive(Drop)]
-pub struct PagedText {
-    pages: Vec<Page>,
+pub struct SheetText {
+    sheets: Vec<Sheet>,
     octets: usize,
 }
 
-impl Model for PagedText {
+impl Model for SheetText {
     ghost use Rattle.std.specs.Prelude.{List, ℕ, ◌≡◌, true, length};
     ghost use Rattle.std.specs.List.{concat};
-    ghost use Rattle.vault.specs.Pages.{are_pages};
+    ghost use Rattle.vault.specs.Sheets.{are_sheets};
 
     ghost Value = { List ℕ };
 
-    ghost view = { λ text. concat text.pages.items };
+    ghost view = { λ text. concat text.sheets.items };
 
-    ghost invariant = { λ text. (are_pages text.pages.items ≡ true)
-        × (text.octets ≡ length (concat text.pages.items)) };
+    ghost invariant = { λ text. (are_sheets text.sheets.items ≡ true)
+        × (text.octets ≡ length (concat text.sheets.items)) };
 }
 
-impl PagedText {
+impl SheetText {
     /// A copy of a text. An `Err` is want of memory.
-    pub(crate) fn copy_of(alloc: Global, text: &MailText) -> Result<PagedText, AllocError>
+    pub(crate) fn copy_of(alloc: Global, text: &MailText) -> Result<SheetText, AllocError>
         ensures { IfOk result (λ copy. copy ≡ text.now) }
     {
         let octets = text.bytes();
-        let pages = pages_of(alloc, octets)?;
-        Ok(PagedText {
-            pages,
+        let sheets = sheets_of(alloc, octets)?;
+        Ok(SheetText {
+            sheets,
             octets: octets.len(),
         })
     }
@@ -113,14 +113,14 @@ impl PagedText {
     }
 
     /// Copies octets, from octet `from` on, into the front of the buffer: through the end of a
-    /// page, or as many as fit. Returns how many: at least one if any is left and the buffer
+    /// sheet, or as many as fit. Returns how many: at least one if any is left and the buffer
     /// isn't empty.
     pub(crate) fn read(&self, from: usize, buffer: &mut [u8]) -> usize
         ensures within { result ≤ length buffer.new }
         ensures page { IsPage self.now from (length buffer.new) (take result buffer.new) }
     {
-        match self.pages.get(from / PAGE_OCTETS) {
-            Some(page) => copy_from(page.octets(), from % PAGE_OCTETS, buffer),
+        match self.sheets.get(from / SHEET_OCTETS) {
+            Some(sheet) => copy_from(sheet.octets(), from % SHEET_OCTETS, buffer),
             None => 0,
         }
     }

@@ -1,4 +1,4 @@
--- A text as pages: where its octets lie in them.
+-- A text as sheets: where its octets lie in them.
 use Rattle.std.proofs.Common.{◌≡◌, ℕ, zero, suc, ◌+◌, ◌*◌, ◌-◌, ◌<◌, ◌≤◌, List, [], ◌∷◌, ◌++◌, true, min, length, take, drop, get_or, refl, sym, ◌∙◌, ap, arith, append-nil, append_assoc, eqb, eqb-true, eq-eqb, length-append}
 use Rattle.std.proofs.lemmas.Bool.{and_parts}
 use Rattle.std.proofs.lemmas.Bool.Decides.{nat_tests}
@@ -6,9 +6,9 @@ use Rattle.std.proofs.lemmas.List.{drop_at, drop-append-le, drop-drop, take-appe
 use Rattle.std.proofs.lemmas.List.Folds.{concat-append}
 use Rattle.std.specs.List.{concat}
 use Rattle.vault.specs.Changes.{IsPage}
-use Rattle.vault.specs.Pages.{are_pages}
+use Rattle.vault.specs.Sheets.{are_sheets}
 
--- a page of a part is a page of the text, if the part lies there
+-- a sheet of a part is a sheet of the text, if the part lies there
 pub page_of_part : (text part rest : List ℕ) (from at room : ℕ) (octets : List ℕ) → drop from text ≡ drop at part ++ rest
     → (from < length text → at < length part) → IsPage part at room octets → IsPage text from room octets
 page_of_part text part rest from at room octets e inside h =
@@ -23,20 +23,20 @@ page_of_part text part rest from at room octets e inside h =
 pub page_past : (text : List ℕ) (from room : ℕ) → length text ≤ from → IsPage text from room []
 page_past text from room past = record { next = refl; fits = omega arith; goes_on = λ lt some. absurd (omega arith) }
 
-first_is_whole : (p q : List ℕ) (ps : List (List ℕ)) → are_pages (p ∷ q ∷ ps) ≡ true → length p ≡ 4096
-first_is_whole p q ps h = eqb-true (length p) 4096 ((and_parts (eqb (length p) 4096) (are_pages (q ∷ ps)) h).0)
+first_is_whole : (p q : List ℕ) (ps : List (List ℕ)) → are_sheets (p ∷ q ∷ ps) ≡ true → length p ≡ 4096
+first_is_whole p q ps h = eqb-true (length p) 4096 ((and_parts (eqb (length p) 4096) (are_sheets (q ∷ ps)) h).0)
 
-rest_are_pages : (p q : List ℕ) (ps : List (List ℕ)) → are_pages (p ∷ q ∷ ps) ≡ true → are_pages (q ∷ ps) ≡ true
-rest_are_pages p q ps h = (and_parts (eqb (length p) 4096) (are_pages (q ∷ ps)) h).1
+rest_are_sheets : (p q : List ℕ) (ps : List (List ℕ)) → are_sheets (p ∷ q ∷ ps) ≡ true → are_sheets (q ∷ ps) ≡ true
+rest_are_sheets p q ps h = (and_parts (eqb (length p) 4096) (are_sheets (q ∷ ps)) h).1
 
-last_fits : (p : List ℕ) → are_pages (p ∷ []) ≡ true → length p ≤ 4096
+last_fits : (p : List ℕ) → are_sheets (p ∷ []) ≡ true → length p ≤ 4096
 last_fits p h = grind (arith, nat_tests)
 
 drop_past : (p rest : List ℕ) (n : ℕ) → length p ≡ 4096 → drop (4096 + n) (p ++ rest) ≡ drop n rest
 drop_past p rest n e = sym (drop-drop n 4096 (p ++ rest)) ∙ ap (drop n) (drop_at p rest 4096 e)
 
--- the octets from a place on are those of its page, and of the pages after it
-pub at_page : (ps : List (List ℕ)) (i from at : ℕ) → are_pages ps ≡ true → i < length ps → at < 4096 → from ≡ i * 4096 + at
+-- the octets from a place on are those of its sheet, and of the sheets after it
+pub at_page : (ps : List (List ℕ)) (i from at : ℕ) → are_sheets ps ≡ true → i < length ps → at < 4096 → from ≡ i * 4096 + at
     → drop from (concat ps) ≡ drop at (get_or ps i []) ++ concat (drop (suc i) ps)
 at_page [] i from at h lt small e = absurd (omega arith)
 at_page (p ∷ []) zero from at h lt small e =
@@ -50,42 +50,42 @@ at_page (p ∷ q ∷ ps) zero from at h lt small e =
 at_page (p ∷ q ∷ ps) (suc i) from at h lt small e =
     let split : from ≡ 4096 + (i * 4096 + at) = omega arith in
     rw split (drop_past p (concat (q ∷ ps)) (i * 4096 + at) (first_is_whole p q ps h)
-    ∙ at_page (q ∷ ps) i (i * 4096 + at) at (rest_are_pages p q ps h) (omega arith) small refl)
+    ∙ at_page (q ∷ ps) i (i * 4096 + at) at (rest_are_sheets p q ps h) (omega arith) small refl)
 
--- a place within a text lies within its page
-pub in_page : (ps : List (List ℕ)) (i from at : ℕ) → are_pages ps ≡ true → i < length ps → at < 4096 → from ≡ i * 4096 + at
+-- a place within a text lies within its sheet
+pub in_page : (ps : List (List ℕ)) (i from at : ℕ) → are_sheets ps ≡ true → i < length ps → at < 4096 → from ≡ i * 4096 + at
     → from < length (concat ps) → at < length (get_or ps i [])
 in_page [] i from at h lt small e inside = absurd (omega arith)
 in_page (p ∷ []) zero from at h lt small e inside = omega (arith, ap length (append-nil p))
 in_page (p ∷ []) (suc i) from at h lt small e inside = absurd (omega arith)
 in_page (p ∷ q ∷ ps) zero from at h lt small e inside = omega (arith, first_is_whole p q ps h)
 in_page (p ∷ q ∷ ps) (suc i) from at h lt small e inside =
-    in_page (q ∷ ps) i (i * 4096 + at) at (rest_are_pages p q ps h) (omega arith) small refl
+    in_page (q ∷ ps) i (i * 4096 + at) at (rest_are_sheets p q ps h) (omega arith) small refl
     (omega (arith, length-append p (concat (q ∷ ps)), first_is_whole p q ps h))
 
--- a place after all pages is past the text's end
-pub past_pages : (ps : List (List ℕ)) (i : ℕ) → are_pages ps ≡ true → length ps ≤ i → length (concat ps) ≤ i * 4096
-past_pages [] i h le = omega arith
-past_pages (p ∷ []) zero h le = absurd (omega arith)
-past_pages (p ∷ []) (suc i) h le = omega (arith, ap length (append-nil p), last_fits p h)
-past_pages (p ∷ q ∷ ps) zero h le = absurd (omega arith)
-past_pages (p ∷ q ∷ ps) (suc i) h le =
-    omega (arith, length-append p (concat (q ∷ ps)), first_is_whole p q ps h, past_pages (q ∷ ps) i (rest_are_pages p q ps h) (omega arith))
+-- a place after all sheets is past the text's end
+pub past_sheets : (ps : List (List ℕ)) (i : ℕ) → are_sheets ps ≡ true → length ps ≤ i → length (concat ps) ≤ i * 4096
+past_sheets [] i h le = omega arith
+past_sheets (p ∷ []) zero h le = absurd (omega arith)
+past_sheets (p ∷ []) (suc i) h le = omega (arith, ap length (append-nil p), last_fits p h)
+past_sheets (p ∷ q ∷ ps) zero h le = absurd (omega arith)
+past_sheets (p ∷ q ∷ ps) (suc i) h le =
+    omega (arith, length-append p (concat (q ∷ ps)), first_is_whole p q ps h, past_sheets (q ∷ ps) i (rest_are_sheets p q ps h) (omega arith))
 
--- ---- one page more
+-- ---- one sheet more
 
 -- all are whole
 abbrev pub AreWhole : List (List ℕ) → Type 0
 AreWhole [] = Unit {0}
 AreWhole (p ∷ ps) = (length p ≡ 4096) × AreWhole ps
 
-last_page : (p : List ℕ) → 0 < length p → length p ≤ 4096 → are_pages (p ∷ []) ≡ true
+last_page : (p : List ℕ) → 0 < length p → length p ≤ 4096 → are_sheets (p ∷ []) ≡ true
 last_page p some fits = grind (arith, nat_tests)
 
-pub are_pages-more : (ps : List (List ℕ)) (p : List ℕ) → AreWhole ps → 0 < length p → length p ≤ 4096 → are_pages (ps ++ p ∷ []) ≡ true
-are_pages-more [] p h some fits = last_page p some fits
-are_pages-more (q ∷ []) p h some fits = rw (eq-eqb (length q) 4096 h.0) (last_page p some fits)
-are_pages-more (q ∷ r ∷ ps) p h some fits = rw (eq-eqb (length q) 4096 h.0) (are_pages-more (r ∷ ps) p h.1 some fits)
+pub are_sheets-more : (ps : List (List ℕ)) (p : List ℕ) → AreWhole ps → 0 < length p → length p ≤ 4096 → are_sheets (ps ++ p ∷ []) ≡ true
+are_sheets-more [] p h some fits = last_page p some fits
+are_sheets-more (q ∷ []) p h some fits = rw (eq-eqb (length q) 4096 h.0) (last_page p some fits)
+are_sheets-more (q ∷ r ∷ ps) p h some fits = rw (eq-eqb (length q) 4096 h.0) (are_sheets-more (r ∷ ps) p h.1 some fits)
 
 pub AreWhole-more : (ps : List (List ℕ)) (p : List ℕ) → AreWhole ps → length p ≡ 4096 → AreWhole (ps ++ p ∷ [])
 AreWhole-more [] p h e = (e, tt)
@@ -94,7 +94,7 @@ AreWhole-more (q ∷ ps) p h e = (h.0, AreWhole-more ps p h.1 e)
 pub concat-more : (ps : List (List ℕ)) (p rest : List ℕ) → concat (ps ++ p ∷ []) ++ rest ≡ concat ps ++ (p ++ rest)
 concat-more ps p rest = ap (λ xs. xs ++ rest) (concat-append ps (p ∷ []) ∙ ap (λ xs. concat ps ++ xs) (append-nil p)) ∙ append_assoc (concat ps) p rest
 
--- ---- a page is cut off
+-- ---- a sheet is cut off
 
 pub page_size : (left : List ℕ) (n : ℕ) → n ≡ min (length left) 4096 → length (take n left) ≡ n
 page_size left n e = length-take-le n left (omega arith)
@@ -103,7 +103,7 @@ pub page_and_rest : (left : List ℕ) (n : ℕ) → n ≡ min (length left) 4096
     → take n left ++ take (length left - length (take n left)) (drop (length (take n left)) left) ≡ left
 page_and_rest left n e = rw (page_size left n e, take_rest left n) (take-append-drop n left)
 
--- a page after which octets are left is whole
+-- a sheet after which octets are left is whole
 pub page_is_whole : (left : List ℕ) (n : ℕ) → n ≡ min (length left) 4096
     → 0 < length (take (length left - length (take n left)) (drop (length (take n left)) left)) → length (take n left) ≡ 4096
 page_is_whole left n e some =
