@@ -44,7 +44,7 @@ refusal_so (Tagged NoMemory) r = refl
 joined : {A : Type 0} (a b c d : List A) → a ≡ c → b ≡ d → a ++ b ≡ c ++ d
 joined a b c d p q = cc
 
-module _ {V : Type 0} (Holds : V → Contents → Type 0) (IsClean : V → Type 0) (Faults : V → ℕ) where
+module _ {V : Type 0} (Holds : V → Contents → Type 0) (IsClean : V → Type 0) (Faults : V → ℕ) (IsUp : V → Type 0) (MayLeave : V → Contents → Type 0) where
   pub come_none : (o : Office V) (seats : List Seat) → HaveCome Holds IsClean o o seats seats [] [] []
   come_none o seats = record {
     no_moments = refl;
@@ -127,7 +127,7 @@ module _ {V : Type 0} (Holds : V → Contents → Type 0) (IsClean : V → Type 
 
   -- ---- one after the other
 
-  come_then : (o o1 o2 : Office V) (seats seats1 seats2 : List Seat) (came1 came2 : List Came) (g1 g2 : Log) (c1 c2 : List Call) → WasGiven Holds IsClean Faults o o1 g1 → WasGiven Holds IsClean Faults o1 o2 g2
+  come_then : (o o1 o2 : Office V) (seats seats1 seats2 : List Seat) (came1 came2 : List Came) (g1 g2 : Log) (c1 c2 : List Call) → WasGiven Holds IsClean Faults IsUp MayLeave o o1 g1 → WasGiven Holds IsClean Faults IsUp MayLeave o1 o2 g2
       → HaveCome Holds IsClean o o1 seats seats1 came1 g1 c1 → HaveCome Holds IsClean o1 o2 seats1 seats2 came2 g2 c2 → HaveCome Holds IsClean o o2 seats seats2 (came1 ++ came2) (g2 ++ g1) (c1 ++ c2)
   come_then o o1 o2 seats seats1 seats2 came1 came2 g1 g2 c1 c2 wa wb a b = record {
     no_moments = none_joined moment_of g2 g1 b.no_moments a.no_moments;
@@ -152,7 +152,7 @@ module _ {V : Type 0} (Holds : V → Contents → Type 0) (IsClean : V → Type 
   pub accepting_none : (o : Office V) (seats : List Seat) → AreAccepted Holds IsClean o o seats seats 0 true [] []
   accepting_none o seats = record { came = []; come = come_none o seats; enough = λ e. omega arith; all = λ e. cc }
 
-  pub accepted_then : (o o1 o2 : Office V) (seats seats1 seats2 : List Seat) (n : ℕ) (goes : Bool) (g1 g2 : Log) (c1 c2 : List Call) → WasGiven Holds IsClean Faults o o1 g1 → WasGiven Holds IsClean Faults o1 o2 g2
+  pub accepted_then : (o o1 o2 : Office V) (seats seats1 seats2 : List Seat) (n : ℕ) (goes : Bool) (g1 g2 : Log) (c1 c2 : List Call) → WasGiven Holds IsClean Faults IsUp MayLeave o o1 g1 → WasGiven Holds IsClean Faults IsUp MayLeave o1 o2 g2
       → AreAccepted Holds IsClean o o1 seats seats1 n true g1 c1 → AreAccepted Holds IsClean o1 o2 seats1 seats2 1 goes g2 c2 → AreAccepted Holds IsClean o o2 seats seats2 (n + 1) goes (g2 ++ g1) (c1 ++ c2)
   accepted_then o o1 o2 seats seats1 seats2 n goes g1 g2 c1 c2 wa wb a b = record {
     came = a.came ++ b.came;

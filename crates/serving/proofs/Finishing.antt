@@ -143,10 +143,10 @@ module _ (cp ca cq cl cr cx : List Call) where
   seen_fifth : (p : Call → Bool) → list_any p cr ≡ true → list_any p (((((cp ++ ca) ++ cq) ++ cl) ++ cr) ++ cx) ≡ true
   seen_fifth p h = any_left p ((((cp ++ ca) ++ cq) ++ cl) ++ cr) cx (any_right p (((cp ++ ca) ++ cq) ++ cl) cr h)
 
-accepted_so : {V : Type 0} (Holds : V → Contents → Type 0) (IsClean : V → Type 0) (Faults : V → ℕ) (o o1 : Office V) (seats seats1 : List Seat) (goes : Bool) (g : Log) (c all : List Call)
+accepted_so : {V : Type 0} (Holds : V → Contents → Type 0) (IsClean : V → Type 0) (Faults : V → ℕ) (IsUp : V → Type 0) (MayLeave : V → Contents → Type 0) (o o1 : Office V) (seats seats1 : List Seat) (goes : Bool) (g : Log) (c all : List Call)
     → (list_any tells_none c ≡ true → list_any tells_none all ≡ true) → (a : AreAccepted Holds IsClean o o1 seats seats1 64 goes g c) → HasAccepted (length seats1) all ⊎ (most_links ≤ length a.came)
-accepted_so Holds IsClean Faults o o1 seats seats1 true g c all more a = inr (a.enough refl)
-accepted_so Holds IsClean Faults o o1 seats seats1 false g c all more a =
+accepted_so Holds IsClean Faults IsUp MayLeave o o1 seats seats1 true g c all more a = inr (a.enough refl)
+accepted_so Holds IsClean Faults IsUp MayLeave o o1 seats seats1 false g c all more a =
     ⊎_elim
     (λ (none : none_waited c ≡ true). inl (inl (more none)))
     (λ (full : length seats1 ≡ 128). inl (inr full))
@@ -158,26 +158,26 @@ no_wait links e = rw e refl
 
 -- ---- the turn
 
-module _ {V W S H : Type 0} (Holds : V → Contents → Type 0) (IsClean : V → Type 0) (Faults : V → ℕ) (Asked : W → List Call → Type 0) (AskedFiles : S → List FileCall → Type 0) (Heard : H → List Hearing → Type 0) where
+module _ {V W S H : Type 0} (Holds : V → Contents → Type 0) (IsClean : V → Type 0) (Faults : V → ℕ) (IsUp : V → Type 0) (MayLeave : V → Contents → Type 0) (Asked : W → List Call → Type 0) (AskedFiles : S → List FileCall → Type 0) (Heard : H → List Hearing → Type 0) where
   pub turn_done : (T : Trace) (now : ℕ) (links links_then : Links) (o o1 o2 o3 o4 o5 o6 : Office V) (w w1 w2 w3 w4 w5 w6 : W) (f f1 : S) (l l1 l2 l3 l4 l5 : H) (seats2 : List Seat) (goes : Bool) (held : List Exchange) (more freed polling polled : Bool) (n0 n1 n2 : List Newcomer)
-      → Part Holds IsClean Faults Asked o w o1 w1 (IsPassed (Waited (millis_of links) ∷ []) now)
+      → Part Holds IsClean Faults IsUp MayLeave Asked o w o1 w1 (IsPassed (Waited (millis_of links) ∷ []) now)
       → ((U : Trace) → StandsFor Holds o1 U → WasTold Heard l l1 (idle_ends U links.clients.seats.items))
-      → (acc : Part Holds IsClean Faults Asked o1 w1 o2 w2 (AreAccepted Holds IsClean o1 o2 links.clients.seats.items seats2 64 goes))
+      → (acc : Part Holds IsClean Faults IsUp MayLeave Asked o1 w1 o2 w2 (AreAccepted Holds IsClean o1 o2 links.clients.seats.items seats2 64 goes))
       → Asking Asked w2 w3 (AskedApart (HasAcceptedForAdmin now 64 more links.requests.exchanges.items held))
       → WasTold Heard l1 l2 []
-      → Part Holds IsClean Faults Asked o2 w3 o3 w4 (WithHeard Holds IsClean Heard o2 l2 o3 l3 (Also (WereServed Holds IsClean o2 o3 (settings links) now n0 freed polling n1 seats2 seats2) (PollsBy freed polling)))
+      → Part Holds IsClean Faults IsUp MayLeave Asked o2 w3 o3 w4 (WithHeard Holds IsClean Heard o2 l2 o3 l3 (Also (WereServed Holds IsClean o2 o3 (settings links) now n0 freed polling n1 seats2 seats2) (PollsBy freed polling)))
       → (freed ≡ true → polling ≡ true) → (polling ≡ true → polled ≡ true)
-      → Part Holds IsClean Faults Asked o3 w4 o4 w5 (Also (DidApart Holds IsClean o3 o4 (HeardApart Heard l3 l4 (λ B L. HadHttpTurns links.site now B L held links_then.requests.exchanges.items))) (PollsBy false links_then.requests.poll_now))
+      → Part Holds IsClean Faults IsUp MayLeave Asked o3 w4 o4 w5 (Also (DidApart Holds IsClean o3 o4 (HeardApart Heard l3 l4 (λ B L. HadHttpTurns links.site now B L held links_then.requests.exchanges.items))) (PollsBy false links_then.requests.poll_now))
       → ((c : ℕ) → waited_of now (newcomer c n0) ≡ waited_of now (newcomer c links.clients.newcomers.newcomers.items))
       → ((c : ℕ) (n : Newcomer) → newcomer c links.clients.newcomers.newcomers.items ≡ Some n → IsSettled now (Some n) (newcomer c n1))
       → (AllHaveSeats links → All (IsComer now links.clients.newcomers.newcomers.items n1) (filter_map seat_of acc.facts.came))
-      → Giving Holds IsClean Faults o4 o5
+      → Giving Holds IsClean Faults IsUp MayLeave o4 o5
       (λ g. AreLateGone now (limit links (length seats2)) links.clients.newcomers.newcomers.items g × HasEndedLate Holds IsClean o4 o5 now (limit links (length seats2)) n1 n2 seats2 g
       × WasTold Heard l4 l5 (late_ends now links.clients.newcomers.seconds links.clients.newcomers.newcomers.items g))
       → ((U : Trace) → StandsFor Holds o5 U → (c : ℕ) → is_open U c ≡ true → newcomer c links_then.clients.newcomers.newcomers.items ≡ newcomer c n2)
       → ((U : Trace) → StandsFor Holds o5 U → Asking Asked w5 w6 (λ calls. AreClosed U seats2 links_then.clients.seats.items calls × PollsBy polling polled calls × Releases links.clients.wait polled calls))
-      → SpoolPart Holds IsClean Faults AskedFiles o5 f o6 f1 (λ U given calls. IsSpoolTurn (last_tried links) (last_tried links_then) U given calls × (links_then.clients.poll_now ≡ (polled || has_dealt calls)))
-      → StandsFor Holds o T → IsClean (vault_of o6) → Works Holds Faults Asked AskedFiles Heard T now links o w f l o6 links_then w6 f1 l5
+      → SpoolPart Holds IsClean Faults IsUp MayLeave AskedFiles o5 f o6 f1 (λ U given calls. IsSpoolTurn (last_tried links) (last_tried links_then) U given calls × (links_then.clients.poll_now ≡ (polled || has_dealt calls)))
+      → StandsFor Holds o T → IsClean (vault_of o6) → Works Holds Faults IsUp MayLeave Asked AskedFiles Heard T now links o w f l o6 links_then w6 f1 l5
   turn_done T now links links_then o o1 o2 o3 o4 o5 o6 w w1 w2 w3 w4 w5 w6 f f1 l l1 l2 l3 l4 l5 seats2 goes held more freed polling polled n0 n1 n2 pass idle acc asked unheard served freeing still reqs waited keeps comers late forgets close spool s k6 =
       let B = T.base in
       let L = T.log in
@@ -196,11 +196,11 @@ module _ {V W S H : Type 0} (Holds : V → Contents → Type 0) (IsClean : V →
       let G2 : Log = gl ++ G1 in
       let G3 : Log = gr ++ G2 in
       let G4 : Log = gx ++ G3 in
-      let u1 = given_then Holds IsClean Faults o o1 o2 gp ga pass.was_given acc.was_given in
-      let u2 = given_then Holds IsClean Faults o o2 o3 G1 gl u1 served.was_given in
-      let u3 = given_then Holds IsClean Faults o o3 o4 G2 gr u2 reqs.was_given in
-      let ux = given_then Holds IsClean Faults o4 o5 o6 gz gs late.was_given spool.was_given in
-      let u4 = given_then Holds IsClean Faults o o4 o6 G3 gx u3 ux in
+      let u1 = given_then Holds IsClean Faults IsUp MayLeave o o1 o2 gp ga pass.was_given acc.was_given in
+      let u2 = given_then Holds IsClean Faults IsUp MayLeave o o2 o3 G1 gl u1 served.was_given in
+      let u3 = given_then Holds IsClean Faults IsUp MayLeave o o3 o4 G2 gr u2 reqs.was_given in
+      let ux = given_then Holds IsClean Faults IsUp MayLeave o4 o5 o6 gz gs late.was_given spool.was_given in
+      let u4 = given_then Holds IsClean Faults IsUp MayLeave o o4 o6 G3 gx u3 ux in
       let k5 = spool.was_given.clean k6 in
       let k4 = late.was_given.clean k5 in
       let k3 = reqs.was_given.clean k4 in
@@ -223,7 +223,7 @@ module _ {V W S H : Type 0} (Holds : V → Contents → Type 0) (IsClean : V →
       let C5 : List Call = ((((cp ++ ca) ++ cq) ++ cl) ++ cr) ++ cx in
       let filed = spool.facts (trace_of B ((gz ++ G3) ++ L)) (subst (λ l. StandsFor Holds o5 (trace_of B l)) (sym (append_assoc gz G3 L)) s5) k6 in
       let sleeps_not : polled ≡ true → millis_of links_then ≡ 0 = λ e. no_wait links_then (filed.1 ∙ is_left polled (has_dealt spool.calls) e) in
-      let had = served_so Holds IsClean Faults o2 o3 (way_by (settings links) now n0 seats2 freed polling) way n1 seats2 seats2 gl cl refl refl (λ e. e)
+      let had = served_so Holds IsClean Faults IsUp MayLeave o2 o3 (way_by (settings links) now n0 seats2 freed polling) way n1 seats2 seats2 gl cl refl refl (λ e. e)
       (λ i d within. may_same (settings links).slow_guesses now n0 newcomers seats2 freed (get_or seats2 i d).connection (waited (get_or seats2 i d).connection)) (λ e. ap (λ n. n == 0) (sleeps_not (still e))) served.facts.1.0.turns in
       let unread : All (IsNotedSo n1 B L G4 C5 way.wait way.may seats2) seats2 =
       All-weaker (IsNotedSo n1 B (G1 ++ L) gl cl way.wait way.may seats2) (IsNotedSo n1 B L G4 C5 way.wait way.may seats2)
@@ -291,6 +291,8 @@ module _ {V W S H : Type 0} (Holds : V → Contents → Type 0) (IsClean : V →
         admitted = u4.admitted B L s k6;
         counted = u4.counted;
         failed = u4.failed B L s k6;
+        up = u4.outlasts.up B L s k6;
+        stop = u4.outlasts.stop B L s k6;
         asked =
             asked_then Asked w w5 w6 ((((cp ++ ca) ++ cq) ++ cl) ++ cr) cx
             (asked_then Asked w w4 w5 (((cp ++ ca) ++ cq) ++ cl) cr
@@ -314,7 +316,7 @@ module _ {V W S H : Type 0} (Holds : V → Contents → Type 0) (IsClean : V →
               ∙ (only_last moment_of gr G2 rq.no_moments ∙ (only_last moment_of gl G1 lq.no_moments ∙ (only_last moment_of ga gp come.no_moments ∙ moments_p)));
         };
         accepts = record {
-          enough = accepted_so Holds IsClean Faults o1 o2 links.clients.seats.items seats2 goes ga ca C5 (seen_second cp ca cq cl cr cx tells_none) acc.facts;
+          enough = accepted_so Holds IsClean Faults IsUp MayLeave o1 o2 links.clients.seats.items seats2 goes ga ca C5 (seen_second cp ca cq cl cr cx tells_none) acc.facts;
           arrived = only_first _ ((((cp ++ ca) ++ cq) ++ cl) ++ cr) cx arrivals_x
               ∙ (seen_first cp ca cq cl cr cx arrival_of asked.facts.0.no_arrivals lq.no_arrivals rq.no_arrivals ∙ (only_last arrival_of cp ca arrivals_p ∙ come.arrived));
           opened =

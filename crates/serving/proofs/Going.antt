@@ -72,9 +72,9 @@ serves_told Holds Tells TellsFiles T o w w1 f seats held site told s = record {
 }
 
 -- the moment after a wait
-pub passed_by : {V W : Type 0} (Holds : V → Contents → Type 0) (IsClean : V → Type 0) (Faults : V → ℕ) (Asked : W → List Call → Type 0) (o o1 : Office V) (w w0 w1 : W) (wait : Call) (now : ℕ)
-    → WasAsked Asked w w0 (wait ∷ []) → Part Holds IsClean Faults Asked o w0 o1 w1 (IsPassed [] now) → Part Holds IsClean Faults Asked o w o1 w1 (IsPassed (wait ∷ []) now)
-passed_by Holds IsClean Faults Asked o o1 w w0 w1 wait now waited p = record {
+pub passed_by : {V W : Type 0} (Holds : V → Contents → Type 0) (IsClean : V → Type 0) (Faults : V → ℕ) (IsUp : V → Type 0) (MayLeave : V → Contents → Type 0) (Asked : W → List Call → Type 0) (o o1 : Office V) (w w0 w1 : W) (wait : Call) (now : ℕ)
+    → WasAsked Asked w w0 (wait ∷ []) → Part Holds IsClean Faults IsUp MayLeave Asked o w0 o1 w1 (IsPassed [] now) → Part Holds IsClean Faults IsUp MayLeave Asked o w o1 w1 (IsPassed (wait ∷ []) now)
+passed_by Holds IsClean Faults IsUp MayLeave Asked o o1 w w0 w1 wait now waited p = record {
   given = p.given;
   calls = wait ∷ p.calls;
   was_given = p.was_given;
@@ -84,15 +84,15 @@ passed_by Holds IsClean Faults Asked o o1 w w0 w1 wait now waited p = record {
 
 -- ---- turns
 
-module _ {V W S H : Type 0} (Holds : V → Contents → Type 0) (Faults : V → ℕ) (Asked : W → List Call → Type 0) (AskedFiles : S → List FileCall → Type 0) (Heard : H → List Hearing → Type 0) (T : Trace) where
-  gone_none : (l : Links) (o : Office V) (w : W) (s : S) (h : H) → StandsFor Holds o T → HasGoneOn Holds Faults Asked AskedFiles Heard T [] l o w s h l o w s h
+module _ {V W S H : Type 0} (Holds : V → Contents → Type 0) (Faults : V → ℕ) (IsUp : V → Type 0) (MayLeave : V → Contents → Type 0) (Asked : W → List Call → Type 0) (AskedFiles : S → List FileCall → Type 0) (Heard : H → List Hearing → Type 0) (T : Trace) where
+  gone_none : (l : Links) (o : Office V) (w : W) (s : S) (h : H) → StandsFor Holds o T → HasGoneOn Holds Faults IsUp MayLeave Asked AskedFiles Heard T [] l o w s h l o w s h
   gone_none l o w s h stands = record { given = []; turns = NoTurn; stands = stands; admitted = tt; counted = omega arith; failed = λ e. cc }
 
   gone_more : (moments : List ℕ) (l : Links) (o : Office V) (w : W) (s : S) (h : H) (l1 : Links) (o1 : Office V) (w1 : W) (s1 : S) (h1 : H) (now : ℕ) (l2 : Links) (o2 : Office V) (w2 : W) (s2 : S) (h2 : H)
-      → (a : HasGoneOn Holds Faults Asked AskedFiles Heard T moments l o w s h l1 o1 w1 s1 h1)
-      → Works Holds Faults Asked AskedFiles Heard (trace_of T.base (a.given ++ T.log)) now l1 o1 w1 s1 h1 o2 l2 w2 s2 h2
+      → (a : HasGoneOn Holds Faults IsUp MayLeave Asked AskedFiles Heard T moments l o w s h l1 o1 w1 s1 h1)
+      → Works Holds Faults IsUp MayLeave Asked AskedFiles Heard (trace_of T.base (a.given ++ T.log)) now l1 o1 w1 s1 h1 o2 l2 w2 s2 h2
       → LeavesAsFound now l1 l2
-      → HasGoneOn Holds Faults Asked AskedFiles Heard T (moments ++ now ∷ []) l o w s h l2 o2 w2 s2 h2
+      → HasGoneOn Holds Faults IsUp MayLeave Asked AskedFiles Heard T (moments ++ now ∷ []) l o w s h l2 o2 w2 s2 h2
   gone_more moments l o w s h l1 o1 w1 s1 h1 now l2 o2 w2 s2 h2 a turn left = record {
     given = given_in turn.seen ++ a.given;
     turns = OneMore moments a.given l1 o1 w1 s1 h1 now l2 o2 w2 s2 h2 a.turns turn left;
@@ -108,32 +108,32 @@ module _ {V W S H : Type 0} (Holds : V → Contents → Type 0) (Faults : V → 
         (or_cases (list_any is_failed (given_in turn.seen)) (list_any is_failed a.given) (sym (list_any-append is_failed (given_in turn.seen) a.given) ∙ e));
   }
 
-module _ {V W S H C : Type 0} (Holds : V → Contents → Type 0) (IsClean : V → Type 0) (Faults : V → ℕ) (Asked : W → List Call → Type 0) (AskedFiles : S → List FileCall → Type 0) (Heard : H → List Hearing → Type 0) (Gave : C → List (Option ℕ) → Type 0)
+module _ {V W S H C : Type 0} (Holds : V → Contents → Type 0) (IsClean : V → Type 0) (Faults : V → ℕ) (IsUp : V → Type 0) (MayLeave : V → Contents → Type 0) (Asked : W → List Call → Type 0) (AskedFiles : S → List FileCall → Type 0) (Heard : H → List Hearing → Type 0) (Gave : C → List (Option ℕ) → Type 0)
     (l : Links) (o : Office V) (w : W) (s : S) (h : H) (k : C) where
-  pub turned_none : HasTurned Holds IsClean Faults Asked AskedFiles Heard Gave false [] l o w s h k l o w s h k
+  pub turned_none : HasTurned Holds IsClean Faults IsUp MayLeave Asked AskedFiles Heard Gave false [] l o w s h k l o w s h k
   turned_none = record {
     gave = λ before g. subst (Gave k) (none_yet before) g;
-    each = λ T stands clean. gone_none Holds Faults Asked AskedFiles Heard T l o w s h stands;
+    each = λ T stands clean. gone_none Holds Faults IsUp MayLeave Asked AskedFiles Heard T l o w s h stands;
   }
 
   pub turned_more : (moments : List ℕ) (l1 : Links) (o1 : Office V) (w1 : W) (s1 : S) (h1 : H) (k1 : C) (now : ℕ) (l2 : Links) (o2 : Office V) (w2 : W) (s2 : S) (h2 : H) (k2 : C)
-      → HasTurned Holds IsClean Faults Asked AskedFiles Heard Gave false moments l o w s h k l1 o1 w1 s1 h1 k1
+      → HasTurned Holds IsClean Faults IsUp MayLeave Asked AskedFiles Heard Gave false moments l o w s h k l1 o1 w1 s1 h1 k1
       → ((before : List (Option ℕ)) → Gave k1 before → Gave k2 (before ++ Some now ∷ []))
       → (IsClean (vault_of o2) → IsClean (vault_of o1))
-      → ((T : Trace) → StandsFor Holds o1 T → IsClean (vault_of o2) → Works Holds Faults Asked AskedFiles Heard T now l1 o1 w1 s1 h1 o2 l2 w2 s2 h2)
+      → ((T : Trace) → StandsFor Holds o1 T → IsClean (vault_of o2) → Works Holds Faults IsUp MayLeave Asked AskedFiles Heard T now l1 o1 w1 s1 h1 o2 l2 w2 s2 h2)
       → LeavesAsFound now l1 l2
-      → HasTurned Holds IsClean Faults Asked AskedFiles Heard Gave false (moments ++ now ∷ []) l o w s h k l2 o2 w2 s2 h2 k2
+      → HasTurned Holds IsClean Faults IsUp MayLeave Asked AskedFiles Heard Gave false (moments ++ now ∷ []) l o w s h k l2 o2 w2 s2 h2 k2
   turned_more moments l1 o1 w1 s1 h1 k1 now l2 o2 w2 s2 h2 k2 a called clean works left = record {
     gave = λ before g. subst (Gave k2) (one_more before moments now) (called (before ++ answers false moments) (a.gave before g));
     each = λ T stands z.
         (let g = a.each T stands (clean z) in
-        gone_more Holds Faults Asked AskedFiles Heard T moments l o w s h l1 o1 w1 s1 h1 now l2 o2 w2 s2 h2 g (works (trace_of T.base (g.given ++ T.log)) g.stands z) left);
+        gone_more Holds Faults IsUp MayLeave Asked AskedFiles Heard T moments l o w s h l1 o1 w1 s1 h1 now l2 o2 w2 s2 h2 g (works (trace_of T.base (g.given ++ T.log)) g.stands z) left);
   }
 
   pub turned_stopped : (moments : List ℕ) (l1 : Links) (o1 : Office V) (w1 : W) (s1 : S) (h1 : H) (k1 k2 : C)
-      → HasTurned Holds IsClean Faults Asked AskedFiles Heard Gave false moments l o w s h k l1 o1 w1 s1 h1 k1
+      → HasTurned Holds IsClean Faults IsUp MayLeave Asked AskedFiles Heard Gave false moments l o w s h k l1 o1 w1 s1 h1 k1
       → ((before : List (Option ℕ)) → Gave k1 before → Gave k2 (before ++ None ∷ []))
-      → HasTurned Holds IsClean Faults Asked AskedFiles Heard Gave true moments l o w s h k l1 o1 w1 s1 h1 k2
+      → HasTurned Holds IsClean Faults IsUp MayLeave Asked AskedFiles Heard Gave true moments l o w s h k l1 o1 w1 s1 h1 k2
   turned_stopped moments l1 o1 w1 s1 h1 k1 k2 a called = record {
     gave = λ before g. subst (Gave k2) (none_more before moments) (called (before ++ answers false moments) (a.gave before g));
     each = a.each;

@@ -153,9 +153,9 @@ module _ {V H : Type 0} (Holds : V → Contents → Type 0) (IsClean : V → Typ
   pub heard_on : (o o1 : Office V) (l l1 l2 : H) (given : Log) → ((h : List Hearing) → Heard l1 h → Heard l2 h) → WasHeard Holds IsClean Heard o l o1 l1 given → WasHeard Holds IsClean Heard o l o1 l2 given
   heard_on o o1 l l1 l2 given same a = record { is = λ B L s k. told_on Heard l l1 l2 (heard_of_all B L given) same (a.is B L s k) }
 
-  pub heard_then : (Faults : V → ℕ) (o o1 o2 : Office V) (l l1 l2 : H) (g1 g2 : Log) → WasGiven Holds IsClean Faults o o1 g1 → WasGiven Holds IsClean Faults o1 o2 g2
+  pub heard_then : (Faults : V → ℕ) (IsUp : V → Type 0) (MayLeave : V → Contents → Type 0) (o o1 o2 : Office V) (l l1 l2 : H) (g1 g2 : Log) → WasGiven Holds IsClean Faults IsUp MayLeave o o1 g1 → WasGiven Holds IsClean Faults IsUp MayLeave o1 o2 g2
       → WasHeard Holds IsClean Heard o l o1 l1 g1 → WasHeard Holds IsClean Heard o1 l1 o2 l2 g2 → WasHeard Holds IsClean Heard o l o2 l2 (g2 ++ g1)
-  heard_then Faults o o1 o2 l l1 l2 g1 g2 wa wb a b = record {
+  heard_then Faults IsUp MayLeave o o1 o2 l l1 l2 g1 g2 wa wb a b = record {
     is = λ B L s k. apart_then Heard l l1 l2 B L g1 g2 (a.is B L s (wb.clean k)) (b.is B (g1 ++ L) (wa.stands B L s (wb.clean k)) k);
   }
 

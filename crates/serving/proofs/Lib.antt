@@ -27,6 +27,7 @@ pub mod Trying
 pub mod Ongoing
 pub mod Unread
 pub mod Late
+pub mod Stopping
 pub mod Noting
 pub mod Going
 pub mod Freeing

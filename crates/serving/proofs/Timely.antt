@@ -86,7 +86,7 @@ found_noted true connection now xs ys is c n h = ap (newcomer c) is ∙ found_fi
 
 -- ---- one client
 
-module _ {V : Type 0} (Holds : V → Contents → Type 0) (IsClean : V → Type 0) (Faults : V → ℕ) (now seconds : ℕ) where
+module _ {V : Type 0} (Holds : V → Contents → Type 0) (IsClean : V → Type 0) (Faults : V → ℕ) (IsUp : V → Type 0) (MayLeave : V → Contents → Type 0) (now seconds : ℕ) where
   pub late_none : (o : Office V) (xs : List Newcomer) → HasEndedLate Holds IsClean o o now seconds xs xs [] []
   late_none o xs = record {
     gone = All-nil (IsLateGone now seconds xs);
@@ -142,7 +142,7 @@ module _ {V : Type 0} (Holds : V → Contents → Type 0) (IsClean : V → Type 
   -- ---- one after the other
 
   pub late_more : (o o1 o2 : Office V) (xs ys zs : List Newcomer) (seats cur : List Seat) (i : ℕ) (d : Seat) (g1 g2 : Log) → cur ≡ seats → i < length cur → AreNoMoreLate now seconds xs ys
-      → WasGiven Holds IsClean Faults o o1 g1 → WasGiven Holds IsClean Faults o1 o2 g2
+      → WasGiven Holds IsClean Faults IsUp MayLeave o o1 g1 → WasGiven Holds IsClean Faults IsUp MayLeave o1 o2 g2
       → HasEndedLate Holds IsClean o o1 now seconds xs ys (take i seats) g1 → HasEndedLate Holds IsClean o1 o2 now seconds ys zs (get_or cur i d ∷ []) g2
       → HasEndedLate Holds IsClean o o2 now seconds xs zs (take (i + 1) seats) (g2 ++ g1)
   late_more o o1 o2 xs ys zs seats cur i d g1 g2 is within less wa wb a at_cur =
@@ -180,30 +180,30 @@ module _ {V : Type 0} (Holds : V → Contents → Type 0) (IsClean : V → Type 
 
   pub late_step : (o o1 o2 : Office V) (xs ys zs : List Newcomer) (seats cur : List Seat) (i : ℕ) (d : Seat) (M N K : Log → Type 0) → cur ≡ seats → i < length cur → AreNoMoreLate now seconds xs ys
       → ((g1 g2 : Log) → AreLateGone now seconds ys g2 → M g1 → N g2 → K (g2 ++ g1))
-      → Giving Holds IsClean Faults o o1 (λ g. HasEndedLate Holds IsClean o o1 now seconds xs ys (take i seats) g × M g)
-      → Giving Holds IsClean Faults o1 o2 (λ g. ((e : Seat) → HasEndedLate Holds IsClean o1 o2 now seconds ys zs (get_or cur i e ∷ []) g) × N g)
-      → Giving Holds IsClean Faults o o2 (λ g. HasEndedLate Holds IsClean o o2 now seconds xs zs (take (i + 1) seats) g × K g)
+      → Giving Holds IsClean Faults IsUp MayLeave o o1 (λ g. HasEndedLate Holds IsClean o o1 now seconds xs ys (take i seats) g × M g)
+      → Giving Holds IsClean Faults IsUp MayLeave o1 o2 (λ g. ((e : Seat) → HasEndedLate Holds IsClean o1 o2 now seconds ys zs (get_or cur i e ∷ []) g) × N g)
+      → Giving Holds IsClean Faults IsUp MayLeave o o2 (λ g. HasEndedLate Holds IsClean o o2 now seconds xs zs (take (i + 1) seats) g × K g)
   late_step o o1 o2 xs ys zs seats cur i d M N K is within less join a b = record {
     given = b.given ++ a.given;
-    was_given = given_then Holds IsClean Faults o o1 o2 a.given b.given a.was_given b.was_given;
+    was_given = given_then Holds IsClean Faults IsUp MayLeave o o1 o2 a.given b.given a.was_given b.was_given;
     facts = (late_more o o1 o2 xs ys zs seats cur i d a.given b.given is within less a.was_given b.was_given a.facts.0 (b.facts.0 d), join a.given b.given (b.facts.0 d).gone a.facts.1 b.facts.1);
   }
 
   pub late_whole : (o o1 : Office V) (xs ys : List Newcomer) (seats cur : List Seat) (n : ℕ) (M : Log → Type 0) → cur ≡ seats → length cur ≤ n
-      → Giving Holds IsClean Faults o o1 (λ g. HasEndedLate Holds IsClean o o1 now seconds xs ys (take n seats) g × M g)
-      → Giving Holds IsClean Faults o o1 (λ g. HasEndedLate Holds IsClean o o1 now seconds xs ys seats g × M g)
+      → Giving Holds IsClean Faults IsUp MayLeave o o1 (λ g. HasEndedLate Holds IsClean o o1 now seconds xs ys (take n seats) g × M g)
+      → Giving Holds IsClean Faults IsUp MayLeave o o1 (λ g. HasEndedLate Holds IsClean o o1 now seconds xs ys seats g × M g)
   late_whole o o1 xs ys seats cur n M is h a =
       let k : length seats ≤ n = subst (λ v. length v ≤ n) is h in
-      subst (λ v. Giving Holds IsClean Faults o o1 (λ g. HasEndedLate Holds IsClean o o1 now seconds xs ys v g × M g)) (whole_front seats n k) a
+      subst (λ v. Giving Holds IsClean Faults IsUp MayLeave o o1 (λ g. HasEndedLate Holds IsClean o o1 now seconds xs ys v g × M g)) (whole_front seats n k) a
 
 -- who went was late before, and what else is known of it by that
-pub late_both : {V : Type 0} (Holds : V → Contents → Type 0) (IsClean : V → Type 0) (Faults : V → ℕ) (now seconds seconds0 : ℕ)
+pub late_both : {V : Type 0} (Holds : V → Contents → Type 0) (IsClean : V → Type 0) (Faults : V → ℕ) (IsUp : V → Type 0) (MayLeave : V → Contents → Type 0) (now seconds seconds0 : ℕ)
     (xs ys zs : List Newcomer) (seats : List Seat) (o o1 : Office V) (M K : Log → Type 0) → seconds ≡ seconds0 → AreNoMoreLate now seconds0 xs ys
     → ((g : Log) → AreLateGone now seconds0 ys g → M g → K g)
-    → Giving Holds IsClean Faults o o1 (λ g. HasEndedLate Holds IsClean o o1 now seconds ys zs seats g × M g)
-    → Giving Holds IsClean Faults o o1 (λ g. AreLateGone now seconds0 xs g × HasEndedLate Holds IsClean o o1 now seconds0 ys zs seats g × K g)
-late_both Holds IsClean Faults now seconds seconds0 xs ys zs seats o o1 M K is less more a =
-    let b = subst (λ n. Giving Holds IsClean Faults o o1 (λ g. HasEndedLate Holds IsClean o o1 now n ys zs seats g × M g)) is a in
+    → Giving Holds IsClean Faults IsUp MayLeave o o1 (λ g. HasEndedLate Holds IsClean o o1 now seconds ys zs seats g × M g)
+    → Giving Holds IsClean Faults IsUp MayLeave o o1 (λ g. AreLateGone now seconds0 xs g × HasEndedLate Holds IsClean o o1 now seconds0 ys zs seats g × K g)
+late_both Holds IsClean Faults IsUp MayLeave now seconds seconds0 xs ys zs seats o o1 M K is less more a =
+    let b = subst (λ n. Giving Holds IsClean Faults IsUp MayLeave o o1 (λ g. HasEndedLate Holds IsClean o o1 now n ys zs seats g × M g)) is a in
     record {
       given = b.given;
       was_given = b.was_given;

@@ -81,7 +81,7 @@ line_more wait wait2 may true same more h = refl
 line_more wait wait2 true false same more h = let k : false ≡ true = more refl in cc
 line_more wait wait2 false false same more h = ap (λ n. not (n == 0)) same ∙ h
 
-module _ {V : Type 0} (Holds : V → Contents → Type 0) (IsClean : V → Type 0) (Faults : V → ℕ) where
+module _ {V : Type 0} (Holds : V → Contents → Type 0) (IsClean : V → Type 0) (Faults : V → ℕ) (IsUp : V → Type 0) (MayLeave : V → Contents → Type 0) where
   -- all that was lent was offered
   abbrev pub OffersAll : (o : Office V) (seat : Seat) (offered : ℕ) → Type 0
   OffersAll o seat offered = (B : Records) (L : Log) → StandsFor Holds o (trace_of B L) → offered ≡ min (length (rest (trace_of B L) seat.connection)) most_lent
@@ -225,10 +225,10 @@ module _ {V : Type 0} (Holds : V → Contents → Type 0) (IsClean : V → Type 
   pub written_none : (o : Office V) (seat : Seat) → IsWritten Holds IsClean o o seat 0 0 true [] []
   written_none o seat = record { of_seat = of_none (seat ∷ []); taken = omega arith; octets_are = omega arith; offered = λ B L s k. All-nil (IsOffered B L [] (seat ∷ [])); ends = λ e. cc }
 
-  owes_then : (o o1 o2 : Office V) (c : ℕ) (g1 g2 : Log) → WasGiven Holds IsClean Faults o o1 g1 → WasGiven Holds IsClean Faults o1 o2 g2 → OwesNothing Holds IsClean o1 o2 c g2 → OwesNothing Holds IsClean o o2 c (g2 ++ g1)
+  owes_then : (o o1 o2 : Office V) (c : ℕ) (g1 g2 : Log) → WasGiven Holds IsClean Faults IsUp MayLeave o o1 g1 → WasGiven Holds IsClean Faults IsUp MayLeave o1 o2 g2 → OwesNothing Holds IsClean o1 o2 c g2 → OwesNothing Holds IsClean o o2 c (g2 ++ g1)
   owes_then o o1 o2 c g1 g2 a b owes = λ B L s k. subst (λ l. rest (trace_of B l) c ≡ []) (sym (append_assoc g2 g1 L)) (owes B (g1 ++ L) (a.stands B L s (b.clean k)) k)
 
-  pub written_then : (o o1 o2 : Office V) (seat : Seat) (n1 n2 k1 k2 : ℕ) (goes : Bool) (g1 g2 : Log) (c1 c2 : List Call) → WasGiven Holds IsClean Faults o o1 g1 → WasGiven Holds IsClean Faults o1 o2 g2
+  pub written_then : (o o1 o2 : Office V) (seat : Seat) (n1 n2 k1 k2 : ℕ) (goes : Bool) (g1 g2 : Log) (c1 c2 : List Call) → WasGiven Holds IsClean Faults IsUp MayLeave o o1 g1 → WasGiven Holds IsClean Faults IsUp MayLeave o1 o2 g2
       → IsWritten Holds IsClean o o1 seat n1 k1 true g1 c1 → IsWritten Holds IsClean o1 o2 seat n2 k2 goes g2 c2 → IsWritten Holds IsClean o o2 seat (n1 + n2) (k1 + k2) goes (g2 ++ g1) (c1 ++ c2)
   written_then o o1 o2 seat n1 n2 k1 k2 goes g1 g2 c1 c2 wa wb a b = record {
     of_seat = of_then (seat ∷ []) g1 g2 c1 c2 a.of_seat b.of_seat;
@@ -282,7 +282,7 @@ module _ {V : Type 0} (Holds : V → Contents → Type 0) (IsClean : V → Type 
         All-cons (IsNotedSo noted B L g c way.wait way.may (seat ∷ [])) seat [] (λ h. absurd (calm h)) (All-nil (IsNotedSo noted B L g c way.wait way.may (seat ∷ [])));
   }
 
-  served_unless : (o o1 o2 : Office V) (way : Way) (seat : Seat) (g1 : Log) (c1 c2 : List Call) → WasGiven Holds IsClean Faults o o1 g1 → (IsClean (vault_of o2) → IsClean (vault_of o1))
+  served_unless : (o o1 o2 : Office V) (way : Way) (seat : Seat) (g1 : Log) (c1 c2 : List Call) → WasGiven Holds IsClean Faults IsUp MayLeave o o1 g1 → (IsClean (vault_of o2) → IsClean (vault_of o1))
       → IsWrittenOut Holds IsClean o o1 seat way.share false g1 c1 → IsNotReady Holds o1 seat.connection
       → (B : Records) (L : Log) → StandsFor Holds o (trace_of B L) → IsClean (vault_of o2) → is_open (trace_of B (g1 ++ L)) seat.connection ≡ true → had_its_turn way.share way.poll_now seat.link (c1 ++ c2) ≡ true
   served_unless o o1 o2 way seat g1 c1 c2 wa clean a idle B L s k here =
@@ -293,7 +293,7 @@ module _ {V : Type 0} (Holds : V → Contents → Type 0) (IsClean : V → Type 
       absurd (shut_by (is_open T seat.connection) (untaken T.log (history T) seat.connection) (owes B L s (clean k)) (idle B (g1 ++ L) (wa.stands B L s (clean k))) here)))
       (a.ends refl)
 
-  pub served_one : (o o1 o2 : Office V) (way : Way) (noted : List Newcomer) (seat : Seat) (g1 g2 : Log) (c1 c2 : List Call) → WasGiven Holds IsClean Faults o o1 g1 → WasGiven Holds IsClean Faults o1 o2 g2
+  pub served_one : (o o1 o2 : Office V) (way : Way) (noted : List Newcomer) (seat : Seat) (g1 g2 : Log) (c1 c2 : List Call) → WasGiven Holds IsClean Faults IsUp MayLeave o o1 g1 → WasGiven Holds IsClean Faults IsUp MayLeave o1 o2 g2
       → IsWrittenOut Holds IsClean o o1 seat way.share false g1 c1 → IsHeard Holds o1 seat way.wait way.by_line (way.may seat.connection) (lies_unread (newcomer seat.connection noted)) g2 c2 → HadTurns Holds IsClean o o2 way noted (seat ∷ []) (seat ∷ []) (g2 ++ g1) (c1 ++ c2)
   served_one o o1 o2 way noted seat g1 g2 c1 c2 wa wb a b = record {
     of_seats = of_then (seat ∷ []) g1 g2 c1 c2 a.of_seat b.of_seat;
@@ -325,7 +325,7 @@ module _ {V : Type 0} (Holds : V → Contents → Type 0) (IsClean : V → Type 
     by B L s k (inr (inr (none, inr u))) here = inr (inr (unread_at B L s k u))
 
   -- more is done for the same link
-  pub served_then : (o o1 o2 : Office V) (way : Way) (noted : List Newcomer) (seat : Seat) (g1 g2 : Log) (c1 c2 : List Call) → WasGiven Holds IsClean Faults o o1 g1 → WasGiven Holds IsClean Faults o1 o2 g2
+  pub served_then : (o o1 o2 : Office V) (way : Way) (noted : List Newcomer) (seat : Seat) (g1 g2 : Log) (c1 c2 : List Call) → WasGiven Holds IsClean Faults IsUp MayLeave o o1 g1 → WasGiven Holds IsClean Faults IsUp MayLeave o1 o2 g2
       → HadTurns Holds IsClean o o1 way noted (seat ∷ []) (seat ∷ []) g1 c1 → IsQuietFor (seat ∷ []) g2 c2
       → AreOffered Holds IsClean o1 o2 (seat ∷ []) g2 c2 → HadTurns Holds IsClean o o2 way noted (seat ∷ []) (seat ∷ []) (g2 ++ g1) (c1 ++ c2)
   served_then o o1 o2 way noted seat g1 g2 c1 c2 wa wb a b all = record {
@@ -398,7 +398,7 @@ module _ {V : Type 0} (Holds : V → Contents → Type 0) (IsClean : V → Type 
 
   pub served_more : (o o1 o2 : Office V) (way : Way) (noted noted2 : List Newcomer) (seats now : List Seat) (i : ℕ) (d : Seat) (g1 g2 : Log) (c1 c2 : List Call) → now ≡ seats → i < length now
       → ((c : ℕ) → lies_unread (newcomer c noted2) ≡ true → (lies_unread (newcomer c noted) ≡ true) ⊎ (c ≡ (get_or now i d).connection))
-      → WasGiven Holds IsClean Faults o o1 g1 → WasGiven Holds IsClean Faults o1 o2 g2
+      → WasGiven Holds IsClean Faults IsUp MayLeave o o1 g1 → WasGiven Holds IsClean Faults IsUp MayLeave o1 o2 g2
       → HadTurns Holds IsClean o o1 way noted seats (take i seats) g1 c1 → HadTurns Holds IsClean o1 o2 way noted2 now (get_or now i d ∷ []) g2 c2 → HadTurns Holds IsClean o o2 way noted2 seats (take (i + 1) seats) (g2 ++ g1) (c1 ++ c2)
   served_more o o1 o2 way noted noted2 seats now i d g1 g2 c1 c2 is within law wa wb a at_now =
       let h : i < length seats = subst (λ xs. i < length xs) is within in
@@ -440,27 +440,27 @@ module _ {V : Type 0} (Holds : V → Contents → Type 0) (IsClean : V → Type 
 
 -- ---- what was looked at first
 
-module _ {V W H : Type 0} (Holds : V → Contents → Type 0) (IsClean : V → Type 0) (Faults : V → ℕ) (Asked : W → List Call → Type 0) (Heard : H → List Hearing → Type 0) where
+module _ {V W H : Type 0} (Holds : V → Contents → Type 0) (IsClean : V → Type 0) (Faults : V → ℕ) (IsUp : V → Type 0) (MayLeave : V → Contents → Type 0) (Asked : W → List Call → Type 0) (Heard : H → List Hearing → Type 0) where
   pub heard_asked : (o : Office V) (w w1 : W) (l : H) (seat : Seat) (wait : ℕ) (by_line may is_noted : Bool) (N : List Call → Type 0) (calls : List Call) → WasAsked Asked w w1 calls → IsHeard Holds o seat wait by_line may is_noted [] calls → N calls
-      → Part Holds IsClean Faults Asked o w o w1 (WithHeard Holds IsClean Heard o l o l (Also (IsHeard Holds o seat wait by_line may is_noted) N))
-  heard_asked o w w1 l seat wait by_line may is_noted N calls asked a n = record { given = []; calls = calls; was_given = given_none Holds IsClean Faults o; was_asked = asked; facts = (unheard Holds IsClean Heard o l, (a, n)) }
+      → Part Holds IsClean Faults IsUp MayLeave Asked o w o w1 (WithHeard Holds IsClean Heard o l o l (Also (IsHeard Holds o seat wait by_line may is_noted) N))
+  heard_asked o w w1 l seat wait by_line may is_noted N calls asked a n = record { given = []; calls = calls; was_given = given_none Holds IsClean Faults IsUp MayLeave o; was_asked = asked; facts = (unheard Holds IsClean Heard o l, (a, n)) }
 
   pub heard_after : (o o1 : Office V) (w w1 w2 : W) (l l1 : H) (seat : Seat) (wait : ℕ) (by_line may is_noted : Bool) (pace : Pace) (refusals : List Refusal) (room : ℕ) (login : Option LoginName) (M N : List Call → Type 0) (looks : List Call) → ((c : List Call) → M c → N (looks ++ c))
       → IsQuietFor (seat ∷ []) [] looks → HasLooked Holds o seat pace refusals room login looks → (room == 0) ≡ false → (pace.by_line ≡ true → by_line ≡ true) → (is_noted ≡ true → ⊥) → WasAsked Asked w w1 looks
-      → Part Holds IsClean Faults Asked o w1 o1 w2 (WithHeard Holds IsClean Heard o l o1 l1 (Also (IsReadOnce Holds o seat room) M))
-      → Part Holds IsClean Faults Asked o w o1 w2 (WithHeard Holds IsClean Heard o l o1 l1 (Also (IsHeard Holds o seat wait by_line may is_noted) N))
+      → Part Holds IsClean Faults IsUp MayLeave Asked o w1 o1 w2 (WithHeard Holds IsClean Heard o l o1 l1 (Also (IsReadOnce Holds o seat room) M))
+      → Part Holds IsClean Faults IsUp MayLeave Asked o w o1 w2 (WithHeard Holds IsClean Heard o l o1 l1 (Also (IsHeard Holds o seat wait by_line may is_noted) N))
   heard_after o o1 w w1 w2 l l1 seat wait by_line may is_noted pace refusals room login M N looks more quiet looked some line calm asked a = record {
     given = a.given;
     calls = looks ++ a.calls;
     was_given = a.was_given;
     was_asked = asked_then Asked w w1 w2 looks a.calls asked a.was_asked;
-    facts = (a.facts.0, (heard_behind Holds IsClean Faults wait by_line may is_noted o seat pace refusals room login a.given looks a.calls quiet looked some line calm a.facts.1.0, more a.calls a.facts.1.1));
+    facts = (a.facts.0, (heard_behind Holds IsClean Faults IsUp MayLeave wait by_line may is_noted o seat pace refusals room login a.given looks a.calls quiet looked some line calm a.facts.1.0, more a.calls a.facts.1.1));
   }
 
   -- a read that had room for so many octets of a buffer
   pub read_part : (o o1 : Office V) (w w1 : W) (l l1 : H) (seat : Seat) (n : ℕ) (xs : List ℕ) (M : List Call → Type 0)
-      → Part Holds IsClean Faults Asked o w o1 w1 (WithHeard Holds IsClean Heard o l o1 l1 (Also (IsReadOnce Holds o seat (length (take n xs))) M)) → n ≤ length xs
-      → Part Holds IsClean Faults Asked o w o1 w1 (WithHeard Holds IsClean Heard o l o1 l1 (Also (IsReadOnce Holds o seat n) M))
+      → Part Holds IsClean Faults IsUp MayLeave Asked o w o1 w1 (WithHeard Holds IsClean Heard o l o1 l1 (Also (IsReadOnce Holds o seat (length (take n xs))) M)) → n ≤ length xs
+      → Part Holds IsClean Faults IsUp MayLeave Asked o w o1 w1 (WithHeard Holds IsClean Heard o l o1 l1 (Also (IsReadOnce Holds o seat n) M))
   read_part o o1 w w1 l l1 seat n xs M a h =
       let e : length (take n xs) ≡ n = (let k = length-take n xs in omega (arith, k, h)) in
-      subst (λ m. Part Holds IsClean Faults Asked o w o1 w1 (WithHeard Holds IsClean Heard o l o1 l1 (Also (IsReadOnce Holds o seat m) M))) e a
+      subst (λ m. Part Holds IsClean Faults IsUp MayLeave Asked o w o1 w1 (WithHeard Holds IsClean Heard o l o1 l1 (Also (IsReadOnce Holds o seat m) M))) e a

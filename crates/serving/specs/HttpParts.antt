@@ -46,7 +46,7 @@ abbrev pub DoesApart : {V W L : Type 0} (vault : Ghosts V) (wire : the_wire.Ghos
     (listener : the_listener.Ghosts L) (old new : Server V W L)
     (Did : Records → Log → Log → List Call → Type 0) → Type 0
 DoesApart vault wire listener old new Did =
-    Part vault.holds vault.is_clean vault.faults wire.asked old.office old.wire new.office new.wire
+    Part vault.holds vault.is_clean vault.faults vault.is_up vault.may_leave wire.asked old.office old.wire new.office new.wire
     (DidApart vault.holds vault.is_clean old.office new.office
     (HeardApart listener.heard old.listener new.listener Did))
 
@@ -55,16 +55,17 @@ abbrev pub ServesApart : {V W L : Type 0} (vault : Ghosts V) (wire : the_wire.Gh
     (listener : the_listener.Ghosts L) (old new : Server V W L) (Facts : List Call → Type 0)
     (Did : Records → Log → Log → List Call → Type 0) → Type 0
 ServesApart vault wire listener old new Facts Did =
-    Part vault.holds vault.is_clean vault.faults wire.asked old.office old.wire new.office new.wire
+    Part vault.holds vault.is_clean vault.faults vault.is_up vault.may_leave wire.asked old.office old.wire new.office new.wire
     (Also (DidApart vault.holds vault.is_clean old.office new.office
     (HeardApart listener.heard old.listener new.listener Did)) Facts)
 
 -- One that asks the wire nothing.
 abbrev pub GivesApart : {V : Type 0} (Holds : V → Contents → Type 0) (IsClean : V → Type 0)
-    (Faults : V → ℕ) (office office_then : Office V)
+    (Faults : V → ℕ)
+    (IsUp : V → Type 0) (MayLeave : V → Contents → Type 0) (office office_then : Office V)
     (Did : Records → Log → Log → List Call → Type 0) → Type 0
-GivesApart Holds IsClean Faults office office_then Did =
-    Giving Holds IsClean Faults office office_then
+GivesApart Holds IsClean Faults IsUp MayLeave office office_then Did =
+    Giving Holds IsClean Faults IsUp MayLeave office office_then
     (λ given. DidApart Holds IsClean office office_then Did given [])
 
 -- One that gives the office nothing.

@@ -17,6 +17,7 @@ pub mod Works
 pub mod Ways
 pub mod Seen
 pub mod Late
+pub mod Stopping
 pub mod Hearing
 pub mod HttpTurns
 pub mod HttpWorks

@@ -35,6 +35,7 @@ use Rattle.serving.specs.Works.{AreCaused, WasAsked}
 use Rattle.serving.specs.Hearing.{WithHeard}
 use Rattle.serving.specs.Served.{Precedes, StillServes}
 use Rattle.serving.specs.Late.{IsShutBy}
+use Rattle.serving.specs.Stopping.{Outlasts}
 
 -- ---- what it gives and asks
 
@@ -58,7 +59,8 @@ AreNoMoreLate now seconds newcomers newcomers_then = (c : ℕ)
     → is_late now seconds newcomers_then c ≡ true
     → (other : ℕ) → is_late now other newcomers c ≡ is_late now other newcomers_then c
 
-pub record WasGiven {V : Type 0} (Holds : V → Contents → Type 0) (IsClean : V → Type 0) (Faults : V → ℕ) (office office_then : Office V) (given : Log) : Type 0 where
+pub record WasGiven {V : Type 0} (Holds : V → Contents → Type 0) (IsClean : V → Type 0) (Faults : V → ℕ)
+    (IsUp : V → Type 0) (MayLeave : V → Contents → Type 0) (office office_then : Office V) (given : Log) : Type 0 where
   pub clean : IsClean (vault_of office_then) → IsClean (vault_of office)
   pub stands : (B : Records) (L : Log) → StandsFor Holds office (trace_of B L) → IsClean (vault_of office_then) → StandsFor Holds office_then (trace_of B (given ++ L))
   pub admitted : (B : Records) (L : Log) → StandsFor Holds office (trace_of B L) → IsClean (vault_of office_then) → AreNewlyAdmitted B L given
@@ -66,13 +68,16 @@ pub record WasGiven {V : Type 0} (Holds : V → Contents → Type 0) (IsClean : 
   pub counted : Faults (vault_of office) ≤ Faults (vault_of office_then)
   pub failed : (B : Records) (L : Log) → StandsFor Holds office (trace_of B L) → IsClean (vault_of office_then) → list_any is_failed given ≡ true
       → has_grown (Faults (vault_of office)) (Faults (vault_of office_then)) ≡ true
+  -- whether the store's device is up, and what a stop leaves
+  pub outlasts : Outlasts Holds IsClean IsUp MayLeave office office_then given
 
 -- a part of a turn, of whose events and calls this holds
-pub record Part {V W : Type 0} (Holds : V → Contents → Type 0) (IsClean : V → Type 0) (Faults : V → ℕ) (Asked : W → List Call → Type 0)
+pub record Part {V W : Type 0} (Holds : V → Contents → Type 0) (IsClean : V → Type 0) (Faults : V → ℕ)
+    (IsUp : V → Type 0) (MayLeave : V → Contents → Type 0) (Asked : W → List Call → Type 0)
     (office : Office V) (wire : W) (office_then : Office V) (wire_then : W) (Facts : Log → List Call → Type 0) : Type 0 where
   pub given : Log
   pub calls : List Call
-  pub was_given : WasGiven Holds IsClean Faults office office_then given
+  pub was_given : WasGiven Holds IsClean Faults IsUp MayLeave office office_then given
   pub was_asked : WasAsked Asked wire wire_then calls
   pub facts : Facts given calls
 
@@ -83,9 +88,10 @@ pub record Asking {W : Type 0} (Asked : W → List Call → Type 0) (wire wire_t
   pub facts : Facts calls
 
 -- a part that gives events to the office alone
-pub record Giving {V : Type 0} (Holds : V → Contents → Type 0) (IsClean : V → Type 0) (Faults : V → ℕ) (office office_then : Office V) (Facts : Log → Type 0) : Type 0 where
+pub record Giving {V : Type 0} (Holds : V → Contents → Type 0) (IsClean : V → Type 0) (Faults : V → ℕ)
+    (IsUp : V → Type 0) (MayLeave : V → Contents → Type 0) (office office_then : Office V) (Facts : Log → Type 0) : Type 0 where
   pub given : Log
-  pub was_given : WasGiven Holds IsClean Faults office office_then given
+  pub was_given : WasGiven Holds IsClean Faults IsUp MayLeave office office_then given
   pub facts : Facts given
 
 -- no wait, no link that comes, none that is closed, no tick and no opening
@@ -109,7 +115,7 @@ abbrev pub Does : {V W L : Type 0} (vault : Ghosts V) (wire : the_wire.Ghosts W)
     (listener : the_listener.Ghosts L) (old new : Server V W L) (Facts : Log → List Call → Type 0)
     → Type 0
 Does vault wire listener old new Facts =
-    Part vault.holds vault.is_clean vault.faults wire.asked old.office old.wire new.office new.wire
+    Part vault.holds vault.is_clean vault.faults vault.is_up vault.may_leave wire.asked old.office old.wire new.office new.wire
     (WithHeard vault.holds vault.is_clean listener.heard old.office old.listener
     new.office new.listener Facts)
 
@@ -117,7 +123,7 @@ Does vault wire listener old new Facts =
 pub record Gives {V W L : Type 0} (vault : Ghosts V) (old new : Server V W L)
     (Facts : Log → Type 0) : Type 0 where
   pub wire : new.wire ≡ old.wire
-  pub part : Giving vault.holds vault.is_clean vault.faults old.office new.office Facts
+  pub part : Giving vault.holds vault.is_clean vault.faults vault.is_up vault.may_leave old.office new.office Facts
 
 -- A server still serves these seats, if the store is clean.
 abbrev pub KeepsServing : {V W L : Type 0} (vault : Ghosts V) (wire : the_wire.Ghosts W)

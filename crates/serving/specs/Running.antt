@@ -34,37 +34,50 @@ pub record LeavesAsFound (now : ℕ) (links links_then : Links) : Type 0 where
 -- The turns of these moments were done, the oldest first, and gave these events: each turn works,
 -- from the trace with the events of those before it.
 pub data AreTurns {V W S H : Type 0} (Holds : V → Contents → Type 0) (Faults : V → ℕ)
+    (IsUp : V → Type 0) (MayLeave : V → Contents → Type 0)
     (Asked : W → List Call → Type 0) (AskedFiles : S → List FileCall → Type 0)
     (Heard : H → List Hearing → Type 0) (T : Trace)
     (links : Links) (office : Office V) (wire : W) (spool : S) (listener : H)
     : (moments : List ℕ) → (given : Log) → Links → Office V → W → S → H → Type 0 where
-  NoTurn : AreTurns Holds Faults Asked AskedFiles Heard T links office wire spool listener
+  NoTurn : AreTurns Holds Faults IsUp MayLeave Asked AskedFiles Heard T links office wire spool listener
       [] [] links office wire spool listener
   OneMore : (moments : List ℕ) (given : Log) (links1 : Links) (office1 : Office V) (wire1 : W)
       (spool1 : S) (listener1 : H) (now : ℕ) (links2 : Links) (office2 : Office V) (wire2 : W)
       (spool2 : S) (listener2 : H)
-      → AreTurns Holds Faults Asked AskedFiles Heard T links office wire spool listener
+      → AreTurns Holds Faults IsUp MayLeave Asked AskedFiles Heard T links office wire spool listener
       moments given links1 office1 wire1 spool1 listener1
-      → (turn : Works Holds Faults Asked AskedFiles Heard (trace_of T.base (given ++ T.log)) now
+      → (turn : Works Holds Faults IsUp MayLeave Asked AskedFiles Heard (trace_of T.base (given ++ T.log)) now
       links1 office1 wire1 spool1 listener1 office2 links2 wire2 spool2 listener2)
       → LeavesAsFound now links1 links2
-      → AreTurns Holds Faults Asked AskedFiles Heard T links office wire spool listener
+      → AreTurns Holds Faults IsUp MayLeave Asked AskedFiles Heard T links office wire spool listener
       (moments ++ now ∷ []) (given_in turn.seen ++ given) links2 office2 wire2 spool2 listener2
 
 -- So an office went on since a trace: it stands for that trace with the events of the turns.
 pub record HasGoneOn {V W S H : Type 0} (Holds : V → Contents → Type 0) (Faults : V → ℕ)
+    (IsUp : V → Type 0) (MayLeave : V → Contents → Type 0)
     (Asked : W → List Call → Type 0) (AskedFiles : S → List FileCall → Type 0)
     (Heard : H → List Hearing → Type 0) (T : Trace) (moments : List ℕ)
     (links : Links) (office : Office V) (wire : W) (spool : S) (listener : H)
     (links_then : Links) (office_then : Office V) (wire_then : W) (spool_then : S)
     (listener_then : H) : Type 0 where
   pub given : Log
-  pub turns : AreTurns Holds Faults Asked AskedFiles Heard T links office wire spool listener
+  pub turns : AreTurns Holds Faults IsUp MayLeave Asked AskedFiles Heard T links office wire spool listener
       moments given links_then office_then wire_then spool_then listener_then
   pub stands : StandsFor Holds office_then (trace_of T.base (given ++ T.log))
   -- each event has a tag that it may have
   pub admitted : AreNewlyAdmitted T.base T.log given
   -- the store's count of faults never falls, and an event failed only if it grew
+  pub counted : Faults (vault_of office) ≤ Faults (vault_of office_then)
+  pub failed : list_any is_failed given ≡ true
+      → has_grown (Faults (vault_of office)) (Faults (vault_of office_then)) ≡ true
+
+-- What came of an office that was served since a trace, whatever came on its links: it stands for
+-- that trace with the events that it was given; the rest as above.
+pub record WasServed {V : Type 0} (Holds : V → Contents → Type 0) (Faults : V → ℕ) (T : Trace)
+    (office office_then : Office V) : Type 0 where
+  pub given : Log
+  pub stands : StandsFor Holds office_then (trace_of T.base (given ++ T.log))
+  pub admitted : AreNewlyAdmitted T.base T.log given
   pub counted : Faults (vault_of office) ≤ Faults (vault_of office_then)
   pub failed : list_any is_failed given ≡ true
       → has_grown (Faults (vault_of office)) (Faults (vault_of office_then)) ≡ true
@@ -75,7 +88,8 @@ answers stopped moments = map (λ m. Some m) moments ++ (if stopped then None �
 
 -- A clock was asked for these moments and no others, and for each a turn was done, since any trace.
 pub record HasTurned {V W S H C : Type 0} (Holds : V → Contents → Type 0) (IsClean : V → Type 0)
-    (Faults : V → ℕ) (Asked : W → List Call → Type 0) (AskedFiles : S → List FileCall → Type 0)
+    (Faults : V → ℕ)
+    (IsUp : V → Type 0) (MayLeave : V → Contents → Type 0) (Asked : W → List Call → Type 0) (AskedFiles : S → List FileCall → Type 0)
     (Heard : H → List Hearing → Type 0) (Gave : C → List (Option ℕ) → Type 0)
     (stopped : Bool) (moments : List ℕ)
     (links : Links) (office : Office V) (wire : W) (spool : S) (listener : H) (clock : C)
@@ -84,7 +98,7 @@ pub record HasTurned {V W S H C : Type 0} (Holds : V → Contents → Type 0) (I
   pub gave : (before : List (Option ℕ)) → Gave clock before
       → Gave clock_then (before ++ answers stopped moments)
   pub each : (T : Trace) → StandsFor Holds office T → IsClean (vault_of office_then)
-      → HasGoneOn Holds Faults Asked AskedFiles Heard T moments
+      → HasGoneOn Holds Faults IsUp MayLeave Asked AskedFiles Heard T moments
       links office wire spool listener links_then office_then wire_then spool_then listener_then
 
 -- If the clock stopped, the wire was asked for one wait more, and for nothing else.
@@ -97,7 +111,8 @@ WaitsOnceMore Asked false links wire wire_then = wire_then ≡ wire
 -- Turns were done until the clock stopped, or so many were over. The clock is asked after a turn's
 -- wait: if it stopped, nothing but this wait was done since the turn before.
 pub record HasRun {V W S H C : Type 0} (Holds : V → Contents → Type 0) (IsClean : V → Type 0)
-    (Faults : V → ℕ) (Asked : W → List Call → Type 0) (AskedFiles : S → List FileCall → Type 0)
+    (Faults : V → ℕ)
+    (IsUp : V → Type 0) (MayLeave : V → Contents → Type 0) (Asked : W → List Call → Type 0) (AskedFiles : S → List FileCall → Type 0)
     (Heard : H → List Hearing → Type 0) (Gave : C → List (Option ℕ) → Type 0) (most : ℕ)
     (links : Links) (office : Office V) (wire : W) (spool : S) (listener : H) (clock : C)
     (links_then : Links) (office_then : Office V) (wire_then : W) (spool_then : S)
@@ -106,7 +121,7 @@ pub record HasRun {V W S H C : Type 0} (Holds : V → Contents → Type 0) (IsCl
   pub stopped : Bool
   -- the wire after the last turn that was done
   pub wire_left : W
-  pub turned : HasTurned Holds IsClean Faults Asked AskedFiles Heard Gave stopped moments
+  pub turned : HasTurned Holds IsClean Faults IsUp MayLeave Asked AskedFiles Heard Gave stopped moments
       links office wire spool listener clock
       links_then office_then wire_left spool_then listener_then clock_then
   pub last : WaitsOnceMore Asked stopped links_then wire_left wire_then

@@ -51,11 +51,12 @@ abbrev pub has_dealt : List FileCall → Bool
 has_dealt calls = list_any is_dealt calls
 
 -- a part of a turn that gives deposits to the office and asks the spool
-pub record SpoolPart {V S : Type 0} (Holds : V → Contents → Type 0) (IsClean : V → Type 0) (Faults : V → ℕ) (Asked : S → List FileCall → Type 0)
+pub record SpoolPart {V S : Type 0} (Holds : V → Contents → Type 0) (IsClean : V → Type 0) (Faults : V → ℕ)
+    (IsUp : V → Type 0) (MayLeave : V → Contents → Type 0) (Asked : S → List FileCall → Type 0)
     (office : Office V) (spool : S) (office_then : Office V) (spool_then : S) (Facts : Trace → Log → List FileCall → Type 0) : Type 0 where
   pub given : Log
   pub calls : List FileCall
-  pub was_given : WasGiven Holds IsClean Faults office office_then given
+  pub was_given : WasGiven Holds IsClean Faults IsUp MayLeave office office_then given
   pub was_asked : (before : List FileCall) → Asked spool before → Asked spool_then (before ++ calls)
   pub deposits : AreDeposits given
   pub facts : (T : Trace) → StandsFor Holds office T → IsClean (vault_of office_then) → Facts T given calls

@@ -3,7 +3,7 @@
 -- specs/Seen; proofs/TurnRows works one turn out.
 use Rattle.std.specs.Prelude.{◌≡◌, ◌⊎◌, ◌≤◌, ℕ, Bool, true, false, ◌==◌, ◌||◌, List, [], ◌∷◌, ◌++◌}
 use Rattle.std.specs.Prelude.{length, map, filter, filter_map, Some, if◌then◌else◌}
-use Rattle.std.specs.List.{All, list_any}
+use Rattle.std.specs.List.{All, list_all, list_any}
 use Rattle.vault.specs.Calls.{has_grown}
 use Rattle.vault.specs.Changes.{Contents}
 use Rattle.office.specs.Events.{EventTag, Trace}
@@ -26,6 +26,7 @@ use Rattle.serving.specs.Seen.{trace_after, may_keep}
 use Rattle.serving.specs.Settings.{settings, last_tried}
 use Rattle.serving.specs.SpoolTurns.{IsSpoolTurn, has_dealt}
 use Rattle.serving.specs.Spools.{FileCall}
+use Rattle.serving.specs.Stopping.{is_answered, StopLeavesAfter}
 use Rattle.serving.specs.Works.{seat_of, unseated_of, link_of, HasAccepted, most_links, share_by}
 use Rattle.serving.specs.Works.{had_its_turn, HasFreed, IsOffered, AreCaused, is_open_seat}
 use Rattle.serving.specs.Works.{is_shut_seat, link_of_seat}
@@ -138,6 +139,7 @@ module _ (T : Trace) (now : ℕ) (links links_then : Links) (t : Seen) where
 -- faults never falls, and an event failed only if it grew; no other call was made, and nothing else
 -- was heard.
 pub record Works {V W S H : Type 0} (Holds : V → Contents → Type 0) (Faults : V → ℕ)
+    (IsUp : V → Type 0) (MayLeave : V → Contents → Type 0)
     (Asked : W → List Call → Type 0) (AskedFiles : S → List FileCall → Type 0)
     (Heard : H → List Hearing → Type 0) (T : Trace) (now : ℕ)
     (links : Links) (office : Office V) (wire : W) (spool : S) (listener : H)
@@ -149,6 +151,12 @@ pub record Works {V W S H : Type 0} (Holds : V → Contents → Type 0) (Faults 
   pub counted : Faults (vault_of office) ≤ Faults (vault_of office_then)
   pub failed : list_any is_failed (given_in seen) ≡ true
       → has_grown (Faults (vault_of office)) (Faults (vault_of office_then)) ≡ true
+  -- a store's device that was up is up, unless an event failed or wanted memory; and what a stop in
+  -- the last event leaves, if all before it were answered
+  pub up : IsUp (vault_of office) → list_all is_answered (given_in seen) ≡ true
+      → IsUp (vault_of office_then)
+  pub stop : IsUp (vault_of office)
+      → StopLeavesAfter (MayLeave (vault_of office_then)) T.base T.log (given_in seen)
   pub asked : WasAsked Asked wire wire_then (calls_in seen)
   pub asked_files : (before : List FileCall) → AskedFiles spool before
       → AskedFiles spool_then (before ++ seen.file_calls)

@@ -41,7 +41,8 @@ fn disposal_by(outcome: Outcome) -> Disposal
 /// Deposits a file, and removes, renames or leaves it by the office's answer; one that can't be
 /// read is left. Returns whether it was removed or renamed.
 fn try_file<V: Vault, S: Spool>(office: &mut Office<V>, spool: &mut S, name: &FileName) -> bool
-    ensures works { SpoolPart V.holds V.is_clean V.faults S.asked office.old spool.old office.new
+    ensures works { SpoolPart V.holds V.is_clean V.faults V.is_up V.may_leave
+        S.asked office.old spool.old office.new
         spool.new (λ T given calls. IsTrying name.now T given calls × (result ≡ has_dealt calls)) }
     ensures tried { (T : Trace) (acts : List FileAct) → StandsFor V.holds office.old T
         → S.tells spool.old acts → V.is_clean (vault_of office.new)
@@ -65,7 +66,8 @@ pub(crate) fn serve_spool<V: Vault, S: Spool>(
     spool: &mut S,
     links: &mut Clients,
 )
-    ensures works { SpoolPart V.holds V.is_clean V.faults S.asked office.old spool.old office.new
+    ensures works { SpoolPart V.holds V.is_clean V.faults V.is_up V.may_leave
+        S.asked office.old spool.old office.new
         spool.new (λ T given calls. IsSpoolTurn links.old.last links.new.last T given calls ×
         (links.new.poll_now ≡ (links.old.poll_now || has_dealt calls))) }
     ensures tried { (T : Trace) (acts : List FileAct) → StandsFor V.holds office.old T

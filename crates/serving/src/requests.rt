@@ -211,7 +211,7 @@ fn command<V: Vault, L: Listener>(
     ensures works { (site : Site) (read : List ℕ) → ((B : Records) (L : Log)
         → StandsFor V.holds office.old (trace_of B L)
         → IsRequest site (access_in L) read (Ok (command_seen command.now)))
-        → GivesApart V.holds V.is_clean V.faults office.old office.new
+        → GivesApart V.holds V.is_clean V.faults V.is_up V.may_leave office.old office.new
         (HeardApart L.heard listener.old listener.new
         (ComeTo site read (Some (octets_of result)))) }
     ensures asked { (site : Site) (B : Records) (L : Log) (read : List ℕ)
@@ -288,7 +288,7 @@ fn respond_to<V: Vault, L: Listener>(
     link: Link,
     read: &[u8],
 ) -> Option<Response>
-    ensures works { GivesApart V.holds V.is_clean V.faults office.old office.new
+    ensures works { GivesApart V.holds V.is_clean V.faults V.is_up V.may_leave office.old office.new
         (HeardApart L.heard listener.old listener.new
         (ComeTo site.now read.now (option_map octets_of result))) }
     ensures asked { (B : Records) (L : Log) → StandsFor V.holds office.old (trace_of B L)
@@ -313,7 +313,7 @@ fn take_piece<V: Vault, L: Listener>(
     exchange: &mut Exchange,
     piece: &[u8],
 )
-    ensures works { GivesApart V.holds V.is_clean V.faults office.old office.new
+    ensures works { GivesApart V.holds V.is_clean V.faults V.is_up V.may_leave office.old office.new
         (HeardApart L.heard listener.old listener.new
         (ComeTo site.now (exchange.old.read.items ++ piece.now) (response_of exchange.new))) }
     ensures asked { (B : Records) (L : Log) → StandsFor V.holds office.old (trace_of B L)

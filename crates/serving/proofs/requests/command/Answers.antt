@@ -30,8 +30,8 @@ returns-clause-works g c = λ site read asks.
     let l1 = c.tell_end.new.listener in
     let l2 = c.asked.new.self in
     let told = c.step_with_account-report.result.account in
-    gives_command g.V.Vault.holds g.V.Vault.is_clean g.V.Vault.faults o o1 seen (event_tag_of out) (HeardApart g.L.Listener.heard l l2 (ComeTo site read (Some response)))
-    (given_one g.V.Vault.holds g.V.Vault.is_clean g.V.Vault.faults o o1 (event.Admin seen) out c.step_with_account-report.ensures.clean c.step_with_account-report.ensures.stands c.step_with_account-report.ensures.admitted c.step_with_account-report.ensures.counted c.step_with_account-report.ensures.cause)
+    gives_command g.V.Vault.holds g.V.Vault.is_clean g.V.Vault.faults g.V.Vault.is_up g.V.Vault.may_leave o o1 seen (event_tag_of out) (HeardApart g.L.Listener.heard l l2 (ComeTo site read (Some response)))
+    (given_one g.V.Vault.holds g.V.Vault.is_clean g.V.Vault.faults g.V.Vault.is_up g.V.Vault.may_leave o o1 (event.Admin seen) out c.step_with_account-report.ensures.clean c.step_with_account-report.ensures.stands c.step_with_account-report.ensures.admitted c.step_with_account-report.ensures.counted c.step_with_account-report.ensures.cause c.step_with_account-report.ensures.up c.step_with_account-report.ensures.stop)
     (λ B L stands clean. (
       told_still g.L.Listener.heard l l1 l2 (heard_of_all B L ((event.Admin seen, event_tag_of out) ∷ []))
           (command_told g.L.Listener.heard l l1 B L seen (event_tag_of out) told (c.step_with_account-report.ensures.account (trace_of B L) stands clean) c.tell_end.ensures)

@@ -37,7 +37,7 @@ returns-in-NoMemory-clause-asked g c = λ B L stands clean.
 pub returns-in-More-clause-works : goal.returns-in-More-clause-works
 returns-in-More-clause-works g c =
     let l = c.args.listener.now in
-    gives_none_standing g.V.Vault.holds g.V.Vault.is_clean g.V.Vault.faults c.args.office.now
+    gives_none_standing g.V.Vault.holds g.V.Vault.is_clean g.V.Vault.faults g.V.Vault.is_up g.V.Vault.may_leave c.args.office.now
     (HeardApart g.L.Listener.heard l l (ComeTo c.args.site.now c.args.read.now None))
     (λ B L stands.
     let read = as_opened c.args.site.now L c.args.read.now _ _ (c.admin_access.ensures (trace_of B L) stands) c.in-More.ensures in
@@ -47,7 +47,7 @@ pub returns-in-Bad-clause-works : goal.returns-in-Bad-clause-works
 returns-in-Bad-clause-works g c =
     let response = octets_of c.refuse.result in
     let l = c.args.listener.now in
-    gives_none_standing g.V.Vault.holds g.V.Vault.is_clean g.V.Vault.faults c.args.office.now
+    gives_none_standing g.V.Vault.holds g.V.Vault.is_clean g.V.Vault.faults g.V.Vault.is_up g.V.Vault.may_leave c.args.office.now
     (HeardApart g.L.Listener.heard l c.refuse.new.listener (ComeTo c.args.site.now c.args.read.now (Some response)))
     (λ B L stands.
     let read = as_opened c.args.site.now L c.args.read.now _ _ (c.admin_access.ensures (trace_of B L) stands) c.in-Bad.ensures in
@@ -58,7 +58,7 @@ pub returns-in-BadPolicy-clause-works : goal.returns-in-BadPolicy-clause-works
 returns-in-BadPolicy-clause-works g c =
     let response = octets_of c.refuse_policy.result in
     let l = c.args.listener.now in
-    gives_none_standing g.V.Vault.holds g.V.Vault.is_clean g.V.Vault.faults c.args.office.now
+    gives_none_standing g.V.Vault.holds g.V.Vault.is_clean g.V.Vault.faults g.V.Vault.is_up g.V.Vault.may_leave c.args.office.now
     (HeardApart g.L.Listener.heard l c.refuse_policy.new.listener (ComeTo c.args.site.now c.args.read.now (Some response)))
     (λ B L stands.
     let read = as_opened c.args.site.now L c.args.read.now _ _ (c.admin_access.ensures (trace_of B L) stands) c.in-BadPolicy.ensures in
@@ -69,7 +69,7 @@ pub returns-in-NoMemory-clause-works : goal.returns-in-NoMemory-clause-works
 returns-in-NoMemory-clause-works g c =
     let response = octets_of c.refuse-in-NoMemory.result in
     let l = c.args.listener.now in
-    gives_none g.V.Vault.holds g.V.Vault.is_clean g.V.Vault.faults c.args.office.now
+    gives_none g.V.Vault.holds g.V.Vault.is_clean g.V.Vault.faults g.V.Vault.is_up g.V.Vault.may_leave c.args.office.now
     (HeardApart g.L.Listener.heard l c.refuse-in-NoMemory.new.listener (ComeTo c.args.site.now c.args.read.now (Some response)))
     (λ B L.
     let is = subst (λ (r : List ℕ). IsResponse c.args.site.now B L c.args.read.now None r) (sym c.refuse-in-NoMemory.ensures.told) ForMemory in

@@ -24,7 +24,7 @@ pub returns-then-is_err-clause-works : goal.returns-then-is_err-clause-works
 returns-then-is_err-clause-works g c =
     let response = octets_of c.refuse-response.result in
     let read = c.args.exchange.now.read.items ++ c.args.piece.now in
-    gives_none g.V.Vault.holds g.V.Vault.is_clean g.V.Vault.faults c.args.office.now
+    gives_none g.V.Vault.holds g.V.Vault.is_clean g.V.Vault.faults g.V.Vault.is_up g.V.Vault.may_leave c.args.office.now
     (HeardApart g.L.Listener.heard c.args.listener.now c.refuse-response.new.listener (ComeTo c.args.site.now read (Some response)))
     (λ B L. (
       told_same g.L.Listener.heard c.args.listener.now c.refuse-response.new.listener c.refuse-response.ensures.heard,
@@ -36,4 +36,4 @@ returns-clause-works g c =
     let o = c.args.office.now in
     let o1 = c.respond_to.new.office in
     let same : c.as_slice.result.now ≡ c.args.exchange.now.read.items ++ c.args.piece.now = search rules in
-    subst (λ read. Giving g.V.Vault.holds g.V.Vault.is_clean g.V.Vault.faults o o1 (λ given. DidApart g.V.Vault.holds g.V.Vault.is_clean o o1 (HeardApart g.L.Listener.heard c.args.listener.now c.respond_to.new.listener (ComeTo c.args.site.now read (option_map octets_of c.respond_to.result))) given [])) same c.respond_to.ensures.works
+    subst (λ read. Giving g.V.Vault.holds g.V.Vault.is_clean g.V.Vault.faults g.V.Vault.is_up g.V.Vault.may_leave o o1 (λ given. DidApart g.V.Vault.holds g.V.Vault.is_clean o o1 (HeardApart g.L.Listener.heard c.args.listener.now c.respond_to.new.listener (ComeTo c.args.site.now read (option_map octets_of c.respond_to.result))) given [])) same c.respond_to.ensures.works

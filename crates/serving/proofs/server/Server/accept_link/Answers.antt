@@ -74,13 +74,13 @@ returns-then-is_full-clause-works g c =
     let seats = c.args.clients.now.seats.items in
     let is : c.is_full.result ≡ true = search rules in
     let full : length seats ≡ 128 = eqb-true (length seats) 128 (sym c.is_full.ensures.value ∙ is) in
-    does_none g.V.Vault g.W.Wire g.L.Listener c.args.self.now _ (accepted_full g.V.Vault.holds g.V.Vault.is_clean g.V.Vault.faults c.args.self.now.office seats full)
+    does_none g.V.Vault g.W.Wire g.L.Listener c.args.self.now _ (accepted_full g.V.Vault.holds g.V.Vault.is_clean g.V.Vault.faults g.V.Vault.is_up g.V.Vault.may_leave c.args.self.now.office seats full)
 
 pub returns-in_default-clause-works : goal.returns-in_default-clause-works
 returns-in_default-clause-works g c =
     let s = c.args.self.now in
     does_call g.V.Vault g.W.Wire g.L.Listener s.office s.listener s.wire c.accept.new.self (Accepted Pop None) _ c.in_default.ensures.called
-    (accepted_none g.V.Vault.holds g.V.Vault.is_clean g.V.Vault.faults s.office c.args.clients.now.seats.items)
+    (accepted_none g.V.Vault.holds g.V.Vault.is_clean g.V.Vault.faults g.V.Vault.is_up g.V.Vault.may_leave s.office c.args.clients.now.seats.items)
 
 pub returns-in-Some-number-clause-works : goal.returns-in-Some-number-clause-works
 returns-in-Some-number-clause-works g c =
@@ -94,11 +94,11 @@ returns-in-Some-number-clause-works g c =
     record {
       given = (event.Connect, event_tag_of o) ∷ [];
       calls = Accepted Pop (Some link) ∷ [];
-      was_given = given_one Holds IsClean g.V.Vault.faults s.office c.step.new.self event.Connect o c.step.ensures.clean c.step.ensures.stands c.step.ensures.admitted c.step.ensures.counted c.step.ensures.cause;
+      was_given = given_one Holds IsClean g.V.Vault.faults g.V.Vault.is_up g.V.Vault.may_leave s.office c.step.new.self event.Connect o c.step.ensures.clean c.step.ensures.stands c.step.ensures.admitted c.step.ensures.counted c.step.ensures.cause c.step.ensures.up c.step.ensures.stop;
       was_asked = asked_one g.W.Wire.asked s.wire c.accept.new.self (Accepted Pop (Some link)) c.in-Some.ensures.called;
       facts = (
         record { is = λ B L st clean. told_same g.L.Listener.heard s.listener c.open.new.self (λ h k. c.open.ensures.told h (c.follow.ensures.told h k)) },
-        accepted_seated Holds IsClean g.V.Vault.faults s.office c.step.new.self c.args.clients.now.seats.items _ link connection (event_tag_of o) (done_mark o connection e) c.push.ensures.items,
+        accepted_seated Holds IsClean g.V.Vault.faults g.V.Vault.is_up g.V.Vault.may_leave s.office c.step.new.self c.args.clients.now.seats.items _ link connection (event_tag_of o) (done_mark o connection e) c.push.ensures.items,
       );
     }
 
@@ -114,13 +114,13 @@ returns-in-None-clause-works g c =
     record {
       given = (event.Connect, event_tag_of o) ∷ [];
       calls = Accepted Pop (Some link) ∷ Closed Pop link ∷ [];
-      was_given = given_one Holds IsClean g.V.Vault.faults office c.step.new.self event.Connect o c.step.ensures.clean c.step.ensures.stands c.step.ensures.admitted c.step.ensures.counted c.step.ensures.cause;
+      was_given = given_one Holds IsClean g.V.Vault.faults g.V.Vault.is_up g.V.Vault.may_leave office c.step.new.self event.Connect o c.step.ensures.clean c.step.ensures.stands c.step.ensures.admitted c.step.ensures.counted c.step.ensures.cause c.step.ensures.up c.step.ensures.stop;
       was_asked = asked_then g.W.Wire.asked s.wire c.accept.new.self c.close_link.new.wire (Accepted Pop (Some link) ∷ []) (Closed Pop link ∷ [])
           (asked_one g.W.Wire.asked s.wire c.accept.new.self (Accepted Pop (Some link)) c.in-Some.ensures.called)
           (asked_one g.W.Wire.asked c.accept.new.self c.close_link.new.wire (Closed Pop link) c.close_link.ensures.called);
       facts = (
         record { is = λ B L st clean. told_same g.L.Listener.heard s.listener c.close_link.new.listener (λ h k. c.close_link.ensures.heard h (c.follow.ensures.told h k)) },
-        accepted_unseated Holds IsClean g.V.Vault.faults office c.step.new.self c.args.clients.now.seats.items link (event_tag_of o)
+        accepted_unseated Holds IsClean g.V.Vault.faults g.V.Vault.is_up g.V.Vault.may_leave office c.step.new.self c.args.clients.now.seats.items link (event_tag_of o)
             (λ T st k.
             (let r : IsRefusal (event_tag_of o) = subst (Comes T.log o) {y = None} e (comes T (lent_by office) o (c.step.ensures.outcome T st k)) in
             refusal_so (event_tag_of o) r)),

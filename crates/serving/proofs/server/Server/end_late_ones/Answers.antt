@@ -24,8 +24,8 @@ returns-then-seconds-eq0-clause-works g c =
       wire = refl;
       part = record {
         given = [];
-        was_given = given_none g.V.Vault.holds g.V.Vault.is_clean g.V.Vault.faults c.args.self.now.office;
-        facts = (late_off g.V.Vault.holds g.V.Vault.is_clean g.V.Vault.faults c.args.now c.args.seconds c.args.self.now.office n.newcomers.items c.args.clients.now.seats.items off, told_none g.L.Listener.heard c.args.self.now.listener);
+        was_given = given_none g.V.Vault.holds g.V.Vault.is_clean g.V.Vault.faults g.V.Vault.is_up g.V.Vault.may_leave c.args.self.now.office;
+        facts = (late_off g.V.Vault.holds g.V.Vault.is_clean g.V.Vault.faults g.V.Vault.is_up g.V.Vault.may_leave c.args.now c.args.seconds c.args.self.now.office n.newcomers.items c.args.clients.now.seats.items off, told_none g.L.Listener.heard c.args.self.now.listener);
       };
     }
 
@@ -37,7 +37,7 @@ loop-place-init g c = record {
   serves = λ T beside s clean. s;
   keeps = seats_none c.args.clients.now;
   ends = ends_none c.args.now c.args.seconds c.args.clients.now;
-  works = record { wire = refl; part = record { given = []; was_given = given_none g.V.Vault.holds g.V.Vault.is_clean g.V.Vault.faults c.args.self.now.office; facts = (late_none g.V.Vault.holds g.V.Vault.is_clean g.V.Vault.faults c.args.now c.args.seconds c.args.self.now.office c.args.clients.now.newcomers.newcomers.items, told_none g.L.Listener.heard c.args.self.now.listener) } };
+  works = record { wire = refl; part = record { given = []; was_given = given_none g.V.Vault.holds g.V.Vault.is_clean g.V.Vault.faults g.V.Vault.is_up g.V.Vault.may_leave c.args.self.now.office; facts = (late_none g.V.Vault.holds g.V.Vault.is_clean g.V.Vault.faults g.V.Vault.is_up g.V.Vault.may_leave c.args.now c.args.seconds c.args.self.now.office c.args.clients.now.newcomers.newcomers.items, told_none g.L.Listener.heard c.args.self.now.listener) } };
 }
 
 pub loop-place-preserved : goal.loop-place-preserved
@@ -63,7 +63,7 @@ loop-place-preserved g c =
       ends = ends_then now c.args.seconds c.args.clients.now k.clients x.new.clients k.invariant.ends x.ensures.ends;
       works = record {
         wire = x.ensures.works.wire ∙ k.invariant.works.wire;
-        part = late_step g.V.Vault.holds g.V.Vault.is_clean g.V.Vault.faults now c.args.seconds c.args.self.now.office k.self.office x.new.self.office n.newcomers.items k.clients.newcomers.newcomers.items x.new.clients.newcomers.newcomers.items c.args.clients.now.seats.items k.clients.seats.items k.place no_seat
+        part = late_step g.V.Vault.holds g.V.Vault.is_clean g.V.Vault.faults g.V.Vault.is_up g.V.Vault.may_leave now c.args.seconds c.args.self.now.office k.self.office x.new.self.office n.newcomers.items k.clients.newcomers.newcomers.items x.new.clients.newcomers.newcomers.items c.args.clients.now.seats.items k.clients.seats.items k.place no_seat
             (λ given. WasTold Heard l k.self.listener (late_ends now n.seconds n.newcomers.items given))
             (λ given. WasTold Heard k.self.listener x.new.self.listener (late_ends now k.clients.newcomers.seconds k.clients.newcomers.newcomers.items given))
             (λ given. WasTold Heard l x.new.self.listener (late_ends now n.seconds n.newcomers.items given)) (ap (λ v. v.items) k.invariant.keeps.seats) within k.invariant.ends.late
@@ -90,7 +90,7 @@ returns-clause-works g c =
     let done : length k.clients.seats.items ≤ k.place = search rules in
     record {
       wire = k.invariant.works.wire;
-      part = late_whole g.V.Vault.holds g.V.Vault.is_clean g.V.Vault.faults c.args.now c.args.seconds c.args.self.now.office k.self.office n.newcomers.items
+      part = late_whole g.V.Vault.holds g.V.Vault.is_clean g.V.Vault.faults g.V.Vault.is_up g.V.Vault.may_leave c.args.now c.args.seconds c.args.self.now.office k.self.office n.newcomers.items
           k.clients.newcomers.newcomers.items c.args.clients.now.seats.items k.clients.seats.items k.place
           (λ given. WasTold g.L.Listener.heard c.args.self.now.listener k.self.listener (late_ends c.args.now n.seconds n.newcomers.items given))
           (ap (λ v. v.items) k.invariant.keeps.seats) done k.invariant.works.part;

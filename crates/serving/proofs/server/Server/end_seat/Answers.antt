@@ -51,7 +51,7 @@ returns-clause-works g c =
       wire = refl;
       part = record {
         given = (e, m) ∷ [];
-        was_given = given_one g.V.Vault.holds g.V.Vault.is_clean g.V.Vault.faults c.args.self.now.office c.step.new.self e (outcome_seen c.step.result) c.step.ensures.clean c.step.ensures.stands c.step.ensures.admitted c.step.ensures.counted c.step.ensures.cause;
+        was_given = given_one g.V.Vault.holds g.V.Vault.is_clean g.V.Vault.faults g.V.Vault.is_up g.V.Vault.may_leave c.args.self.now.office c.step.new.self e (outcome_seen c.step.result) c.step.ensures.clean c.step.ensures.stands c.step.ensures.admitted c.step.ensures.counted c.step.ensures.cause c.step.ensures.up c.step.ensures.stop;
         facts = (
           record {
             gone = λ now seconds newcomers late. All-cons (IsLateGone now seconds newcomers) (e, m) [] late (All-nil (IsLateGone now seconds newcomers));
@@ -75,7 +75,7 @@ returns-then-ended-clause-works g c =
       wire = refl;
       part = record {
         given = [];
-        was_given = given_none g.V.Vault.holds g.V.Vault.is_clean g.V.Vault.faults c.args.self.now.office;
+        was_given = given_none g.V.Vault.holds g.V.Vault.is_clean g.V.Vault.faults g.V.Vault.is_up g.V.Vault.may_leave c.args.self.now.office;
         facts = (
           record {
             gone = λ now seconds newcomers late. All-nil (IsLateGone now seconds newcomers);

@@ -112,14 +112,14 @@ returns-clause-works g c = λ wire asked T s clean.
     let l5 = c.end_late_ones.new.self.listener in
     let l6 = c.close_links.new.listener in
     let a = c.accept_links.ensures.works in
-    let accepted : Part Holds IsClean g.V.Vault.faults Asked o1 w1 o2 c.accept_links.new.self.wire (AreAccepted Holds IsClean o1 o2 old.seats.items seats2 64 a.0) =
-    part_so Holds IsClean g.V.Vault.faults Asked o1 o2 w1 c.accept_links.new.self.wire _ _ (λ gv cl wa x. x.1) a.1 in
-    let ticked : Part Holds IsClean g.V.Vault.faults Asked c.args.self.now.office c.args.self.now.wire o1 w1 (IsPassed [] now) =
-    part_so Holds IsClean g.V.Vault.faults Asked c.args.self.now.office o1 c.args.self.now.wire w1 _ _ (λ gv cl wa x. x.1) c.tick.ensures.works in
-    let passed = passed_by Holds IsClean g.V.Vault.faults Asked c.args.self.now.office o1 wire c.args.self.now.wire w1 (Waited (millis_of links)) now asked ticked in
+    let accepted : Part Holds IsClean g.V.Vault.faults g.V.Vault.is_up g.V.Vault.may_leave Asked o1 w1 o2 c.accept_links.new.self.wire (AreAccepted Holds IsClean o1 o2 old.seats.items seats2 64 a.0) =
+    part_so Holds IsClean g.V.Vault.faults g.V.Vault.is_up g.V.Vault.may_leave Asked o1 o2 w1 c.accept_links.new.self.wire _ _ (λ gv cl wa x. x.1) a.1 in
+    let ticked : Part Holds IsClean g.V.Vault.faults g.V.Vault.is_up g.V.Vault.may_leave Asked c.args.self.now.office c.args.self.now.wire o1 w1 (IsPassed [] now) =
+    part_so Holds IsClean g.V.Vault.faults g.V.Vault.is_up g.V.Vault.may_leave Asked c.args.self.now.office o1 c.args.self.now.wire w1 _ _ (λ gv cl wa x. x.1) c.tick.ensures.works in
+    let passed = passed_by Holds IsClean g.V.Vault.faults g.V.Vault.is_up g.V.Vault.may_leave Asked c.args.self.now.office o1 wire c.args.self.now.wire w1 (Waited (millis_of links)) now asked ticked in
     let untold = subst (λ gv. WasTold Heard l l0 (heard_of_all T.base T.log gv)) c.tick.ensures.works.facts.1.given_is (c.tick.ensures.works.facts.0.is T.base T.log s passed_clean) in
-    let turned = subst (λ set. Part Holds IsClean g.V.Vault.faults Asked o2 w3 o3 w4 (WithHeard Holds IsClean Heard o2 l2 o3 l3 (Also (WereServed Holds IsClean o2 o3 set now came.newcomers.newcomers.items served.lock_released served.poll_now served.newcomers.newcomers.items seats2 seats2) (PollsBy served.lock_released served.poll_now)))) c.accept_links.ensures.comers.keeps.set
-    (subst (λ b. Part Holds IsClean g.V.Vault.faults Asked o2 w3 o3 w4 (WithHeard Holds IsClean Heard o2 l2 o3 l3 (Also (WereServed Holds IsClean o2 o3 (settings_of came) now came.newcomers.newcomers.items served.lock_released served.poll_now served.newcomers.newcomers.items seats2 seats2) (PollsBy (b || served.lock_released) served.poll_now)))) c.accept_links.ensures.comers.poll_now c.serve_links.ensures.works) in
+    let turned = subst (λ set. Part Holds IsClean g.V.Vault.faults g.V.Vault.is_up g.V.Vault.may_leave Asked o2 w3 o3 w4 (WithHeard Holds IsClean Heard o2 l2 o3 l3 (Also (WereServed Holds IsClean o2 o3 set now came.newcomers.newcomers.items served.lock_released served.poll_now served.newcomers.newcomers.items seats2 seats2) (PollsBy served.lock_released served.poll_now)))) c.accept_links.ensures.comers.keeps.set
+    (subst (λ b. Part Holds IsClean g.V.Vault.faults g.V.Vault.is_up g.V.Vault.may_leave Asked o2 w3 o3 w4 (WithHeard Holds IsClean Heard o2 l2 o3 l3 (Also (WereServed Holds IsClean o2 o3 (settings_of came) now came.newcomers.newcomers.items served.lock_released served.poll_now served.newcomers.newcomers.items seats2 seats2) (PollsBy (b || served.lock_released) served.poll_now)))) c.accept_links.ensures.comers.poll_now c.serve_links.ensures.works) in
     let settled = c.serve_links.ensures.settled in
     let set = c.serve_links.ensures.keeps.keeps.set ∙ c.accept_links.ensures.comers.keeps.set in
     let most = limit links (length seats2) in
@@ -130,11 +130,11 @@ returns-clause-works g c = λ wire asked T s clean.
     let less = late_then now most old.newcomers.newcomers.items came.newcomers.newcomers.items served.newcomers.newcomers.items (late_comers now most old.newcomers.newcomers.items came.newcomers.newcomers.items c.accept_links.ensures.comers.each)
     (late_settled now most came.newcomers.newcomers.items served.newcomers.newcomers.items settled) in
     let login_same : served.newcomers.seconds ≡ old.newcomers.seconds = ap (λ (s : Settings). s.login_seconds) set in
-    let late = late_both Holds IsClean g.V.Vault.faults now c.limit-seconds.result most old.newcomers.newcomers.items served.newcomers.newcomers.items ended.newcomers.newcomers.items seats2 o4 o5
+    let late = late_both Holds IsClean g.V.Vault.faults g.V.Vault.is_up g.V.Vault.may_leave now c.limit-seconds.result most old.newcomers.newcomers.items served.newcomers.newcomers.items ended.newcomers.newcomers.items seats2 o4 o5
     (λ given. WasTold Heard l4 l5 (late_ends now served.newcomers.seconds served.newcomers.newcomers.items given))
     (λ given. WasTold Heard l4 l6 (late_ends now old.newcomers.seconds old.newcomers.newcomers.items given)) seconds less
     (λ given gone told. told_on Heard l4 l5 l6 _ c.close_links.ensures.heard (late_heard Heard now most old.newcomers.seconds served.newcomers.seconds old.newcomers.newcomers.items served.newcomers.newcomers.items less login_same l4 l5 given gone told))
-    (subst (λ v. Giving Holds IsClean g.V.Vault.faults o4 o5
+    (subst (λ v. Giving Holds IsClean g.V.Vault.faults g.V.Vault.is_up g.V.Vault.may_leave o4 o5
     (λ given. HasEndedLate Holds IsClean o4 o5 now c.limit-seconds.result served.newcomers.newcomers.items ended.newcomers.newcomers.items v.items given
     × WasTold Heard l4 l5 (late_ends now served.newcomers.seconds served.newcomers.newcomers.items given)))
     c.serve_links.ensures.keeps.seats c.end_late_ones.ensures.works.part) in
@@ -149,10 +149,10 @@ returns-clause-works g c = λ wire asked T s clean.
     let forgets : (U : Trace) → StandsFor Holds o5 U → (n : ℕ) → is_open U n ≡ true → newcomer n c.serve_spool.new.links.newcomers.newcomers.items ≡ newcomer n ended.newcomers.newcomers.items =
     λ U su n here. ap (λ v. newcomer n v.newcomers.items) c.serve_spool.ensures.keeps.newcomers ∙ c.close_links.ensures.newcomers U su n here in
     let last = c.close_links.ensures.closes.keeps.last ∙ (c.end_late_ones.ensures.keeps.keeps.last ∙ (c.serve_links.ensures.keeps.keeps.last ∙ c.accept_links.ensures.comers.keeps.last)) in
-    let tried = subst (λ l. SpoolPart Holds IsClean g.V.Vault.faults g.S.Spool.asked o5 c.args.spool.now c.serve_spool.new.office c.serve_spool.new.spool (λ U given calls. IsSpoolTurn l c.serve_spool.new.links.last U given calls × (c.serve_spool.new.links.poll_now ≡ (c.close_links.new.links.poll_now || has_dealt calls)))) last c.serve_spool.ensures.works in
+    let tried = subst (λ l. SpoolPart Holds IsClean g.V.Vault.faults g.V.Vault.is_up g.V.Vault.may_leave g.S.Spool.asked o5 c.args.spool.now c.serve_spool.new.office c.serve_spool.new.spool (λ U given calls. IsSpoolTurn l c.serve_spool.new.links.last U given calls × (c.serve_spool.new.links.poll_now ≡ (c.close_links.new.links.poll_now || has_dealt calls)))) last c.serve_spool.ensures.works in
     let waits : ended.wait ≡ old.wait = ap (λ (s : Settings). s.wait) (c.end_late_ones.ensures.keeps.keeps.set ∙ (c.serve_links.ensures.keeps.keeps.set ∙ c.accept_links.ensures.comers.keeps.set)) in
     let seats_same = c.end_late_ones.ensures.keeps.seats ∙ c.serve_links.ensures.keeps.seats in
-    turn_done Holds IsClean g.V.Vault.faults Asked g.S.Spool.asked Heard T now links
+    turn_done Holds IsClean g.V.Vault.faults g.V.Vault.is_up g.V.Vault.may_leave Asked g.S.Spool.asked Heard T now links
     (record { clients = c.serve_spool.new.links; requests = c.serve_requests.new.requests; site = c.args.links.now.site })
     c.args.self.now.office o1 o2 o3 o4 o5 c.serve_spool.new.office
     wire w1 c.accept_links.new.self.wire w3 w4 w5 w6 c.args.spool.now c.serve_spool.new.spool c.args.self.now.listener l1 l2 l3 l4 l6

@@ -69,7 +69,7 @@ returns-then-not-exchange-clause-works g c =
     let live : e2.is_over ≡ false = search rules in
     let is : take 1 (drop place xs) ≡ e ∷ [] = one_at xs place e c.requires ∙ ap (λ y. y ∷ []) (sym c.index_mut-exchange.ensures.value) in
     let left = one_set xs place e2 c.requires in
-    also_so g.V.Vault.holds g.V.Vault.is_clean g.V.Vault.faults g.W.Wire.asked c.args.self.now.office c.serve_exchange.new.self.office c.args.self.now.wire c.serve_exchange.new.self.wire
+    also_so g.V.Vault.holds g.V.Vault.is_clean g.V.Vault.faults g.V.Vault.is_up g.V.Vault.may_leave g.W.Wire.asked c.args.self.now.office c.serve_exchange.new.self.office c.args.self.now.wire c.serve_exchange.new.self.wire
     (HeardApart g.L.Listener.heard l l1 (λ B L. HasHttpTurn c.args.site.now now B L e e2)) (HeardApart g.L.Listener.heard l l1 (λ B L. HadHttpTurns c.args.site.now now B L (take 1 (drop place xs)) (take 1 (drop place (set xs place e2))))) (PollsBy false polled) (PollsBy before (before || polled))
     (λ B L given calls turn. (
       turn.0,
@@ -96,7 +96,7 @@ returns-clause-works g c =
     let l2 = c.close_link.new.listener in
     let over : e2.is_over ≡ true = search rules in
     let is : take 1 (drop place xs) ≡ e ∷ [] = one_at xs place e c.requires ∙ ap (λ y. y ∷ []) (sym c.index_mut-exchange.ensures.value) in
-    also_then g.V.Vault.holds g.V.Vault.is_clean g.V.Vault.faults g.W.Wire.asked c.args.self.now.office o1 o1 c.args.self.now.wire w1 w2
+    also_then g.V.Vault.holds g.V.Vault.is_clean g.V.Vault.faults g.V.Vault.is_up g.V.Vault.may_leave g.W.Wire.asked c.args.self.now.office o1 o1 c.args.self.now.wire w1 w2
     (HeardApart g.L.Listener.heard l l1 (λ B L. HasHttpTurn c.args.site.now now B L e e2)) (NoEvent (IsOne call))
     (HeardApart g.L.Listener.heard l l2 (λ B L. HadHttpTurns c.args.site.now now B L (take 1 (drop place xs)) []))
     (PollsBy false polled) (PollsBy false false) (PollsBy before (before || polled))
@@ -107,8 +107,8 @@ returns-clause-works g c =
     ))
     (λ c1 c2 m n. closed_polled before polled c1 c2 m)
     c.serve_exchange.ensures.works
-    (also_from g.V.Vault.holds g.V.Vault.is_clean g.V.Vault.faults g.W.Wire.asked o1 o1 w1 w2 _ (PollsBy false false) (polled_same false)
-    (did_asked g.V.Vault.holds g.V.Vault.is_clean g.V.Vault.faults g.W.Wire.asked o1 w1 w2 (IsOne call) (NoEvent (IsOne call)) (λ B L cs at. (refl, at))
+    (also_from g.V.Vault.holds g.V.Vault.is_clean g.V.Vault.faults g.V.Vault.is_up g.V.Vault.may_leave g.W.Wire.asked o1 o1 w1 w2 _ (PollsBy false false) (polled_same false)
+    (did_asked g.V.Vault.holds g.V.Vault.is_clean g.V.Vault.faults g.V.Vault.is_up g.V.Vault.may_leave g.W.Wire.asked o1 w1 w2 (IsOne call) (NoEvent (IsOne call)) (λ B L cs at. (refl, at))
     (asks_one g.W.Wire.asked w1 w2 call (IsOne call) (quiet_closed e2.link) refl c.close_link.ensures.called)))
 
 pub returns-then-not-exchange-clause-held : goal.returns-then-not-exchange-clause-held

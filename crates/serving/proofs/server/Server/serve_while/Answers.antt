@@ -11,7 +11,7 @@ loop-turn-init g c = record {
   turned = (
     [],
     refl,
-    turned_none g.V.Vault.holds g.V.Vault.is_clean g.V.Vault.faults g.W.Wire.asked g.S.Spool.asked g.L.Listener.heard g.C.Clock.gave c.args.links.now c.args.self.now.office c.args.self.now.wire c.args.spool.now c.args.self.now.listener c.args.clock.now,
+    turned_none g.V.Vault.holds g.V.Vault.is_clean g.V.Vault.faults g.V.Vault.is_up g.V.Vault.may_leave g.W.Wire.asked g.S.Spool.asked g.L.Listener.heard g.C.Clock.gave c.args.links.now c.args.self.now.office c.args.self.now.wire c.args.spool.now c.args.self.now.listener c.args.clock.now,
   );
   few = λ a. a;
   seated = λ h. h;
@@ -39,7 +39,7 @@ loop-turn-preserved g c =
       turned = (
         m.0 ++ now ∷ [],
         one_longer m.0 now k._turn m.1,
-        turned_more g.V.Vault.holds g.V.Vault.is_clean g.V.Vault.faults g.W.Wire.asked g.S.Spool.asked g.L.Listener.heard g.C.Clock.gave c.args.links.now c.args.self.now.office c.args.self.now.wire c.args.spool.now c.args.self.now.listener c.args.clock.now
+        turned_more g.V.Vault.holds g.V.Vault.is_clean g.V.Vault.faults g.V.Vault.is_up g.V.Vault.may_leave g.W.Wire.asked g.S.Spool.asked g.L.Listener.heard g.C.Clock.gave c.args.links.now c.args.self.now.office c.args.self.now.wire c.args.spool.now c.args.self.now.listener c.args.clock.now
             m.0 k.links k.self.office k.self.wire k.spool k.self.listener k.clock now x.new.links x.new.self.office x.new.self.wire x.new.spool x.new.self.listener c.moment.new.self m.2
             c.in-Some.ensures.called x.ensures.clean (x.ensures.works w0 waited) left,
       );
@@ -72,7 +72,7 @@ returns-in_default-clause-runs g c =
       moments = m.0;
       stopped = true;
       wire_left = k.self.wire;
-      turned = turned_stopped g.V.Vault.holds g.V.Vault.is_clean g.V.Vault.faults g.W.Wire.asked g.S.Spool.asked g.L.Listener.heard g.C.Clock.gave c.args.links.now c.args.self.now.office c.args.self.now.wire c.args.spool.now c.args.self.now.listener c.args.clock.now
+      turned = turned_stopped g.V.Vault.holds g.V.Vault.is_clean g.V.Vault.faults g.V.Vault.is_up g.V.Vault.may_leave g.W.Wire.asked g.S.Spool.asked g.L.Listener.heard g.C.Clock.gave c.args.links.now c.args.self.now.office c.args.self.now.wire c.args.spool.now c.args.self.now.listener c.args.clock.now
           m.0 k.links k.self.office k.self.wire k.spool k.self.listener k.clock c.moment.new.self m.2 c.in_default.ensures.called;
       last = waited_for g.W.Wire.asked k.self.wire c.wait.new.self k.links c.millis_for.result c.millis_for.ensures c.wait.ensures.called;
       within = omega (arith, most, count);

@@ -104,7 +104,7 @@ returns-then-is_empty-clause-works g c =
     let seat = c.args.seat in
     let e : c.is_empty.result ≡ true = search rules in
     does_none g.V.Vault g.W.Wire g.L.Listener c.args.self.now _
-    (wrote_none g.V.Vault.holds g.V.Vault.is_clean g.V.Vault.faults o seat
+    (wrote_none g.V.Vault.holds g.V.Vault.is_clean g.V.Vault.faults g.V.Vault.is_up g.V.Vault.may_leave o seat
     (λ B L s k. nothing_left (rest (trace_of B L) seat.connection) (length c.owed-lent.result.now) c.is_empty.result (c.owed-lent.ensures.exact (trace_of B L) s) c.is_empty.ensures e))
 
 pub returns-in-Count-clause-works : goal.returns-in-Count-clause-works
@@ -115,8 +115,8 @@ returns-in-Count-clause-works g c =
     let lent = c.owed-lent.result.now in
     let x = c.step_with_account-report in
     does_event g.V.Vault g.W.Wire g.L.Listener o x.new.self c.args.self.now.listener c.hear.new.self c.args.self.now.wire c.write.new.self (Wrote Pop seat.link (length lent) (Count n) (take n lent)) (event.Took seat.connection n) (outcome_seen x.result.outcome) seat.connection x.result.account _ (λ T. refl)
-    x.ensures.clean x.ensures.stands x.ensures.admitted x.ensures.counted x.ensures.cause x.ensures.account c.in-Count.ensures.called c.hear.ensures.told
-    (wrote_some g.V.Vault.holds g.V.Vault.is_clean g.V.Vault.faults o x.new.self seat (length lent) n (take n lent) (event_tag_of (outcome_seen x.result.outcome)) c.in-Count.ensures.within.0 (λ B L s. c.owed-lent.ensures.exact (trace_of B L) s))
+    x.ensures.clean x.ensures.stands x.ensures.admitted x.ensures.counted x.ensures.cause x.ensures.up x.ensures.stop x.ensures.account c.in-Count.ensures.called c.hear.ensures.told
+    (wrote_some g.V.Vault.holds g.V.Vault.is_clean g.V.Vault.faults g.V.Vault.is_up g.V.Vault.may_leave o x.new.self seat (length lent) n (take n lent) (event_tag_of (outcome_seen x.result.outcome)) c.in-Count.ensures.within.0 (λ B L s. c.owed-lent.ensures.exact (trace_of B L) s))
 
 pub returns-in-Later-clause-works : goal.returns-in-Later-clause-works
 returns-in-Later-clause-works g c =
@@ -124,7 +124,7 @@ returns-in-Later-clause-works g c =
     let seat = c.args.seat in
     let lent = c.owed-lent.result.now in
     does_call g.V.Vault g.W.Wire g.L.Listener o c.args.self.now.listener c.args.self.now.wire c.write.new.self (Wrote Pop seat.link (length lent) Later []) _ c.in-Later.ensures.called
-    (wrote_later g.V.Vault.holds g.V.Vault.is_clean g.V.Vault.faults o seat (length lent) [] (λ B L s. c.owed-lent.ensures.exact (trace_of B L) s))
+    (wrote_later g.V.Vault.holds g.V.Vault.is_clean g.V.Vault.faults g.V.Vault.is_up g.V.Vault.may_leave o seat (length lent) [] (λ B L s. c.owed-lent.ensures.exact (trace_of B L) s))
 
 pub returns-in-End-clause-works : goal.returns-in-End-clause-works
 returns-in-End-clause-works g c =
@@ -140,8 +140,8 @@ returns-in-End-clause-works g c =
     let some = lent_some c.is_empty.result (length lent) c.is_empty.ensures no in
     let octets = counted io lent in
     does_event g.V.Vault g.W.Wire g.L.Listener office x.new.self c.args.self.now.listener c.hear-in-End.new.self c.args.self.now.wire c.write.new.self (Wrote Pop seat.link (length lent) io octets) (event.Gone connection) o connection x.result.account _ (λ T. refl)
-    x.ensures.clean x.ensures.stands x.ensures.admitted x.ensures.counted x.ensures.cause x.ensures.account c.write.ensures.called c.hear-in-End.ensures.told
-    (wrote_cut g.V.Vault.holds g.V.Vault.is_clean g.V.Vault.faults office x.new.self seat (length lent) io octets (event_tag_of o) fault (λ B L s. c.owed-lent.ensures.exact (trace_of B L) s)
+    x.ensures.clean x.ensures.stands x.ensures.admitted x.ensures.counted x.ensures.cause x.ensures.up x.ensures.stop x.ensures.account c.write.ensures.called c.hear-in-End.ensures.told
+    (wrote_cut g.V.Vault.holds g.V.Vault.is_clean g.V.Vault.faults g.V.Vault.is_up g.V.Vault.may_leave office x.new.self seat (length lent) io octets (event_tag_of o) fault (λ B L s. c.owed-lent.ensures.exact (trace_of B L) s)
     (λ B L s k.
     (let now = trace_of B L in
     let here = lent_open now connection (length lent) lent (c.owed-lent.ensures.lent now s) some (omega arith) in
