@@ -158,7 +158,9 @@ fn note_removal(
 
 impl<'a, V: Vault> LoggedVault<'a, V> {
     /// A vault around this one. `message_ids`: a deposit's line tells the Message-ID.
-    pub fn new(vault: V, journal: Journal<'a>, message_ids: bool) -> LoggedVault<'a, V> {
+    pub fn new(vault: V, journal: Journal<'a>, message_ids: bool) -> LoggedVault<'a, V>
+        ensures vault { result.vault ≡ vault }
+    {
         LoggedVault {
             vault,
             journal,
@@ -177,7 +179,9 @@ impl<'a, V: Vault> LoggedVault<'a, V> {
     }
 
     /// The vault inside.
-    pub fn into_vault(self) -> V {
+    pub fn into_vault(self) -> V
+        ensures { result ≡ self.vault }
+    {
         let LoggedVault {
             vault,
             journal: _,

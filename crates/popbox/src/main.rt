@@ -444,12 +444,13 @@ struct Serving<'a, 'w> {
 
 impl Job for Serving<'_, '_> {
     ghost use Rattle.std.specs.Prelude.{⊤};
+    ghost use Rattle.popbox.specs.Served.{IsServed};
 
     type Answer = Result<u8, Fault>;
 
-    ghost tells = { λ _. ⊥ };
+    ghost tells = { λ _. ⊤ };
 
-    ghost does = { λ _ _ _ _ _ _. ⊤ };
+    ghost does = { λ job T U first last answer. IsServed job.options.now job.boot T U };
 
     fn run<V: Vault>(self, vault: V) -> (Result<u8, Fault>, V) {
         let Serving {

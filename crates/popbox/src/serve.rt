@@ -1,4 +1,9 @@
 //! `popbox serve`: clients over the network.
+ghost use Rattle.office.specs.Events.{Trace};
+ghost use Rattle.office.specs.Stands.{Keeps, StandsFor, vault_of};
+ghost use Rattle.serving.specs.Running.{WasServed};
+ghost use Rattle.popbox.specs.Served.{IsServed};
+
 use crate::options::ServeOptions;
 use crate::version::{IS_PROVED, SLOW};
 use converse::{Fault, tell_fault};
@@ -36,7 +41,11 @@ pub fn serve_over<V: Vault, E: Write>(
     before: Option<FileId>,
     options: &ServeOptions<'_>,
     err: &mut E,
-) -> (Result<u8, Fault>, V) {
+) -> (Result<u8, Fault>, V)
+    ensures served { (T : Trace) → Keeps (V.holds vault) T → V.is_clean result.1 → (U : Trace)
+        × IsServed options.now boot T U × Keeps (V.holds result.1) U }
+    ensures clean { V.is_clean result.1 → V.is_clean vault }
+{
     let Some(limits) = Limits::new(options.idle) else {
         return (Ok(2), vault);
     };
@@ -158,7 +167,11 @@ fn serve<'a, V: Vault, E: Write>(
     watch: &'a StoreWatch<'a>,
     totals: &Option<Vec<Total>>,
     err: &mut E,
-) -> (Result<u8, Fault>, Office<V>) {
+) -> (Result<u8, Fault>, Office<V>)
+    ensures clean { V.is_clean (vault_of result.1) → V.is_clean (vault_of office) }
+    ensures served { (T : Trace) → StandsFor V.holds office T → V.is_clean (vault_of result.1)
+        → WasServed V.holds V.faults T office result.1 }
+{
     let (wire, port, admin_port) = match listen(rt, at, options.admin_port) {
         Ok(listening) => listening,
         Err((at, error)) => {
@@ -253,7 +266,11 @@ fn serve_turns<'a, V: Vault, W: Wire + Drop>(
     options: &ServeOptions<'_>,
     journal: Journal<'a>,
     watch: &'a StoreWatch<'a>,
-) -> (Result<u8, Fault>, Office<V>) {
+) -> (Result<u8, Fault>, Office<V>)
+    ensures clean { V.is_clean (vault_of result.1) → V.is_clean (vault_of office) }
+    ensures served { (T : Trace) → StandsFor V.holds office T → V.is_clean (vault_of result.1)
+        → WasServed V.holds V.faults T office result.1 }
+{
     let mut server = Server {
         office,
         wire,
@@ -276,7 +293,13 @@ fn serve_until<V: Vault, W: Wire, S: Spool, L: Listener>(
     spool: &mut S,
     options: &ServeOptions<'_>,
     watch: &StoreWatch<'_>,
-) -> Result<u8, Fault> {
+) -> Result<u8, Fault>
+    ensures clean { V.is_clean (vault_of server.new.office)
+        → V.is_clean (vault_of server.old.office) }
+    ensures served { (T : Trace) → StandsFor V.holds server.old.office T
+        → V.is_clean (vault_of server.new.office)
+        → WasServed V.holds V.faults T server.old.office server.new.office }
+{
     let mut links = server.begin(rt.alloc(), spool);
     links.set_wait(u64::from(options.wait));
     links.set_login_seconds(u64::from(options.login_seconds));

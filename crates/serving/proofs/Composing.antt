@@ -8,6 +8,7 @@ use Rattle.office.specs.Stands.{StandsFor, vault_of}
 use Rattle.office.specs.Taken.{trace_of, IsAdmitted}
 use Rattle.office.specs.declared.account.Account.{Account}
 use Rattle.office.specs.declared.office.Office.{Office}
+use Rattle.office.specs.Stopping.{StaysUpUnless, StopLeaves}
 use Rattle.serving.specs.Calls.{Call}
 use Rattle.serving.specs.Hearing.{Hearing, heard_of}
 use Rattle.serving.specs.declared.server.Server.{Server}
@@ -97,15 +98,17 @@ module _ {V W L : Type 0} (vault : Ghosts V) (wire : the_wire.Ghosts W) (listene
       → ((T : Trace) → StandsFor vault.holds o T → vault.is_clean (vault_of o1) → IsAdmitted T e (event_tag_of out))
       → vault.faults (vault_of o) ≤ vault.faults (vault_of o1)
       → ((T : Trace) → StandsFor vault.holds o T → vault.is_clean (vault_of o1) → HasCause (vault.faults (vault_of o)) (vault.faults (vault_of o1)) out)
+      → ((T : Trace) → StandsFor vault.holds o T → vault.is_clean (vault_of o1) → StaysUpUnless (vault.is_up (vault_of o)) (vault.is_up (vault_of o1)) out)
+      → ((T : Trace) → StandsFor vault.holds o T → vault.is_clean (vault_of o1) → vault.is_up (vault_of o) → StopLeaves (vault.may_leave (vault_of o1)) T e out)
       → ((T : Trace) → StandsFor vault.holds o T → vault.is_clean (vault_of o1) → told ≡ account_of T e (event_tag_of out))
       → ((before : List Call) → wire.asked w before → wire.asked w1 (before ++ call ∷ []))
       → ((h : List Hearing) → listener.heard l h → listener.heard l1 (h ++ (c, told) ∷ []))
       → F ((e, event_tag_of out) ∷ []) (call ∷ [])
       → Does vault wire listener (record { office = o; wire = w; listener = l }) (record { office = o1; wire = w1; listener = l1 }) F
-  does_event o o1 l l1 w w1 call e out c told F one clean stands admitted counted cause is called heard f = record {
+  does_event o o1 l l1 w w1 call e out c told F one clean stands admitted counted cause up stop is called heard f = record {
     given = (e, event_tag_of out) ∷ [];
     calls = call ∷ [];
-    was_given = given_one vault.holds vault.is_clean vault.faults vault.is_up vault.may_leave o o1 e out clean stands admitted counted cause;
+    was_given = given_one vault.holds vault.is_clean vault.faults vault.is_up vault.may_leave o o1 e out clean stands admitted counted cause up stop;
     was_asked = asked_one wire.asked w w1 call called;
     facts = (heard_one vault.holds vault.is_clean listener.heard o o1 l l1 e (event_tag_of out) c told one is heard, f);
   }

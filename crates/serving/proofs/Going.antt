@@ -1,5 +1,6 @@
 -- That turns, one after the other, go on from any trace, and what a turn's wait changes.
-use Rattle.std.proofs.Common.{◌≡◌, ℕ, true, false, List, [], ◌∷◌, ◌++◌, map, sym, ◌∙◌, ap, arith, Some, None, Option, ⊎_elim, subst, append_assoc, length, ◌+◌, length-append}
+use Rattle.std.proofs.Common.{◌≡◌, ◌≤◌, ◌||◌, ℕ, true, false, List, [], ◌∷◌, ◌++◌, map, sym, ◌∙◌, ap, arith, Some, None, Option, ⊎_elim, subst, append_assoc, length, ◌+◌, length-append}
+use Rattle.std.specs.Bool.{if◌then◌else◌}
 use Rattle.std.specs.List.{list_any}
 use Rattle.std.proofs.lemmas.Bool.{or_cases}
 use Rattle.std.proofs.lemmas.List.{append-nil, map-append}
@@ -23,7 +24,7 @@ use Rattle.serving.specs.ClientParts.{IsPassed}
 use Rattle.serving.specs.declared.links.Seat.{Seat}
 use Rattle.serving.specs.declared.requests.Exchange.{Exchange}
 use Rattle.adminhttp.specs.Sites.{Site}
-use Rattle.serving.specs.Running.{NoTurn, OneMore, HasGoneOn, LeavesAsFound, answers, HasTurned}
+use Rattle.serving.specs.Running.{NoTurn, OneMore, HasGoneOn, LeavesAsFound, Maintains, Maintained, Deferred, answers, HasTurned, WasServed}
 use Rattle.serving.specs.declared.links.Links.{Links}
 use Rattle.serving.proofs.Working.{newly_then, grown_more, asked_then}
 
@@ -84,50 +85,98 @@ passed_by Holds IsClean Faults IsUp MayLeave Asked o o1 w w0 w1 wait now waited 
 
 -- ---- turns
 
-module _ {V W S H : Type 0} (Holds : V → Contents → Type 0) (Faults : V → ℕ) (IsUp : V → Type 0) (MayLeave : V → Contents → Type 0) (Asked : W → List Call → Type 0) (AskedFiles : S → List FileCall → Type 0) (Heard : H → List Hearing → Type 0) (T : Trace) where
-  gone_none : (l : Links) (o : Office V) (w : W) (s : S) (h : H) → StandsFor Holds o T → HasGoneOn Holds Faults IsUp MayLeave Asked AskedFiles Heard T [] l o w s h l o w s h
+-- a turn waits if nothing more can be done at once
+pub waits_idle : (links : Links) → (links.clients.poll_now || links.requests.poll_now) ≡ false → millis_of links ≡ 1000
+waits_idle links none = ap (λ more. if more then 0 else 1000) none
+
+-- a maintenance counts faults on, and makes no store clean
+module _ {V : Type 0} (Holds : V → Contents → Type 0) (Faults : V → ℕ) (IsClean IsUp : V → Type 0) (MayLeave : V → Contents → Type 0) (l : Links) (o o1 : Office V) where
+  maintained_more : Maintains Holds Faults IsClean IsUp MayLeave l o o1 → Faults (vault_of o) ≤ Faults (vault_of o1)
+  maintained_more (Maintained answer idle looks) = looks.counted.kept
+  maintained_more (Deferred busy same) = subst (λ x. Faults (vault_of o) ≤ Faults (vault_of x)) (sym same) (omega arith)
+
+  pub maintained_clean : Maintains Holds Faults IsClean IsUp MayLeave l o o1 → IsClean (vault_of o1) → IsClean (vault_of o)
+  maintained_clean (Maintained answer idle looks) = looks.clean
+  maintained_clean (Deferred busy same) = λ k. subst (λ x. IsClean (vault_of x)) same k
+
+-- an office that stands for what it stood for serves as before
+pub serves_still : {V W S : Type 0} (Holds : V → Contents → Type 0) (Tells : W → ToldOfPorts → Type 0) (TellsFiles : S → List FileAct → Type 0) (T : Trace) (o o1 : Office V) (w : W) (f : S)
+    (seats : List Seat) (held : List Exchange) (site : Site) → ((U : Trace) → StandsFor Holds o U → StandsFor Holds o1 U)
+    → Serves Holds Tells TellsFiles T o w f seats held site → Serves Holds Tells TellsFiles T o1 w f seats held site
+serves_still Holds Tells TellsFiles T o o1 w f seats held site still s = record {
+  beside = s.beside;
+  tells = s.tells;
+  is = record {
+    log = s.is.log;
+    told = s.is.told;
+    owner = s.is.owner;
+    stands = still (trace_of T.base s.is.log) s.is.stands;
+    admitted = s.is.admitted;
+    tells = s.is.tells;
+    served = s.is.served;
+    seated = s.is.seated;
+    adds = s.is.adds;
+  };
+  sent = s.sent;
+  requests = s.requests;
+  of_site = s.of_site;
+}
+
+module _ {V W S H : Type 0} (Holds : V → Contents → Type 0) (IsClean : V → Type 0) (Faults : V → ℕ) (IsUp : V → Type 0) (MayLeave : V → Contents → Type 0) (Asked : W → List Call → Type 0) (AskedFiles : S → List FileCall → Type 0) (Heard : H → List Hearing → Type 0) (T : Trace) where
+  gone_none : (l : Links) (o : Office V) (w : W) (s : S) (h : H) → StandsFor Holds o T → HasGoneOn Holds IsClean Faults IsUp MayLeave Asked AskedFiles Heard T [] l o w s h l o w s h
   gone_none l o w s h stands = record { given = []; turns = NoTurn; stands = stands; admitted = tt; counted = omega arith; failed = λ e. cc }
 
-  gone_more : (moments : List ℕ) (l : Links) (o : Office V) (w : W) (s : S) (h : H) (l1 : Links) (o1 : Office V) (w1 : W) (s1 : S) (h1 : H) (now : ℕ) (l2 : Links) (o2 : Office V) (w2 : W) (s2 : S) (h2 : H)
-      → (a : HasGoneOn Holds Faults IsUp MayLeave Asked AskedFiles Heard T moments l o w s h l1 o1 w1 s1 h1)
+  gone_more : (moments : List ℕ) (l : Links) (o : Office V) (w : W) (s : S) (h : H) (l1 : Links) (o1 : Office V) (w1 : W) (s1 : S) (h1 : H) (now : ℕ)
+      (l2 : Links) (o2 : Office V) (w2 : W) (s2 : S) (h2 : H) (o3 : Office V)
+      → (a : HasGoneOn Holds IsClean Faults IsUp MayLeave Asked AskedFiles Heard T moments l o w s h l1 o1 w1 s1 h1)
       → Works Holds Faults IsUp MayLeave Asked AskedFiles Heard (trace_of T.base (a.given ++ T.log)) now l1 o1 w1 s1 h1 o2 l2 w2 s2 h2
       → LeavesAsFound now l1 l2
-      → HasGoneOn Holds Faults IsUp MayLeave Asked AskedFiles Heard T (moments ++ now ∷ []) l o w s h l2 o2 w2 s2 h2
-  gone_more moments l o w s h l1 o1 w1 s1 h1 now l2 o2 w2 s2 h2 a turn left = record {
-    given = given_in turn.seen ++ a.given;
-    turns = OneMore moments a.given l1 o1 w1 s1 h1 now l2 o2 w2 s2 h2 a.turns turn left;
-    stands = subst (λ x. StandsFor Holds o2 (trace_of T.base x)) (sym (append_assoc (given_in turn.seen) a.given T.log)) turn.stands;
-    admitted = newly_then T.base T.log a.given (given_in turn.seen) a.admitted turn.admitted;
-    counted = (let p = a.counted in let q = turn.counted in omega (arith, p, q));
-    failed = λ e.
-        ⊎_elim
-        (λ (later : list_any is_failed (given_in turn.seen) ≡ true).
-        grown_more (Faults (vault_of o)) (Faults (vault_of o1)) (Faults (vault_of o2)) (Faults (vault_of o2)) a.counted (omega arith) (turn.failed later))
-        (λ (first : list_any is_failed a.given ≡ true).
-        grown_more (Faults (vault_of o)) (Faults (vault_of o)) (Faults (vault_of o1)) (Faults (vault_of o2)) (omega arith) turn.counted (a.failed first))
-        (or_cases (list_any is_failed (given_in turn.seen)) (list_any is_failed a.given) (sym (list_any-append is_failed (given_in turn.seen) a.given) ∙ e));
-  }
+      → Maintains Holds Faults IsClean IsUp MayLeave l2 o2 o3
+      → ((U : Trace) → StandsFor Holds o2 U → StandsFor Holds o3 U)
+      → HasGoneOn Holds IsClean Faults IsUp MayLeave Asked AskedFiles Heard T (moments ++ now ∷ []) l o w s h l2 o3 w2 s2 h2
+  gone_more moments l o w s h l1 o1 w1 s1 h1 now l2 o2 w2 s2 h2 o3 a turn left kept still =
+      let more : Faults (vault_of o2) ≤ Faults (vault_of o3) = maintained_more Holds Faults IsClean IsUp MayLeave l2 o2 o3 kept in
+      record {
+        given = given_in turn.seen ++ a.given;
+        turns = OneMore moments a.given l1 o1 w1 s1 h1 now l2 o2 w2 s2 h2 o3 a.turns turn left kept;
+        stands = subst (λ x. StandsFor Holds o3 (trace_of T.base x)) (sym (append_assoc (given_in turn.seen) a.given T.log)) (still (trace_of T.base (given_in turn.seen ++ (a.given ++ T.log))) turn.stands);
+        admitted = newly_then T.base T.log a.given (given_in turn.seen) a.admitted turn.admitted;
+        counted = (let p = a.counted in let q = turn.counted in omega (arith, p, q, more));
+        failed = λ e.
+            ⊎_elim
+            (λ (later : list_any is_failed (given_in turn.seen) ≡ true).
+            grown_more (Faults (vault_of o)) (Faults (vault_of o1)) (Faults (vault_of o2)) (Faults (vault_of o3)) a.counted more (turn.failed later))
+            (λ (first : list_any is_failed a.given ≡ true).
+            (let q = turn.counted in
+            grown_more (Faults (vault_of o)) (Faults (vault_of o)) (Faults (vault_of o1)) (Faults (vault_of o3)) (omega arith) (omega (arith, q, more)) (a.failed first)))
+            (or_cases (list_any is_failed (given_in turn.seen)) (list_any is_failed a.given) (sym (list_any-append is_failed (given_in turn.seen) a.given) ∙ e));
+      }
 
 module _ {V W S H C : Type 0} (Holds : V → Contents → Type 0) (IsClean : V → Type 0) (Faults : V → ℕ) (IsUp : V → Type 0) (MayLeave : V → Contents → Type 0) (Asked : W → List Call → Type 0) (AskedFiles : S → List FileCall → Type 0) (Heard : H → List Hearing → Type 0) (Gave : C → List (Option ℕ) → Type 0)
     (l : Links) (o : Office V) (w : W) (s : S) (h : H) (k : C) where
   pub turned_none : HasTurned Holds IsClean Faults IsUp MayLeave Asked AskedFiles Heard Gave false [] l o w s h k l o w s h k
   turned_none = record {
     gave = λ before g. subst (Gave k) (none_yet before) g;
-    each = λ T stands clean. gone_none Holds Faults IsUp MayLeave Asked AskedFiles Heard T l o w s h stands;
+    each = λ T stands clean. gone_none Holds IsClean Faults IsUp MayLeave Asked AskedFiles Heard T l o w s h stands;
   }
 
-  pub turned_more : (moments : List ℕ) (l1 : Links) (o1 : Office V) (w1 : W) (s1 : S) (h1 : H) (k1 : C) (now : ℕ) (l2 : Links) (o2 : Office V) (w2 : W) (s2 : S) (h2 : H) (k2 : C)
+  pub turned_more : (moments : List ℕ) (l1 : Links) (o1 : Office V) (w1 : W) (s1 : S) (h1 : H) (k1 : C) (now : ℕ)
+      (l2 : Links) (o2 : Office V) (w2 : W) (s2 : S) (h2 : H) (o3 : Office V) (k2 : C)
       → HasTurned Holds IsClean Faults IsUp MayLeave Asked AskedFiles Heard Gave false moments l o w s h k l1 o1 w1 s1 h1 k1
       → ((before : List (Option ℕ)) → Gave k1 before → Gave k2 (before ++ Some now ∷ []))
       → (IsClean (vault_of o2) → IsClean (vault_of o1))
       → ((T : Trace) → StandsFor Holds o1 T → IsClean (vault_of o2) → Works Holds Faults IsUp MayLeave Asked AskedFiles Heard T now l1 o1 w1 s1 h1 o2 l2 w2 s2 h2)
       → LeavesAsFound now l1 l2
-      → HasTurned Holds IsClean Faults IsUp MayLeave Asked AskedFiles Heard Gave false (moments ++ now ∷ []) l o w s h k l2 o2 w2 s2 h2 k2
-  turned_more moments l1 o1 w1 s1 h1 k1 now l2 o2 w2 s2 h2 k2 a called clean works left = record {
+      → Maintains Holds Faults IsClean IsUp MayLeave l2 o2 o3
+      → ((U : Trace) → StandsFor Holds o2 U → IsClean (vault_of o3) → StandsFor Holds o3 U)
+      → HasTurned Holds IsClean Faults IsUp MayLeave Asked AskedFiles Heard Gave false (moments ++ now ∷ []) l o w s h k l2 o3 w2 s2 h2 k2
+  turned_more moments l1 o1 w1 s1 h1 k1 now l2 o2 w2 s2 h2 o3 k2 a called clean works left kept still = record {
     gave = λ before g. subst (Gave k2) (one_more before moments now) (called (before ++ answers false moments) (a.gave before g));
     each = λ T stands z.
-        (let g = a.each T stands (clean z) in
-        gone_more Holds Faults IsUp MayLeave Asked AskedFiles Heard T moments l o w s h l1 o1 w1 s1 h1 now l2 o2 w2 s2 h2 g (works (trace_of T.base (g.given ++ T.log)) g.stands z) left);
+        (let z2 = maintained_clean Holds Faults IsClean IsUp MayLeave l2 o2 o3 kept z in
+        let g = a.each T stands (clean z2) in
+        gone_more Holds IsClean Faults IsUp MayLeave Asked AskedFiles Heard T moments l o w s h l1 o1 w1 s1 h1 now l2 o2 w2 s2 h2 o3 g
+        (works (trace_of T.base (g.given ++ T.log)) g.stands z2) left kept (λ U st. still U st z));
   }
 
   pub turned_stopped : (moments : List ℕ) (l1 : Links) (o1 : Office V) (w1 : W) (s1 : S) (h1 : H) (k1 k2 : C)
@@ -141,3 +190,15 @@ module _ {V W S H C : Type 0} (Holds : V → Contents → Type 0) (IsClean : V �
 
 pub one_longer : (moments : List ℕ) (now n : ℕ) → length moments ≡ n → length (moments ++ now ∷ []) ≡ n + 1
 one_longer moments now n e = length-append moments (now ∷ []) ∙ ap (λ k. k + 1) e
+
+-- ---- what came of the office alone
+
+pub unserved : {V : Type 0} (Holds : V → Contents → Type 0) (Faults : V → ℕ) (T : Trace) (o : Office V) → StandsFor Holds o T → WasServed Holds Faults T o o
+unserved Holds Faults T o stands = record { given = []; stands = stands; admitted = tt; counted = omega arith; failed = λ e. cc }
+
+pub was_served : {V W S H : Type 0} (Holds : V → Contents → Type 0) (IsClean : V → Type 0) (Faults : V → ℕ) (IsUp : V → Type 0) (MayLeave : V → Contents → Type 0) (Asked : W → List Call → Type 0)
+    (AskedFiles : S → List FileCall → Type 0) (Heard : H → List Hearing → Type 0) (T : Trace) (moments : List ℕ)
+    (l : Links) (o : Office V) (w : W) (s : S) (h : H) (l1 : Links) (o1 : Office V) (w1 : W) (s1 : S) (h1 : H)
+    → HasGoneOn Holds IsClean Faults IsUp MayLeave Asked AskedFiles Heard T moments l o w s h l1 o1 w1 s1 h1 → WasServed Holds Faults T o o1
+was_served Holds IsClean Faults IsUp MayLeave Asked AskedFiles Heard T moments l o w s h l1 o1 w1 s1 h1 g =
+    record { given = g.given; stands = g.stands; admitted = g.admitted; counted = g.counted; failed = g.failed }

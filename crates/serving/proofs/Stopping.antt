@@ -50,11 +50,11 @@ module _ {V : Type 0} (IsUp : V → Type 0) (MayLeave : V → Contents → Type 
   pub stop_then : (B : Records) (L g1 g2 : Log) → (g2 ≡ [] → ⊥) → (IsUp (vault_of o) → list_all is_answered g1 ≡ true → IsUp (vault_of o1))
       → (IsUp (vault_of o1) → StopLeavesAfter (MayLeave (vault_of o2)) B (g1 ++ L) g2) → IsUp (vault_of o) → StopLeavesAfter (MayLeave (vault_of o2)) B L (g2 ++ g1)
   stop_then B L g1 [] some a b u = absurd (some refl)
-  stop_then B L g1 ((e, m) ∷ g2) some a b u all =
-      let both : (list_all is_answered g2 && list_all is_answered g1) ≡ true = sym (list_all-append is_answered g2 g1) ∙ all in
+  stop_then B L g1 ((e, m) ∷ g2) some a b u = λ all.
+      (let both : (list_all is_answered g2 && list_all is_answered g1) ≡ true = sym (list_all-append is_answered g2 g1) ∙ all in
       let was_up = a u (and_right (list_all is_answered g2) (list_all is_answered g1) both) in
       subst (λ l. StopLeavesBy (MayLeave (vault_of o2)) (trace_of B l) e m) (sym (append_assoc g2 g1 L))
-      (b was_up (and_left (list_all is_answered g2) (list_all is_answered g1) both))
+      (b was_up (and_left (list_all is_answered g2) (list_all is_answered g1) both)))
 
 -- ---- at any trace
 
@@ -83,7 +83,7 @@ module _ {V : Type 0} (Holds : V → Contents → Type 0) (IsClean IsUp : V → 
         unasked = λ none. same ∙ a.unasked none;
       }
   outlasts_then o o1 o2 g1 ((e, m) ∷ g2) clean stands a b = record {
-    up = λ B L s k u all. up_then IsUp o o1 o2 g1 ((e, m) ∷ g2) (a.up B L s (clean k)) (b.up B (g1 ++ L) (stands B L s (clean k)) k) u all;
+    up = λ B L s k u all. up_then IsUp MayLeave o o1 o2 g1 ((e, m) ∷ g2) (a.up B L s (clean k)) (b.up B (g1 ++ L) (stands B L s (clean k)) k) u all;
     stop = λ B L s k u. stop_then IsUp MayLeave o o1 o2 B L g1 ((e, m) ∷ g2) (λ none. cc) (a.up B L s (clean k)) (b.stop B (g1 ++ L) (stands B L s (clean k)) k) u;
     unasked = λ none. cc;
   }

@@ -1,9 +1,11 @@
 -- That a server goes on turn by turn, each from where the one before it ended.
 use Rattle.std.specs.Prelude.{◌≡◌, ◌≤◌, ℕ, Bool, true, false, List, [], ◌∷◌, ◌++◌, length, map}
-use Rattle.std.specs.Prelude.{Option, Some, None, if◌then◌else◌}
+use Rattle.std.specs.Prelude.{⊤, Option, Some, None, Result, if◌then◌else◌}
 use Rattle.std.specs.List.{list_any}
+use Rattle.vault.specs.Call.{Looks}
 use Rattle.vault.specs.Calls.{has_grown}
 use Rattle.vault.specs.Changes.{Contents}
+use Rattle.vault.specs.declared.fault.VaultFault.{VaultFault}
 use Rattle.office.specs.Events.{Log, Trace}
 use Rattle.office.specs.Taken.{trace_of}
 use Rattle.office.specs.Stands.{StandsFor, vault_of}
@@ -31,37 +33,49 @@ pub record LeavesAsFound (now : ℕ) (links links_then : Links) : Type 0 where
   pub few : AreFew links → AreFew links_then
   pub ongoing : AllGoOn now links_then
 
+-- After a turn: if the next one waits, the store was asked to do what it has put off, which only
+-- looks; otherwise nothing was done.
+pub data Maintains {V : Type 0} (Holds : V → Contents → Type 0) (Faults : V → ℕ)
+    (IsClean IsUp : V → Type 0) (MayLeave : V → Contents → Type 0) (links : Links)
+    (office office_then : Office V) : Type 0 where
+  Maintained : (answer : Result ⊤ VaultFault) → millis_of links ≡ 1000
+      → Looks Holds Faults IsClean IsUp MayLeave (vault_of office) (vault_of office_then) answer
+      → Maintains Holds Faults IsClean IsUp MayLeave links office office_then
+  Deferred : millis_of links ≡ 0 → office_then ≡ office
+      → Maintains Holds Faults IsClean IsUp MayLeave links office office_then
+
 -- The turns of these moments were done, the oldest first, and gave these events: each turn works,
--- from the trace with the events of those before it.
-pub data AreTurns {V W S H : Type 0} (Holds : V → Contents → Type 0) (Faults : V → ℕ)
-    (IsUp : V → Type 0) (MayLeave : V → Contents → Type 0)
+-- from the trace with the events of those before it; and after each the store is maintained.
+pub data AreTurns {V W S H : Type 0} (Holds : V → Contents → Type 0) (IsClean : V → Type 0)
+    (Faults : V → ℕ) (IsUp : V → Type 0) (MayLeave : V → Contents → Type 0)
     (Asked : W → List Call → Type 0) (AskedFiles : S → List FileCall → Type 0)
     (Heard : H → List Hearing → Type 0) (T : Trace)
     (links : Links) (office : Office V) (wire : W) (spool : S) (listener : H)
     : (moments : List ℕ) → (given : Log) → Links → Office V → W → S → H → Type 0 where
-  NoTurn : AreTurns Holds Faults IsUp MayLeave Asked AskedFiles Heard T links office wire spool listener
+  NoTurn : AreTurns Holds IsClean Faults IsUp MayLeave Asked AskedFiles Heard T links office wire spool listener
       [] [] links office wire spool listener
   OneMore : (moments : List ℕ) (given : Log) (links1 : Links) (office1 : Office V) (wire1 : W)
       (spool1 : S) (listener1 : H) (now : ℕ) (links2 : Links) (office2 : Office V) (wire2 : W)
-      (spool2 : S) (listener2 : H)
-      → AreTurns Holds Faults IsUp MayLeave Asked AskedFiles Heard T links office wire spool listener
+      (spool2 : S) (listener2 : H) (office3 : Office V)
+      → AreTurns Holds IsClean Faults IsUp MayLeave Asked AskedFiles Heard T links office wire spool listener
       moments given links1 office1 wire1 spool1 listener1
       → (turn : Works Holds Faults IsUp MayLeave Asked AskedFiles Heard (trace_of T.base (given ++ T.log)) now
       links1 office1 wire1 spool1 listener1 office2 links2 wire2 spool2 listener2)
       → LeavesAsFound now links1 links2
-      → AreTurns Holds Faults IsUp MayLeave Asked AskedFiles Heard T links office wire spool listener
-      (moments ++ now ∷ []) (given_in turn.seen ++ given) links2 office2 wire2 spool2 listener2
+      → Maintains Holds Faults IsClean IsUp MayLeave links2 office2 office3
+      → AreTurns Holds IsClean Faults IsUp MayLeave Asked AskedFiles Heard T links office wire spool listener
+      (moments ++ now ∷ []) (given_in turn.seen ++ given) links2 office3 wire2 spool2 listener2
 
 -- So an office went on since a trace: it stands for that trace with the events of the turns.
-pub record HasGoneOn {V W S H : Type 0} (Holds : V → Contents → Type 0) (Faults : V → ℕ)
-    (IsUp : V → Type 0) (MayLeave : V → Contents → Type 0)
+pub record HasGoneOn {V W S H : Type 0} (Holds : V → Contents → Type 0) (IsClean : V → Type 0)
+    (Faults : V → ℕ) (IsUp : V → Type 0) (MayLeave : V → Contents → Type 0)
     (Asked : W → List Call → Type 0) (AskedFiles : S → List FileCall → Type 0)
     (Heard : H → List Hearing → Type 0) (T : Trace) (moments : List ℕ)
     (links : Links) (office : Office V) (wire : W) (spool : S) (listener : H)
     (links_then : Links) (office_then : Office V) (wire_then : W) (spool_then : S)
     (listener_then : H) : Type 0 where
   pub given : Log
-  pub turns : AreTurns Holds Faults IsUp MayLeave Asked AskedFiles Heard T links office wire spool listener
+  pub turns : AreTurns Holds IsClean Faults IsUp MayLeave Asked AskedFiles Heard T links office wire spool listener
       moments given links_then office_then wire_then spool_then listener_then
   pub stands : StandsFor Holds office_then (trace_of T.base (given ++ T.log))
   -- each event has a tag that it may have
@@ -98,7 +112,7 @@ pub record HasTurned {V W S H C : Type 0} (Holds : V → Contents → Type 0) (I
   pub gave : (before : List (Option ℕ)) → Gave clock before
       → Gave clock_then (before ++ answers stopped moments)
   pub each : (T : Trace) → StandsFor Holds office T → IsClean (vault_of office_then)
-      → HasGoneOn Holds Faults IsUp MayLeave Asked AskedFiles Heard T moments
+      → HasGoneOn Holds IsClean Faults IsUp MayLeave Asked AskedFiles Heard T moments
       links office wire spool listener links_then office_then wire_then spool_then listener_then
 
 -- If the clock stopped, the wire was asked for one wait more, and for nothing else.

@@ -1,14 +1,14 @@
 //! Serving turn by turn, as long as a clock gives moments.
 ghost use Rattle.std.specs.Prelude.{◌≡◌, ℕ, List, ◌∷◌, [], ◌++◌, Option};
 ghost use Rattle.office.specs.Events.{Trace};
-ghost use Rattle.office.specs.Stands.{StandsFor, vault_of};
+ghost use Rattle.office.specs.Stands.{OfEachTrace, StandsFor, vault_of};
 ghost use Rattle.serving.specs.Served.{Serves};
 ghost use Rattle.serving.specs.Settings.{settings};
 ghost use Rattle.serving.specs.HttpTurns.{AreFew};
 ghost use Rattle.serving.specs.HttpWorks.{AreShort};
 ghost use Rattle.serving.specs.Newcomers.{AllHaveSeats};
 ghost use Rattle.serving.specs.Guesses.{AllArePacing};
-ghost use Rattle.serving.specs.Running.{HasRun};
+ghost use Rattle.serving.specs.Running.{HasRun, Maintains};
 
 use crate::links::Links;
 use crate::listener::Listener;
@@ -34,9 +34,25 @@ pub trait Clock {
 }
 
 impl<V: Vault, W: Wire, L: Listener> Server<V, W, L> {
+    /// Has the store do what it has put off, if the next turn waits.
+    fn maintain_if_idle(&mut self, links: &Links)
+        ensures maintains { Maintains V.holds V.faults V.is_clean V.is_up V.may_leave links.now
+            self.old.office self.new.office }
+        ensures stands { OfEachTrace V.Vault self.old.office self.new.office (λ T.
+            StandsFor V.holds self.new.office T) }
+        ensures wire { self.new.wire ≡ self.old.wire }
+        ensures listener { self.new.listener ≡ self.old.listener }
+    {
+        if links.poll_now() {
+            return;
+        }
+        let _ = self.office.maintain();
+    }
+
     /// Does one turn after the other, until so many were done. Each waits, and then asks the clock
     /// for its moment. If the clock gives none it ends there: it accepts, reads and writes nothing
-    /// more, and the office is told nothing.
+    /// more, and the office is told nothing. After a turn that has nothing more to do, the store
+    /// does what it has put off.
     ///
     /// Each turn finds what the first one did: the settings, the administration's site, seats for
     /// all who haven't logged in, and refusals that keep a login back for 1 to 15 seconds. No
@@ -76,6 +92,7 @@ impl<V: Vault, W: Wire, L: Listener> Server<V, W, L> {
                 return;
             };
             self.serve_after_wait(links, spool, now);
+            self.maintain_if_idle(links);
         }
     }
 }

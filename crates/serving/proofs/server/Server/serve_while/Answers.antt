@@ -1,6 +1,8 @@
-use Rattle.std.proofs.Common.{rules, ◌≤◌, ◌++◌, ◌∷◌, [], true, false, refl, ◌∙◌, arith}
+use Rattle.std.proofs.Common.{rules, ◌≤◌, ◌++◌, ◌∷◌, [], true, false, refl, sym, subst, ◌∙◌, arith}
 use Rattle.office.specs.Taken.{trace_of}
-use Rattle.serving.proofs.Going.{serves_told, waited_for, turned_none, turned_more, turned_stopped, one_longer}
+use Rattle.serving.specs.Served.{Serves}
+use Rattle.serving.specs.Running.{HasTurned}
+use Rattle.serving.proofs.Going.{serves_told, serves_still, maintained_clean, waited_for, turned_none, turned_more, turned_stopped, one_longer}
 use Rattle.serving.proofs.Bounds.{all_short}
 use Rattle.serving.proofs.server.Server.serve_while.Goals as goal
 
@@ -31,26 +33,38 @@ loop-turn-preserved g c =
     let w1 = c.wait.new.self in
     let waited = waited_for g.W.Wire.asked w0 w1 k.links c.millis_for.result c.millis_for.ensures c.wait.ensures.called in
     let left = x.ensures.left in
+    let y = c.maintain_if_idle in
+    let kept = y.ensures.maintains in
+    let o2 = x.new.self.office in
+    let o3 = y.new.self.office in
+    let clean2 = maintained_clean g.V.Vault.holds g.V.Vault.faults g.V.Vault.is_clean g.V.Vault.is_up g.V.Vault.may_leave x.new.links o2 o3 kept in
     record {
       serves = λ T s clean.
-          x.ensures.serves T (serves_told g.V.Vault.holds g.W.Wire.tells g.S.Spool.tells T k.self.office w0 w1 k.spool k.links.clients.seats.items k.links.requests.exchanges.items k.links.site
-          c.wait.ensures.told (k.invariant.serves T s (x.ensures.clean clean))) clean;
-      clean = λ clean. k.invariant.clean (x.ensures.clean clean);
+          subst (λ w. Serves g.V.Vault.holds g.W.Wire.tells g.S.Spool.tells T o3 w x.new.spool x.new.links.clients.seats.items x.new.links.requests.exchanges.items x.new.links.site) (sym y.ensures.wire)
+          (serves_still g.V.Vault.holds g.W.Wire.tells g.S.Spool.tells T o2 o3 x.new.self.wire x.new.spool x.new.links.clients.seats.items x.new.links.requests.exchanges.items x.new.links.site
+          (λ U st. y.ensures.stands U st clean)
+          (x.ensures.serves T (serves_told g.V.Vault.holds g.W.Wire.tells g.S.Spool.tells T k.self.office w0 w1 k.spool k.links.clients.seats.items k.links.requests.exchanges.items k.links.site
+          c.wait.ensures.told (k.invariant.serves T s (x.ensures.clean (clean2 clean)))) (clean2 clean)));
+      clean = λ clean. k.invariant.clean (x.ensures.clean (clean2 clean));
       turned = (
         m.0 ++ now ∷ [],
         one_longer m.0 now k._turn m.1,
-        turned_more g.V.Vault.holds g.V.Vault.is_clean g.V.Vault.faults g.V.Vault.is_up g.V.Vault.may_leave g.W.Wire.asked g.S.Spool.asked g.L.Listener.heard g.C.Clock.gave c.args.links.now c.args.self.now.office c.args.self.now.wire c.args.spool.now c.args.self.now.listener c.args.clock.now
-            m.0 k.links k.self.office k.self.wire k.spool k.self.listener k.clock now x.new.links x.new.self.office x.new.self.wire x.new.spool x.new.self.listener c.moment.new.self m.2
-            c.in-Some.ensures.called x.ensures.clean (x.ensures.works w0 waited) left,
+        subst (λ w. HasTurned g.V.Vault.holds g.V.Vault.is_clean g.V.Vault.faults g.V.Vault.is_up g.V.Vault.may_leave g.W.Wire.asked g.S.Spool.asked g.L.Listener.heard g.C.Clock.gave false (m.0 ++ now ∷ [])
+            c.args.links.now c.args.self.now.office c.args.self.now.wire c.args.spool.now c.args.self.now.listener c.args.clock.now x.new.links o3 w x.new.spool y.new.self.listener c.moment.new.self) (sym y.ensures.wire)
+        (subst (λ h. HasTurned g.V.Vault.holds g.V.Vault.is_clean g.V.Vault.faults g.V.Vault.is_up g.V.Vault.may_leave g.W.Wire.asked g.S.Spool.asked g.L.Listener.heard g.C.Clock.gave false (m.0 ++ now ∷ [])
+            c.args.links.now c.args.self.now.office c.args.self.now.wire c.args.spool.now c.args.self.now.listener c.args.clock.now x.new.links o3 x.new.self.wire x.new.spool h c.moment.new.self) (sym y.ensures.listener)
+        (turned_more g.V.Vault.holds g.V.Vault.is_clean g.V.Vault.faults g.V.Vault.is_up g.V.Vault.may_leave g.W.Wire.asked g.S.Spool.asked g.L.Listener.heard g.C.Clock.gave c.args.links.now c.args.self.now.office c.args.self.now.wire c.args.spool.now c.args.self.now.listener c.args.clock.now
+            m.0 k.links k.self.office k.self.wire k.spool k.self.listener k.clock now x.new.links o2 x.new.self.wire x.new.spool x.new.self.listener o3 c.moment.new.self m.2
+            c.in-Some.ensures.called x.ensures.clean (x.ensures.works w0 waited) left kept y.ensures.stands)),
       );
       few = λ a. left.few (k.invariant.few a);
       seated = λ h. left.seated (k.invariant.seated h);
       pacing = λ h. left.pacing (k.invariant.pacing h);
       short = λ T s clean a.
-          (let before = x.ensures.clean clean in
+          (let before = x.ensures.clean (clean2 clean) in
           let gone = m.2.each T s before in
           let trace = trace_of T.base (gone.given ++ T.log) in
-          let w = x.ensures.works w0 waited trace gone.stands clean in
+          let w = x.ensures.works w0 waited trace gone.stands (clean2 clean) in
           all_short trace now k.links x.new.links w.seen w.accepts w.admin (k.invariant.short T s before a));
       settings = left.set ∙ k.invariant.settings;
       site = left.site ∙ k.invariant.site;

@@ -1,0 +1,23 @@
+-- What `popbox serve` leaves in a store that kept a trace.
+use Rattle.std.specs.Prelude.{◌≡◌, ◌≤◌, ℕ, ◌++◌, ◌∷◌}
+use Rattle.office.specs.History.{Done}
+use Rattle.office.specs.Events.{Event, EventTag, Tagged, Log, Trace, given}
+use Rattle.office.specs.Events as event
+use Rattle.office.specs.Taken.{trace_of}
+use Rattle.serving.specs.Given.{AreNewlyAdmitted}
+use Rattle.popbox.specs.declared.options.ServeOptions.{ServeOptions}
+
+-- a trace with the opening of an office, by the options of the server
+abbrev pub opened_by : ServeOptions → (boot : ℕ) → Trace → Trace
+opened_by options boot T = given T (event.Start options.host boot (record {
+    idle = options.idle;
+    removals = options.removals;
+    access = record { lists_clerks = options.list_clerks };
+  })) (Tagged Done)
+
+-- It leaves the trace as it was, if no office was opened. Otherwise the office was given these
+-- events after its opening, each with a tag that it may have.
+pub data IsServed (options : ServeOptions) (boot : ℕ) (T : Trace) : Trace → Type 0 where
+  NotOpened : IsServed options boot T T
+  Opened : (log : Log) → AreNewlyAdmitted T.base (opened_by options boot T).log log
+      → IsServed options boot T (trace_of T.base (log ++ (opened_by options boot T).log))
