@@ -18,8 +18,8 @@ use Rattle.office.specs.declared.account.Way.{Way}
 use Rattle.office.specs.declared.account.Way.TheVariants as way
 use Rattle.office.specs.declared.account.Verdict.{Verdict}
 use Rattle.office.specs.declared.account.Verdict.TheVariants as judged
-use Rattle.proxy.specs.declared.wire.Refusal.{Refusal}
-use Rattle.proxy.specs.declared.wire.Refusal.TheVariants as refused
+use Rattle.serving.specs.declared.wire.Refusal.{Refusal}
+use Rattle.serving.specs.declared.wire.Refusal.TheVariants as refused
 
 -- the values of a login name
 abbrev pub name_text : LoginName → List ℕ

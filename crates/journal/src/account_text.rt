@@ -8,7 +8,7 @@ ghost use Rattle.journal.specs.Lines.{cause_text as cause_words, refusal_text as
 
 use creds::{LoginName, Name, Uid};
 use office::{Account, End, MessageCommand, MessageRow, Removal, Verdict, Way};
-use proxy::Refusal;
+use serving::Refusal;
 use std::alloc::{AllocError, Global};
 
 /// By which command a login came.

@@ -7,8 +7,7 @@ use super::removed_text::{MOST_ON_A_LINE, removed_line};
 use creds::Name;
 use jiff::Timestamp;
 use office::{Account, Removal};
-use proxy::Refusal;
-use serving::{AdminRequest, Link, Listener};
+use serving::{AdminRequest, Link, LinkEvent, Listener, Port, Refusal, Wire};
 use std::alloc::{AllocError, Global};
 use std::cell::{Cell, RefCell};
 use std::io::Write;
@@ -102,7 +101,7 @@ impl<'a> Journal<'a> {
     }
 
     /// Keeps that a mail program's link came.
-    pub fn come(&self, link: Link, address: Option<SocketAddr>) {
+    fn come(&self, link: Link, address: Option<SocketAddr>) {
         let ip = address.map(|it| it.ip());
         if let Ok(text) = address_text(self.alloc(), address)
             && let Ok(mut clients) = self.shared.clients.try_borrow_mut()
@@ -111,15 +110,17 @@ impl<'a> Journal<'a> {
         }
     }
 
-    /// Keeps the address of a mail program's link, which a proxy may have told since.
-    pub fn locate(&self, link: Link, ip: IpAddr) {
-        if let Ok(mut clients) = self.shared.clients.try_borrow_mut() {
+    /// Keeps the address of a mail program's link, if it is known: a proxy may have told it since.
+    fn locate(&self, link: Link, ip: Option<IpAddr>) {
+        if let Some(ip) = ip
+            && let Ok(mut clients) = self.shared.clients.try_borrow_mut()
+        {
             clients.locate(self.alloc(), link, ip);
         }
     }
 
     /// Keeps that octets lie on a mail program's link, and were looked at without being read.
-    pub fn look(&self, link: Link) {
+    fn look(&self, link: Link) {
         if let Ok(now) = Instant::now(self.rt)
             && let Ok(mut clients) = self.shared.clients.try_borrow_mut()
         {
@@ -128,7 +129,7 @@ impl<'a> Journal<'a> {
     }
 
     /// Keeps that octets of a mail program's link were read.
-    pub fn read(&self, link: Link) {
+    fn read(&self, link: Link) {
         if let Ok(now) = Instant::now(self.rt)
             && let Ok(mut clients) = self.shared.clients.try_borrow_mut()
         {
@@ -136,20 +137,50 @@ impl<'a> Journal<'a> {
         }
     }
 
-    /// Keeps why a mail program's link is closed, whose first line was refused.
-    pub fn refuse(&self, link: Link, refusal: Refusal) {
-        if let Ok(mut clients) = self.shared.clients.try_borrow_mut() {
+    /// Keeps why a mail program's link is closed, if its first line was refused.
+    fn refuse(&self, link: Link, refusal: Option<Refusal>) {
+        if let Some(refusal) = refusal
+            && let Ok(mut clients) = self.shared.clients.try_borrow_mut()
+        {
             clients.end_by(self.alloc(), link, refusal_text(refusal));
         }
     }
 
     /// Notes that a mail program's link is closed, unless a QUIT was noted.
-    pub fn close(&self, link: Link) {
+    fn close(&self, link: Link) {
         let text = match self.shared.clients.try_borrow_mut() {
             Ok(mut clients) => clients.close(self.alloc(), link),
             Err(_) => None,
         };
         self.note_some(text);
+    }
+
+    /// Takes what became of a mail program's link: its address and, once octets came, that address
+    /// again, and for how long they lay unread; why it ended, if its first line was refused; and
+    /// that it is closed.
+    fn follow_client<W: Wire>(&self, wire: &W, link: Link, event: LinkEvent) {
+        match event {
+            LinkEvent::Came => self.come(link, wire.peer(Port::Pop, link)),
+            LinkEvent::LiesUnread => self.look(link),
+            LinkEvent::WasRead => {
+                self.locate(link, wire.address(Port::Pop, link));
+                self.read(link);
+            }
+            LinkEvent::Ended => self.refuse(link, wire.refusal(link)),
+            LinkEvent::WasWritten => {}
+            LinkEvent::Closed => self.close(link),
+        }
+    }
+
+    /// Takes what became of a link of the administration: its address, that a response went out,
+    /// and that it is closed.
+    fn follow_administrator<W: Wire>(&self, wire: &W, link: Link, event: LinkEvent) {
+        match event {
+            LinkEvent::Came => self.come_asking(link, wire.peer(Port::Admin, link)),
+            LinkEvent::WasWritten => self.send(link),
+            LinkEvent::Closed => self.close_asking(link),
+            LinkEvent::LiesUnread | LinkEvent::WasRead | LinkEvent::Ended => {}
+        }
     }
 
     /// Notes the unique-ids of what a QUIT removed, 32 on a line.
@@ -165,7 +196,7 @@ impl<'a> Journal<'a> {
     }
 
     /// Keeps that a link of the administration came.
-    pub fn come_asking(&self, link: Link, address: Option<SocketAddr>) {
+    fn come_asking(&self, link: Link, address: Option<SocketAddr>) {
         if let Ok(text) = address_text(self.alloc(), address)
             && let Ok(mut administrators) = self.shared.administrators.try_borrow_mut()
         {
@@ -174,14 +205,14 @@ impl<'a> Journal<'a> {
     }
 
     /// Keeps that an octet of a response went out on a link of the administration.
-    pub fn send(&self, link: Link) {
+    fn send(&self, link: Link) {
         if let Ok(mut administrators) = self.shared.administrators.try_borrow_mut() {
             administrators.send(link);
         }
     }
 
     /// Notes that a link of the administration is closed, and what was asked over it.
-    pub fn close_asking(&self, link: Link) {
+    fn close_asking(&self, link: Link) {
         let text = match self.shared.administrators.try_borrow_mut() {
             Ok(mut administrators) => administrators.close(self.alloc(), link),
             Err(_) => None,
@@ -224,10 +255,20 @@ impl<'a> Journal<'a> {
     }
 }
 
-/// Notes each connection that is opened, what the office judged of what came on it, and what the
-/// administration was asked.
+/// Notes each connection that is opened, what the office judged of what came on it, what the
+/// administration was asked, and the end of each link. Without a log it asks the wire nothing.
 impl Listener for Journal<'_> {
     ghost heard = { λ _ _. ⊥ };
+
+    fn follow<W: Wire>(&mut self, wire: &W, port: Port, link: Link, event: LinkEvent) {
+        if !self.is_on {
+            return;
+        }
+        match port {
+            Port::Pop => self.follow_client(wire, link, event),
+            Port::Admin => self.follow_administrator(wire, link, event),
+        }
+    }
 
     fn open(&mut self, link: Link, connection: u64) {
         if !self.is_on {

@@ -1,10 +1,11 @@
 //! The log of a server: a line on standard error for each event.
 //!
-//! A [`Journal`] writes the lines. [`LoggedVault`], [`LoggedWire`] and [`LoggedSpool`] stand around
-//! a server's vault, wire and spool: each does what the one inside does, and notes what came of it.
-//! As the server's listener a [`Journal`] notes connections, logins and QUITs as the office judged
-//! them, and what the administration was asked and answered.
-//! [`Guarded`] ends all that once a [`StoreWatch`] sees that the store's files are others.
+//! A [`Journal`] writes the lines. [`LoggedVault`] and [`LoggedSpool`] stand around a server's
+//! vault and spool: each does what the one inside does, and notes what came of it. As the server's
+//! listener a [`Journal`] notes links and connections, logins and QUITs as the office judged them,
+//! and what the administration was asked and answered.
+//! A [`StoreWatch`] sees whether the store's files are still those that are open. Once they aren't,
+//! a [`GuardedSpool`] gives no file.
 #![tactic(auto)]
 
 mod account_text;
@@ -25,9 +26,8 @@ mod settings;
 mod spool;
 mod store;
 mod watch;
-mod wire;
 
-pub use guarded::{Guarded, folder_was_asked, sockets_were_asked};
+pub use guarded::{GuardedSpool, folder_was_asked};
 pub use journal::{Journal, Shared};
 pub use left::Folder;
 pub use server::{note_end, note_loss, note_opening, note_start};
@@ -35,4 +35,3 @@ pub use settings::Settings;
 pub use spool::LoggedSpool;
 pub use store::LoggedVault;
 pub use watch::{FileId, Loss, NotedWatch, StoreWatch, Watch};
-pub use wire::{LoggedWire, Peers};

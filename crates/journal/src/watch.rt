@@ -190,10 +190,6 @@ pub trait Watch {
     /// `answered w said`: w answered so, the newest last.
     ghost answered: { Self → List Bool → Type 0 };
 
-    /// Looks, unless it did so just before.
-    fn look(&mut self)
-        ensures { (said : List Bool) → answered self.old said → answered self.new said };
-
     /// Looks.
     fn look_now(&mut self)
         ensures { (said : List Bool) → answered self.old said → answered self.new said };
@@ -206,10 +202,6 @@ pub trait Watch {
 
 impl Watch for &StoreWatch<'_> {
     ghost answered = { λ _ _. ⊤ };
-
-    fn look(&mut self) {
-        StoreWatch::look(self);
-    }
 
     fn look_now(&mut self) {
         StoreWatch::look_now(self);
@@ -245,15 +237,6 @@ impl<X: Watch> NotedWatch<X> {
 
 impl<X: Watch> Watch for NotedWatch<X> {
     ghost answered = { λ noted said. said ≡ noted.notes.items };
-
-    fn look(&mut self)
-        ensures told { (said : List Bool) → said ≡ self.old.notes.items
-            → said ≡ self.new.notes.items }
-        ensures inside { (said : List Bool) → X.answered self.old.watch said
-            → X.answered self.new.watch said }
-    {
-        self.watch.look();
-    }
 
     fn look_now(&mut self)
         ensures told { (said : List Bool) → said ≡ self.old.notes.items

@@ -3,8 +3,8 @@ use crate::options::ServeOptions;
 use crate::version::{IS_PROVED, SLOW};
 use converse::{Fault, tell_fault};
 use journal::{
-    FileId, Folder, Guarded, Journal, LoggedSpool, LoggedVault, LoggedWire, Loss, NotedWatch,
-    Peers, Shared, StoreWatch, note_end, note_loss, note_opening, note_start,
+    FileId, Folder, GuardedSpool, Journal, LoggedSpool, LoggedVault, Loss, NotedWatch, Shared,
+    StoreWatch, note_end, note_loss, note_opening, note_start,
 };
 use office::{AdminAccess, Limits, Office};
 use proxy::ProxiedWire;
@@ -202,8 +202,9 @@ fn tell_loss<E: Write>(
     status
 }
 
-/// The moments of a server's turns: the seconds since its start, until its store is lost. What it
-/// gave is known by the `NotedClock` around it.
+/// The moments of a server's turns: the seconds since its start, until its store is lost. A turn
+/// asks after its wait, and then this looks at the store's files: once it sees that they are lost
+/// nothing more is read or answered. What it gave is known by the `NotedClock` around it.
 #[derive(Drop)]
 struct ServerClock<'a> {
     rt: &'a HostRuntime,
@@ -232,6 +233,7 @@ impl Clock for ServerClock<'_> {
     ghost gave = { λ _ _. ⊥ };
 
     fn moment(&mut self) -> Option<u64> {
+        self.watch.look();
         if self.watch.is_lost() {
             return None;
         }
@@ -243,7 +245,7 @@ impl Clock for ServerClock<'_> {
 
 /// Serves a wire, and the spool that is named, until so many turns are over, or the store is lost.
 /// Gives the office back.
-fn serve_turns<'a, V: Vault, W: Wire + Peers + Drop>(
+fn serve_turns<'a, V: Vault, W: Wire + Drop>(
     rt: &'a HostRuntime,
     office: Office<V>,
     wire: W,
@@ -254,12 +256,12 @@ fn serve_turns<'a, V: Vault, W: Wire + Peers + Drop>(
 ) -> (Result<u8, Fault>, Office<V>) {
     let mut server = Server {
         office,
-        wire: Guarded::new(LoggedWire::new(wire, journal), NotedWatch::new(watch)),
+        wire,
         listener: NotedListener::new(journal.with_reads(options.reads)),
     };
     let files = NotedSpool::new(FolderSpool::new(rt, rt.alloc(), spool));
     let folder = Folder::new(rt, spool);
-    let mut spool = Guarded::new(
+    let mut spool = GuardedSpool::new(
         LoggedSpool::new(files, journal, folder),
         NotedWatch::new(watch),
     );

@@ -3,7 +3,7 @@ use Rattle.std.specs.Prelude.{ℕ, ◌==◌, Option, Some, None, if◌then◌els
 use Rattle.std.specs.declared.net.ip_addr.IpAddr.{IpAddr}
 use Rattle.serving.specs.Wires.{Addresses}
 use Rattle.serving.specs.declared.wire.Port.TheVariants.{Pop, Admin}
-use Rattle.proxy.specs.declared.wire.Refusal.{Refusal}
+use Rattle.serving.specs.declared.wire.Refusal.{Refusal}
 use Rattle.proxy.specs.declared.wire.Refused.{Refused}
 
 -- why a link was refused, if it is the one that was refused last

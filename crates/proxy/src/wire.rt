@@ -15,17 +15,17 @@ ghost use Rattle.serving.specs.declared.wire.Io.TheVariants.{Later as TheLater};
 ghost use Rattle.serving.specs.declared.wire.Io.TheVariants.{Broken as TheBroken};
 ghost use Rattle.proxy.specs.Proxied.{TellsProxy, TellsProxied, proxy_once, IsLineRead, IsAmid};
 ghost use Rattle.proxy.specs.Proxied.{IsAsFarAs, has_line, IsAddressOf};
-ghost use Rattle.proxy.specs.Behind.{TakesLine, AskedAmid, AskedBehind};
+ghost use Rattle.proxy.specs.Behind.{TakesLine, AskedAmid, AskedBehind, AreBehindLines};
 ghost use Rattle.proxy.specs.Lines.{IsProxyLine};
 ghost use Rattle.proxy.specs.Refusals.{refusal_of, address_by, address_behind};
 ghost use Rattle.proxy.specs.declared.wire.Progress.{Progress as HowFar};
 
 use crate::line::{MOST_OCTETS, ProxyLine};
 use arrayvec::ArrayVec;
-use serving::{Io, Link, Port, Wire};
+use serving::{Io, Link, NotedWire, Port, Refusal, Wire};
 use std::alloc::Global;
 use std::collections::BTreeMap;
-use std::net::IpAddr;
+use std::net::{IpAddr, SocketAddr};
 use std::time::Clock;
 
 /// How many seconds after its acceptance the first line of a link has to be whole.
@@ -49,17 +49,6 @@ pub(crate) enum Progress {
     Whole,
     /// It isn't whole; what the last read gave.
     Open(Io),
-}
-
-/// Why a link was closed before anything that its client sent was handed on.
-#[derive(Clone, Copy, PartialEq, Eq)]
-pub enum Refusal {
-    /// Its first line is no PROXY line of version 1, or has more than 107 octets.
-    NoLine,
-    /// Its first line wasn't whole at a read ten seconds or more after its acceptance.
-    TooLate,
-    /// Memory for its first line, or for what that says, was wanting.
-    NoMemory,
 }
 
 /// A link that was refused.
@@ -192,17 +181,6 @@ impl<W: Wire, C: Clock> ProxiedWire<W, C> {
             Ok(time) => time.as_secs(),
             Err(_) => 0,
         }
-    }
-
-    /// Why a client's link was refused, if it is the one that was refused last; else `None`.
-    pub fn refusal(&self, link: Link) -> Option<Refusal>
-        ensures value { result ≡ refusal_of link.number self.now.refused }
-    {
-        let refused = self.refused?;
-        if refused.link == link.number {
-            return Some(refused.why);
-        }
-        None
     }
 
     /// Closes a client's link that was read from in vain, and says that it is broken.
@@ -399,6 +377,10 @@ impl<W: Wire, C: Clock> Wire for ProxiedWire<W, C> {
 
     ghost address_of = { λ r. address_behind (get nat_cmp r.known) (W.address_of r.wire) };
 
+    ghost peer_of = { λ r. W.peer_of r.wire };
+
+    ghost closed_for = { λ r link. refusal_of link.number r.refused };
+
     ghost tells_once = { λ r u v a b. proxy_once W.tells W.tells_once r.wire (get nat_cmp r.begun)
         (get nat_cmp r.known) u v a b };
 
@@ -462,6 +444,20 @@ impl<W: Wire, C: Clock> Wire for ProxiedWire<W, C> {
         }
     }
 
+    /// The proxy's end: a client's own address is the link's `address`.
+    fn peer(&self, port: Port, link: Link) -> Option<SocketAddr> {
+        self.wire.peer(port, link)
+    }
+
+    /// Why a client's link was refused, if it is the one that was refused last; else `None`.
+    fn refusal(&self, link: Link) -> Option<Refusal> {
+        let refused = self.refused?;
+        if refused.link == link.number {
+            return Some(refused.why);
+        }
+        None
+    }
+
     /// Closes a link, and forgets what is known of it.
     fn close(&mut self, port: Port, link: Link)
         ensures told { (u : ToldOfPorts) → TellsProxy W.tells self.old.wire
@@ -485,3 +481,12 @@ impl<W: Wire, C: Clock> Wire for ProxiedWire<W, C> {
         }
     }
 }
+
+/// A law: of the calls of the wire that a server's loop uses, these reached the sockets, in this
+/// order, and were answered so: those that stand in the notes right around the sockets. Each call
+/// is handed on as it is, but for the first line of each client's link (`AreBehindLines`).
+pub fn sockets_were_asked<W: Wire, C: Clock>(wire: &ProxiedWire<NotedWire<W>, C>)
+    ensures { (calls : List Call)
+        → ⟦<ProxiedWire<NotedWire<W>, C> as Wire>⟧.asked wire.now calls
+        → AreBehindLines wire.now.wire.notes.calls calls }
+{}

@@ -12,7 +12,7 @@ use Rattle.office.specs.Taken.{trace_of}
 use Rattle.office.specs.Stands.{StandsFor, vault_of}
 use Rattle.office.specs.declared.office.Office.{Office}
 use Rattle.serving.specs.declared.wire.Link.{Link}
-use Rattle.serving.specs.Calls.{Call}
+use Rattle.serving.specs.Calls.{Call, Waited}
 use Rattle.serving.specs.declared.links.Seat.{Seat}
 use Rattle.serving.specs.declared.links.Links.{Links}
 use Rattle.serving.specs.declared.newcomers.Newcomer.{Newcomer}
@@ -160,7 +160,7 @@ no_wait links e = rw e refl
 
 module _ {V W S H : Type 0} (Holds : V → Contents → Type 0) (IsClean : V → Type 0) (Faults : V → ℕ) (Asked : W → List Call → Type 0) (AskedFiles : S → List FileCall → Type 0) (Heard : H → List Hearing → Type 0) where
   pub turn_done : (T : Trace) (now : ℕ) (links links_then : Links) (o o1 o2 o3 o4 o5 o6 : Office V) (w w1 w2 w3 w4 w5 w6 : W) (f f1 : S) (l l1 l2 l3 l4 l5 : H) (seats2 : List Seat) (goes : Bool) (held : List Exchange) (more freed polling polled : Bool) (n0 n1 n2 : List Newcomer)
-      → Part Holds IsClean Faults Asked o w o1 w1 (IsPassed (millis_of links) now)
+      → Part Holds IsClean Faults Asked o w o1 w1 (IsPassed (Waited (millis_of links) ∷ []) now)
       → ((U : Trace) → StandsFor Holds o1 U → WasTold Heard l l1 (idle_ends U links.clients.seats.items))
       → (acc : Part Holds IsClean Faults Asked o1 w1 o2 w2 (AreAccepted Holds IsClean o1 o2 links.clients.seats.items seats2 64 goes))
       → Asking Asked w2 w3 (AskedApart (HasAcceptedForAdmin now 64 more links.requests.exchanges.items held))

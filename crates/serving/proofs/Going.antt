@@ -1,4 +1,4 @@
--- That turns, one after the other, go on from any trace.
+-- That turns, one after the other, go on from any trace, and what a turn's wait changes.
 use Rattle.std.proofs.Common.{◌≡◌, ℕ, true, false, List, [], ◌∷◌, ◌++◌, map, sym, ◌∙◌, ap, arith, Some, None, Option, ⊎_elim, subst, append_assoc, length, ◌+◌, length-append}
 use Rattle.std.specs.List.{list_any}
 use Rattle.std.proofs.lemmas.Bool.{or_cases}
@@ -9,15 +9,23 @@ use Rattle.office.specs.Events.{Trace}
 use Rattle.office.specs.Taken.{trace_of}
 use Rattle.office.specs.Stands.{StandsFor, vault_of}
 use Rattle.office.specs.declared.office.Office.{Office}
-use Rattle.serving.specs.Calls.{Call}
+use Rattle.serving.specs.Calls.{Call, Waited, WasAsked}
 use Rattle.serving.specs.Spools.{FileCall}
 use Rattle.serving.specs.Hearing.{Hearing}
 use Rattle.serving.specs.Works.{is_failed}
 use Rattle.serving.specs.Seen.{given_in}
-use Rattle.serving.specs.Turns.{Works}
+use Rattle.serving.specs.Turns.{Works, millis_of}
+use Rattle.serving.specs.Wires.{ToldOfPorts}
+use Rattle.serving.specs.Spools.{FileAct}
+use Rattle.serving.specs.Served.{Serves}
+use Rattle.serving.specs.Parts.{Part}
+use Rattle.serving.specs.ClientParts.{IsPassed}
+use Rattle.serving.specs.declared.links.Seat.{Seat}
+use Rattle.serving.specs.declared.requests.Exchange.{Exchange}
+use Rattle.adminhttp.specs.Sites.{Site}
 use Rattle.serving.specs.Running.{NoTurn, OneMore, HasGoneOn, LeavesAsFound, answers, HasTurned}
 use Rattle.serving.specs.declared.links.Links.{Links}
-use Rattle.serving.proofs.Working.{newly_then, grown_more}
+use Rattle.serving.proofs.Working.{newly_then, grown_more, asked_then}
 
 -- ---- what a clock answered
 
@@ -32,6 +40,47 @@ one_more before moments now =
 none_more : (before : List (Option ℕ)) (moments : List ℕ) → (before ++ answers false moments) ++ None ∷ [] ≡ before ++ answers true moments
 none_more before moments =
     append_assoc before (answers false moments) (None ∷ []) ∙ ap (λ xs. before ++ (xs ++ None ∷ [])) (append-nil (map (λ m. Some m) moments))
+
+-- ---- a turn's wait
+
+-- a wire was asked to wait as long as a turn does
+pub waited_for : {W : Type 0} (Asked : W → List Call → Type 0) (w w1 : W) (links : Links) (millis : ℕ) → millis ≡ millis_of links
+    → ((before : List Call) → Asked w before → Asked w1 (before ++ Waited millis ∷ [])) → WasAsked Asked w w1 (Waited (millis_of links) ∷ [])
+waited_for Asked w w1 links millis is called = record { is = λ before k. subst (λ n. Asked w1 (before ++ Waited n ∷ [])) is (called before k) }
+
+-- of a wire that waited the same is told
+pub serves_told : {V W S : Type 0} (Holds : V → Contents → Type 0) (Tells : W → ToldOfPorts → Type 0) (TellsFiles : S → List FileAct → Type 0) (T : Trace) (o : Office V) (w w1 : W) (f : S)
+    (seats : List Seat) (held : List Exchange) (site : Site) → ((t : ToldOfPorts) → Tells w t → Tells w1 t)
+    → Serves Holds Tells TellsFiles T o w f seats held site → Serves Holds Tells TellsFiles T o w1 f seats held site
+serves_told Holds Tells TellsFiles T o w w1 f seats held site told s = record {
+  beside = s.beside;
+  tells = s.tells;
+  is = record {
+    log = s.is.log;
+    told = s.is.told;
+    owner = s.is.owner;
+    stands = s.is.stands;
+    admitted = s.is.admitted;
+    tells = told (record { pop = s.is.told; admin = s.beside.admin }) s.is.tells;
+    served = s.is.served;
+    seated = s.is.seated;
+    adds = s.is.adds;
+  };
+  sent = s.sent;
+  requests = s.requests;
+  of_site = s.of_site;
+}
+
+-- the moment after a wait
+pub passed_by : {V W : Type 0} (Holds : V → Contents → Type 0) (IsClean : V → Type 0) (Faults : V → ℕ) (Asked : W → List Call → Type 0) (o o1 : Office V) (w w0 w1 : W) (wait : Call) (now : ℕ)
+    → WasAsked Asked w w0 (wait ∷ []) → Part Holds IsClean Faults Asked o w0 o1 w1 (IsPassed [] now) → Part Holds IsClean Faults Asked o w o1 w1 (IsPassed (wait ∷ []) now)
+passed_by Holds IsClean Faults Asked o o1 w w0 w1 wait now waited p = record {
+  given = p.given;
+  calls = wait ∷ p.calls;
+  was_given = p.was_given;
+  was_asked = asked_then Asked w w0 w1 (wait ∷ []) p.calls waited p.was_asked;
+  facts = record { event_tag = p.facts.event_tag; given_is = p.facts.given_is; calls_are = ap (λ calls. wait ∷ calls) p.facts.calls_are };
+}
 
 -- ---- turns
 

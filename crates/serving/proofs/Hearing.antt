@@ -84,6 +84,10 @@ module _ {H : Type 0} (Heard : H → List Hearing → Type 0) where
   pub told_same : (l l1 : H) → ((h : List Hearing) → Heard l h → Heard l1 h) → WasTold Heard l l1 []
   told_same l l1 same = record { is = λ before k. subst (Heard l1) (sym (append-nil before)) (same before k) }
 
+  -- and none after it
+  pub told_on : (l l1 l2 : H) (told : List Hearing) → ((h : List Hearing) → Heard l1 h → Heard l2 h) → WasTold Heard l l1 told → WasTold Heard l l2 told
+  told_on l l1 l2 told same a = record { is = λ before k. same (before ++ told) (a.is before k) }
+
   pub told_then : (l l1 l2 : H) (h1 h2 : List Hearing) → WasTold Heard l l1 h1 → WasTold Heard l1 l2 h2 → WasTold Heard l l2 (h1 ++ h2)
   told_then l l1 l2 h1 h2 a b = record { is = λ before k. subst (Heard l2) (append_assoc before h1 h2) (b.is (before ++ h1) (a.is before k)) }
 
@@ -144,6 +148,10 @@ module _ {H : Type 0} (Heard : H → List Hearing → Type 0) where
 module _ {V H : Type 0} (Holds : V → Contents → Type 0) (IsClean : V → Type 0) (Heard : H → List Hearing → Type 0) where
   pub unheard : (o : Office V) (l : H) → WasHeard Holds IsClean Heard o l o l []
   unheard o l = record { is = λ B L s k. told_none Heard l }
+
+  -- nothing is heard after it
+  pub heard_on : (o o1 : Office V) (l l1 l2 : H) (given : Log) → ((h : List Hearing) → Heard l1 h → Heard l2 h) → WasHeard Holds IsClean Heard o l o1 l1 given → WasHeard Holds IsClean Heard o l o1 l2 given
+  heard_on o o1 l l1 l2 given same a = record { is = λ B L s k. told_on Heard l l1 l2 (heard_of_all B L given) same (a.is B L s k) }
 
   pub heard_then : (Faults : V → ℕ) (o o1 o2 : Office V) (l l1 l2 : H) (g1 g2 : Log) → WasGiven Holds IsClean Faults o o1 g1 → WasGiven Holds IsClean Faults o1 o2 g2
       → WasHeard Holds IsClean Heard o l o1 l1 g1 → WasHeard Holds IsClean Heard o1 l1 o2 l2 g2 → WasHeard Holds IsClean Heard o l o2 l2 (g2 ++ g1)

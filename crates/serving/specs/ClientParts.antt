@@ -15,7 +15,7 @@ use Rattle.office.specs.declared.office.Office.{Office}
 use Rattle.serving.specs.declared.wire.Port.TheVariants.{Pop}
 use Rattle.serving.specs.declared.wire.Io.{Io}
 use Rattle.serving.specs.declared.wire.Io.TheVariants.{Count}
-use Rattle.serving.specs.Calls.{Call, Waited, Looked, Read, Wrote, Closed}
+use Rattle.serving.specs.Calls.{Call, Looked, Read, Wrote, Closed}
 use Rattle.serving.specs.declared.links.Seat.{Seat}
 use Rattle.serving.specs.declared.links.Clients.{Clients}
 use Rattle.serving.specs.declared.newcomers.Newcomer.{Newcomer}
@@ -60,11 +60,11 @@ IsNotedSo noted B older given calls wait may seats s =
     lies_unread (newcomer s.connection noted) ≡ true
     → LiesUnread B older given calls wait (may s.connection) seats s.connection
 
--- the moment
-pub record IsPassed (millis now : ℕ) (given : Log) (calls : List Call) : Type 0 where
+-- the moment was told, and these calls were made
+pub record IsPassed (asked : List Call) (now : ℕ) (given : Log) (calls : List Call) : Type 0 where
   pub event_tag : EventTag
   pub given_is : given ≡ (event.Tick now, event_tag) ∷ []
-  pub calls_are : calls ≡ Waited millis ∷ []
+  pub calls_are : calls ≡ asked
 
 -- So many links came, each with an opening: those whose opening was done got the next seats, and the others were closed.
 pub record HaveCome {V : Type 0} (Holds : V → Contents → Type 0) (IsClean : V → Type 0) (office office_then : Office V) (seats seats_then : List Seat) (came : List Came)

@@ -8,7 +8,7 @@ use Rattle.office.specs.Events.{Log, Trace}
 use Rattle.office.specs.Taken.{trace_of}
 use Rattle.office.specs.Stands.{StandsFor, vault_of}
 use Rattle.office.specs.declared.office.Office.{Office}
-use Rattle.serving.specs.Calls.{Call}
+use Rattle.serving.specs.Calls.{Call, Waited, WasAsked}
 use Rattle.serving.specs.Spools.{FileCall}
 use Rattle.serving.specs.Hearing.{Hearing}
 use Rattle.serving.specs.Given.{AreNewlyAdmitted, is_failed}
@@ -17,7 +17,7 @@ use Rattle.serving.specs.HttpTurns.{AllGoOn, AreFew}
 use Rattle.serving.specs.Newcomers.{AllHaveSeats}
 use Rattle.serving.specs.Guesses.{AllArePacing}
 use Rattle.serving.specs.Settings.{settings}
-use Rattle.serving.specs.Turns.{Works}
+use Rattle.serving.specs.Turns.{Works, millis_of}
 use Rattle.serving.specs.declared.links.Links.{Links}
 
 -- What the next turn finds as the first one did: how the loop was set, that those who haven't
@@ -87,7 +87,15 @@ pub record HasTurned {V W S H C : Type 0} (Holds : V → Contents → Type 0) (I
       → HasGoneOn Holds Faults Asked AskedFiles Heard T moments
       links office wire spool listener links_then office_then wire_then spool_then listener_then
 
--- Turns were done until the clock stopped, or so many were over.
+-- If the clock stopped, the wire was asked for one wait more, and for nothing else.
+abbrev pub WaitsOnceMore : {W : Type 0} (Asked : W → List Call → Type 0) (stopped : Bool)
+    (links : Links) (wire wire_then : W) → Type 0
+WaitsOnceMore Asked true links wire wire_then =
+    WasAsked Asked wire wire_then (Waited (millis_of links) ∷ [])
+WaitsOnceMore Asked false links wire wire_then = wire_then ≡ wire
+
+-- Turns were done until the clock stopped, or so many were over. The clock is asked after a turn's
+-- wait: if it stopped, nothing but this wait was done since the turn before.
 pub record HasRun {V W S H C : Type 0} (Holds : V → Contents → Type 0) (IsClean : V → Type 0)
     (Faults : V → ℕ) (Asked : W → List Call → Type 0) (AskedFiles : S → List FileCall → Type 0)
     (Heard : H → List Hearing → Type 0) (Gave : C → List (Option ℕ) → Type 0) (most : ℕ)
@@ -96,8 +104,11 @@ pub record HasRun {V W S H C : Type 0} (Holds : V → Contents → Type 0) (IsCl
     (listener_then : H) (clock_then : C) : Type 0 where
   pub moments : List ℕ
   pub stopped : Bool
+  -- the wire after the last turn that was done
+  pub wire_left : W
   pub turned : HasTurned Holds IsClean Faults Asked AskedFiles Heard Gave stopped moments
       links office wire spool listener clock
-      links_then office_then wire_then spool_then listener_then clock_then
+      links_then office_then wire_left spool_then listener_then clock_then
+  pub last : WaitsOnceMore Asked stopped links_then wire_left wire_then
   pub within : length moments ≤ most
   pub all : stopped ≡ false → length moments ≡ most

@@ -1,6 +1,7 @@
 -- What a wire tells of its links: each of a port has a number, from 0 on, in the order in which they were accepted.
 use Rattle.std.specs.Prelude.{◌≡◌, ◌≤◌, ◌<◌, ⊤, ℕ, Bool, true, false, not, ◌&&◌, ◌||◌, nat_lt, ◌+◌, ◌==◌, List, [], ◌++◌, take, Option, Some, None, if◌then◌else◌}
 use Rattle.std.specs.declared.net.ip_addr.IpAddr.{IpAddr}
+use Rattle.std.specs.declared.net.socket_addr.SocketAddr.{SocketAddr}
 use Rattle.office.specs.Outcomes.{Outcome}
 use Rattle.office.specs.Outcomes as outcome
 use Rattle.serving.specs.declared.wire.Link.{Link}
@@ -8,6 +9,7 @@ use Rattle.serving.specs.declared.wire.Port.{Port}
 use Rattle.serving.specs.declared.wire.Port.TheVariants.{Pop, Admin}
 use Rattle.serving.specs.declared.wire.Io.{Io}
 use Rattle.serving.specs.declared.wire.Io.TheVariants.{Count, End, Broken}
+use Rattle.serving.specs.declared.wire.Refusal.{Refusal}
 
 -- of one port: how many links were accepted; of each link all octets that were read from it, and all that it counted as written; whether it is over: a read or a write told its end or that it is broken, or it was closed; and whether any read or write
 -- came astray: on a link that was over, or that was never accepted
@@ -139,6 +141,14 @@ IsAccepted Tells port t (Some link) = (link.number ≡ (told_at port t).accepted
 -- from where each link of a port came, if that is known
 abbrev pub Addresses : Type 0
 Addresses = Port → Link → Option IpAddr
+
+-- the other end of each, if that is known
+abbrev pub Peers : Type 0
+Peers = Port → Link → Option SocketAddr
+
+-- for what each client's link was closed by the wire itself, if it was
+abbrev pub Refusals : Type 0
+Refusals = Link → Option Refusal
 
 -- the number that was opened, if one was
 abbrev pub opened_by : Outcome → Option ℕ

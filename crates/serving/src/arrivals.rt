@@ -6,8 +6,9 @@ ghost use Rattle.serving.specs.Hearing.{Hearing};
 ghost use Rattle.serving.specs.Parts.{AreNoted, Does, KeepsServing};
 ghost use Rattle.serving.specs.ClientParts.{AreAccepted};
 
+use crate::ends::close_link;
 use crate::links::{Clients, MOST_LINKS, Seat};
-use crate::listener::Listener;
+use crate::listener::{LinkEvent, Listener};
 use crate::server::Server;
 use crate::wire::{Port, Wire};
 use office::{Event, Outcome};
@@ -42,6 +43,8 @@ impl<V: Vault, W: Wire, L: Listener> Server<V, W, L> {
         let Some(link) = self.wire.accept(Port::Pop) else {
             return false;
         };
+        self.listener
+            .follow(&self.wire, Port::Pop, link, LinkEvent::Came);
         let number = opened(self.office.step(Event::Connect));
         match number {
             Some(connection) => {
@@ -49,7 +52,7 @@ impl<V: Vault, W: Wire, L: Listener> Server<V, W, L> {
                 let _ = clients.newcomers.note(connection, now);
                 self.listener.open(link, connection);
             }
-            None => self.wire.close(Port::Pop, link),
+            None => close_link(&mut self.wire, &mut self.listener, Port::Pop, link),
         }
         true
     }

@@ -19,7 +19,7 @@ ghost use Rattle.serving.specs.ClientParts.{may_keep, may_at, way_at};
 ghost use Rattle.arrayvec.specs.ArrayVec.{array_vec_len};
 
 use crate::links::{Clients, Seat};
-use crate::listener::Listener;
+use crate::listener::{LinkEvent, Listener};
 use crate::pace::{MOST_AT_ONCE, next_part, note_guess, pace_at};
 use crate::server::Server;
 use crate::wire::{Io, Port, Wire};
@@ -141,6 +141,8 @@ impl<V: Vault, W: Wire, L: Listener> Server<V, W, L> {
         }
         match self.wire.read(Port::Pop, seat.link, buffer) {
             Io::Count(count) => {
+                self.listener
+                    .follow(&self.wire, Port::Pop, seat.link, LinkEvent::WasRead);
                 let piece = Event::Bytes(connection, &buffer[..count]);
                 let report = self.office.step_with_account(piece);
                 self.listener.hear(connection, &report.account);
@@ -148,6 +150,8 @@ impl<V: Vault, W: Wire, L: Listener> Server<V, W, L> {
             }
             Io::Later => false,
             Io::End | Io::Broken => {
+                self.listener
+                    .follow(&self.wire, Port::Pop, seat.link, LinkEvent::Ended);
                 let report = self.office.step_with_account(Event::Gone(connection));
                 self.listener.hear(connection, &report.account);
                 false
@@ -180,6 +184,8 @@ impl<V: Vault, W: Wire, L: Listener> Server<V, W, L> {
             .newcomers
             .settle(seat.connection, part.count == 0, now);
         if part.count == 0 {
+            self.listener
+                .follow(&self.wire, Port::Pop, seat.link, LinkEvent::LiesUnread);
             return false;
         }
         let before = self.office.refusals(seat.connection);

@@ -1,12 +1,14 @@
 //! The clients whose connections end in a turn: those that were idle, or late, and the links that
 //! are closed for it.
-ghost use Rattle.std.specs.Prelude.{◌≡◌, ◌<◌, ◌+◌, ◌==◌, ℕ, true, false, List, ◌∷◌, []};
+ghost use Rattle.std.specs.Prelude.{◌≡◌, ◌<◌, ◌+◌, ◌==◌, ℕ, true, false, List, ◌∷◌, [], ◌++◌};
 ghost use Rattle.std.specs.Prelude.{slice_index_or, take, if◌then◌else◌};
 ghost use Rattle.office.specs.Events.{Trace};
 ghost use Rattle.office.specs.Trace.{is_open};
 ghost use Rattle.office.specs.Stands.{StandsFor};
+ghost use Rattle.serving.specs.Calls.{Call, Closed};
+ghost use Rattle.serving.specs.Wires.{ToldOfPorts, at_port, has_closed};
 ghost use Rattle.serving.specs.Served.{StillServes};
-ghost use Rattle.serving.specs.Hearing.{WasTold, idle_ends, late_ends};
+ghost use Rattle.serving.specs.Hearing.{Hearing, WasTold, idle_ends, late_ends};
 ghost use Rattle.serving.specs.Late.{HasEndedLate};
 ghost use Rattle.serving.specs.Newcomers.{newcomer, lies_unread};
 ghost use Rattle.serving.specs.Parts.{KeepsSeats, IsEnded, Ends, Closes, ClosesSeat};
@@ -17,9 +19,9 @@ ghost use Rattle.serving.specs.declared.links.Seat as declared;
 ghost use Rattle.arrayvec.specs.ArrayVec.{array_vec_len};
 
 use crate::links::{Clients, Seat};
-use crate::listener::Listener;
+use crate::listener::{LinkEvent, Listener};
 use crate::server::Server;
-use crate::wire::{Port, Wire};
+use crate::wire::{Link, Port, Wire};
 use office::{Account, End, Event, Office};
 use vault::Vault;
 
@@ -60,11 +62,29 @@ pub(crate) fn tell_idle_ones<V: Vault, L: Listener>(
     }
 }
 
+/// Closes a link. The listener hears of it.
+pub(crate) fn close_link<W: Wire, L: Listener>(
+    wire: &mut W,
+    listener: &mut L,
+    port: Port,
+    link: Link,
+)
+    ensures told { (t : ToldOfPorts) → W.tells wire.old t
+        → W.tells wire.new (at_port port (λ of. has_closed of link.number) t) }
+    ensures called { (a : List Call) → W.asked wire.old a
+        → W.asked wire.new (a ++ Closed port link ∷ []) }
+    ensures heard { (h : List Hearing) → L.heard listener.old h → L.heard listener.new h }
+{
+    wire.close(port, link);
+    listener.follow(wire, port, link, LinkEvent::Closed);
+}
+
 /// Closes the link of one seat if its connection ended, and removes the seat. Returns whether
 /// the seat stays: then the connections of it and of all seats before it are open.
-fn close_seat<V: Vault, W: Wire>(
+fn close_seat<V: Vault, W: Wire, L: Listener>(
     office: &Office<V>,
     wire: &mut W,
+    listener: &mut L,
     links: &mut Clients,
     place: usize,
 ) -> bool
@@ -75,6 +95,7 @@ fn close_seat<V: Vault, W: Wire>(
     ensures left { array_vec_len links.new.seats + (if result then 0 else 1)
         ≡ array_vec_len links.old.seats }
     ensures closes { ClosesSeat links.old links.new place result }
+    ensures heard { (h : List Hearing) → L.heard listener.old h → L.heard listener.new h }
     ensures works { (T : Trace) (d : declared.Seat) → StandsFor V.holds office.now T
         → Asking W.asked wire.old wire.new
         (λ calls. IsClosed T links.old.seats.items links.new.seats.items place
@@ -86,7 +107,7 @@ fn close_seat<V: Vault, W: Wire>(
     if !office.ended(seat.connection) {
         return true;
     }
-    wire.close(Port::Pop, seat.link);
+    close_link(wire, listener, Port::Pop, seat.link);
     links.seats.remove(place);
     let gone = seat.connection;
     links.newcomers.forget(gone);
@@ -96,10 +117,16 @@ fn close_seat<V: Vault, W: Wire>(
 }
 
 /// Closes each link whose connection ended.
-pub(crate) fn close_links<V: Vault, W: Wire>(office: &Office<V>, wire: &mut W, links: &mut Clients)
+pub(crate) fn close_links<V: Vault, W: Wire, L: Listener>(
+    office: &Office<V>,
+    wire: &mut W,
+    listener: &mut L,
+    links: &mut Clients,
+)
     ensures serves { StillServes V.holds V.is_clean W.tells office.now wire.old
         links.old.seats.items [] office.now wire.new links.new.seats.items links.new.seats.items }
     ensures closes { Closes links.old links.new }
+    ensures heard { (h : List Hearing) → L.heard listener.old h → L.heard listener.new h }
     ensures newcomers { (T : Trace) → StandsFor V.holds office.now T → (c : ℕ)
         → is_open T c ≡ true → newcomer c links.new.newcomers.newcomers.items ≡ newcomer c
         links.old.newcomers.newcomers.items }
@@ -111,7 +138,7 @@ pub(crate) fn close_links<V: Vault, W: Wire>(office: &Office<V>, wire: &mut W, l
 {
     let mut place = 0;
     while place < links.seats.len() {
-        if close_seat(office, wire, links, place) {
+        if close_seat(office, wire, listener, links, place) {
             place += 1;
         }
     }

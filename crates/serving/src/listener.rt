@@ -2,7 +2,7 @@
 ghost use Rattle.std.specs.Prelude.{◌∷◌, [], ◌++◌, List};
 ghost use Rattle.serving.specs.Hearing.{Hearing};
 
-use crate::wire::Link;
+use crate::wire::{Link, Port, Wire};
 use adminhttp::{Content, RequestLine};
 use office::Account;
 
@@ -16,14 +16,36 @@ pub struct AdminRequest<'a> {
     pub content: Content<'a>,
 }
 
-/// Hears of connections, what the office judged of what came on them, and what the administration
-/// was asked. It is lent an account, or an answer, and nothing of the office.
+/// What became of a link.
+#[derive(Clone, Copy, PartialEq, Eq)]
+pub enum LinkEvent {
+    /// It came.
+    Came,
+    /// What came on it was looked at, and stays unread.
+    LiesUnread,
+    /// Octets of it were read.
+    WasRead,
+    /// A read gave that it ended, or is broken.
+    Ended,
+    /// Octets were written on it.
+    WasWritten,
+    /// It was closed.
+    Closed,
+}
+
+/// Hears of links and connections, what the office judged of what came on them, and what the
+/// administration was asked. It is lent an account, or an answer, and nothing of the office.
 ///
 /// `heard l h`: `h` is a true record of the accounts that l heard. Of one that writes a log it
 /// isn't known.
 pub trait Listener {
     /// `heard l h`: l heard these accounts, each of its connection, the newest last.
     ghost heard: { Self → List Hearing → Type 0 };
+
+    /// What became of a link of this wire, which says more of it: of a client's link all but what
+    /// is written, of the administration's all but what comes on it.
+    fn follow<W: Wire>(&mut self, wire: &W, port: Port, link: Link, event: LinkEvent)
+        ensures told { (h : List Hearing) → heard self.old h → heard self.new h };
 
     /// A connection was opened for a client's link.
     fn open(&mut self, link: Link, connection: u64)
@@ -45,6 +67,8 @@ pub struct NoListener;
 
 impl Listener for NoListener {
     ghost heard = { λ _ _. ⊥ };
+
+    fn follow<W: Wire>(&mut self, _wire: &W, _port: Port, _link: Link, _event: LinkEvent) {}
 
     fn open(&mut self, _link: Link, _connection: u64) {}
 

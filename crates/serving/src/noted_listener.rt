@@ -3,8 +3,8 @@ ghost use Rattle.std.specs.Prelude.{◌≡◌, List, [], ◌∷◌, ◌++◌};
 ghost use Rattle.serving.specs.Hearing.{Hearing};
 
 use crate::hearings::Hearings;
-use crate::listener::{AdminRequest, Listener};
-use crate::wire::Link;
+use crate::listener::{AdminRequest, LinkEvent, Listener};
+use crate::wire::{Link, Port, Wire};
 use office::Account;
 
 /// A listener that lets the one inside hear all, and notes the accounts.
@@ -32,6 +32,14 @@ impl<L: Listener> NotedListener<L> {
 
 impl<L: Listener> Listener for NotedListener<L> {
     ghost heard = { λ noted h. h ≡ noted.notes.heard };
+
+    fn follow<W: Wire>(&mut self, wire: &W, port: Port, link: Link, event: LinkEvent)
+        ensures told { (h : List Hearing) → h ≡ self.old.notes.heard → h ≡ self.new.notes.heard }
+        ensures inside { (h : List Hearing) → L.heard self.old.listener h
+            → L.heard self.new.listener h }
+    {
+        self.listener.follow(wire, port, link, event);
+    }
 
     fn open(&mut self, link: Link, connection: u64)
         ensures told { (h : List Hearing) → h ≡ self.old.notes.heard → h ≡ self.new.notes.heard }

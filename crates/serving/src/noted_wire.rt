@@ -8,9 +8,9 @@ ghost use Rattle.serving.specs.Counting.{count_at, counted_with};
 ghost use Rattle.serving.specs.NotedWires.{tells_once, AreTold, TellNothing, WasAsked, WasAskedFor};
 
 use crate::counts::Counts;
-use crate::wire::{Io, Link, Port, Wire};
+use crate::wire::{Io, Link, Port, Refusal, Wire};
 use crate::wire_notes::{WireCall, WireNotes};
-use std::net::IpAddr;
+use std::net::{IpAddr, SocketAddr};
 
 /// A wire that does what the one inside does, and notes it.
 ///
@@ -63,6 +63,10 @@ impl<W: Wire> Wire for NotedWire<W> {
     ghost asked = { λ noted calls. calls ≡ noted.notes.calls };
 
     ghost address_of = { λ noted. W.address_of noted.wire };
+
+    ghost peer_of = { λ noted. W.peer_of noted.wire };
+
+    ghost closed_for = { λ noted. W.closed_for noted.wire };
 
     ghost tells_once = { λ noted t u a b. tells_once noted.counts noted.notes.calls t u a b };
 
@@ -141,6 +145,14 @@ impl<W: Wire> Wire for NotedWire<W> {
 
     fn address(&self, port: Port, link: Link) -> Option<IpAddr> {
         self.wire.address(port, link)
+    }
+
+    fn peer(&self, port: Port, link: Link) -> Option<SocketAddr> {
+        self.wire.peer(port, link)
+    }
+
+    fn refusal(&self, link: Link) -> Option<Refusal> {
+        self.wire.refusal(link)
     }
 
     fn close(&mut self, port: Port, link: Link)

@@ -25,7 +25,8 @@ ghost use Rattle.serving.specs.Hearing.{Hearing, WasTold, HeardApart, heard_by};
 ghost use Rattle.serving.specs.Requests.{octets_of, IsToldBy, HasAsked, HasOneMore, StillAnswers};
 ghost use Rattle.serving.specs.Requests.{StillAsked, AllStillAnswer, AllStillAsked};
 
-use crate::listener::{AdminRequest, Listener};
+use crate::ends::close_link;
+use crate::listener::{AdminRequest, LinkEvent, Listener};
 use crate::octets::part_of;
 use crate::server::Server;
 use crate::wire::{Io, Link, Port, Wire};
@@ -342,12 +343,17 @@ fn take_piece<V: Vault, L: Listener>(
 
 /// Writes once of a response. How many octets were taken. The exchange is over if nothing is
 /// left, or the link is broken.
-fn write_some<W: Wire>(wire: &mut W, exchange: &mut Exchange) -> usize
+fn write_some<W: Wire, L: Listener>(
+    wire: &mut W,
+    listener: &mut L,
+    exchange: &mut Exchange,
+) -> usize
     ensures works { AsksApart W.asked wire.old wire.new
         (Tells exchange.old exchange.new (if result == 0 then 0 else 1) result
         (not (result == 0))) }
     ensures keeps { KeepsLink exchange.old exchange.new }
     ensures answers { StillAnswers W.tells wire.old exchange.old wire.new exchange.new }
+    ensures heard { (h : List Hearing) → L.heard listener.old h → L.heard listener.new h }
 {
     if exchange.is_over {
         return 0;
@@ -364,6 +370,7 @@ fn write_some<W: Wire>(wire: &mut W, exchange: &mut Exchange) -> usize
     let part = part_of(octets, exchange.written, SHARE);
     match wire.write(Port::Admin, exchange.link, part) {
         Io::Count(count) => {
+            listener.follow(wire, Port::Admin, exchange.link, LinkEvent::WasWritten);
             exchange.written += count;
             exchange.is_over = exchange.written >= whole;
             count
@@ -378,15 +385,20 @@ fn write_some<W: Wire>(wire: &mut W, exchange: &mut Exchange) -> usize
 
 /// Writes a response as long as the link takes it, up to its share. Whether more can be written at
 /// once.
-fn write_response<W: Wire>(wire: &mut W, exchange: &mut Exchange) -> bool
+fn write_response<W: Wire, L: Listener>(
+    wire: &mut W,
+    listener: &mut L,
+    exchange: &mut Exchange,
+) -> bool
     ensures works { AsksApart W.asked wire.old wire.new
         (λ calls. HasTold exchange.old exchange.new calls × PollsBy false result calls) }
     ensures keeps { KeepsLink exchange.old exchange.new }
     ensures answers { StillAnswers W.tells wire.old exchange.old wire.new exchange.new }
+    ensures heard { (h : List Hearing) → L.heard listener.old h → L.heard listener.new h }
 {
     let mut written: usize = 0;
     for _times in 0..MOST_WRITES {
-        let count = write_some(wire, exchange);
+        let count = write_some(wire, listener, exchange);
         if count == 0 {
             return false;
         }
@@ -401,38 +413,52 @@ fn write_response<W: Wire>(wire: &mut W, exchange: &mut Exchange) -> bool
 /// Accepts a link of the administration; or closes it, if eight are open or memory for it was
 /// refused.
 /// Whether one came.
-fn accept_request<W: Wire>(wire: &mut W, requests: &mut Requests, now: u64) -> bool
+fn accept_request<W: Wire, L: Listener>(
+    wire: &mut W,
+    listener: &mut L,
+    requests: &mut Requests,
+    now: u64,
+) -> bool
     ensures few { length requests.old.exchanges.items ≤ most_exchanges
         → length requests.new.exchanges.items ≤ most_exchanges }
     ensures works { AsksApart W.asked wire.old wire.new
         (HasAcceptedForAdmin now 1 result requests.old.exchanges.items
         requests.new.exchanges.items) }
+    ensures heard { (h : List Hearing) → L.heard listener.old h → L.heard listener.new h }
     ensures answers { AllStillAnswer W.tells wire.old requests.old.exchanges.items wire.new
         requests.new.exchanges.items }
 {
     let Some(link) = wire.accept(Port::Admin) else {
         return false;
     };
+    listener.follow(wire, Port::Admin, link, LinkEvent::Came);
     match requests.keep(link, now) {
         Ok(true) => {}
-        Ok(false) => wire.close(Port::Admin, link),
-        Err(_) => wire.close(Port::Admin, link),
+        Ok(false) => close_link(wire, listener, Port::Admin, link),
+        Err(_) => close_link(wire, listener, Port::Admin, link),
     }
     true
 }
 
 /// Accepts the links of the administration that came, at most so many.
-pub(crate) fn accept_requests<W: Wire>(wire: &mut W, requests: &mut Requests, most: usize, now: u64)
+pub(crate) fn accept_requests<W: Wire, L: Listener>(
+    wire: &mut W,
+    listener: &mut L,
+    requests: &mut Requests,
+    most: usize,
+    now: u64,
+)
     ensures few { length requests.old.exchanges.items ≤ most_exchanges
         → length requests.new.exchanges.items ≤ most_exchanges }
     ensures works { (has_more : Bool) × AsksApart W.asked wire.old wire.new
         (HasAcceptedForAdmin now most has_more requests.old.exchanges.items
         requests.new.exchanges.items) }
+    ensures heard { (h : List Hearing) → L.heard listener.old h → L.heard listener.new h }
     ensures answers { AllStillAnswer W.tells wire.old requests.old.exchanges.items wire.new
         requests.new.exchanges.items }
 {
     for _times in 0..most {
-        if !accept_request(wire, requests, now) {
+        if !accept_request(wire, listener, requests, now) {
             return;
         }
     }
@@ -496,7 +522,7 @@ impl<V: Vault, W: Wire, L: Listener> Server<V, W, L> {
             return false;
         }
         self.read_request(alloc, site, exchange);
-        write_response(&mut self.wire, exchange)
+        write_response(&mut self.wire, &mut self.listener, exchange)
     }
 
     /// Serves the link at one place, and closes it if its exchange is over. Whether it stays.
@@ -526,7 +552,8 @@ impl<V: Vault, W: Wire, L: Listener> Server<V, W, L> {
         if !exchange.is_over {
             return true;
         }
-        self.wire.close(Port::Admin, exchange.link);
+        let link = exchange.link;
+        close_link(&mut self.wire, &mut self.listener, Port::Admin, link);
         requests.exchanges.remove(place);
         false
     }

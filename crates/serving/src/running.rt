@@ -14,10 +14,11 @@ use crate::links::Links;
 use crate::listener::Listener;
 use crate::server::Server;
 use crate::spool::Spool;
+use crate::turn::millis_for;
 use crate::wire::Wire;
 use vault::Vault;
 
-/// What gives a server the moments of its turns, and ends it.
+/// What gives a server the moments of its turns, each after the turn's wait, and ends it.
 ///
 /// `gave c answers`: c was asked so often and gave these answers. Of a clock of the machine's it is
 /// known by a [`NotedClock`](crate::NotedClock) around it.
@@ -25,15 +26,17 @@ pub trait Clock {
     /// `gave c answers`: c gave these answers, the newest last.
     ghost gave: { Self → List (Option ℕ) → Type 0 };
 
-    /// The moment of the next turn, in whole seconds; `None` if no further turn is to be done.
+    /// The moment of a turn that has waited, in whole seconds; `None` if neither it nor any further
+    /// turn is to be done.
     fn moment(&mut self) -> Option<u64>
         ensures called { (a : List (Option ℕ)) → gave self.old a
             → gave self.new (a ++ result ∷ []) };
 }
 
 impl<V: Vault, W: Wire, L: Listener> Server<V, W, L> {
-    /// Does one turn after the other, each at the moment that a clock gives, until it gives none,
-    /// or so many turns were done.
+    /// Does one turn after the other, until so many were done. Each waits, and then asks the clock
+    /// for its moment. If the clock gives none it ends there: it accepts, reads and writes nothing
+    /// more, and the office is told nothing.
     ///
     /// Each turn finds what the first one did: the settings, the administration's site, seats for
     /// all who haven't logged in, and refusals that keep a login back for 1 to 15 seconds. No
@@ -67,10 +70,11 @@ impl<V: Vault, W: Wire, L: Listener> Server<V, W, L> {
         ensures site { links.new.site ≡ links.old.site }
     {
         for _turn in 0..most {
+            self.wire.wait(millis_for(links));
             let Some(now) = clock.moment() else {
                 return;
             };
-            self.serve_turn(links, spool, now);
+            self.serve_after_wait(links, spool, now);
         }
     }
 }

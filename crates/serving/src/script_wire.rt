@@ -1,12 +1,12 @@
 //! A wire in memory: links whose octets are given, and which keep what is written on them.
-ghost use Rattle.std.specs.Prelude.{◌≡◌};
+ghost use Rattle.std.specs.Prelude.{◌≡◌, None};
 ghost use Rattle.serving.specs.Wires.{ToldOfPorts, AreFresh};
 ghost use Rattle.serving.specs.Scripts.{TellsOf, tells_once, address_in};
 
 use crate::script_links::{ScriptLinks, Stop};
-use crate::wire::{Io, Link, Port, Wire};
+use crate::wire::{Io, Link, Port, Refusal, Wire};
 use std::alloc::{AllocError, Global};
-use std::net::IpAddr;
+use std::net::{IpAddr, SocketAddr};
 
 /// A wire in memory. Each read and each write moves so many octets at most.
 #[derive(Drop)]
@@ -162,6 +162,10 @@ impl Wire for ScriptWire {
 
     ghost address_of = { λ wire. address_in wire.addresses.items };
 
+    ghost peer_of = { λ _ _ _. None };
+
+    ghost closed_for = { λ _ _. None };
+
     ghost tells_once = { λ wire t u a b. (
       tells_once wire.clients.accepted.items
           wire.clients.strayed t.pop u.pop a.0 b.0,
@@ -213,6 +217,14 @@ impl Wire for ScriptWire {
                 .copied(),
             Port::Admin => None,
         }
+    }
+
+    fn peer(&self, _port: Port, _link: Link) -> Option<SocketAddr> {
+        None
+    }
+
+    fn refusal(&self, _link: Link) -> Option<Refusal> {
+        None
     }
 
     fn close(&mut self, port: Port, link: Link) {

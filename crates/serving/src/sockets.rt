@@ -1,6 +1,6 @@
 //! A wire over sockets.
 ghost use Rattle.std.specs.Prelude.{◌≡◌, ◌≤◌, ◌⊎◌, ◌++◌, ℕ, List, [], length, take, IfSome};
-ghost use Rattle.std.specs.Prelude.{find, option_copied};
+ghost use Rattle.std.specs.Prelude.{find, option_copied, None};
 ghost use Rattle.serving.specs.Wires.{IsWithin, counted as shown_of};
 ghost use Rattle.serving.specs.Counting.{count_at, counted_with};
 ghost use Rattle.serving.specs.Due.{presses, chosen};
@@ -9,7 +9,7 @@ ghost use Rattle.serving.specs.Places.{is_same_port, is_place_of, peer_in, addre
 use crate::ahead::Ahead;
 use crate::counts::Counts;
 use crate::due;
-use crate::wire::{Io, Link, Port, Wire};
+use crate::wire::{Io, Link, Port, Refusal, Wire};
 use mio::net::{TcpListener, TcpStream};
 use mio::{Events, Interest, Poll, Token};
 use std::alloc::Global;
@@ -300,12 +300,6 @@ impl SocketWire {
         Some(link)
     }
 
-    /// The address of a link's other end, as the system told it when the link was accepted; `None`
-    /// if the link is closed. No clause speaks of it: the log alone asks.
-    pub fn peer(&self, port: Port, link: Link) -> Option<SocketAddr> {
-        peer_among(self.places.as_slice(), port, link)
-    }
-
     /// The place of a link that is open.
     fn place(&mut self, port: Port, link: Link) -> Option<&mut Place> {
         self.places.iter_mut().find(|place| place.has(port, link))
@@ -451,6 +445,10 @@ impl Wire for SocketWire {
 
     ghost address_of = { λ wire. address_in wire.places.items };
 
+    ghost peer_of = { λ wire. peer_in wire.places.items };
+
+    ghost closed_for = { λ _ _. None };
+
     ghost tells_once = { λ wire t u a b. absurd a };
 
     fn wait(&mut self, millis: u32) {
@@ -505,6 +503,15 @@ impl Wire for SocketWire {
             None => None,
             Some(peer) => Some(peer.ip()),
         }
+    }
+
+    /// As the system told it when the link was accepted; `None` if the link is closed.
+    fn peer(&self, port: Port, link: Link) -> Option<SocketAddr> {
+        peer_among(self.places.as_slice(), port, link)
+    }
+
+    fn refusal(&self, _link: Link) -> Option<Refusal> {
+        None
     }
 
     fn close(&mut self, port: Port, link: Link) {

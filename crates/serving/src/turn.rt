@@ -1,10 +1,11 @@
 //! One turn of serving.
-ghost use Rattle.std.specs.Prelude.{◌≡◌, ℕ, false, List, []};
+ghost use Rattle.std.specs.Prelude.{◌≡◌, ℕ, false, List, [], ◌∷◌};
 ghost use Rattle.office.specs.Events.{Trace};
 ghost use Rattle.office.specs.Trace.{is_open};
 ghost use Rattle.office.specs.Taken.{AreAdmitted};
 ghost use Rattle.office.specs.Stands.{StandsFor, vault_of};
 ghost use Rattle.serving.specs.Wires.{ToldOfPorts, AreFresh};
+ghost use Rattle.serving.specs.Calls.{Waited, WasAsked};
 ghost use Rattle.serving.specs.Served.{Serves};
 ghost use Rattle.serving.specs.Newcomers.{AllHaveSeats};
 ghost use Rattle.serving.specs.Guesses.{AllArePacing};
@@ -14,6 +15,7 @@ ghost use Rattle.serving.specs.ClientParts.{IsPassed};
 ghost use Rattle.serving.specs.Turns.{Works, millis_of};
 ghost use Rattle.serving.specs.HttpTurns.{AllGoOn, AreFew};
 ghost use Rattle.serving.specs.HttpWorks.{AreShort};
+ghost use Rattle.serving.specs.Running.{LeavesAsFound};
 ghost use Rattle.serving.specs.declared.links.Seat as declared;
 ghost use Rattle.adminhttp.specs.Sites.{Site};
 
@@ -33,20 +35,19 @@ use vault::Vault;
 const MOST_MILLIS: u32 = 1000;
 
 /// How many milliseconds a turn waits at most: none if more can be done at once.
-fn millis_for(links: &Links) -> u32
+pub(crate) fn millis_for(links: &Links) -> u32
     ensures { result ≡ millis_of links.now }
 {
     if links.poll_now() { 0 } else { MOST_MILLIS }
 }
 
 impl<V: Vault, W: Wire, L: Listener> Server<V, W, L> {
-    /// Waits, and tells the office the moment.
-    fn pass_time(&mut self, millis: u32, now: u64)
+    /// Tells the office the moment.
+    fn tick(&mut self, now: u64)
         ensures serves { (seats these : List declared.Seat)
             → KeepsServing V.Vault W.Wire self.old self.new seats these seats [] }
-        ensures works { Does V.Vault W.Wire L.Listener self.old self.new (IsPassed millis now) }
+        ensures works { Does V.Vault W.Wire L.Listener self.old self.new (IsPassed [] now) }
     {
-        self.wire.wait(millis);
         let _ = self.office.step(Event::Tick(now));
     }
 
@@ -79,19 +80,48 @@ impl<V: Vault, W: Wire, L: Listener> Server<V, W, L> {
         ensures settings { settings links.new ≡ settings links.old }
         ensures site { links.new.site ≡ links.old.site }
     {
-        let millis = millis_for(links);
+        self.wire.wait(millis_for(links));
+        self.serve_after_wait(links, spool, now);
+    }
+
+    /// All that a turn does after its wait. `wire` is the wire before that wait.
+    pub(crate) fn serve_after_wait<S: Spool>(&mut self, links: &mut Links, spool: &mut S, now: u64)
+        ensures serves { (T : Trace)
+            → Serves V.holds W.tells S.tells T self.old.office self.old.wire spool.old
+            links.old.clients.seats.items links.old.requests.exchanges.items links.old.site
+            → V.is_clean (vault_of self.new.office)
+            → Serves V.holds W.tells S.tells T self.new.office self.new.wire spool.new
+            links.new.clients.seats.items links.new.requests.exchanges.items links.new.site }
+        ensures clean { V.is_clean (vault_of self.new.office)
+            → V.is_clean (vault_of self.old.office) }
+        ensures works { (wire : W)
+            → WasAsked W.asked wire self.old.wire (Waited (millis_of links.old) ∷ [])
+            → (T : Trace) → StandsFor V.holds self.old.office T
+            → V.is_clean (vault_of self.new.office)
+            → Works V.holds V.faults W.asked S.asked L.heard T now
+            links.old self.old.office wire spool.old self.old.listener
+            self.new.office links.new self.new.wire spool.new self.new.listener }
+        ensures left { LeavesAsFound now links.old links.new }
+    {
         links.clients.poll_now = false;
-        self.pass_time(millis, now);
+        self.tick(now);
         tell_idle_ones(&self.office, &mut self.listener, &links.clients);
         self.accept_links(&mut links.clients, now);
-        accept_requests(&mut self.wire, &mut links.requests, MOST_LINKS, now);
+        accept_requests(
+            &mut self.wire,
+            &mut self.listener,
+            &mut links.requests,
+            MOST_LINKS,
+            now,
+        );
         self.serve_links(&mut links.clients, now);
         let site = &links.site;
         self.serve_requests(&mut links.requests, site, now);
         let seconds = links.clients.newcomers.limit(links.clients.seats.len());
         self.end_late_ones(&mut links.clients, now, seconds);
-        close_links(&self.office, &mut self.wire, &mut links.clients);
-        serve_spool(&mut self.office, spool, &mut links.clients);
+        let clients = &mut links.clients;
+        close_links(&self.office, &mut self.wire, &mut self.listener, clients);
+        serve_spool(&mut self.office, spool, clients);
         // For the proof: what each connection took was sent to it.
         taken_is_sent();
     }

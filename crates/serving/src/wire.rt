@@ -1,10 +1,10 @@
 //! What a server needs of its links.
 ghost use Rattle.std.specs.Prelude.{◌≡◌, List, ◌∷◌, [], ◌++◌, length};
 ghost use Rattle.serving.specs.Wires.{ToldOfPorts, at_port, counted, has_read, has_written};
-ghost use Rattle.serving.specs.Wires.{has_closed, Addresses};
+ghost use Rattle.serving.specs.Wires.{has_closed, Addresses, Peers, Refusals};
 ghost use Rattle.serving.specs.Calls.{Call, Waited, Accepted, Looked, Read, Wrote, Closed};
 
-use std::net::IpAddr;
+use std::net::{IpAddr, SocketAddr};
 
 /// A link at one of a wire's ports. No other link at this port ever has its number.
 #[derive(Clone, Copy, PartialEq, Eq, Default, Debug)]
@@ -34,12 +34,25 @@ pub enum Io {
     Broken,
 }
 
+/// Why a wire closed a client's link before anything that its client sent was handed on: for its
+/// first line, which is a proxy's.
+#[derive(Clone, Copy, PartialEq, Eq)]
+pub enum Refusal {
+    /// It is no PROXY line of version 1, or has more than 107 octets.
+    NoLine,
+    /// It wasn't whole at a read ten seconds or more after the link's acceptance.
+    TooLate,
+    /// Memory for it, or for what it says, was wanting.
+    NoMemory,
+}
+
 /// Links as they come.
 ///
 /// `tells w t`: `t` is a true record of w's traffic. The links of each port are numbered in it from
 /// 0 on, in the order in which they were accepted. `asked w calls`: `calls` is a true record of
 /// what w was asked and answered. Of a wire over sockets neither is known.
-/// `address_of w port link`: from where a link came, as far as w knows by now.
+/// `address_of w port link`: from where a link came, as far as w knows by now; `peer_of` is its
+/// other end. `closed_for w link`: for what w closed a client's link by itself.
 pub trait Wire {
     ghost use Rattle.serving.specs.Wires.{IsWithin, IsAccepted, SayAlikeOfPorts};
 
@@ -51,6 +64,12 @@ pub trait Wire {
 
     /// `address_of w port link`: from where a link came, as far as w knows by now.
     ghost address_of: { Self → Addresses };
+
+    /// `peer_of w port link`: what w gives as the other end of a link.
+    ghost peer_of: { Self → Peers };
+
+    /// `closed_for w link`: for what w closed a client's link by itself.
+    ghost closed_for: { Self → Refusals };
 
     /// Waits until a link may be accepted, read or written, at most so many milliseconds.
     fn wait(&mut self, millis: u32)
@@ -97,6 +116,14 @@ pub trait Wire {
     /// The address that a link came from; `None` if it isn't known.
     fn address(&self, port: Port, link: Link) -> Option<IpAddr>
         ensures { result ≡ address_of self.now port link };
+
+    /// The other end of a link: of one that a proxy brings, the proxy. `None` if it isn't known.
+    fn peer(&self, port: Port, link: Link) -> Option<SocketAddr>
+        ensures { result ≡ peer_of self.now port link };
+
+    /// Why a client's link was closed at its last read, if that was for its first line.
+    fn refusal(&self, link: Link) -> Option<Refusal>
+        ensures { result ≡ closed_for self.now link };
 
     /// Closes a link.
     fn close(&mut self, port: Port, link: Link)

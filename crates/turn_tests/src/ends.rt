@@ -2,7 +2,9 @@
 //! too long to log in, and of one that hadn't logged in while all places were taken.
 use crate::two_clerks::office_of_two;
 use office::{Account, End};
-use serving::{AdminRequest, Link, Listener, ScriptSpool, ScriptWire, Server};
+use serving::{
+    AdminRequest, Link, LinkEvent, Listener, Port, ScriptSpool, ScriptWire, Server, Wire,
+};
 use std::alloc::{AllocError, Global};
 use std::test::Fail;
 
@@ -39,6 +41,8 @@ impl Ends {
 
 impl Listener for Ends {
     ghost heard = { λ _ _. ⊥ };
+
+    fn follow<W: Wire>(&mut self, _wire: &W, _port: Port, _link: Link, _event: LinkEvent) {}
 
     fn open(&mut self, _link: Link, _connection: u64) {}
 

@@ -2,7 +2,7 @@
 //! gave it.
 use creds::{LoginName, Name, Uid};
 use office::{Account, MessageCommand, MessageRow, Removal, Verdict, Way};
-use serving::{AdminRequest, Link, Listener};
+use serving::{AdminRequest, Link, LinkEvent, Listener, Port, Wire};
 use session::Removed;
 use std::alloc::{AllocError, Global};
 
@@ -153,6 +153,8 @@ impl Heard {
 
 impl Listener for Heard {
     ghost heard = { λ _ _. ⊥ };
+
+    fn follow<W: Wire>(&mut self, _wire: &W, _port: Port, _link: Link, _event: LinkEvent) {}
 
     fn open(&mut self, _link: Link, _connection: u64) {}
 

@@ -7,6 +7,8 @@ mod chance;
 #[cfg(test)]
 mod ends;
 #[cfg(test)]
+mod followed;
+#[cfg(test)]
 mod guest;
 #[cfg(test)]
 mod heard;

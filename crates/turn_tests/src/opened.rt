@@ -2,7 +2,9 @@
 
 use crate::two_clerks::office_of_two;
 use office::Account;
-use serving::{AdminRequest, Link, Listener, ScriptSpool, ScriptWire, Server};
+use serving::{
+    AdminRequest, Link, LinkEvent, Listener, Port, ScriptSpool, ScriptWire, Server, Wire,
+};
 use std::test::Fail;
 
 /// The last link that was opened, its connection, and how many there were.
@@ -15,6 +17,8 @@ struct Doorman {
 
 impl Listener for Doorman {
     ghost heard = { λ _ _. ⊥ };
+
+    fn follow<W: Wire>(&mut self, _wire: &W, _port: Port, _link: Link, _event: LinkEvent) {}
 
     fn open(&mut self, link: Link, connection: u64) {
         self.link = link.number;

@@ -7,8 +7,8 @@ use crate::chance::Chance;
 use crate::reckoning::Reckoning;
 use crate::sent::some_request;
 use crate::stream::front;
-use serving::{Io, Link, Port, Wire};
-use std::net::IpAddr;
+use serving::{Io, Link, Port, Refusal, Wire};
+use std::net::{IpAddr, SocketAddr};
 
 /// A wire by chance.
 #[derive(Drop)]
@@ -148,6 +148,10 @@ impl Wire for RandomWire {
 
     ghost address_of = { λ _ _ _. None };
 
+    ghost peer_of = { λ _ _ _. None };
+
+    ghost closed_for = { λ _ _. None };
+
     ghost tells_once = { λ wire t u a b. absurd a };
 
     fn wait(&mut self, _millis: u32) {
@@ -177,6 +181,14 @@ impl Wire for RandomWire {
     }
 
     fn address(&self, _port: Port, _link: Link) -> Option<IpAddr> {
+        None
+    }
+
+    fn peer(&self, _port: Port, _link: Link) -> Option<SocketAddr> {
+        None
+    }
+
+    fn refusal(&self, _link: Link) -> Option<Refusal> {
         None
     }
 

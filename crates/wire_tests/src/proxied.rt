@@ -1,6 +1,6 @@
 //! Lines of proxies, and the links that they begin.
-use proxy::{ProxiedWire, ProxyLine, Refusal};
-use serving::{Io, Link, Port, ScriptWire, Wire};
+use proxy::{ProxiedWire, ProxyLine};
+use serving::{Io, Link, Port, Refusal, ScriptWire, Wire};
 use std::alloc::{AllocError, Global};
 use std::io;
 use std::net::{IpAddr, Ipv4Addr};

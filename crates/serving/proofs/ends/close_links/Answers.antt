@@ -27,6 +27,7 @@ pub loop-place-init : goal.loop-place-init
 loop-place-init g c = record {
   serves = λ T beside s clean. s;
   closes = shut_none c.args.links.now;
+  heard = λ h q. q;
   newcomers = λ T s q here. refl;
   works = λ T s. record {
     calls = [];
@@ -44,6 +45,7 @@ loop-place-preserved-then-close_seat g c =
     record {
       serves = λ T beside s clean. c.if-close_seat.ensures.serves T beside (k.invariant.serves T beside s clean) clean;
       closes = shut_then c.args.links.now k.links x.new.links k.invariant.closes x.ensures.closes.closes;
+      heard = λ h q. c.if-close_seat.ensures.heard h (k.invariant.heard h q);
       newcomers = λ T s q here. ap (λ v. newcomer q v) (c.if-close_seat.ensures.closes.newcomers no_seat) ∙ k.invariant.newcomers T s q here;
       works = λ T s.
           asking_then g.W.Wire.asked c.args.wire.now k.wire x.new.wire _ _ _
@@ -63,6 +65,7 @@ loop-place-preserved g c =
     record {
       serves = λ T beside s clean. c.if-close_seat.ensures.serves T beside (k.invariant.serves T beside s clean) clean;
       closes = shut_then c.args.links.now k.links x.new.links k.invariant.closes x.ensures.closes.closes;
+      heard = λ h q. c.if-close_seat.ensures.heard h (k.invariant.heard h q);
       newcomers = λ T s q here.
           (let seat = get_or k.links.seats.items k.place no_seat in
           let shut : is_open T seat.connection ≡ false = sym (c.if-close_seat.ensures.works T no_seat s).facts.0.stays_if in

@@ -60,7 +60,7 @@ returns-clause-serves g c = λ T beside s clean.
       owner = k.owner;
       stands = k.stands;
       admitted = k.admitted;
-      tells = c.close.ensures.told (record { pop = k.told; admin = beside.admin }) k.tells;
+      tells = c.close_link.ensures.told (record { pop = k.told; admin = beside.admin }) k.tells;
       served = served_closed k.told k.owner T.base k.log _ (closed_own k.owner T.base k.log _ _ own shut) k.served;
       seated = seated_without k.owner (trace_of T.base k.log) seats ys place _ _ c.deref.ensures.0 c.remove.ensures.items c.requires shut k.seated;
       adds = k.adds;
@@ -95,7 +95,7 @@ returns-clause-works g c = λ T d s.
     let at = at_place seats ys c.args.place _ d c.deref.ensures.0 c.requires in
     record {
       calls = Closed Pop _ ∷ [];
-      was_asked = asked_one g.W.Wire.asked c.args.wire.now c.close.new.self _ c.close.ensures.called;
+      was_asked = asked_one g.W.Wire.asked c.args.wire.now c.close_link.new.wire _ c.close_link.ensures.called;
       facts = (
         record {
           stays_if = sym (subst (λ q. is_open_seat T q ≡ false) at shut);

@@ -30,7 +30,7 @@ returns-in-Ok-false-clause-answers g c = λ x B start L pop s.
     let told2 = has_closed (has_accepted s.told) n in
     record {
       told = told2;
-      tells = c.close.ensures.told (record { pop = pop; admin = has_accepted s.told }) accepted.1;
+      tells = c.close_link.ensures.told (record { pop = pop; admin = has_accepted s.told }) accepted.1;
       exchanged = exchanged_same (has_accepted s.told) told2 x B start L (exchanged_accepted s.told x xs B start L s.exchanged) refl (λ k. refl) (λ k. refl) s.exchanged.straight;
       held = subst (AreHeld told2 x) (sym (c.in-Ok-false.ensures.turned_away (search rules))) (held_refused s.told x xs n accepted.0 s.held);
     })
@@ -43,7 +43,7 @@ returns-in-Err-clause-answers g c = λ x B start L pop s.
     let told2 = has_closed (has_accepted s.told) n in
     record {
       told = told2;
-      tells = c.close-in-Err.ensures.told (record { pop = pop; admin = has_accepted s.told }) accepted.1;
+      tells = c.close_link-in-Err.ensures.told (record { pop = pop; admin = has_accepted s.told }) accepted.1;
       exchanged = exchanged_same (has_accepted s.told) told2 x B start L (exchanged_accepted s.told x xs B start L s.exchanged) refl (λ k. refl) (λ k. refl) s.exchanged.straight;
       held = subst (AreHeld told2 x) (sym c.in-Err.ensures.refused) (held_refused s.told x xs n accepted.0 s.held);
     })
@@ -68,10 +68,10 @@ returns-in-Ok-false-clause-works g c =
     let xs = c.args.requests.now.exchanges.items in
     let ys = c.keep.new.self.exchanges.items in
     let calls = Accepted Admin (Some link) ∷ Closed Admin link ∷ [] in
-    asks_two g.W.Wire.asked c.args.wire.now c.accept.new.self c.close.new.self (Accepted Admin (Some link)) (Closed Admin link) (HasAcceptedForAdmin c.args.now 1 true xs ys) (quiet_accepted (Some link)) (quiet_closed link)
+    asks_two g.W.Wire.asked c.args.wire.now c.accept.new.self c.close_link.new.wire (Accepted Admin (Some link)) (Closed Admin link) (HasAcceptedForAdmin c.args.now 1 true xs ys) (quiet_accepted (Some link)) (quiet_closed link)
     (subst (λ l. HasAcceptedForAdmin c.args.now 1 true xs l calls) (sym (c.in-Ok-false.ensures.turned_away (search rules)))
     (record { came = 1; arrivals = calls; come = IsTurnedAway link xs xs 0 [] (c.in-Ok-false.ensures.full (search rules)) (NoMore xs); calls_are = refl; enough = λ e. omega arith }))
-    c.in-Some.ensures.called c.close.ensures.called
+    c.in-Some.ensures.called c.close_link.ensures.called
 
 pub returns-in-Err-clause-works : goal.returns-in-Err-clause-works
 returns-in-Err-clause-works g c =
@@ -79,7 +79,7 @@ returns-in-Err-clause-works g c =
     let xs = c.args.requests.now.exchanges.items in
     let ys = c.keep.new.self.exchanges.items in
     let calls = Accepted Admin (Some link) ∷ Closed Admin link ∷ [] in
-    asks_two g.W.Wire.asked c.args.wire.now c.accept.new.self c.close-in-Err.new.self (Accepted Admin (Some link)) (Closed Admin link) (HasAcceptedForAdmin c.args.now 1 true xs ys) (quiet_accepted (Some link)) (quiet_closed link)
+    asks_two g.W.Wire.asked c.args.wire.now c.accept.new.self c.close_link-in-Err.new.wire (Accepted Admin (Some link)) (Closed Admin link) (HasAcceptedForAdmin c.args.now 1 true xs ys) (quiet_accepted (Some link)) (quiet_closed link)
     (subst (λ l. HasAcceptedForAdmin c.args.now 1 true xs l calls) (sym c.in-Err.ensures.refused)
     (record { came = 1; arrivals = calls; come = WantsMemory link xs xs 0 [] (NoMore xs); calls_are = refl; enough = λ e. omega arith }))
-    c.in-Some.ensures.called c.close-in-Err.ensures.called
+    c.in-Some.ensures.called c.close_link-in-Err.ensures.called

@@ -13,7 +13,7 @@ use Rattle.serving.proofs.requests.write_response.Goals as goal
 pub loop-times-init : goal.loop-times-init
 loop-times-init g c =
     let e = c.args.exchange.now in
-    record { answers = λ x B start L pop others s. s; keeps = record { link = refl; since = refl }; works = asks_none g.W.Wire.asked c.args.wire.now (TellsSoFar e e 0 0) (inl (refl, refl, refl, refl), λ h. absurd (omega (arith, h))) }
+    record { answers = λ x B start L pop others s. s; keeps = record { link = refl; since = refl }; heard = λ h k. k; works = asks_none g.W.Wire.asked c.args.wire.now (TellsSoFar e e 0 0) (inl (refl, refl, refl, refl), λ h. absurd (omega (arith, h))) }
 
 pub loop-times-preserved : goal.loop-times-preserved
 loop-times-preserved g c =
@@ -30,6 +30,7 @@ loop-times-preserved g c =
     record {
       answers = λ y B start L pop others s. x.ensures.answers y B start L pop others (k.invariant.answers y B start L pop others s);
       keeps = record { link = x.ensures.keeps.link ∙ k.invariant.keeps.link; since = x.ensures.keeps.since ∙ k.invariant.keeps.since };
+      heard = λ h q. x.ensures.heard h (k.invariant.heard h q);
       works = asks_then g.W.Wire.asked c.args.wire.now k.wire x.new.wire (TellsSoFar e e1 k._times k.written) (Tells e1 e2 (if n == 0 then 0 else 1) n (not (n == 0))) (TellsSoFar e e2 (k._times + 1) sum)
           (λ c1 c2 a b. (
             inr (told_more e e1 e2 k._times (if n == 0 then 0 else 1) k.written n (k._times + 1) sum c1 c2 (omega (arith, one)) fits a.0 b.is),

@@ -16,7 +16,7 @@ use Rattle.serving.proofs.Accepting.{Comes, IsRefusal, comes, owned_at, owned_st
 use Rattle.serving.specs.declared.wire.Port.TheVariants.{Pop}
 use Rattle.serving.specs.Calls.{Accepted, Closed}
 use Rattle.serving.proofs.Working.{given_one, asked_one, asked_then}
-use Rattle.serving.proofs.Hearing.{told_none, told_same}
+use Rattle.serving.proofs.Hearing.{told_same}
 use Rattle.serving.proofs.Arriving.{done_mark, refusal_so, accepted_full, accepted_none, accepted_seated, accepted_unseated}
 use Rattle.serving.proofs.Composing.{set_same, does_none, does_call}
 use Rattle.serving.proofs.Newly.{noted_none, noted_one}
@@ -62,7 +62,7 @@ returns-in-None-clause-serves g c = λ T beside s clean.
       owner = s.owner;
       stands = c.step.ensures.stands now s.stands clean;
       admitted = (c.step.ensures.admitted now s.stands clean, s.admitted);
-      tells = c.close.ensures.told (record { pop = has_accepted s.told; admin = beside.admin }) accepted.1;
+      tells = c.close_link.ensures.told (record { pop = has_accepted s.told; admin = beside.admin }) accepted.1;
       served = subst (λ n. AreServed (has_closed (has_accepted s.told) n) s.owner T.base ((event.Connect, event_tag_of o) ∷ s.log)) (sym accepted.0)
           (served_unseated s.told s.owner T.base s.log (event_tag_of o) k s.served);
       seated = seated_same s.owner T.base s.log c.args.clients.now.seats.items [] ((event.Connect, event_tag_of o) ∷ s.log) (refused_same s.told s.owner T.base s.log (event_tag_of o) k) s.seated;
@@ -97,7 +97,7 @@ returns-in-Some-number-clause-works g c =
       was_given = given_one Holds IsClean g.V.Vault.faults s.office c.step.new.self event.Connect o c.step.ensures.clean c.step.ensures.stands c.step.ensures.admitted c.step.ensures.counted c.step.ensures.cause;
       was_asked = asked_one g.W.Wire.asked s.wire c.accept.new.self (Accepted Pop (Some link)) c.in-Some.ensures.called;
       facts = (
-        record { is = λ B L st clean. told_same g.L.Listener.heard s.listener c.open.new.self c.open.ensures.told },
+        record { is = λ B L st clean. told_same g.L.Listener.heard s.listener c.open.new.self (λ h k. c.open.ensures.told h (c.follow.ensures.told h k)) },
         accepted_seated Holds IsClean g.V.Vault.faults s.office c.step.new.self c.args.clients.now.seats.items _ link connection (event_tag_of o) (done_mark o connection e) c.push.ensures.items,
       );
     }
@@ -115,11 +115,11 @@ returns-in-None-clause-works g c =
       given = (event.Connect, event_tag_of o) ∷ [];
       calls = Accepted Pop (Some link) ∷ Closed Pop link ∷ [];
       was_given = given_one Holds IsClean g.V.Vault.faults office c.step.new.self event.Connect o c.step.ensures.clean c.step.ensures.stands c.step.ensures.admitted c.step.ensures.counted c.step.ensures.cause;
-      was_asked = asked_then g.W.Wire.asked s.wire c.accept.new.self c.close.new.self (Accepted Pop (Some link) ∷ []) (Closed Pop link ∷ [])
+      was_asked = asked_then g.W.Wire.asked s.wire c.accept.new.self c.close_link.new.wire (Accepted Pop (Some link) ∷ []) (Closed Pop link ∷ [])
           (asked_one g.W.Wire.asked s.wire c.accept.new.self (Accepted Pop (Some link)) c.in-Some.ensures.called)
-          (asked_one g.W.Wire.asked c.accept.new.self c.close.new.self (Closed Pop link) c.close.ensures.called);
+          (asked_one g.W.Wire.asked c.accept.new.self c.close_link.new.wire (Closed Pop link) c.close_link.ensures.called);
       facts = (
-        record { is = λ B L st clean. told_none g.L.Listener.heard s.listener },
+        record { is = λ B L st clean. told_same g.L.Listener.heard s.listener c.close_link.new.listener (λ h k. c.close_link.ensures.heard h (c.follow.ensures.told h k)) },
         accepted_unseated Holds IsClean g.V.Vault.faults office c.step.new.self c.args.clients.now.seats.items link (event_tag_of o)
             (λ T st k.
             (let r : IsRefusal (event_tag_of o) = subst (Comes T.log o) {y = None} e (comes T (lent_by office) o (c.step.ensures.outcome T st k)) in

@@ -112,7 +112,7 @@ returns-in-Count-clause-works g c =
     let piece = take n c.read.new.buffer in
     let x = c.step_with_account-report in
     does_event g.V.Vault g.W.Wire g.L.Listener o x.new.self c.args.self.now.listener c.hear.new.self c.args.self.now.wire c.read.new.self (Read Pop seat.link room (Count n) piece) (event.Bytes seat.connection piece) (outcome_seen x.result.outcome) seat.connection x.result.account _ (λ T. refl)
-    x.ensures.clean x.ensures.stands x.ensures.admitted x.ensures.counted x.ensures.cause x.ensures.account c.in-Count.ensures.called c.hear.ensures.told
+    x.ensures.clean x.ensures.stands x.ensures.admitted x.ensures.counted x.ensures.cause x.ensures.account c.in-Count.ensures.called (λ h k. c.hear.ensures.told h (c.follow.ensures.told h k))
     (read_some g.V.Vault.holds g.V.Vault.is_clean g.V.Vault.faults o seat room (Count n) piece piece (event_tag_of (outcome_seen x.result.outcome)), λ e. refl)
 
 pub returns-in-Later-clause-works : goal.returns-in-Later-clause-works
@@ -133,5 +133,5 @@ returns-in-End-clause-works g c =
     let octets = counted io c.read.new.buffer in
     let fault : is_fault io ≡ true = search rules in
     does_event g.V.Vault g.W.Wire g.L.Listener o x.new.self c.args.self.now.listener c.hear-in-End.new.self c.args.self.now.wire c.read.new.self (Read Pop seat.link room io octets) (event.Gone seat.connection) (outcome_seen x.result.outcome) seat.connection x.result.account _ (λ T. refl)
-    x.ensures.clean x.ensures.stands x.ensures.admitted x.ensures.counted x.ensures.cause x.ensures.account c.read.ensures.called c.hear-in-End.ensures.told
+    x.ensures.clean x.ensures.stands x.ensures.admitted x.ensures.counted x.ensures.cause x.ensures.account c.read.ensures.called (λ h k. c.hear-in-End.ensures.told h (c.follow-in-End.ensures.told h k))
     (read_cut g.V.Vault.holds g.V.Vault.is_clean g.V.Vault.faults o seat room io octets (event_tag_of (outcome_seen x.result.outcome)) fault, polled_quiet false (Read Pop seat.link room io octets ∷ []))

@@ -8,7 +8,8 @@ use Rattle.serving.proofs.Composing.{does_none}
 use Rattle.serving.proofs.Offering.{unwritten_look}
 use Rattle.serving.proofs.Turns.{heard_none, heard_unread, heard_asked, heard_after, read_part}
 use Rattle.serving.proofs.Unread.{may_so, line_so, looked_quiet, unread_so}
-use Rattle.serving.proofs.Working.{any_right}
+use Rattle.serving.proofs.Hearing.{heard_on}
+use Rattle.serving.proofs.Working.{any_right, part_so}
 use Rattle.serving.proofs.Resting.{polled_quiet, polled_moved}
 use Rattle.serving.specs.Newcomers.{newcomer, lies_unread, settled_in}
 use Rattle.serving.specs.Paces.{most_paced}
@@ -68,10 +69,13 @@ returns-then-part-eq0-clause-works g c =
     let noted = lies_unread (newcomer seat.connection c.settle-2.new.self.newcomers.items) in
     let unread = subst (λ w. IsUnread Holds o seat w may a.calls) p.ensures.pace.wait
     (unread_so Holds o seat pace refusals may part.result.count part.result.login a.calls (λ h. subst (λ w. (links.lock_released || (links.guesses.are_slow && nat_lt w most_paced)) ≡ true) p.ensures.pace.waited (may_so links.guesses.are_slow links.lock_released pace.is_shut (nat_lt pace.waited most_paced) pace.origin p.ensures.pace.shut p.ensures.fast h)) none a.facts) in
-    heard_asked Holds IsClean g.V.Vault.faults g.W.Wire.asked g.L.Listener.heard o c.args.self.now.wire part.new.wire c.args.self.now.listener seat links.wait lines may noted (PollsBy links.poll_now (links.poll_now || false)) a.calls a.was_asked
+    let l = c.args.self.now.listener in
+    part_so Holds IsClean g.V.Vault.faults g.W.Wire.asked o o c.args.self.now.wire part.new.wire _ _
+    (λ given calls was heard. (heard_on Holds IsClean g.L.Listener.heard o o l l c.follow.new.self given c.follow.ensures.told heard.0, heard.1))
+    (heard_asked Holds IsClean g.V.Vault.faults g.W.Wire.asked g.L.Listener.heard o c.args.self.now.wire part.new.wire l seat links.wait lines may noted (PollsBy links.poll_now (links.poll_now || false)) a.calls a.was_asked
     (heard_unread Holds IsClean g.V.Vault.faults links.wait lines may noted o seat a.calls
     (unwritten_look Holds o seat pace refusals part.result.count part.result.login a.calls a.facts) (looked_quiet Holds o seat pace refusals part.result.count part.result.login a.calls a.facts)
-    unread) (polled_quiet links.poll_now a.calls)
+    unread) (polled_quiet links.poll_now a.calls))
 
 pub returns-then-not-read_once-clause-works : goal.returns-then-not-read_once-clause-works
 returns-then-not-read_once-clause-works g c =

@@ -3,7 +3,7 @@ use Rattle.serving.specs.Requests.{AreKeptBeside}
 use Rattle.serving.proofs.Requesting.{asked_still, waited}
 use Rattle.serving.proofs.Quieting.{NoEvent, did_none, also_from, also_asked, also_then}
 use Rattle.serving.specs.Hearing.{HeardApart}
-use Rattle.serving.proofs.Hearing.{told_none, apart_still}
+use Rattle.serving.proofs.Hearing.{told_none, told_on, apart_still}
 use Rattle.serving.proofs.HttpWorking.{turn_served}
 use Rattle.serving.specs.HttpWorks.{HasHeard, HasTold, HasHttpTurn, IsLate}
 use Rattle.std.proofs.Common.{rules, ◌≡◌, true, false, ◌∙◌, sym}
@@ -48,8 +48,9 @@ returns-clause-works g c =
     let e2 = c.write_response.new.exchange in
     let l = c.args.self.now.listener in
     let l1 = c.read_request.new.self.listener in
+    let l2 = c.write_response.new.listener in
     also_then g.V.Vault.holds g.V.Vault.is_clean g.V.Vault.faults g.W.Wire.asked c.args.self.now.office c.read_request.new.self.office c.read_request.new.self.office c.args.self.now.wire c.read_request.new.self.wire c.write_response.new.wire
-    (HeardApart g.L.Listener.heard l l1 (λ B L. HasHeard c.args.site.now B L e e1)) (NoEvent (HasTold e1 e2)) (HeardApart g.L.Listener.heard l l1 (λ B L. HasHttpTurn c.args.site.now c.args.now B L e e2)) (PollsBy false false) (PollsBy false c.write_response.result) (PollsBy false c.write_response.result)
-    (λ B L g1 g2 c1 c2 p q. (apart_still g.L.Listener.heard l l1 B L g1 g2 q.0 p.0, turn_served c.args.site.now c.args.now B L e e1 e2 g1 g2 c1 c2 (sym c.is_late.ensures ∙ no) p.1 q.0 q.1)) (λ c1 c2 m n. polled_then false false c.write_response.result c1 c2 m n)
+    (HeardApart g.L.Listener.heard l l1 (λ B L. HasHeard c.args.site.now B L e e1)) (NoEvent (HasTold e1 e2)) (HeardApart g.L.Listener.heard l l2 (λ B L. HasHttpTurn c.args.site.now c.args.now B L e e2)) (PollsBy false false) (PollsBy false c.write_response.result) (PollsBy false c.write_response.result)
+    (λ B L g1 g2 c1 c2 p q. (told_on g.L.Listener.heard l l1 l2 _ c.write_response.ensures.heard (apart_still g.L.Listener.heard l l1 B L g1 g2 q.0 p.0), turn_served c.args.site.now c.args.now B L e e1 e2 g1 g2 c1 c2 (sym c.is_late.ensures ∙ no) p.1 q.0 q.1)) (λ c1 c2 m n. polled_then false false c.write_response.result c1 c2 m n)
     (also_from g.V.Vault.holds g.V.Vault.is_clean g.V.Vault.faults g.W.Wire.asked c.args.self.now.office c.read_request.new.self.office c.args.self.now.wire c.read_request.new.self.wire _ (PollsBy false false) (polled_same false) c.read_request.ensures.works)
     (also_asked g.V.Vault.holds g.V.Vault.is_clean g.V.Vault.faults g.W.Wire.asked c.read_request.new.self.office c.read_request.new.self.wire c.write_response.new.wire (HasTold e1 e2) (PollsBy false c.write_response.result) c.write_response.ensures.works)

@@ -7,7 +7,7 @@ use Rattle.serving.proofs.Quieting.{NoEvent, IsOne, quiet_closed, asks_one, did_
 use Rattle.serving.proofs.HttpWorking.{held_on, closed_so, one_at, one_set, behind_held, behind_closed}
 use Rattle.serving.specs.HttpWorks.{HasHttpTurn, HadHttpTurns}
 use Rattle.serving.specs.Hearing.{HeardApart}
-use Rattle.serving.proofs.Hearing.{apart_still}
+use Rattle.serving.proofs.Hearing.{told_on, apart_still}
 use Rattle.serving.specs.Calls.{Closed}
 use Rattle.serving.specs.declared.wire.Port.TheVariants.{Admin}
 use Rattle.std.proofs.Common.{rules, ◌≡◌, true, false, [], ◌∷◌, ◌++◌, take, drop, ◌||◌}
@@ -46,10 +46,10 @@ returns-clause-asked g c = λ B start L pop s clean.
     let told = all.is.told in
     let told2 = has_closed told n in
     let within : place < length ys = (let h = c.requires in omega (arith, h, length-set xs place e2)) in
-    asked_still g.V.Vault.holds g.W.Wire.tells c.args.site.now B start L pop c.serve_exchange.new.self.office c.serve_exchange.new.self.wire c.close.new.self (λ told x. AreHeld told x ys) (λ told x. AreHeld told x c.remove.new.self.items) all
+    asked_still g.V.Vault.holds g.W.Wire.tells c.args.site.now B start L pop c.serve_exchange.new.self.office c.serve_exchange.new.self.wire c.close_link.new.wire (λ told x. AreHeld told x ys) (λ told x. AreHeld told x c.remove.new.self.items) all
     (record {
       told = told2;
-      tells = c.close.ensures.told (record { pop = pop; admin = told }) all.is.tells;
+      tells = c.close_link.ensures.told (record { pop = pop; admin = told }) all.is.tells;
       exchanged = exchanged_same told told2 all.x B start all.log all.is.exchanged refl (λ k. refl) (λ k. refl) all.is.exchanged.straight;
       held = subst (AreHeld told2 all.x) (sym c.remove.ensures.items)
           (held_without told all.x ys place e2 n within all.is.held (ap (λ y. y.link.number) (sym (get_or-set_same xs place e2 e2 c.requires))));
@@ -87,20 +87,21 @@ returns-clause-works g c =
     let e2 = c.serve_exchange.new.exchange in
     let o1 = c.serve_exchange.new.self.office in
     let w1 = c.serve_exchange.new.self.wire in
-    let w2 = c.close.new.self in
+    let w2 = c.close_link.new.wire in
     let call = Closed Admin e2.link in
     let before = c.args.requests.now.poll_now in
     let polled = c.serve_exchange.result in
     let l = c.args.self.now.listener in
     let l1 = c.serve_exchange.new.self.listener in
+    let l2 = c.close_link.new.listener in
     let over : e2.is_over ≡ true = search rules in
     let is : take 1 (drop place xs) ≡ e ∷ [] = one_at xs place e c.requires ∙ ap (λ y. y ∷ []) (sym c.index_mut-exchange.ensures.value) in
     also_then g.V.Vault.holds g.V.Vault.is_clean g.V.Vault.faults g.W.Wire.asked c.args.self.now.office o1 o1 c.args.self.now.wire w1 w2
     (HeardApart g.L.Listener.heard l l1 (λ B L. HasHttpTurn c.args.site.now now B L e e2)) (NoEvent (IsOne call))
-    (HeardApart g.L.Listener.heard l l1 (λ B L. HadHttpTurns c.args.site.now now B L (take 1 (drop place xs)) []))
+    (HeardApart g.L.Listener.heard l l2 (λ B L. HadHttpTurns c.args.site.now now B L (take 1 (drop place xs)) []))
     (PollsBy false polled) (PollsBy false false) (PollsBy before (before || polled))
     (λ B L g1 g2 c1 c2 turn q. (
-      apart_still g.L.Listener.heard l l1 B L g1 g2 q.0 turn.0,
+      told_on g.L.Listener.heard l l1 l2 _ c.close_link.ensures.heard (apart_still g.L.Listener.heard l l1 B L g1 g2 q.0 turn.0),
       subst (λ v. HadHttpTurns c.args.site.now now B L v [] (g2 ++ g1) (c1 ++ c2)) (sym is)
           (closed_so c.args.site.now now B L e e2 g1 g2 c1 c2 turn.1 over e2.link c.serve_exchange.ensures.keeps.link q.0 q.1),
     ))
@@ -108,7 +109,7 @@ returns-clause-works g c =
     c.serve_exchange.ensures.works
     (also_from g.V.Vault.holds g.V.Vault.is_clean g.V.Vault.faults g.W.Wire.asked o1 o1 w1 w2 _ (PollsBy false false) (polled_same false)
     (did_asked g.V.Vault.holds g.V.Vault.is_clean g.V.Vault.faults g.W.Wire.asked o1 w1 w2 (IsOne call) (NoEvent (IsOne call)) (λ B L cs at. (refl, at))
-    (asks_one g.W.Wire.asked w1 w2 call (IsOne call) (quiet_closed e2.link) refl c.close.ensures.called)))
+    (asks_one g.W.Wire.asked w1 w2 call (IsOne call) (quiet_closed e2.link) refl c.close_link.ensures.called)))
 
 pub returns-then-not-exchange-clause-held : goal.returns-then-not-exchange-clause-held
 returns-then-not-exchange-clause-held g c =

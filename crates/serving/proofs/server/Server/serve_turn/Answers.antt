@@ -1,192 +1,37 @@
-use Rattle.std.proofs.Common.{arith, length, sym, subst}
-use Rattle.office.specs.Taken.{trace_of}
-use Rattle.serving.specs.Served.{Beside, Serves}
-use Rattle.serving.specs.Requests.{AsksNone}
-use Rattle.serving.proofs.Depositing.{serves_tried, serves_asked, serves_answering}
-use Rattle.std.proofs.Common.{◌≡◌, ◌||◌, [], ap, ◌∙◌}
-use Rattle.std.specs.List.{filter_map}
-use Rattle.serving.specs.Settings.{Settings, settings_of}
-use Rattle.serving.specs.Parts.{Part, Asking, Also, PollsBy, Releases}
-use Rattle.serving.specs.ClientParts.{IsPassed, AreAccepted, AreClosed, WereServed}
-use Rattle.serving.specs.SpoolTurns.{SpoolPart, IsSpoolTurn, has_dealt}
-use Rattle.std.proofs.Common.{ℕ, Some, true}
-use Rattle.office.specs.Events.{Trace}
-use Rattle.office.specs.Trace.{is_open}
-use Rattle.office.specs.Stands.{StandsFor}
-use Rattle.serving.specs.declared.newcomers.Newcomer.{Newcomer}
-use Rattle.serving.specs.Newcomers.{newcomer, limit, limit_by, HaveSeats, IsNewlyNoted, AllHaveSeats, IsSettled, IsComer}
-use Rattle.std.proofs.lemmas.List.Elements.{All-weaker}
-use Rattle.serving.proofs.Late.{late_then, late_comers}
-use Rattle.serving.proofs.Settling.{late_settled, settled_seats, comer_so, waited_same}
-use Rattle.std.specs.List.{All}
-use Rattle.serving.proofs.Newly.{more_is}
-use Rattle.serving.specs.Works.{seat_of}
-use Rattle.serving.specs.Guesses.{ArePacing}
-use Rattle.serving.specs.Parts.{Giving}
-use Rattle.serving.specs.Late.{HasEndedLate}
-use Rattle.serving.proofs.Timely.{late_both}
-use Rattle.serving.specs.Hearing.{WasTold, WithHeard, heard_of_all, idle_ends, late_ends}
-use Rattle.serving.proofs.Hearing.{told_same, told_then, late_heard}
-use Rattle.serving.proofs.Working.{part_so}
-use Rattle.serving.proofs.Finishing.{turn_done}
+use Rattle.std.proofs.Common.{ap, [], ◌∷◌, ◌++◌, subst}
+use Rattle.serving.specs.Calls.{Waited, WasAsked}
+use Rattle.serving.specs.Turns.{millis_of}
 use Rattle.serving.proofs.Bounds.{all_short}
+use Rattle.serving.proofs.Going.{serves_told, waited_for}
 use Rattle.serving.proofs.server.Server.serve_turn.Goals as goal
 
 pub returns-clause-serves : goal.returns-clause-serves
 returns-clause-serves g c = λ T s clean.
-    (let Holds = g.V.Vault.holds in
-    let Tells = g.W.Wire.tells in
-    let start = length T.log in
-    let late_clean = c.serve_spool.ensures.works.was_given.clean clean in
-    let asked_clean = c.end_late_ones.ensures.works.part.was_given.clean late_clean in
-    let links_clean = c.serve_requests.ensures.works.was_given.clean asked_clean in
-    let accepted_clean = c.serve_links.ensures.works.was_given.clean links_clean in
-    let passed_clean = c.accept_links.ensures.works.1.was_given.clean accepted_clean in
-    let seats = c.args.links.now.clients.seats.items in
-    let b = s.beside in
-    let passed = c.pass_time.ensures.serves seats seats T b s.is passed_clean in
-    let accepted = c.accept_links.ensures.serves T b passed accepted_clean in
-    let came = c.accept_requests.ensures.answers b.x T.base start accepted.log accepted.told
-    (record { told = b.admin; tells = accepted.tells; exchanged = accepted.adds.requests; held = s.requests }) in
-    let b2 : Beside = record { acts = b.acts; admin = came.told; x = b.x } in
-    let with_requests = serves_answering Holds Tells T b _ _ _ _ _ accepted came in
-    let links = c.serve_links.ensures.serves T b2 with_requests links_clean in
-    let k = c.serve_requests.ensures.asked T.base start links.log links.told
-    (record {
-      log = links.log;
-      x = b2.x;
-      of_site = s.of_site;
-      stands = links.stands;
-      admitted = λ before. before;
-      grown = AsksNone;
-      is = record { told = b2.admin; tells = links.tells; exchanged = links.adds.requests; held = came.held };
-    })
-    asked_clean in
-    let b3 : Beside = record { acts = b.acts; admin = k.is.told; x = k.x } in
-    let answered = serves_asked Holds Tells T b2 _ _ _ _ _ _ links _ k in
-    let late = c.end_late_ones.ensures.serves T b3 answered late_clean in
-    let closed = c.close_links.ensures.serves T b3 late late_clean in
-    let tried = c.serve_spool.ensures.tried (trace_of T.base closed.log) b.acts closed.stands s.tells clean in
-    let serves = serves_tried Holds Tells g.S.Spool.tells T b3 _ _ _ _ _ _ _ closed c.taken_is_sent.ensures k.is.held k.of_site tried in
-    subst (λ seats. Serves Holds Tells g.S.Spool.tells T c.serve_spool.new.office c.close_links.new.wire c.serve_spool.new.spool seats.items c.serve_requests.new.requests.exchanges.items c.args.links.now.site) (sym c.serve_spool.ensures.keeps.seats) serves)
-
-pub returns-clause-clean : goal.returns-clause-clean
-returns-clause-clean g c = λ clean.
-    c.pass_time.ensures.works.was_given.clean (c.accept_links.ensures.works.1.was_given.clean (c.serve_links.ensures.works.was_given.clean
-    (c.serve_requests.ensures.works.was_given.clean (c.end_late_ones.ensures.works.part.was_given.clean (c.serve_spool.ensures.works.was_given.clean clean)))))
+    c.serve_after_wait.ensures.serves T (serves_told g.V.Vault.holds g.W.Wire.tells g.S.Spool.tells T c.args.self.now.office c.args.self.now.wire c.wait.new.self c.args.spool.now
+    c.args.links.now.clients.seats.items c.args.links.now.requests.exchanges.items c.args.links.now.site c.wait.ensures.told s) clean
 
 pub returns-clause-works : goal.returns-clause-works
 returns-clause-works g c = λ T s clean.
-    (let Holds = g.V.Vault.holds in
-    let IsClean = g.V.Vault.is_clean in
-    let Asked = g.W.Wire.asked in
-    let passed_clean = c.accept_links.ensures.works.1.was_given.clean (c.serve_links.ensures.works.was_given.clean (c.serve_requests.ensures.works.was_given.clean
-    (c.end_late_ones.ensures.works.part.was_given.clean (c.serve_spool.ensures.works.was_given.clean clean)))) in
-    let links = c.args.links.now in
-    let old = links.clients in
-    let now = c.args.now in
-    let came = c.accept_links.new.clients in
-    let served = c.serve_links.new.clients in
-    let ended = c.end_late_ones.new.clients in
-    let seats2 = came.seats.items in
-    let o1 = c.pass_time.new.self.office in
-    let o2 = c.accept_links.new.self.office in
-    let o3 = c.serve_links.new.self.office in
-    let o4 = c.serve_requests.new.self.office in
-    let o5 = c.end_late_ones.new.self.office in
-    let w1 = c.pass_time.new.self.wire in
-    let w3 = c.accept_requests.new.wire in
-    let w4 = c.serve_links.new.self.wire in
-    let w5 = c.serve_requests.new.self.wire in
-    let w6 = c.close_links.new.wire in
-    let same_wire : c.end_late_ones.new.self.wire ≡ w5 = c.end_late_ones.ensures.works.wire in
-    let Heard = g.L.Listener.heard in
-    let l = c.args.self.now.listener in
-    let l0 = c.pass_time.new.self.listener in
-    let l1 = c.tell_idle_ones.new.listener in
-    let l2 = c.accept_links.new.self.listener in
-    let l3 = c.serve_links.new.self.listener in
-    let l4 = c.serve_requests.new.self.listener in
-    let l5 = c.end_late_ones.new.self.listener in
-    let a = c.accept_links.ensures.works in
-    let accepted : Part Holds IsClean g.V.Vault.faults Asked o1 w1 o2 c.accept_links.new.self.wire (AreAccepted Holds IsClean o1 o2 old.seats.items seats2 64 a.0) =
-    part_so Holds IsClean g.V.Vault.faults Asked o1 o2 w1 c.accept_links.new.self.wire _ _ (λ gv cl wa x. x.1) a.1 in
-    let waited_then : Part Holds IsClean g.V.Vault.faults Asked c.args.self.now.office c.args.self.now.wire o1 w1 (IsPassed c.millis_for-millis.result now) =
-    part_so Holds IsClean g.V.Vault.faults Asked c.args.self.now.office o1 c.args.self.now.wire w1 _ _ (λ gv cl wa x. x.1) c.pass_time.ensures.works in
-    let passed = subst (λ n. Part Holds IsClean g.V.Vault.faults Asked c.args.self.now.office c.args.self.now.wire o1 w1 (IsPassed n now)) c.millis_for-millis.ensures waited_then in
-    let untold = subst (λ gv. WasTold Heard l l0 (heard_of_all T.base T.log gv)) c.pass_time.ensures.works.facts.1.given_is (c.pass_time.ensures.works.facts.0.is T.base T.log s passed_clean) in
-    let turned = subst (λ set. Part Holds IsClean g.V.Vault.faults Asked o2 w3 o3 w4 (WithHeard Holds IsClean Heard o2 l2 o3 l3 (Also (WereServed Holds IsClean o2 o3 set now came.newcomers.newcomers.items served.lock_released served.poll_now served.newcomers.newcomers.items seats2 seats2) (PollsBy served.lock_released served.poll_now)))) c.accept_links.ensures.comers.keeps.set
-    (subst (λ b. Part Holds IsClean g.V.Vault.faults Asked o2 w3 o3 w4 (WithHeard Holds IsClean Heard o2 l2 o3 l3 (Also (WereServed Holds IsClean o2 o3 (settings_of came) now came.newcomers.newcomers.items served.lock_released served.poll_now served.newcomers.newcomers.items seats2 seats2) (PollsBy (b || served.lock_released) served.poll_now)))) c.accept_links.ensures.comers.poll_now c.serve_links.ensures.works) in
-    let settled = c.serve_links.ensures.settled in
-    let set = c.serve_links.ensures.keeps.keeps.set ∙ c.accept_links.ensures.comers.keeps.set in
-    let most = limit links (length seats2) in
-    let seconds : c.limit-seconds.result ≡ most =
-    c.limit-seconds.ensures
-    ∙ (ap (λ n. limit_by n served.newcomers.seconds served.newcomers.full_house_seconds) (c.len.ensures.value ∙ ap (λ v. length v.items) c.serve_links.ensures.keeps.seats)
-    ∙ (ap (λ (s : Settings). limit_by (length seats2) s.login_seconds s.full_house_seconds) set)) in
-    let less = late_then now most old.newcomers.newcomers.items came.newcomers.newcomers.items served.newcomers.newcomers.items (late_comers now most old.newcomers.newcomers.items came.newcomers.newcomers.items c.accept_links.ensures.comers.each)
-    (late_settled now most came.newcomers.newcomers.items served.newcomers.newcomers.items settled) in
-    let login_same : served.newcomers.seconds ≡ old.newcomers.seconds = ap (λ (s : Settings). s.login_seconds) set in
-    let late = late_both Holds IsClean g.V.Vault.faults now c.limit-seconds.result most old.newcomers.newcomers.items served.newcomers.newcomers.items ended.newcomers.newcomers.items seats2 o4 o5
-    (λ given. WasTold Heard l4 l5 (late_ends now served.newcomers.seconds served.newcomers.newcomers.items given))
-    (λ given. WasTold Heard l4 l5 (late_ends now old.newcomers.seconds old.newcomers.newcomers.items given)) seconds less
-    (λ given gone told. late_heard Heard now most old.newcomers.seconds served.newcomers.seconds old.newcomers.newcomers.items served.newcomers.newcomers.items less login_same l4 l5 given gone told)
-    (subst (λ v. Giving Holds IsClean g.V.Vault.faults o4 o5
-    (λ given. HasEndedLate Holds IsClean o4 o5 now c.limit-seconds.result served.newcomers.newcomers.items ended.newcomers.newcomers.items v.items given
-    × WasTold Heard l4 l5 (late_ends now served.newcomers.seconds served.newcomers.newcomers.items given)))
-    c.serve_links.ensures.keeps.seats c.end_late_ones.ensures.works.part) in
-    let keeps : (n : ℕ) (x : Newcomer) → newcomer n old.newcomers.newcomers.items ≡ Some x → IsSettled now (Some x) (newcomer n served.newcomers.newcomers.items) =
-    λ n x h. subst (λ m. IsSettled now m (newcomer n served.newcomers.newcomers.items)) (c.accept_links.ensures.comers.noted n x h) (settled.each n) in
-    let comers = c.accept_links.ensures.comers in
-    let waited = waited_same now old.newcomers.newcomers.items came.newcomers.newcomers.items comers.each c.accept_links.ensures.comers.noted in
-    let newly : AllHaveSeats links → All (IsComer now old.newcomers.newcomers.items served.newcomers.newcomers.items) (filter_map seat_of accepted.facts.came) =
-    λ h. All-weaker (IsNewlyNoted now old.newcomers.newcomers.items came.newcomers.newcomers.items) (IsComer now old.newcomers.newcomers.items served.newcomers.newcomers.items)
-    (λ q k. comer_so now old.newcomers.newcomers.items came.newcomers.newcomers.items served.newcomers.newcomers.items q settled k) (filter_map seat_of accepted.facts.came)
-    (subst (All (IsNewlyNoted now old.newcomers.newcomers.items came.newcomers.newcomers.items)) (more_is old.seats.items comers.more (filter_map seat_of accepted.facts.came) seats2 comers.is accepted.facts.come.seated) (comers.newly h)) in
-    let forgets : (U : Trace) → StandsFor Holds o5 U → (n : ℕ) → is_open U n ≡ true → newcomer n c.serve_spool.new.links.newcomers.newcomers.items ≡ newcomer n ended.newcomers.newcomers.items =
-    λ U su n here. ap (λ v. newcomer n v.newcomers.items) c.serve_spool.ensures.keeps.newcomers ∙ c.close_links.ensures.newcomers U su n here in
-    let last = c.close_links.ensures.closes.keeps.last ∙ (c.end_late_ones.ensures.keeps.keeps.last ∙ (c.serve_links.ensures.keeps.keeps.last ∙ c.accept_links.ensures.comers.keeps.last)) in
-    let tried = subst (λ l. SpoolPart Holds IsClean g.V.Vault.faults g.S.Spool.asked o5 c.args.spool.now c.serve_spool.new.office c.serve_spool.new.spool (λ U given calls. IsSpoolTurn l c.serve_spool.new.links.last U given calls × (c.serve_spool.new.links.poll_now ≡ (c.close_links.new.links.poll_now || has_dealt calls)))) last c.serve_spool.ensures.works in
-    let waits : ended.wait ≡ old.wait = ap (λ (s : Settings). s.wait) (c.end_late_ones.ensures.keeps.keeps.set ∙ (c.serve_links.ensures.keeps.keeps.set ∙ c.accept_links.ensures.comers.keeps.set)) in
-    let seats_same = c.end_late_ones.ensures.keeps.seats ∙ c.serve_links.ensures.keeps.seats in
-    turn_done Holds IsClean g.V.Vault.faults Asked g.S.Spool.asked Heard T now links
-    (record { clients = c.serve_spool.new.links; requests = c.serve_requests.new.requests; site = c.args.links.now.site })
-    c.args.self.now.office o1 o2 o3 o4 o5 c.serve_spool.new.office
-    c.args.self.now.wire w1 c.accept_links.new.self.wire w3 w4 w5 w6 c.args.spool.now c.serve_spool.new.spool c.args.self.now.listener l1 l2 l3 l4 l5
-    seats2 a.0 c.accept_requests.new.requests.exchanges.items c.accept_requests.ensures.works.0 served.lock_released served.poll_now c.close_links.new.links.poll_now came.newcomers.newcomers.items served.newcomers.newcomers.items ended.newcomers.newcomers.items passed (λ U su. told_then Heard l l0 l1 [] (idle_ends U old.seats.items) untold (c.tell_idle_ones.ensures U su)) accepted c.accept_requests.ensures.works.1 (told_same Heard l1 l2 c.accept_links.ensures.heard) turned c.serve_links.ensures.frees
-    (λ e. c.close_links.ensures.closes.keeps.polled (c.end_late_ones.ensures.ends.poll_now ∙ e)) c.serve_requests.ensures.works waited keeps newly late forgets
-    (λ U su.
-    subst (λ w. Asking Asked w w6 (λ calls. AreClosed U seats2 c.serve_spool.new.links.seats.items calls × PollsBy served.poll_now c.close_links.new.links.poll_now calls × Releases old.wait c.close_links.new.links.poll_now calls)) same_wire
-    (subst (λ v. Asking Asked c.end_late_ones.new.self.wire w6 (λ calls. AreClosed U v.items c.serve_spool.new.links.seats.items calls × PollsBy served.poll_now c.close_links.new.links.poll_now calls × Releases old.wait c.close_links.new.links.poll_now calls)) seats_same
-    (subst (λ v. Asking Asked c.end_late_ones.new.self.wire w6 (λ calls. AreClosed U ended.seats.items v.items calls × PollsBy served.poll_now c.close_links.new.links.poll_now calls × Releases old.wait c.close_links.new.links.poll_now calls)) (sym c.serve_spool.ensures.keeps.seats)
-    (subst (λ n. Asking Asked c.end_late_ones.new.self.wire w6 (λ calls. AreClosed U ended.seats.items c.close_links.new.links.seats.items calls × PollsBy served.poll_now c.close_links.new.links.poll_now calls × Releases n c.close_links.new.links.poll_now calls)) waits
-    (subst (λ b. Asking Asked c.end_late_ones.new.self.wire w6 (λ calls. AreClosed U ended.seats.items c.close_links.new.links.seats.items calls × PollsBy b c.close_links.new.links.poll_now calls × Releases ended.wait c.close_links.new.links.poll_now calls)) c.end_late_ones.ensures.ends.poll_now (c.close_links.ensures.works U su))))))
-    tried s clean)
-
-pub returns-clause-ongoing : goal.returns-clause-ongoing
-returns-clause-ongoing g c = c.serve_requests.ensures.stay
-
-pub returns-clause-settings : goal.returns-clause-settings
-returns-clause-settings g c = c.serve_spool.ensures.keeps.set ∙ (c.close_links.ensures.closes.keeps.set ∙ (c.end_late_ones.ensures.keeps.keeps.set ∙ (c.serve_links.ensures.keeps.keeps.set ∙ c.accept_links.ensures.comers.keeps.set)))
-
-pub returns-clause-few : goal.returns-clause-few
-returns-clause-few g c = λ few. (let a = c.accept_requests.ensures.few few in let b = c.serve_requests.ensures.no_more in omega (arith, a, b))
+    c.serve_after_wait.ensures.works c.args.self.now.wire (waited_for g.W.Wire.asked c.args.self.now.wire c.wait.new.self c.args.links.now c.millis_for.result c.millis_for.ensures c.wait.ensures.called) T s clean
 
 pub returns-clause-short : goal.returns-clause-short
 returns-clause-short g c = λ T s clean short.
-    (let w = returns-clause-works g c T s clean in
-    all_short T c.args.now c.args.links.now (record { clients = c.serve_spool.new.links; requests = c.serve_requests.new.requests; site = c.args.links.now.site }) w.seen w.accepts w.admin short)
+    (let w = returns-clause-works g c T s clean in all_short T c.args.now c.args.links.now c.serve_after_wait.new.links w.seen w.accepts w.admin short)
+
+pub returns-clause-settings : goal.returns-clause-settings
+returns-clause-settings g c = c.serve_after_wait.ensures.left.set
+
+pub returns-clause-site : goal.returns-clause-site
+returns-clause-site g c = c.serve_after_wait.ensures.left.site
 
 pub returns-clause-seated : goal.returns-clause-seated
-returns-clause-seated g c = λ h.
-    (let came = c.accept_links.ensures.comers.seated h in
-    let served = settled_seats c.accept_links.new.clients.newcomers.newcomers.items c.serve_links.new.clients.newcomers.newcomers.items c.serve_links.new.clients.seats.items c.serve_links.ensures.settled.same
-    (subst (λ v. HaveSeats c.accept_links.new.clients.newcomers.newcomers.items v.items) (sym c.serve_links.ensures.keeps.seats) came) in
-    let closed = c.close_links.ensures.closes.seated (c.end_late_ones.ensures.ends.seated served) in
-    subst (λ n. HaveSeats n.newcomers.items c.serve_spool.new.links.seats.items) (sym c.serve_spool.ensures.keeps.newcomers)
-    (subst (λ v. HaveSeats c.close_links.new.links.newcomers.newcomers.items v.items) (sym c.serve_spool.ensures.keeps.seats) closed))
+returns-clause-seated g c = c.serve_after_wait.ensures.left.seated
 
 pub returns-clause-pacing : goal.returns-clause-pacing
-returns-clause-pacing g c = λ h.
-    subst (λ gs. ArePacing gs.refusals.items) (sym c.serve_spool.ensures.keeps.guesses)
-    (c.close_links.ensures.closes.keeps.pacing (c.end_late_ones.ensures.keeps.keeps.pacing (c.serve_links.ensures.keeps.keeps.pacing (c.accept_links.ensures.comers.keeps.pacing h))))
+returns-clause-pacing g c = c.serve_after_wait.ensures.left.pacing
+
+pub returns-clause-few : goal.returns-clause-few
+returns-clause-few g c = c.serve_after_wait.ensures.left.few
+
+pub returns-clause-ongoing : goal.returns-clause-ongoing
+returns-clause-ongoing g c = c.serve_after_wait.ensures.left.ongoing

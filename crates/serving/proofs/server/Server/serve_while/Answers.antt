@@ -1,6 +1,7 @@
 use Rattle.std.proofs.Common.{rules, ◌≤◌, ◌++◌, ◌∷◌, [], true, false, refl, ◌∙◌, arith}
 use Rattle.office.specs.Taken.{trace_of}
-use Rattle.serving.proofs.Going.{turned_none, turned_more, turned_stopped, one_longer}
+use Rattle.serving.proofs.Going.{serves_told, waited_for, turned_none, turned_more, turned_stopped, one_longer}
+use Rattle.serving.proofs.Bounds.{all_short}
 use Rattle.serving.proofs.server.Server.serve_while.Goals as goal
 
 pub loop-turn-init : goal.loop-turn-init
@@ -23,30 +24,43 @@ loop-turn-init g c = record {
 pub loop-turn-preserved : goal.loop-turn-preserved
 loop-turn-preserved g c =
     let k = c.loop-turn in
-    let x = c.serve_turn in
+    let x = c.serve_after_wait in
     let m = k.invariant.turned in
     let now = c.in-Some.now in
+    let w0 = k.self.wire in
+    let w1 = c.wait.new.self in
+    let waited = waited_for g.W.Wire.asked w0 w1 k.links c.millis_for.result c.millis_for.ensures c.wait.ensures.called in
+    let left = x.ensures.left in
     record {
-      serves = λ T s clean. x.ensures.serves T (k.invariant.serves T s (x.ensures.clean clean)) clean;
+      serves = λ T s clean.
+          x.ensures.serves T (serves_told g.V.Vault.holds g.W.Wire.tells g.S.Spool.tells T k.self.office w0 w1 k.spool k.links.clients.seats.items k.links.requests.exchanges.items k.links.site
+          c.wait.ensures.told (k.invariant.serves T s (x.ensures.clean clean))) clean;
       clean = λ clean. k.invariant.clean (x.ensures.clean clean);
       turned = (
         m.0 ++ now ∷ [],
         one_longer m.0 now k._turn m.1,
         turned_more g.V.Vault.holds g.V.Vault.is_clean g.V.Vault.faults g.W.Wire.asked g.S.Spool.asked g.L.Listener.heard g.C.Clock.gave c.args.links.now c.args.self.now.office c.args.self.now.wire c.args.spool.now c.args.self.now.listener c.args.clock.now
             m.0 k.links k.self.office k.self.wire k.spool k.self.listener k.clock now x.new.links x.new.self.office x.new.self.wire x.new.spool x.new.self.listener c.moment.new.self m.2
-            c.in-Some.ensures.called x.ensures.clean x.ensures.works
-            (record { set = x.ensures.settings; site = x.ensures.site; seated = x.ensures.seated; pacing = x.ensures.pacing; few = x.ensures.few; ongoing = x.ensures.ongoing }),
+            c.in-Some.ensures.called x.ensures.clean (x.ensures.works w0 waited) left,
       );
-      few = λ a. x.ensures.few (k.invariant.few a);
-      seated = λ h. x.ensures.seated (k.invariant.seated h);
-      pacing = λ h. x.ensures.pacing (k.invariant.pacing h);
+      few = λ a. left.few (k.invariant.few a);
+      seated = λ h. left.seated (k.invariant.seated h);
+      pacing = λ h. left.pacing (k.invariant.pacing h);
       short = λ T s clean a.
           (let before = x.ensures.clean clean in
           let gone = m.2.each T s before in
-          x.ensures.short (trace_of T.base (gone.given ++ T.log)) gone.stands clean (k.invariant.short T s before a));
-      settings = x.ensures.settings ∙ k.invariant.settings;
-      site = x.ensures.site ∙ k.invariant.site;
+          let trace = trace_of T.base (gone.given ++ T.log) in
+          let w = x.ensures.works w0 waited trace gone.stands clean in
+          all_short trace now k.links x.new.links w.seen w.accepts w.admin (k.invariant.short T s before a));
+      settings = left.set ∙ k.invariant.settings;
+      site = left.site ∙ k.invariant.site;
     }
+
+pub returns-in_default-clause-serves : goal.returns-in_default-clause-serves
+returns-in_default-clause-serves g c = λ T s clean.
+    (let k = c.loop-turn in
+    serves_told g.V.Vault.holds g.W.Wire.tells g.S.Spool.tells T k.self.office k.self.wire c.wait.new.self k.spool k.links.clients.seats.items k.links.requests.exchanges.items k.links.site
+    c.wait.ensures.told (k.invariant.serves T s clean))
 
 pub returns-in_default-clause-runs : goal.returns-in_default-clause-runs
 returns-in_default-clause-runs g c =
@@ -57,8 +71,10 @@ returns-in_default-clause-runs g c =
     record {
       moments = m.0;
       stopped = true;
+      wire_left = k.self.wire;
       turned = turned_stopped g.V.Vault.holds g.V.Vault.is_clean g.V.Vault.faults g.W.Wire.asked g.S.Spool.asked g.L.Listener.heard g.C.Clock.gave c.args.links.now c.args.self.now.office c.args.self.now.wire c.args.spool.now c.args.self.now.listener c.args.clock.now
           m.0 k.links k.self.office k.self.wire k.spool k.self.listener k.clock c.moment.new.self m.2 c.in_default.ensures.called;
+      last = waited_for g.W.Wire.asked k.self.wire c.wait.new.self k.links c.millis_for.result c.millis_for.ensures c.wait.ensures.called;
       within = omega (arith, most, count);
       all = λ e. cc;
     }
@@ -70,4 +86,4 @@ returns-clause-runs g c =
     let most : k._turn ≤ c.args.most = search rules in
     let all : c.args.most ≤ k._turn = search rules in
     let count = m.1 in
-    record { moments = m.0; stopped = false; turned = m.2; within = omega (arith, most, count); all = λ e. omega (arith, most, all, count) }
+    record { moments = m.0; stopped = false; wire_left = k.self.wire; turned = m.2; last = refl; within = omega (arith, most, count); all = λ e. omega (arith, most, all, count) }
