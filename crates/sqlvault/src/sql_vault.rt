@@ -167,6 +167,7 @@ impl<D: Disk + Drop> SqlVault<FileStore<D>> {
     ghost use Rattle.sqlite.specs.Closing.{IsCopied};
     ghost use Rattle.sqlite.specs.Files.{file_state};
     ghost use Rattle.sqlite.specs.State.{IsLive};
+    ghost use Rattle.sqlvault.specs.Closes.{IsLeft};
 
     /// Adopts a connection to two files, as [`SqlVault::adopt`] does. If it is refused, it is
     /// dropped, and the files with it, as [`let_go`] does.
@@ -184,11 +185,13 @@ impl<D: Disk + Drop> SqlVault<FileStore<D>> {
     }
 
     /// Closes the store, as `close_files` of `sqlite` does its connection. It gives the files back
-    /// beside an error too: nothing is lost then, but the next opening has the log to read.
+    /// beside an error too. Nothing is lost then: the file and its log hold what a stop might have
+    /// left, and the next opening has the log to read.
     pub fn close_files(self) -> Result<Files<D>, (Error, Files<D>)>
         ensures live { IsLive (file_state self.conn) }
         ensures copied { IfOk result (λ files. AreClean D.Disk files.log files.db
             → IsCopied self.conn files) }
+        ensures left { IfErr result (λ refused. IsLeft self.conn refused.1) }
     {
         let conn = self.conn;
         // It shows the proof that a database that is open lists its tables.
