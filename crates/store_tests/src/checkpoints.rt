@@ -1,5 +1,5 @@
-//! What no clause says: that a checkpoint copies the log into the database file, and when `maintain`
-//! makes one.
+//! What no clause says: that a checkpoint copies the log into the database file, and when
+//! `maintain` makes one.
 use crate::stopping::{adopted, files_of};
 use creds::{DepositId, Name};
 use mailtext::canon;

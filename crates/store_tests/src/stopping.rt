@@ -493,7 +493,8 @@ fn files_after_maintenance(vault: SqlVault<FileStore<Stopping>>) -> Files<Stoppi
 }
 
 /// Stops a store after each number of calls of a file, while it does what it put off. Fails unless
-/// it then holds what it held. Returns how many runs were stopped so, those of openings not counted.
+/// it then holds what it held. Returns how many runs were stopped so, those of openings not
+/// counted.
 pub fn stops_in_maintenance(alloc: Global, row: &Row<'_>, is_log: bool) -> Result<u64, Fail> {
     let mut seen = Vec::new(alloc);
     let mut count = 0u64;
