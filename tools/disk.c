@@ -4,7 +4,8 @@
  * NAME` and `sync NAME`, by the name of the open file; `rename NAME`, by the old one. A sync or
  * rename whose line fits the pattern FAILS, as `sync *.db`, fails with EIO and is left out; with
  * AFTER, the first so many that fit are done. So does a look at a path that fits, as `look *.db`,
- * while the file that GATE names is there; `refused NAME` tells of it. It calls the system alone.
+ * while the file that GATE names is there; `refused NAME` tells of it. With BREAKS, a signal breaks
+ * off the first write to standard output (EINTR). It calls the system alone.
  */
 #define _GNU_SOURCE
 #include <errno.h>
@@ -74,6 +75,11 @@ static int fails_open(int file)
 
 ssize_t write(int file, const void *octets, size_t count)
 {
+    static int breaks;
+    if (file == STDOUT_FILENO && getenv("BREAKS") && !breaks++) {
+        errno = EINTR;
+        return -1;
+    }
     tell_open("write", file);
     return syscall(SYS_write, file, octets, count);
 }
