@@ -3,7 +3,9 @@
  * put this before the C library. To the file that CALLS names it adds a line for each call: `write
  * NAME` and `sync NAME`, by the name of the open file; `rename NAME`, by the old one. A sync or
  * rename whose line fits the pattern FAILS, as `sync *.db`, fails with EIO and is left out; with
- * AFTER, the first so many that fit are done. It calls the system alone.
+ * AFTER, the first so many that fit are done. So does a look at a path that fits, as `look *.db`,
+ * while the file that GATE names is there; `refused NAME` tells of it. With BREAKS, a signal breaks
+ * off the first write to standard output (EINTR). It calls the system alone.
  */
 #define _GNU_SOURCE
 #include <errno.h>
@@ -12,6 +14,7 @@
 #include <limits.h>
 #include <stdio.h>
 #include <stdlib.h>
+#include <sys/stat.h>
 #include <sys/syscall.h>
 #include <unistd.h>
 
@@ -72,6 +75,11 @@ static int fails_open(int file)
 
 ssize_t write(int file, const void *octets, size_t count)
 {
+    static int breaks;
+    if (file == STDOUT_FILENO && getenv("BREAKS") && !breaks++) {
+        errno = EINTR;
+        return -1;
+    }
     tell_open("write", file);
     return syscall(SYS_write, file, octets, count);
 }
@@ -98,6 +106,19 @@ int renameat2(int from, const char *old, int into, const char *name, unsigned fl
         return -1;
     tell("rename", old);
     return (int)syscall(SYS_renameat2, from, old, into, name, flags);
+}
+
+/* Looks that succeed aren't told. */
+int statx(int from, const char *restrict name, int flags, unsigned mask,
+          struct statx *restrict found)
+{
+    const char *gate = getenv("GATE");
+    int is_open = gate && !syscall(SYS_faccessat, AT_FDCWD, gate, F_OK);
+    if (is_open && fails("look", name)) {
+        tell("refused", name);
+        return -1;
+    }
+    return (int)syscall(SYS_statx, from, name, flags, mask, found);
 }
 
 int rename(const char *old, const char *name)

@@ -38,7 +38,7 @@ POLICY = "".join(
 # The options in force that a start's line names, without one and with each.
 IN_FORCE = (
     " removals=dele idle=600 wait=0 login-seconds=0 full-house-seconds=0"
-    " slow-guesses=no proxy-protocol=no log-message-ids=no log-reads=no admin-site=no"
+    " slow-guesses=no proxy-protocol=no log-message-ids=no log-reads=no list-clerks=no admin-site=no"
 )
 
 cases = Cases("")

@@ -205,15 +205,19 @@ def an_import_says_what_is_left(place):
     write_message(f"{box}/new/{first}", "note", 99)
     told = f"import-maildir: {box}/new/{first}: conflict\n"
     wants(take_in(place, "orders", box), (1, "orders: 0 new, 6 known, 1 left\n", told))
+    # A popbox that fails once it has answered each of them.
+    told += "import-maildir: popbox replay ended with status 1: run this once more\n"
+    found = take_in(place, "orders", box, program=stops(place, 99))
+    wants(found, (1, "orders: 0 new, 6 known, 1 left\n", told))
     wants(listed(place, "orders"), BY_AGE)
 
 
-def stops(place):
-    """A program that does only the first three events of a script of more than one, and fails."""
+def stops(place, count=3):
+    """A program that does only so many events of a script of more than one, and fails."""
     with open(f"{place.folder}/stops", "w", encoding="utf-8") as file:
         file.write(f"""#!/bin/sh
 cat >{place.folder}/script
-head -n 3 {place.folder}/script | {place.program} "$@"
+head -n {count} {place.folder}/script | {place.program} "$@"
 [ "$(wc -l <{place.folder}/script)" = 1 ]
 """)
     os.chmod(file.name, 0o755)

@@ -1,7 +1,7 @@
 //! The mail programs' connections, as the log has them.
 ghost use Rattle.std.specs.Prelude.{◌≡◌, ◌≢◌, ◌⊎◌, ◌<◌, ◌==◌, [], Some, None, IfOk, IfSome, map};
-ghost use Rattle.std.specs.Prelude.{true, false};
-ghost use Rattle.std.specs.Prelude.{find, position, length, string_bytes};
+ghost use Rattle.std.specs.Prelude.{◌+◌, true, false};
+ghost use Rattle.std.specs.Prelude.{find, position, length, string_bytes, vec_len};
 ghost use Rattle.journal.specs.Lines.{cause_text as cause_words};
 ghost use Rattle.journal.specs.Sessions.{heard_after, heard_of, heard_by, is_in, is_number};
 ghost use Rattle.journal.specs.Sessions.{left_client, left_by, who_text, numbered_text};
@@ -444,11 +444,14 @@ impl Clients {
         }
     }
 
-    /// A link is closed. Its line, if nobody quit on it.
+    /// A link is closed, and its client forgotten. Its line, if nobody quit on it.
     pub fn close(&mut self, alloc: Global, link: Link) -> Option<Result<String, AllocError>>
         ensures line { IfSome result (λ line. IfOk line (λ text. string_bytes text
             ≡ lost_of (find (λ (client : AClient). client.link.number == link.number)
             self.old.clients.items))) }
+        ensures forgotten { IfSome (position
+            (λ (client : AClient). client.link.number == link.number) self.old.clients.items)
+            (λ _. vec_len self.new.clients + 1 ≡ vec_len self.old.clients) }
     {
         let Some(at) = self.place_at(link) else {
             return None;

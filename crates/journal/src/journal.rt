@@ -156,8 +156,8 @@ impl<'a> Journal<'a> {
     }
 
     /// Takes what became of a mail program's link: its address and, once octets came, that address
-    /// again, and for how long they lay unread; why it ended, if its first line was refused; and that
-    /// it is closed.
+    /// again, and for how long they lay unread; why it ended, if its first line was refused; and
+    /// that it is closed.
     fn follow_client<W: Wire>(&self, wire: &W, link: Link, event: LinkEvent) {
         match event {
             LinkEvent::Came => self.come(link, wire.peer(Port::Pop, link)),
@@ -172,8 +172,8 @@ impl<'a> Journal<'a> {
         }
     }
 
-    /// Takes what became of a link of the administration: its address, that a response went out, and
-    /// that it is closed.
+    /// Takes what became of a link of the administration: its address, that a response went out,
+    /// and that it is closed.
     fn follow_administrator<W: Wire>(&self, wire: &W, link: Link, event: LinkEvent) {
         match event {
             LinkEvent::Came => self.come_asking(link, wire.peer(Port::Admin, link)),

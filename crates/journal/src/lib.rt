@@ -1,9 +1,9 @@
 //! The log of a server: a line on standard error for each event.
 //!
-//! A [`Journal`] writes the lines. [`LoggedVault`] and [`LoggedSpool`] stand around a server's vault
-//! and spool: each does what the one inside does, and notes what came of it. As the server's listener
-//! a [`Journal`] notes links and connections, logins and QUITs as the office judged them, and what the
-//! administration was asked and answered.
+//! A [`Journal`] writes the lines. [`LoggedVault`] and [`LoggedSpool`] stand around a server's
+//! vault and spool: each does what the one inside does, and notes what came of it. As the server's
+//! listener a [`Journal`] notes links and connections, logins and QUITs as the office judged them,
+//! and what the administration was asked and answered.
 //! A [`StoreWatch`] sees whether the store's files are still those that are open. Once they aren't,
 //! a [`GuardedSpool`] gives no file.
 #![tactic(auto)]

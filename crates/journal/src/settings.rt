@@ -1,14 +1,14 @@
 //! Whether the server is proved and its options in force, as the line of its start tells them.
 ghost use Rattle.std.specs.Prelude.{◌≡◌, IfOk, Some, string_bytes};
 ghost use Rattle.journal.specs.Settings.{yes_or_no, when_text, seconds_text, flags_text};
-ghost use Rattle.journal.specs.Settings.{site_text, settings_text};
+ghost use Rattle.journal.specs.Settings.{clerks_text, site_text, settings_text};
 
 use creds::HostName;
 use session::Removals;
 use std::alloc::{AllocError, Global};
 
-/// Whether the server is proved, and the options of `serve` that say how clients are served and
-/// what is logged.
+/// Whether the server is proved, and the options of `serve` that say how clients are served, what
+/// is logged, and what the administration lists.
 #[derive(Clone, Copy)]
 pub struct Settings {
     pub is_proved: bool,
@@ -22,6 +22,8 @@ pub struct Settings {
     pub proxy_protocol: bool,
     pub message_ids: bool,
     pub reads: bool,
+    /// Whether the administration lists the clerks.
+    pub lists_clerks: bool,
     /// The administration's site, if it has one.
     pub admin_site: Option<HostName>,
 }
@@ -70,6 +72,15 @@ fn flags_text(alloc: Global, settings: &Settings) -> Result<String, AllocError>
     Ok(text)
 }
 
+/// Whether the administration lists the clerks.
+fn clerks_text(alloc: Global, settings: &Settings) -> Result<String, AllocError>
+    ensures { IfOk result (λ text. string_bytes text ≡ clerks_text settings.now) }
+{
+    let listed = yes_or_no(settings.lists_clerks);
+    let text = format!(in alloc; " list-clerks={listed}")?;
+    Ok(text)
+}
+
 /// The administration's site, if it has one.
 fn site_text(alloc: Global, site: Option<HostName>) -> Result<String, AllocError>
     ensures { IfOk result (λ text. string_bytes text ≡ site_text site) }
@@ -96,7 +107,10 @@ pub fn settings_text(alloc: Global, settings: &Settings) -> Result<String, Alloc
     let removals = when_word(settings.removals);
     let seconds = seconds_text(alloc, settings)?;
     let flags = flags_text(alloc, settings)?;
+    let clerks = clerks_text(alloc, settings)?;
     let site = site_text(alloc, settings.admin_site)?;
-    let text = format!(in alloc; " proved={proved} removals={removals}{seconds}{flags}{site}")?;
+    let text = format!(in alloc;
+        " proved={proved} removals={removals}{seconds}{flags}{clerks}{site}"
+    )?;
     Ok(text)
 }

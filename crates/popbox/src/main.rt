@@ -26,7 +26,7 @@ use looking::run_review;
 use options::{CheckPolicyOptions, Input, ReplayOptions, ServeOptions, Subcommand, TalkOptions};
 use resting::{run_check, run_export};
 use serve::{note_store, serve_over};
-use sqlite::Wary;
+use sqlite::{Error, Wary};
 use std::alloc::Global;
 use std::io::{BufWriter, Read, Stderr, Write};
 use std::net::{Ipv4Addr, SocketAddr};
@@ -374,8 +374,8 @@ fn do_job<J: Job + Drop, E: Write>(
 }
 
 /// Does a job as `do_job` does, over the store at a path that was prepared. The store is closed at
-/// the end. What was done is in the file or in its log by then, so a failure to close loses nothing
-/// and isn't printed.
+/// the end. What was done is in the file or in its log by then, so a failure to close loses
+/// nothing: it is printed, and the answer is the job's.
 fn do_prepared<J: Job + Drop, E: Write>(
     rt: &HostRuntime,
     job: J,
@@ -390,7 +390,10 @@ fn do_prepared<J: Job + Drop, E: Write>(
         job,
     };
     match open_do_close(rt, path, Wary, over) {
-        Ok((answer, _closed)) => Ok(answer),
+        Ok((answer, closed)) => {
+            tell_unclosed(err, is_verbose, path, &closed);
+            Ok(answer)
+        }
         Err(fault) => {
             let status = tell_fault(err, Fault::from(fault));
             if is_verbose {
@@ -398,6 +401,23 @@ fn do_prepared<J: Job + Drop, E: Write>(
             }
             Err(status)
         }
+    }
+}
+
+/// Prints that the store at a path couldn't be closed, if that is so.
+fn tell_unclosed<F, E: Write>(
+    err: &mut E,
+    is_verbose: bool,
+    path: &str,
+    closed: &Result<F, (Error, F)>,
+) {
+    let Err(refused) = closed else {
+        return;
+    };
+    let _ = writeln!(err, "popbox: cannot close store");
+    if is_verbose {
+        let error = &refused.0;
+        let _ = writeln!(err, "why: {path}: {error}; what was answered is there");
     }
 }
 

@@ -225,7 +225,8 @@ impl<'a> ServeOptions<'a> {
     }
 
     /// What a start's line of the log says: whether this popbox is proved, and the options that
-    /// say how clients are served and what is logged. Its fault is that of `site`.
+    /// say how clients are served, what is logged, and what the administration lists. Its fault is
+    /// that of `site`.
     pub fn settings(&self) -> Result<Settings, Fault> {
         let admin_site = self.site()?;
         Ok(Settings {
@@ -239,6 +240,7 @@ impl<'a> ServeOptions<'a> {
             proxy_protocol: self.proxy_protocol,
             message_ids: self.message_ids,
             reads: self.reads,
+            lists_clerks: self.list_clerks,
             admin_site,
         })
     }

@@ -42,8 +42,8 @@ pub trait Listener {
     /// `heard l h`: l heard these accounts, each of its connection, the newest last.
     ghost heard: { Self → List Hearing → Type 0 };
 
-    /// What became of a link of this wire, which says more of it: of a client's link all but what is
-    /// written, of the administration's all but what comes on it.
+    /// What became of a link of this wire, which says more of it: of a client's link all but what
+    /// is written, of the administration's all but what comes on it.
     fn follow<W: Wire>(&mut self, wire: &W, port: Port, link: Link, event: LinkEvent)
         ensures told { (h : List Hearing) → heard self.old h → heard self.new h };
 

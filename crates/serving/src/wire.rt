@@ -51,8 +51,8 @@ pub enum Refusal {
 /// `tells w t`: `t` is a true record of w's traffic. The links of each port are numbered in it from
 /// 0 on, in the order in which they were accepted. `asked w calls`: `calls` is a true record of
 /// what w was asked and answered. Of a wire over sockets neither is known.
-/// `address_of w port link`: from where a link came, as far as w knows by now; `peer_of` is its other
-/// end. `closed_for w link`: for what w closed a client's link by itself.
+/// `address_of w port link`: from where a link came, as far as w knows by now; `peer_of` is its
+/// other end. `closed_for w link`: for what w closed a client's link by itself.
 pub trait Wire {
     ghost use Rattle.serving.specs.Wires.{IsWithin, IsAccepted, SayAlikeOfPorts};
 

@@ -41,3 +41,4 @@ pub mod OlderLemmas
 pub mod AgainLemmas
 pub mod VersionLemmas
 pub mod CallLemmas
+pub mod CloseLemmas

@@ -20,5 +20,6 @@ pub mod Moves
 pub mod Carries
 pub mod Older
 pub mod Again
+pub mod Closes
 pub mod Pages
 pub mod Versions

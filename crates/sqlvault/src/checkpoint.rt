@@ -1,7 +1,10 @@
 //! Copying the write-ahead log into the database file.
+ghost use Rattle.std.specs.Prelude.{Ok};
+ghost use Rattle.vault.specs.Calls.{IsAnswer};
 ghost use Rattle.mailsql.specs.Changes.{PutsMetaRow};
 ghost use Rattle.sqlvault.specs.Keeps.{our_meta_row};
 ghost use Rattle.sqlvault.specs.Frame.{IsMet, Looks, Writes};
+ghost use Rattle.sqlvault.specs.Refusals.{answer_of};
 
 use crate::refusal::Refusal;
 use crate::transaction::{begin, end, undo};
@@ -24,7 +27,8 @@ fn rewrite_version<S: Alter>(conn: &mut Connection<S>) -> Result<(), Error>
 ///
 /// Answers the error that a statement met.
 pub(crate) fn checkpoint<S: Alter>(conn: &mut Connection<S>) -> Result<(), Refusal>
-    ensures { Looks S.Store conn.old conn.new (IsMet result) }
+    ensures looks { Looks S.Store conn.old conn.new (IsMet result) }
+    ensures answer { IsAnswer (Ok tt) (answer_of result) }
 {
     match begin(conn) {
         Ok(()) => {}

@@ -1,8 +1,8 @@
 //! A mail store over the tables of a connection.
-ghost use Rattle.std.specs.Prelude.{◌≡◌, false, IfOk, IfErr, IsTrue};
+ghost use Rattle.std.specs.Prelude.{◌≡◌, false, Ok, IfOk, IfErr, IsTrue};
 ghost use Rattle.sqlite.specs.Held.{Held, state};
 ghost use Rattle.sqlite.specs.State.{HasCleanDisk};
-ghost use Rattle.vault.specs.Calls.{CountsFaults};
+ghost use Rattle.vault.specs.Calls.{CountsFaults, IsAnswer};
 ghost use Rattle.sqlvault.specs.Adopts.{IsAdopted, IsKnown, IsRefused, IsAdoptFault};
 ghost use Rattle.sqlvault.specs.Adopts.{LeavesEmptyToo, RefusesOlder, IsOfUnknownVersion};
 ghost use Rattle.sqlvault.specs.Adopts.{RefusesVersion};
@@ -21,6 +21,16 @@ use std::alloc::Global;
 use std::marker::Model;
 use vault::{ClerkKind, Deposited, Head, MessageKey, Receipt, Total, Vault, VaultFault};
 
+/// The octets of a page of the database, of which the log keeps copies.
+const PAGE: u64 = 4_096;
+
+/// How many octets the log has once SQLite copies it before the next write.
+const LONG_LOG: u64 = 1_000 * PAGE;
+
+/// How many octets of the log a write takes beside the texts that it puts: some pages of each table
+/// and index that it changes.
+const SMALL_WRITE: u64 = 8 * PAGE;
+
 /// A mail store over the tables of a connection. Contracts see the connection, and how many calls
 /// answered `Store`.
 #[derive(Drop)]
@@ -28,6 +38,9 @@ pub struct SqlVault<S: Alter> {
     alloc: Global,
     conn: Connection<S>,
     faults: u64,
+    /// An estimate of the log's octets: what was written since it was copied last. It decides when
+    /// `maintain` copies it, and nothing else, so contracts don't see it.
+    logged: u64,
 }
 
 impl<S: Alter> Model for SqlVault<S> {
@@ -154,6 +167,7 @@ impl<D: Disk + Drop> SqlVault<FileStore<D>> {
     ghost use Rattle.sqlite.specs.Closing.{IsCopied};
     ghost use Rattle.sqlite.specs.Files.{file_state};
     ghost use Rattle.sqlite.specs.State.{IsLive};
+    ghost use Rattle.sqlvault.specs.Closes.{IsLeft};
 
     /// Adopts a connection to two files, as [`SqlVault::adopt`] does. If it is refused, it is
     /// dropped, and the files with it, as [`let_go`] does.
@@ -171,11 +185,13 @@ impl<D: Disk + Drop> SqlVault<FileStore<D>> {
     }
 
     /// Closes the store, as `close_files` of `sqlite` does its connection. It gives the files back
-    /// beside an error too: nothing is lost then, but the next opening has the log to read.
+    /// beside an error too. Nothing is lost then: the file and its log hold what a stop might have
+    /// left, and the next opening has the log to read.
     pub fn close_files(self) -> Result<Files<D>, (Error, Files<D>)>
         ensures live { IsLive (file_state self.conn) }
         ensures copied { IfOk result (λ files. AreClean D.Disk files.log files.db
             → IsCopied self.conn files) }
+        ensures left { IfErr result (λ refused. IsLeft self.conn refused.1) }
     {
         let conn = self.conn;
         // It shows the proof that a database that is open lists its tables.
@@ -259,6 +275,8 @@ impl<S: Alter> SqlVault<S> {
                 alloc,
                 conn,
                 faults: 0,
+                // An earlier process may have left a log of any length.
+                logged: LONG_LOG,
             }),
             Err(refusal) => Err((fault_of(refusal), conn)),
         }
@@ -272,6 +290,7 @@ impl<S: Alter> SqlVault<S> {
             alloc: _,
             conn,
             faults: _,
+            logged: _,
         } = self;
         conn
     }
@@ -317,6 +336,7 @@ impl<S: Alter> SqlVault<S> {
     pub fn checkpoint(&mut self) -> Result<(), VaultFault>
         ensures counted { CountsFaults self.old.faults self.new.faults result }
         ensures looks { Looks S.Store self.old.conn self.new.conn (IsOwn result) }
+        ensures answer { IsAnswer (Ok tt) result }
     {
         let answer = checkpoint::checkpoint(&mut self.conn);
         self.told(answer)
@@ -333,6 +353,22 @@ impl<S: Alter> SqlVault<S> {
             Ok(it) => Ok(it),
             Err(refusal) => Err(tell(&mut self.faults, refusal)),
         }
+    }
+
+    /// The answer as [`SqlVault::told`] gives it, of a call that writes. If it is done, the log has
+    /// about so many octets more, beside those of a small write.
+    fn written<T: Drop>(&mut self, octets: u64, answer: Result<T, Refusal>) -> Result<T, VaultFault>
+        ensures answer { result ≡ answer_of answer }
+        ensures conn { self.new.conn ≡ self.old.conn }
+        ensures counted { CountsFaults self.old.faults self.new.faults result }
+        ensures faults { self.new.faults ≡ count_after result self.old.faults }
+    {
+        if answer.is_ok() {
+            self.logged = self
+                .logged
+                .saturating_add(octets.saturating_add(SMALL_WRITE));
+        }
+        self.told(answer)
     }
 }
 
@@ -363,7 +399,7 @@ impl<S: Alter> Vault for SqlVault<S> {
 
     fn set_policy(&mut self, policy: &Policy) -> Result<(), VaultFault> {
         let answer = rules::set_policy(self.alloc, &mut self.conn, policy);
-        self.told(answer)
+        self.written(0, answer)
     }
 
     fn maildrops(&mut self) -> Result<Vec<Total>, VaultFault> {
@@ -379,7 +415,7 @@ impl<S: Alter> Vault for SqlVault<S> {
         text: &MailText,
     ) -> Result<Deposited, VaultFault> {
         let answer = deposit::deposit(self.alloc, &mut self.conn, maildrop, class, id, text);
-        self.told(answer)
+        self.written(text.octets() as u64, answer)
     }
 
     fn heads(&mut self, maildrop: &Name) -> Result<Vec<Head>, VaultFault> {
@@ -394,7 +430,7 @@ impl<S: Alter> Vault for SqlVault<S> {
 
     fn remove(&mut self, maildrop: &Name, keys: &[MessageKey]) -> Result<(), VaultFault> {
         let answer = mail::remove(&mut self.conn, maildrop, keys);
-        self.told(answer)
+        self.written((keys.len() as u64).saturating_mul(PAGE), answer)
     }
 
     fn credential(&mut self, clerk: &Name) -> Result<Option<Credential>, VaultFault> {
@@ -409,21 +445,37 @@ impl<S: Alter> Vault for SqlVault<S> {
 
     fn put_clerk(&mut self, clerk: &Name, credential: &Credential) -> Result<bool, VaultFault> {
         let answer = clerks::put_clerk(self.alloc, &mut self.conn, clerk, credential);
-        self.told(answer)
+        self.written(0, answer)
     }
 
     fn drop_clerk(&mut self, clerk: &Name) -> Result<(), VaultFault> {
         let answer = clerks::drop_clerk(self.alloc, &mut self.conn, clerk);
-        self.told(answer)
+        self.written(0, answer)
     }
 
     fn add_maildrop(&mut self, maildrop: &Name) -> Result<bool, VaultFault> {
         let answer = maildrops::add_maildrop(&mut self.conn, maildrop);
-        self.told(answer)
+        self.written(0, answer)
     }
 
     fn drop_maildrop(&mut self, maildrop: &Name) -> Result<(), VaultFault> {
         let answer = maildrops::drop_maildrop(&mut self.conn, maildrop);
-        self.told(answer)
+        self.written(0, answer)
+    }
+
+    /// Copies the log into the database file as [`SqlVault::checkpoint`] does, if by the estimate
+    /// it has 1,000 pages. After a refusal it waits for the next write.
+    fn maintain(&mut self) -> Result<(), VaultFault> {
+        if self.logged < LONG_LOG {
+            return Ok(());
+        }
+        self.logged = LONG_LOG - 1;
+        match self.checkpoint() {
+            Ok(()) => {
+                self.logged = 0;
+                Ok(())
+            }
+            Err(fault) => Err(fault),
+        }
     }
 }

@@ -469,6 +469,48 @@ pub fn stops_in_acts(alloc: Global, row: &Row<'_>, is_log: bool) -> Result<Count
     counted(alloc, row, Stop { is_log, calls })
 }
 
+/// Opens the store, and has it do what it put off, up to a stop. Answers how that ended, and the
+/// files.
+fn maintained(alloc: Global, row: &Row<'_>, stop: Stop) -> Result<(End, Files<Stopping>), Fail> {
+    let (is_open, mut files) = match adopted(alloc, files_with(alloc, row.begun, stop)?) {
+        Ok(vault) => (true, files_after_maintenance(vault)),
+        Err(files) => (false, files),
+    };
+    let is_stopped = is_stopped(&mut files, stop);
+    let end = End {
+        is_open,
+        done: 0,
+        is_stopped,
+    };
+    Ok((end, files))
+}
+
+/// Has a store do what it put off, and gives its files.
+fn files_after_maintenance(vault: SqlVault<FileStore<Stopping>>) -> Files<Stopping> {
+    let mut vault = vault;
+    let _ = vault.maintain();
+    files_of(vault)
+}
+
+/// Stops a store after each number of calls of a file, while it does what it put off. Fails unless
+/// it then holds what it held. Returns how many runs were stopped so, those of openings not
+/// counted.
+pub fn stops_in_maintenance(alloc: Global, row: &Row<'_>, is_log: bool) -> Result<u64, Fail> {
+    let mut seen = Vec::new(alloc);
+    let mut count = 0u64;
+    for calls in 0..u64::MAX {
+        let stop = Stop { is_log, calls };
+        let (end, files) = maintained(alloc, row, stop)?;
+        expect_ended(alloc, row, end, files, &mut seen)?;
+        if !end.is_stopped {
+            expect_whole(row, end)?;
+            break;
+        }
+        count = count.saturating_add(u64::from(end.is_open));
+    }
+    Ok(count)
+}
+
 /// The most calls of a file that an opening may take.
 const MOST_CALLS: u64 = 4096;
 

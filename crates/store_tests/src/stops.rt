@@ -3,6 +3,7 @@
 //! wasn't synced, as after a loss of power.
 use crate::stopping::{
     Act, NOTHING_HELD, Row, changes, held_in, left_after, stops_from_opening, stops_in_acts,
+    stops_in_maintenance,
 };
 use std::alloc::Global;
 use std::test::Fail;
@@ -597,4 +598,29 @@ fn stops_in_a_pipelined_session(rt: HostRuntime) -> Result<(), Fail> {
 #[test]
 fn stops_in_a_drop(rt: HostRuntime) -> Result<(), Fail> {
     expect_stops(rt.alloc(), MAILDROP, &DROP, LOOK, NO_MESSAGE)
+}
+
+/// Stops both files in turn while a store does what it put off. Fails unless some of these stops
+/// were after its opening.
+fn expect_maintained(alloc: Global, row: &Row<'_>) -> Result<(), Fail> {
+    for is_log in [true, false] {
+        if stops_in_maintenance(alloc, row, is_log)? == 0 {
+            return Err(Fail::new("no stop"));
+        }
+    }
+    Ok(())
+}
+
+#[test]
+fn stops_while_the_log_is_copied(rt: HostRuntime) -> Result<(), Fail> {
+    let alloc = rt.alloc();
+    let (script, want) = parts_of(alloc, DEPOSITED)?;
+    let files = left_after(alloc, script.as_str(), want.as_str())?;
+    let row = Row {
+        begun: held_in(&files),
+        acts: &[],
+        look: LOOK,
+        before: MESSAGE,
+    };
+    expect_maintained(alloc, &row)
 }

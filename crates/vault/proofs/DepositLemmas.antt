@@ -1,5 +1,6 @@
 -- Contents stay sound as a deposit is accepted, and what a deposit promises follows from how it was judged.
-use Rattle.std.proofs.Common.{◌≡◌, ℕ, ◌+◌, ◌<◌, ◌≤◌, ◌≢◌, Bool, true, false, ◌&&◌, ◌⊎◌, List, [], ◌∷◌, ◌++◌, length, cond, Option, Some, None, Result, Ok, Err, refl, sym, ◌∙◌, ap, subst, eqb-true, ⊎_elim, inl, inr, arith, length-append}
+use Rattle.std.proofs.Common.{◌≡◌, ℕ, ◌+◌, ◌<◌, ◌≤◌, ◌≢◌, Bool, true, false, ◌&&◌, ◌⊎◌, List, [], ◌∷◌, ◌++◌, length, cond, Option, Some, None, Result, Ok, Err, refl, sym, ◌∙◌, ap}
+use Rattle.std.proofs.Common.{subst, eqb-true, ⊎_elim, inl, inr, arith, length-append}
 use Rattle.std.specs.Prelude.{is_some, nat_le, nat_lt, ◌==◌, if◌then◌else◌}
 use Rattle.std.specs.List.{list_any, list_all, find}
 use Rattle.std.specs.Option.{option_map}
@@ -22,7 +23,8 @@ use Rattle.vault.specs.declared.fault.VaultFault.TheVariants as fault
 use Rattle.vault.specs.declared.record.Keyed.{Keyed}
 use Rattle.vault.specs.declared.record.Message.{Message}
 use Rattle.vault.specs.declared.record.Receipt.{Receipt}
-use Rattle.vault.specs.Records.{Records, is_sound_message, is_sound_receipt, is_counted, is_one_of, is_receipt_for, in_maildrop, receipts_of, receipt_of, class_count, octets_of, same_id, same_uid, same_message, most_octets, most_messages, most_deposits}
+use Rattle.vault.specs.Records.{Records, is_sound_message, is_sound_receipt, is_counted, is_one_of, is_receipt_for, in_maildrop, receipts_of, receipt_of, class_count, octets_of}
+use Rattle.vault.specs.Records.{same_id, same_uid, same_message, most_octets, most_messages, most_deposits}
 use Rattle.vault.specs.Changes.{Contents, AreSound, records_of, with_deposit, message_for, receipt_for, deposit_answer, deposit_answered, is_full, KnownAs, kept_in}
 use Rattle.vault.specs.Changes as changes
 use Rattle.vault.specs.Calls.{IsAnswer, IsRefusal, IsDeposited, deposit_result, deposit_answer_in, present_in}

@@ -1,5 +1,6 @@
 -- A text as sheets: where its octets lie in them.
-use Rattle.std.proofs.Common.{◌≡◌, ℕ, zero, suc, ◌+◌, ◌*◌, ◌-◌, ◌<◌, ◌≤◌, List, [], ◌∷◌, ◌++◌, true, min, length, take, drop, get_or, refl, sym, ◌∙◌, ap, arith, append-nil, append_assoc, eqb, eqb-true, eq-eqb, length-append}
+use Rattle.std.proofs.Common.{◌≡◌, ℕ, zero, suc, ◌+◌, ◌*◌, ◌-◌, ◌<◌, ◌≤◌, List, [], ◌∷◌, ◌++◌, true, min, length, take, drop, get_or, refl, sym, ◌∙◌, ap, arith, append-nil}
+use Rattle.std.proofs.Common.{append_assoc, eqb, eqb-true, eq-eqb, length-append}
 use Rattle.std.proofs.lemmas.Bool.{and_parts}
 use Rattle.std.proofs.lemmas.Bool.Decides.{nat_tests}
 use Rattle.std.proofs.lemmas.List.{drop_at, drop-append-le, drop-drop, take-append-le, take-append-drop, take_rest, length-take, length-take-le}

@@ -71,8 +71,8 @@ fn sheets_of(alloc: Global, octets: &[u8]) -> Result<Vec<Sheet>, AllocError>
     Ok(sheets)
 }
 
-/// A text as sheets of [`SHEET_OCTETS`], each allocated by itself, so that a long text needs no long
-/// allocation. Contracts see its octets.
+/// A text as sheets of [`SHEET_OCTETS`], each allocated by itself, so that a long text needs no
+/// long allocation. Contracts see its octets.
 #[derive(Drop)]
 pub struct SheetText {
     sheets: Vec<Sheet>,

@@ -8,4 +8,7 @@ returns-clause-looks g c =
     looks_told g.S.Store c.args.self.now.conn c.self.inside.conn c.told.new.self.conn
     c.checkpoint-answer.new.conn c.checkpoint-answer.result c.told.result
     (ap (λ (o : Opened g.row.S.Denot). o.conn) c.self.view_is)
-    c.told.ensures.conn c.told.ensures.answer c.checkpoint-answer.ensures
+    c.told.ensures.conn c.told.ensures.answer c.checkpoint-answer.ensures.looks
+
+pub returns-clause-answer : goal.returns-clause-answer
+returns-clause-answer g c = rw c.told.ensures.answer c.checkpoint-answer.ensures.answer

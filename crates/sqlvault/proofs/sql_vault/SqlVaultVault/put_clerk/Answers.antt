@@ -5,12 +5,12 @@ use Rattle.sqlvault.proofs.sql_vault.SqlVaultVault.put_clerk.Goals as goal
 
 pub returns-clause-done : goal.returns-clause-done
 returns-clause-done g c =
-    acts_done g.S.Store c.told.new.self c.put_clerk-answer.new.conn _ c.told.result _
-    c.self.view_is c.told.ensures.conn c.told.ensures.answer c.put_clerk-answer.ensures
+    acts_done g.S.Store c.written.new.self c.put_clerk-answer.new.conn _ c.written.result _
+    c.self.view_is c.written.ensures.conn c.written.ensures.answer c.put_clerk-answer.ensures
 
 pub returns-clause-commits : goal.returns-clause-commits
 returns-clause-commits g c =
-    commits_call g.S.Store c.put_clerk-answer.new.conn _ c.told.result _ c.self.view_is
-    c.told.ensures.conn c.told.ensures.answer c.told.ensures.counted c.put_clerk-answer.ensures
+    commits_call g.S.Store c.put_clerk-answer.new.conn _ c.written.result _ c.self.view_is
+    c.written.ensures.conn c.written.ensures.answer c.written.ensures.counted c.put_clerk-answer.ensures
     (λ db o m. g.met.S.Store.settled c.args.self.now.conn.store db o m)
-    (λ k left. left_done _ (state g.S.Store c.told.new.self.conn) k _ left)
+    (λ k left. left_done _ (state g.S.Store c.written.new.self.conn) k _ left)

@@ -13,7 +13,9 @@ pub returns-clause-done : goal.returns-clause-done
 returns-clause-done c = λ b held clean.
     let name = c.args.clerk.now in
     done (λ k. with_clerks (without_clerk name k.clerks) k) (λ k. drop_clerk_result name k.clerks) (the_view c.self.inside) _ b _ _ c.self.view_is held
-    c.drop_credential.ensures.answer (left_clerks (is_ok c.drop_credential.result) c.drop_credential.new.clerks.items (without_clerk name c.self.inside.clerks.items) (the_view c.self.inside) c.drop_credential.ensures.items) (λ ok k. kept_without_clerk name (the_view c.self.inside) k)
+    c.drop_credential.ensures.answer
+    (left_clerks (is_ok c.drop_credential.result) c.drop_credential.new.clerks.items (without_clerk name c.self.inside.clerks.items) (the_view c.self.inside) c.drop_credential.ensures.items)
+    (λ ok k. kept_without_clerk name (the_view c.self.inside) k)
 
 pub returns-clause-commits : goal.returns-clause-commits
 returns-clause-commits c =

@@ -14,7 +14,8 @@ returns-clause-done c = λ b held clean.
     let name = c.args.clerk.now in
     let given = c.args.credential.now in
     done (λ k. with_clerks (with_clerk name given k.clerks) k) (λ k. put_result (put_clerk_answer name k.clerks)) (the_view c.self.inside) _ b _ _ c.self.view_is held
-    c.put_credential.ensures.answer (left_clerks (is_ok c.put_credential.result) c.put_credential.new.clerks.items (with_clerk name given c.self.inside.clerks.items) (the_view c.self.inside) c.put_credential.ensures.items)
+    c.put_credential.ensures.answer
+    (left_clerks (is_ok c.put_credential.result) c.put_credential.new.clerks.items (with_clerk name given c.self.inside.clerks.items) (the_view c.self.inside) c.put_credential.ensures.items)
     (λ ok k. kept_with_clerk name given (the_view c.self.inside) _ k c.put_credential.ensures.form c.has_form.ensures c.put_credential.ensures.answer ok)
 
 pub returns-clause-commits : goal.returns-clause-commits
