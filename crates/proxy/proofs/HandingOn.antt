@@ -1,5 +1,6 @@
 -- What is asked inside follows what is asked outside.
-use Rattle.std.proofs.Common.{◌≡◌, ◌≤◌, ◌<◌, ℕ, ◌⊎◌, inl, inr, ⊎_elim, Bool, true, false, true≢false, ◌&&◌, ◌||◌, ◌==◌, List, [], ◌∷◌, ◌++◌, length, take, get_or, append-nil, append_assoc, zero, suc, refl, sym, ◌∙◌, ap, subst, arith, eq-eqb, ne_eqb, Option, Some, None, is_some}
+use Rattle.std.proofs.Common.{◌≡◌, ◌≤◌, ◌<◌, ℕ, ◌⊎◌, inl, inr, ⊎_elim, Bool, true, false, true≢false, ◌&&◌, ◌||◌, ◌==◌, List, [], ◌∷◌, ◌++◌, length, take, get_or, append-nil}
+use Rattle.std.proofs.Common.{append_assoc, refl, sym, ◌∙◌, ap, subst, arith, eq-eqb, ne_eqb, Option, Some, None, is_some}
 use Rattle.std.specs.Bool.{if◌then◌else◌}
 use Rattle.std.specs.List.{list_any}
 use Rattle.std.proofs.lemmas.Bool.{cases_eq}
@@ -9,13 +10,13 @@ use Rattle.serving.specs.Wires.{is_fault, counted, IsWithin}
 use Rattle.serving.specs.Calls.{Call, Waited, Accepted, Looked, Read, Wrote, Closed}
 use Rattle.serving.specs.declared.wire.Link.{Link}
 use Rattle.serving.specs.declared.wire.Io.{Io}
-use Rattle.serving.specs.declared.wire.Io.TheVariants.{Later, Broken, End, Count}
-use Rattle.serving.specs.declared.wire.Port.{Port}
+use Rattle.serving.specs.declared.wire.Io.TheVariants.{Later, Broken, Count}
 use Rattle.serving.specs.declared.wire.Port.TheVariants.{Pop, Admin}
 use Rattle.proxy.specs.declared.wire.Progress.{Progress}
 use Rattle.proxy.specs.declared.wire.Progress.TheVariants.{Whole, Open}
 use Rattle.proxy.specs.Proxied.{has_line, behind_line, io_of, IsAsFarAs}
-use Rattle.proxy.specs.Behind.{octets_on, read_on, ends_on, IsLineWhole, IsLineAwaited, IsOnLine, AreOnLine, is_read, ReadsLine, ends_line, IsBehindLine, AreBehindLines, NoCall, IsHandedOn, IsHurried, IsKeptBack, IsOfLine, IsSo, AskedBehind, AreOfLine, TakesLine, AskedAmid}
+use Rattle.proxy.specs.Behind.{octets_on, read_on, ends_on, IsLineWhole, IsLineAwaited, IsOnLine, AreOnLine, is_read, ends_line, IsBehindLine, NoCall}
+use Rattle.proxy.specs.Behind.{IsHandedOn, IsHurried, IsKeptBack, IsOfLine, IsSo, AskedBehind, TakesLine, AskedAmid}
 use Rattle.proxy.proofs.Telling.{nothing_behind_so_far, whole_has, IsPut, one_front, counted_none}
 
 -- ---- octets and lines
@@ -277,7 +278,8 @@ module _ {W : Type 0} (Asked : W → List Call → Type 0) where
       and_true false = refl
 
   -- one read
-  pub one_read : (w : W) (link : Link) (room : ℕ) (io : Io) (octets : List ℕ) (p : Progress) (before : List Call) → Asked w (before ++ Read Pop link room io octets ∷ []) → length octets ≤ room → room ≤ 1 → IsAsFarAs p octets
+  pub one_read : (w : W) (link : Link) (room : ℕ) (io : Io) (octets : List ℕ) (p : Progress) (before : List Call)
+      → Asked w (before ++ Read Pop link room io octets ∷ []) → length octets ≤ room → room ≤ 1 → IsAsFarAs p octets
       → is_fault io ≡ is_fault (io_of p) → TakesLine Asked w link room p before
   one_read w link room io octets p before asked short one far fault = record {
     taken = Read Pop link room io octets ∷ [];
@@ -291,15 +293,18 @@ module _ {W : Type 0} (Asked : W → List Call → Type 0) where
   }
 
   -- one into no room
-  pub none_taken : (w : W) (link : Link) (io : Io) (buffer : List ℕ) (before : List Call) → IsWithin 0 io → Asked w (before ++ Read Pop link 0 io (counted io buffer) ∷ []) → TakesLine Asked w link 0 (Open io) before
+  pub none_taken : (w : W) (link : Link) (io : Io) (buffer : List ℕ) (before : List Call) → IsWithin 0 io
+      → Asked w (before ++ Read Pop link 0 io (counted io buffer) ∷ []) → TakesLine Asked w link 0 (Open io) before
   none_taken w link io buffer before within asked =
       one_read w link 0 io [] (Open io) before (subst (λ o. Asked w (before ++ Read Pop link 0 io o ∷ [])) (counted_none io buffer within) asked) (omega arith) (omega arith) refl refl
 
   -- one that gave an octet
-  pub octet_read : (w : W) (link : Link) (n x : ℕ) (one : List ℕ) (p : Progress) (before : List Call) → Asked w (before ++ Read Pop link 1 (Count n) (take n one) ∷ []) → 0 < n → n ≤ 1 → length one ≡ 1 → x ≡ get_or one 0 x
+  pub octet_read : (w : W) (link : Link) (n x : ℕ) (one : List ℕ) (p : Progress) (before : List Call)
+      → Asked w (before ++ Read Pop link 1 (Count n) (take n one) ∷ []) → 0 < n → n ≤ 1 → length one ≡ 1 → x ≡ get_or one 0 x
       → IsAsFarAs p (x ∷ []) → is_fault (io_of p) ≡ false → TakesLine Asked w link 1 p before
   octet_read w link n x one p before asked lt le single is far fine =
-      one_read w link 1 (Count n) (x ∷ []) p before (subst (λ o. Asked w (before ++ Read Pop link 1 (Count n) o ∷ [])) (one_front n x one lt le single is) asked) (omega arith) (omega arith) far (sym fine)
+      one_read w link 1 (Count n) (x ∷ []) p before
+      (subst (λ o. Asked w (before ++ Read Pop link 1 (Count n) o ∷ [])) (one_front n x one lt le single is) asked) (omega arith) (omega arith) far (sym fine)
 
   far_then : (q : Progress) (xs ys : List ℕ) → has_line xs ≡ false → IsAsFarAs q ys → IsAsFarAs q (xs ++ ys)
   far_then Whole xs ys none (front, e, open_yet) =
@@ -325,14 +330,16 @@ module _ {W : Type 0} (Asked : W → List Call → Type 0) where
       }
 
   -- reads after a look
-  pub looked_first : (w : W) (link : Link) (io : Io) (octets : List ℕ) (q : Progress) (before : List Call) → TakesLine Asked w link 1 q (before ++ Looked Pop link io octets ∷ []) → TakesLine Asked w link 1 q before
+  pub looked_first : (w : W) (link : Link) (io : Io) (octets : List ℕ) (q : Progress) (before : List Call)
+      → TakesLine Asked w link 1 q (before ++ Looked Pop link io octets ∷ []) → TakesLine Asked w link 1 q before
   looked_first w link io octets q before a = record {
     taken = Looked Pop link io octets ∷ a.taken;
     asked = subst (Asked w) (append_assoc before (Looked Pop link io octets ∷ []) a.taken) a.asked;
     are = record { own = (refl, a.are.own); reads = a.are.reads; far = a.are.far; over = a.are.over };
   }
 
-  pub amid : (w w' : W) (known : ℕ → Option (Option IpAddr)) (hurries : Bool) (link : Link) (least : ℕ) (p : Progress) (calls : List Call) → AskedBehind Asked w known hurries calls → known link.number ≡ None
+  pub amid : (w w' : W) (known : ℕ → Option (Option IpAddr)) (hurries : Bool) (link : Link) (least : ℕ) (p : Progress) (calls : List Call)
+      → AskedBehind Asked w known hurries calls → known link.number ≡ None
       → ((before : List Call) → Asked w before → TakesLine Asked w' link least p before) → AskedAmid Asked w' known hurries link least p calls
   amid w w' known hurries link least p calls a none takes = record {
     inside = a.inside;
@@ -356,17 +363,20 @@ module _ {W : Type 0} (Asked : W → List Call → Type 0) where
   }
 
   -- what other links' lines are stays so
-  others_so : (link : Link) (least : ℕ) (o : Option (Option IpAddr)) (k : ℕ) (inside taken : List Call) → AreOnLine link least taken → (k ≡ link.number → ⊥) → IsSo o k inside → IsSo o k (inside ++ taken)
+  others_so : (link : Link) (least : ℕ) (o : Option (Option IpAddr)) (k : ℕ) (inside taken : List Call) → AreOnLine link least taken
+      → (k ≡ link.number → ⊥) → IsSo o k inside → IsSo o k (inside ++ taken)
   others_so link least o k inside taken own ne so = so_still o k inside taken (λ e. ap has_line (others_unread link least k taken own ne)) so
 
   pressed_still : (link : Link) (least : ℕ) (inside taken : List Call) → AreOnLine link least taken → ends_line false inside ≡ true → ends_line false (inside ++ taken) ≡ true
   pressed_still link least inside taken own e = ends_append false inside taken ∙ (ap (λ b. ends_line b taken) e ∙ ends_still link least taken own)
 
-  awaits : (w : W) (known : ℕ → Option (Option IpAddr)) (hurries : Bool) (link : Link) (least : ℕ) (p : Progress) (calls : List Call) (a : AskedAmid Asked w known hurries link least p calls) → IsLineAwaited link.number a.inside
+  awaits : (w : W) (known : ℕ → Option (Option IpAddr)) (hurries : Bool) (link : Link) (least : ℕ) (p : Progress) (calls : List Call) (a : AskedAmid Asked w known hurries link least p calls)
+      → IsLineAwaited link.number a.inside
   awaits w known hurries link least p calls a = subst (λ o. IsSo o link.number a.inside) a.unknown (a.known_so link.number)
 
   -- a line that isn't whole yet
-  pub line_open : (w : W) (known : ℕ → Option (Option IpAddr)) (hurries : Bool) (link : Link) (least : ℕ) (was : Io) (room : ℕ) (io : Io) (calls : List Call) → is_fault was ≡ is_fault io → (if is_fault io then 0 else 1) ≤ least → AskedAmid Asked w known hurries link least (Open was) calls
+  pub line_open : (w : W) (known : ℕ → Option (Option IpAddr)) (hurries : Bool) (link : Link) (least : ℕ) (was : Io) (room : ℕ) (io : Io) (calls : List Call)
+      → is_fault was ≡ is_fault io → (if is_fault io then 0 else 1) ≤ least → AskedAmid Asked w known hurries link least (Open was) calls
       → AskedBehind Asked w known hurries (calls ++ Read Pop link room io [] ∷ [])
   line_open w known hurries link least was room io calls same le a =
       let k = link.number in
@@ -375,7 +385,15 @@ module _ {W : Type 0} (Asked : W → List Call → Type 0) where
         inside = a.inside ++ t.taken;
         asked = t.asked;
         behind = IsOfLine a.inside t.taken calls link room io
-            (record { awaited = awaits w known hurries link least (Open was) calls a; own = less_room link least (if is_fault io then 0 else 1) t.taken le t.are.own; reads = t.are.reads; line = nothing_behind_so_far (Open was) (read_on k t.taken) t.are.far; over = t.are.over ∙ same }) a.behind;
+            (record {
+              awaited = awaits w known hurries link least (Open was) calls a;
+              own =
+                  less_room link least (if is_fault io then 0 else 1) t.taken le t.are.own;
+              reads = t.are.reads;
+              line = nothing_behind_so_far (Open was) (read_on k t.taken) t.are.far;
+              over = t.are.over
+                  ∙ same;
+            }) a.behind;
         known_so = λ j. ⊎_elim
             (λ (e : j ≡ k). so_still (known j) j a.inside t.taken (λ n. subst (λ i. has_line (read_on i t.taken) ≡ false) (sym e) t.are.far) (a.known_so j))
             (λ (ne : j ≡ k → ⊥). others_so link least (known j) j a.inside t.taken t.are.own ne (a.known_so j))
@@ -384,7 +402,8 @@ module _ {W : Type 0} (Asked : W → List Call → Type 0) where
       }
 
   -- one that is, and names a source
-  pub line_whole : (w : W) (known known' : ℕ → Option (Option IpAddr)) (hurries : Bool) (link : Link) (source : Option IpAddr) (room : ℕ) (calls : List Call) → IsPut known link.number (Some source) known'
+  pub line_whole : (w : W) (known known' : ℕ → Option (Option IpAddr)) (hurries : Bool) (link : Link) (source : Option IpAddr) (room : ℕ) (calls : List Call)
+      → IsPut known link.number (Some source) known'
       → AskedAmid Asked w known hurries link 1 Whole calls → AskedBehind Asked w known' true (calls ++ Read Pop link room Later [] ∷ [])
   line_whole w known known' hurries link source room calls put a =
       let k = link.number in
@@ -394,7 +413,14 @@ module _ {W : Type 0} (Asked : W → List Call → Type 0) where
         inside = a.inside ++ t.taken;
         asked = t.asked;
         behind = IsOfLine a.inside t.taken calls link room Later
-            (record { awaited = awaits w known hurries link 1 Whole calls a; own = t.are.own; reads = t.are.reads; line = nothing_behind_so_far Whole (read_on k t.taken) t.are.far; over = t.are.over }) a.behind;
+            (record {
+              awaited = awaits w known hurries link 1 Whole calls a;
+              own = t.are.own;
+              reads = t.are.reads;
+              line =
+                  nothing_behind_so_far Whole (read_on k t.taken) t.are.far;
+              over = t.are.over;
+            }) a.behind;
         known_so = λ j. ⊎_elim
             (λ (e : j ≡ k). subst (λ i. IsSo (known' i) i (a.inside ++ t.taken)) (sym e) (subst (λ o. IsSo o k (a.inside ++ t.taken)) (sym put.there) (whole_now k a.inside t.taken has)))
             (λ (ne : j ≡ k → ⊥). subst (λ o. IsSo o j (a.inside ++ t.taken)) (sym (put.others j ne)) (others_so link 1 (known j) j a.inside t.taken t.are.own ne (a.known_so j)))
@@ -403,14 +429,16 @@ module _ {W : Type 0} (Asked : W → List Call → Type 0) where
       }
 
   -- its link is closed
-  pub line_broken : (w w' : W) (known : ℕ → Option (Option IpAddr)) (hurries : Bool) (link : Link) (least : ℕ) (p : Progress) (room : ℕ) (calls : List Call) → ((before : List Call) → Asked w before → Asked w' (before ++ Closed Pop link ∷ []))
+  pub line_broken : (w w' : W) (known : ℕ → Option (Option IpAddr)) (hurries : Bool) (link : Link) (least : ℕ) (p : Progress) (room : ℕ) (calls : List Call)
+      → ((before : List Call) → Asked w before → Asked w' (before ++ Closed Pop link ∷ []))
       → AskedAmid Asked w known hurries link least p calls → AskedBehind Asked w' known hurries (calls ++ Read Pop link room Broken [] ∷ [])
   line_broken w w' known hurries link least p room calls called a =
       let k = link.number in
       let t = a.takes in
       let taken = t.taken ++ Closed Pop link ∷ [] in
       let closes : list_any (ends_on k) (Closed Pop link ∷ []) ≡ true = ap (λ b. b || false) (eq-eqb k k refl) in
-      let over : list_any (ends_on k) taken ≡ true = list_any-append (ends_on k) t.taken (Closed Pop link ∷ []) ∙ (ap (λ b. list_any (ends_on k) t.taken || b) closes ∙ or_true (list_any (ends_on k) t.taken)) in
+      let over : list_any (ends_on k) taken ≡ true = list_any-append (ends_on k) t.taken (Closed Pop link ∷ [])
+      ∙ (ap (λ b. list_any (ends_on k) t.taken || b) closes ∙ or_true (list_any (ends_on k) t.taken)) in
       let own = on_append link 0 t.taken (Closed Pop link ∷ []) (less_room link least 0 t.taken (omega arith) t.are.own) (refl, tt) in
       let same : read_on k taken ≡ read_on k t.taken = read_append k t.taken (Closed Pop link ∷ []) ∙ append-nil (read_on k t.taken) in
       record {

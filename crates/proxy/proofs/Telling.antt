@@ -1,5 +1,6 @@
 -- What is recorded outside follows what is recorded inside.
-use Rattle.std.proofs.Common.{◌≡◌, ℕ, ◌+◌, ◌<◌, ◌≤◌, ◌⊎◌, inl, inr, ⊎_elim, Bool, true, false, true≢false, not, ◌&&◌, ◌||◌, ◌==◌, nat_lt, List, [], ◌∷◌, ◌++◌, length, take, get_or, append-nil, zero, suc, refl, sym, ◌∙◌, ap, subst, arith, eqb, eq-eqb, ne_eqb, nat_cmp, Option, Some, None, IfSome, is_some}
+use Rattle.std.proofs.Common.{◌≡◌, ℕ, ◌+◌, ◌<◌, ◌≤◌, ◌⊎◌, inl, inr, ⊎_elim, Bool, true, false, true≢false, not, ◌&&◌, ◌||◌, ◌==◌, List, [], ◌∷◌, ◌++◌, length, take, get_or}
+use Rattle.std.proofs.Common.{append-nil, suc, refl, sym, ◌∙◌, ap, subst, arith, eqb, eq-eqb, ne_eqb, nat_cmp, Option, Some, None, IfSome, is_some}
 use Rattle.std.specs.Bool.{if◌then◌else◌}
 use Rattle.std.proofs.lemmas.Bool.{cases_eq}
 use Rattle.std.proofs.lemmas.Bool.Decides.{nat_tests}
@@ -9,7 +10,7 @@ use Rattle.std.specs.declared.net.ip_addr.IpAddr.{IpAddr}
 use Rattle.serving.specs.declared.wire.Io.{Io}
 use Rattle.serving.specs.declared.wire.Io.TheVariants.{Later, Broken, End, Count}
 use Rattle.serving.specs.declared.wire.Port.TheVariants.{Pop, Admin}
-use Rattle.serving.specs.Wires.{Told, ToldOfPorts, AreFresh, at_port, more_at, over_at, begun_at, is_fault, is_live, has_read, has_written, has_accepted, has_closed, counted, IsWithin}
+use Rattle.serving.specs.Wires.{Told, ToldOfPorts, AreFresh, at_port, more_at, is_fault, is_live, has_read, has_written, has_accepted, has_closed, counted, IsWithin}
 use Rattle.proxy.specs.declared.wire.Begun.{Begun}
 use Rattle.proxy.specs.Lines.{IsProxyLine}
 use Rattle.proxy.specs.Proxied.{first_line, behind_line, has_line, TellsBehind, IsBegun, IsKnown, TellsProxied, HasGone, IsLineRead, IsAsFarAs, io_of}
@@ -55,7 +56,8 @@ pub nothing_behind_end : (xs : List ℕ) → has_line xs ≡ false → behind_li
 nothing_behind_end [] h = refl
 nothing_behind_end (x ∷ xs) h = end_by (x == 10) xs h (nothing_behind_end xs)
   where
-    end_by : (b : Bool) (xs : List ℕ) → (if b then true else has_line xs) ≡ false → (has_line xs ≡ false → behind_line (xs ++ 10 ∷ []) ≡ []) → (if b then xs ++ 10 ∷ [] else behind_line (xs ++ 10 ∷ [])) ≡ []
+    end_by : (b : Bool) (xs : List ℕ) → (if b then true else has_line xs) ≡ false → (has_line xs ≡ false → behind_line (xs ++ 10 ∷ []) ≡ [])
+        → (if b then xs ++ 10 ∷ [] else behind_line (xs ++ 10 ∷ [])) ≡ []
     end_by true xs h f = absurd (true≢false h)
     end_by false xs h f = f h
 
@@ -64,7 +66,8 @@ pub whole_first : (xs : List ℕ) → has_line xs ≡ false → first_line (xs +
 whole_first [] h = refl
 whole_first (x ∷ xs) h = first_by (x == 10) x xs h (whole_first xs)
   where
-    first_by : (b : Bool) (x : ℕ) (xs : List ℕ) → (if b then true else has_line xs) ≡ false → (has_line xs ≡ false → first_line (xs ++ 10 ∷ []) ≡ xs ++ 10 ∷ []) → (if b then x ∷ [] else x ∷ first_line (xs ++ 10 ∷ [])) ≡ x ∷ (xs ++ 10 ∷ [])
+    first_by : (b : Bool) (x : ℕ) (xs : List ℕ) → (if b then true else has_line xs) ≡ false
+        → (has_line xs ≡ false → first_line (xs ++ 10 ∷ []) ≡ xs ++ 10 ∷ []) → (if b then x ∷ [] else x ∷ first_line (xs ++ 10 ∷ [])) ≡ x ∷ (xs ++ 10 ∷ [])
     first_by true x xs h f = absurd (true≢false h)
     first_by false x xs h f = ap (λ r. x ∷ r) (f h)
 
@@ -81,7 +84,8 @@ pub still_open : (xs : List ℕ) (c : ℕ) → has_line xs ≡ false → (c ≡ 
 still_open [] c h ne = let q = ne_eqb c 10 ne in rw q refl
 still_open (x ∷ xs) c h ne = open_by (x == 10) xs c h (λ e. still_open xs c e ne)
   where
-    open_by : (b : Bool) (xs : List ℕ) (c : ℕ) → (if b then true else has_line xs) ≡ false → (has_line xs ≡ false → has_line (xs ++ c ∷ []) ≡ false) → (if b then true else has_line (xs ++ c ∷ [])) ≡ false
+    open_by : (b : Bool) (xs : List ℕ) (c : ℕ) → (if b then true else has_line xs) ≡ false → (has_line xs ≡ false → has_line (xs ++ c ∷ []) ≡ false)
+        → (if b then true else has_line (xs ++ c ∷ [])) ≡ false
     open_by true xs c h f = absurd (true≢false h)
     open_by false xs c h f = f h
 
@@ -90,7 +94,8 @@ pub behind_more : (xs ys : List ℕ) → has_line xs ≡ true → behind_line (x
 behind_more [] ys h = absurd (true≢false (sym h))
 behind_more (x ∷ xs) ys h = more_by (x == 10) xs ys h (behind_more xs ys)
   where
-    more_by : (b : Bool) (xs ys : List ℕ) → (if b then true else has_line xs) ≡ true → (has_line xs ≡ true → behind_line (xs ++ ys) ≡ behind_line xs ++ ys) → (if b then xs ++ ys else behind_line (xs ++ ys)) ≡ (if b then xs else behind_line xs) ++ ys
+    more_by : (b : Bool) (xs ys : List ℕ) → (if b then true else has_line xs) ≡ true
+        → (has_line xs ≡ true → behind_line (xs ++ ys) ≡ behind_line xs ++ ys) → (if b then xs ++ ys else behind_line (xs ++ ys)) ≡ (if b then xs else behind_line xs) ++ ys
     more_by true xs ys h f = refl
     more_by false xs ys h f = f h
 
@@ -98,7 +103,8 @@ pub first_more : (xs ys : List ℕ) → has_line xs ≡ true → first_line (xs 
 first_more [] ys h = absurd (true≢false (sym h))
 first_more (x ∷ xs) ys h = more_by (x == 10) x xs ys h (first_more xs ys)
   where
-    more_by : (b : Bool) (x : ℕ) (xs ys : List ℕ) → (if b then true else has_line xs) ≡ true → (has_line xs ≡ true → first_line (xs ++ ys) ≡ first_line xs) → (if b then x ∷ [] else x ∷ first_line (xs ++ ys)) ≡ (if b then x ∷ [] else x ∷ first_line xs)
+    more_by : (b : Bool) (x : ℕ) (xs ys : List ℕ) → (if b then true else has_line xs) ≡ true
+        → (has_line xs ≡ true → first_line (xs ++ ys) ≡ first_line xs) → (if b then x ∷ [] else x ∷ first_line (xs ++ ys)) ≡ (if b then x ∷ [] else x ∷ first_line xs)
     more_by true x xs ys h f = refl
     more_by false x xs ys h f = ap (λ r. x ∷ r) (f h)
 
@@ -145,7 +151,8 @@ behind_gone t t' u k io octets outs a h behind early line = record {
   accepted = a.accepted ∙ sym h.accepted;
   read = λ j. ⊎_elim
       (λ (e : j ≡ k). more_same k j outs u.read e
-      ∙ (ap (λ xs. xs ++ outs) (a.read j) ∙ (subst (λ i. behind_line (t.read i) ++ outs ≡ behind_line (t.read i ++ octets)) (sym e) (sym behind) ∙ sym (ap behind_line (h.read j ∙ more_same k j octets t.read e)))))
+      ∙ (ap (λ xs. xs ++ outs) (a.read j)
+      ∙ (subst (λ i. behind_line (t.read i) ++ outs ≡ behind_line (t.read i ++ octets)) (sym e) (sym behind) ∙ sym (ap behind_line (h.read j ∙ more_same k j octets t.read e)))))
       (λ (ne : j ≡ k → ⊥). more_other k j outs u.read ne ∙ (a.read j ∙ sym (ap behind_line (h.read j ∙ more_other k j octets t.read ne))))
       (cases_eq j k);
   written = λ j. a.written j ∙ sym (h.written j);
@@ -159,11 +166,13 @@ behind_gone t t' u k io octets outs a h behind early line = record {
   proxied = λ j. ⊎_elim
       (λ (e : j ≡ k). ⊎_elim
       (λ (none : u.read k ++ outs ≡ []). inl (more_same k j outs u.read e ∙ (ap (λ i. u.read i ++ outs) e ∙ none)))
-      (λ (some : (source : Option IpAddr) × IsProxyLine (first_line (t.read k ++ octets)) source). inr (some.0, subst (λ xs. IsProxyLine (first_line xs) some.0) (ap (λ i. t.read i ++ octets) (sym e) ∙ sym (h.read j ∙ more_same k j octets t.read e)) some.1))
+      (λ (some : (source : Option IpAddr) × IsProxyLine (first_line (t.read k ++ octets)) source). inr
+      (some.0, subst (λ xs. IsProxyLine (first_line xs) some.0) (ap (λ i. t.read i ++ octets) (sym e) ∙ sym (h.read j ∙ more_same k j octets t.read e)) some.1))
       line)
       (λ (ne : j ≡ k → ⊥). ⊎_elim
       (λ (none : u.read j ≡ []). inl (more_other k j outs u.read ne ∙ none))
-      (λ (some : (source : Option IpAddr) × IsProxyLine (first_line (t.read j)) source). inr (some.0, subst (λ xs. IsProxyLine (first_line xs) some.0) (sym (h.read j ∙ more_other k j octets t.read ne)) some.1))
+      (λ (some : (source : Option IpAddr) × IsProxyLine (first_line (t.read j)) source). inr
+      (some.0, subst (λ xs. IsProxyLine (first_line xs) some.0) (sym (h.read j ∙ more_other k j octets t.read ne)) some.1))
       (a.proxied j))
       (cases_eq j k);
 }
@@ -180,7 +189,8 @@ pub each_kept : {X : Type 0} (o : Option X) (P Q : X → Type 0) → ((x : X) �
 each_kept None P Q f h = h
 each_kept (Some x) P Q f h = f x h
 
-pub put_kept : {X : Type 0} (before now : ℕ → Option X) (k : ℕ) (value : Option X) (P : ℕ → X → Type 0) → IsPut before k value now → IfSome value (P k) → ((j : ℕ) → IfSome (before j) (P j)) → (j : ℕ) → IfSome (now j) (P j)
+pub put_kept : {X : Type 0} (before now : ℕ → Option X) (k : ℕ) (value : Option X) (P : ℕ → X → Type 0) → IsPut before k value now
+    → IfSome value (P k) → ((j : ℕ) → IfSome (before j) (P j)) → (j : ℕ) → IfSome (now j) (P j)
 put_kept before now k value P put here h j = ⊎_elim
     (λ (e : j ≡ k). subst (λ i. IfSome (now i) (P i)) (sym e) (subst (λ o. IfSome o (P k)) (sym put.there) here))
     (λ (ne : j ≡ k → ⊥). subst (λ o. IfSome o (P j)) (sym (put.others j ne)) (h j))
@@ -189,7 +199,8 @@ put_kept before now k value P put here h j = ⊎_elim
 -- ---- both ports
 
 -- a line is begun, or read so far
-pub begins : (b b' : ℕ → Option Begun) (known : ℕ → Option (Option IpAddr)) (t u : ToldOfPorts) (k : ℕ) (line : Begun) → TellsProxied b known t u → IsPut b k (Some line) b' → IsBegun t.pop k line.line.items → TellsProxied b' known t u
+pub begins : (b b' : ℕ → Option Begun) (known : ℕ → Option (Option IpAddr)) (t u : ToldOfPorts) (k : ℕ) (line : Begun) → TellsProxied b known t u
+    → IsPut b k (Some line) b' → IsBegun t.pop k line.line.items → TellsProxied b' known t u
 begins b b' known t u k line a put so = record {
   pop = a.pop;
   admin = a.admin;
@@ -198,7 +209,8 @@ begins b b' known t u k line a put so = record {
 }
 
 -- a source is known
-pub learns : (b : ℕ → Option Begun) (known known' : ℕ → Option (Option IpAddr)) (t u : ToldOfPorts) (k : ℕ) (source : Option IpAddr) → TellsProxied b known t u → IsPut known k (Some source) known' → IsKnown t.pop k source → TellsProxied b known' t u
+pub learns : (b : ℕ → Option Begun) (known known' : ℕ → Option (Option IpAddr)) (t u : ToldOfPorts) (k : ℕ) (source : Option IpAddr)
+    → TellsProxied b known t u → IsPut known k (Some source) known' → IsKnown t.pop k source → TellsProxied b known' t u
 learns b known known' t u k source a put so = record {
   pop = a.pop;
   admin = a.admin;
@@ -207,7 +219,8 @@ learns b known known' t u k source a put so = record {
 }
 
 -- both maps have what they had
-pub same_maps : (b b' : ℕ → Option Begun) (known known' : ℕ → Option (Option IpAddr)) (t u : ToldOfPorts) → TellsProxied b known t u → ((j : ℕ) → b' j ≡ b j) → ((j : ℕ) → known' j ≡ known j) → TellsProxied b' known' t u
+pub same_maps : (b b' : ℕ → Option Begun) (known known' : ℕ → Option (Option IpAddr)) (t u : ToldOfPorts) → TellsProxied b known t u
+    → ((j : ℕ) → b' j ≡ b j) → ((j : ℕ) → known' j ≡ known j) → TellsProxied b' known' t u
 same_maps b b' known known' t u a same same' = record {
   pop = a.pop;
   admin = a.admin;
@@ -244,19 +257,22 @@ known_gone t t' k fault octets j source h a = ⊎_elim
     (cases_eq j k)
 
 -- the octets of a first line came, of a link that is begun no more
-pub line_read : (b b' : ℕ → Option Begun) (known : ℕ → Option (Option IpAddr)) (t t' u : ToldOfPorts) (k : ℕ) (io : Io) (octets line : List ℕ) → TellsProxied b known t u → IsBegun t.pop k line → IsPut b k None b'
+pub line_read : (b b' : ℕ → Option Begun) (known : ℕ → Option (Option IpAddr)) (t t' u : ToldOfPorts) (k : ℕ) (io : Io) (octets line : List ℕ)
+    → TellsProxied b known t u → IsBegun t.pop k line → IsPut b k None b'
     → HasGone k (is_fault io) octets t.pop t'.pop → t'.admin ≡ t.admin → behind_line (line ++ octets) ≡ [] → TellsProxied b' known t' (at_port Pop (λ of. has_read of k io []) u)
 line_read b b' known t t' u k io octets line a so put h admin nothing =
     let none : behind_line line ≡ [] = nothing_behind line so.open_yet in
     let before : u.pop.read k ≡ [] = a.pop.read k ∙ (ap behind_line so.is ∙ none) in
     record {
-      pop = behind_gone t.pop t'.pop u.pop k io octets [] a.pop h (ap (λ xs. behind_line (xs ++ octets)) so.is ∙ (nothing ∙ sym (append-nil (behind_line (t.pop.read k)) ∙ (ap behind_line so.is ∙ none))))
+      pop = behind_gone t.pop t'.pop u.pop k io octets [] a.pop h
+          (ap (λ xs. behind_line (xs ++ octets)) so.is ∙ (nothing ∙ sym (append-nil (behind_line (t.pop.read k)) ∙ (ap behind_line so.is ∙ none))))
           (λ w. absurd (below t.pop.accepted k so.came w)) (inl (append-nil (u.pop.read k) ∙ before));
       admin = a.admin ∙ sym admin;
       begun_so = λ j. ⊎_elim
           (λ (e : j ≡ k). subst (λ i. IfSome (b' i) (λ x. IsBegun t'.pop i x.line.items)) (sym e) (subst (λ o. IfSome o (λ x. IsBegun t'.pop k x.line.items)) (sym put.there) tt))
           (λ (ne : j ≡ k → ⊥). subst (λ o. IfSome o (λ x. IsBegun t'.pop j x.line.items)) (sym (put.others j ne))
-          (each_kept (b j) (λ x. IsBegun t.pop j x.line.items) (λ x. IsBegun t'.pop j x.line.items) (λ x. begun_gone t.pop t'.pop k (is_fault io) octets j x.line.items h (λ e. absurd (ne e))) (a.begun_so j)))
+          (each_kept (b j) (λ x. IsBegun t.pop j x.line.items) (λ x. IsBegun t'.pop j x.line.items)
+          (λ x. begun_gone t.pop t'.pop k (is_fault io) octets j x.line.items h (λ e. absurd (ne e))) (a.begun_so j)))
           (cases_eq j k);
       known_so = λ j. each_kept (known j) (λ x. IsKnown t.pop j x) (λ x. IsKnown t'.pop j x) (λ x. known_gone t.pop t'.pop k (is_fault io) octets j x h) (a.known_so j);
     }
@@ -273,15 +289,18 @@ none_read b known t u k io a =
       pop = behind_gone t.pop (has_read t.pop k io []) u.pop k io [] [] a.pop h (ap behind_line (append-nil (t.pop.read k)) ∙ sym (append-nil (behind_line (t.pop.read k)))) (λ w. refl)
           (⊎_elim
           (λ (none : u.pop.read k ≡ []). inl (append-nil (u.pop.read k) ∙ none))
-          (λ (some : (source : Option IpAddr) × IsProxyLine (first_line (t.pop.read k)) source). inr (some.0, subst (λ xs. IsProxyLine (first_line xs) some.0) (sym (append-nil (t.pop.read k))) some.1))
+          (λ (some : (source : Option IpAddr) × IsProxyLine (first_line (t.pop.read k)) source). inr
+          (some.0, subst (λ xs. IsProxyLine (first_line xs) some.0) (sym (append-nil (t.pop.read k))) some.1))
           (a.pop.proxied k));
       admin = a.admin;
-      begun_so = λ j. each_kept (b j) (λ x. IsBegun t.pop j x.line.items) (λ x. IsBegun (has_read t.pop k io []) j x.line.items) (λ x. begun_gone t.pop (has_read t.pop k io []) k (is_fault io) [] j x.line.items h (λ e. refl)) (a.begun_so j);
+      begun_so = λ j. each_kept (b j) (λ x. IsBegun t.pop j x.line.items) (λ x. IsBegun (has_read t.pop k io []) j x.line.items)
+          (λ x. begun_gone t.pop (has_read t.pop k io []) k (is_fault io) [] j x.line.items h (λ e. refl)) (a.begun_so j);
       known_so = λ j. each_kept (known j) (λ x. IsKnown t.pop j x) (λ x. IsKnown (has_read t.pop k io []) j x) (λ x. known_gone t.pop (has_read t.pop k io []) k (is_fault io) [] j x h) (a.known_so j);
     }
 
 -- octets came after a line
-pub known_read : (b : ℕ → Option Begun) (known : ℕ → Option (Option IpAddr)) (t u : ToldOfPorts) (k : ℕ) (io : Io) (octets : List ℕ) (source : Option IpAddr) → TellsProxied b known t u → IsKnown t.pop k source
+pub known_read : (b : ℕ → Option Begun) (known : ℕ → Option (Option IpAddr)) (t u : ToldOfPorts) (k : ℕ) (io : Io) (octets : List ℕ) (source : Option IpAddr)
+    → TellsProxied b known t u → IsKnown t.pop k source
     → TellsProxied b known (at_port Pop (λ of. has_read of k io octets) t) (at_port Pop (λ of. has_read of k io octets) u)
 known_read b known t u k io octets source a so =
     let h = gone_one k io octets t.pop in
@@ -290,8 +309,10 @@ known_read b known t u k io octets source a so =
           (inr (source, subst (λ xs. IsProxyLine xs source) (sym (first_more (t.pop.read k) octets so.whole)) so.says));
       admin = a.admin;
       begun_so = λ j. each_kept (b j) (λ x. IsBegun t.pop j x.line.items) (λ x. IsBegun (has_read t.pop k io octets) j x.line.items)
-          (λ x w. begun_gone t.pop (has_read t.pop k io octets) k (is_fault io) octets j x.line.items h (λ e. absurd (true≢false (sym so.whole ∙ (ap (λ i. has_line (t.pop.read i)) (sym e) ∙ (ap has_line w.is ∙ w.open_yet))))) w) (a.begun_so j);
-      known_so = λ j. each_kept (known j) (λ x. IsKnown t.pop j x) (λ x. IsKnown (has_read t.pop k io octets) j x) (λ x. known_gone t.pop (has_read t.pop k io octets) k (is_fault io) octets j x h) (a.known_so j);
+          (λ x w. begun_gone t.pop (has_read t.pop k io octets) k (is_fault io) octets j x.line.items h
+          (λ e. absurd (true≢false (sym so.whole ∙ (ap (λ i. has_line (t.pop.read i)) (sym e) ∙ (ap has_line w.is ∙ w.open_yet))))) w) (a.begun_so j);
+      known_so = λ j. each_kept (known j) (λ x. IsKnown t.pop j x) (λ x. IsKnown (has_read t.pop k io octets) j x)
+          (λ x. known_gone t.pop (has_read t.pop k io octets) k (is_fault io) octets j x h) (a.known_so j);
     }
   where
     below : (n k : ℕ) → k < n → n ≤ k → ⊥
@@ -311,7 +332,8 @@ breaks b known t u k a = record {
     proxied = a.pop.proxied;
   };
   admin = a.admin;
-  begun_so = λ j. each_kept (b j) (λ x. IsBegun t.pop j x.line.items) (λ x. IsBegun (has_closed t.pop k) j x.line.items) (λ x w. record { came = w.came; is = w.is; open_yet = w.open_yet }) (a.begun_so j);
+  begun_so = λ j. each_kept (b j) (λ x. IsBegun t.pop j x.line.items) (λ x. IsBegun (has_closed t.pop k) j x.line.items)
+      (λ x w. record { came = w.came; is = w.is; open_yet = w.open_yet }) (a.begun_so j);
   known_so = λ j. each_kept (known j) (λ x. IsKnown t.pop j x) (λ x. IsKnown (has_closed t.pop k) j x) (λ x w. record { came = w.came; whole = w.whole; says = w.says }) (a.known_so j);
 }
 
@@ -329,7 +351,8 @@ written_on b known t u k io octets a = record {
     proxied = a.pop.proxied;
   };
   admin = a.admin;
-  begun_so = λ j. each_kept (b j) (λ x. IsBegun t.pop j x.line.items) (λ x. IsBegun (has_written t.pop k io octets) j x.line.items) (λ x w. record { came = w.came; is = w.is; open_yet = w.open_yet }) (a.begun_so j);
+  begun_so = λ j. each_kept (b j) (λ x. IsBegun t.pop j x.line.items) (λ x. IsBegun (has_written t.pop k io octets) j x.line.items)
+      (λ x w. record { came = w.came; is = w.is; open_yet = w.open_yet }) (a.begun_so j);
   known_so = λ j. each_kept (known j) (λ x. IsKnown t.pop j x) (λ x. IsKnown (has_written t.pop k io octets) j x) (λ x w. record { came = w.came; whole = w.whole; says = w.says }) (a.known_so j);
 }
 
@@ -354,7 +377,8 @@ closed b b' known known' t u k a put put' = record {
 }
 
 -- a link was accepted
-pub accepts : (b : ℕ → Option Begun) (known : ℕ → Option (Option IpAddr)) (t u : ToldOfPorts) → TellsProxied b known t u → TellsProxied b known (at_port Pop has_accepted t) (at_port Pop has_accepted u)
+pub accepts : (b : ℕ → Option Begun) (known : ℕ → Option (Option IpAddr)) (t u : ToldOfPorts) → TellsProxied b known t u
+    → TellsProxied b known (at_port Pop has_accepted t) (at_port Pop has_accepted u)
 accepts b known t u a = record {
   pop = record {
     accepted = ap (λ n. n + 1) a.pop.accepted;
@@ -366,8 +390,10 @@ accepts b known t u a = record {
     proxied = a.pop.proxied;
   };
   admin = a.admin;
-  begun_so = λ j. each_kept (b j) (λ x. IsBegun t.pop j x.line.items) (λ x. IsBegun (has_accepted t.pop) j x.line.items) (λ x w. record { came = after t.pop.accepted j w.came; is = w.is; open_yet = w.open_yet }) (a.begun_so j);
-  known_so = λ j. each_kept (known j) (λ x. IsKnown t.pop j x) (λ x. IsKnown (has_accepted t.pop) j x) (λ x w. record { came = after t.pop.accepted j w.came; whole = w.whole; says = w.says }) (a.known_so j);
+  begun_so = λ j. each_kept (b j) (λ x. IsBegun t.pop j x.line.items) (λ x. IsBegun (has_accepted t.pop) j x.line.items)
+      (λ x w. record { came = after t.pop.accepted j w.came; is = w.is; open_yet = w.open_yet }) (a.begun_so j);
+  known_so = λ j. each_kept (known j) (λ x. IsKnown t.pop j x) (λ x. IsKnown (has_accepted t.pop) j x)
+      (λ x w. record { came = after t.pop.accepted j w.came; whole = w.whole; says = w.says }) (a.known_so j);
 }
   where
     before : (n j : ℕ) → n + 1 ≤ j → n ≤ j
@@ -391,7 +417,8 @@ newest_begun b known t u k a e = record {
     last n k e = omega arith
 
 -- at the administration's port all is as inside
-pub admin_changes : (b : ℕ → Option Begun) (known : ℕ → Option (Option IpAddr)) (t u : ToldOfPorts) (change : Told → Told) → TellsProxied b known t u → TellsProxied b known (at_port Admin change t) (at_port Admin change u)
+pub admin_changes : (b : ℕ → Option Begun) (known : ℕ → Option (Option IpAddr)) (t u : ToldOfPorts) (change : Told → Told) → TellsProxied b known t u
+    → TellsProxied b known (at_port Admin change t) (at_port Admin change u)
 admin_changes b known t u change a = record {
   pop = a.pop;
   admin = ap change a.admin;
@@ -435,7 +462,8 @@ empty_none m e j = ap (λ es. lookup (is_at (nat_cmp j)) es) e
 
 -- ---- a line that is read
 
-pub nothing_came : {W : Type 0} (Tells : W → ToldOfPorts → Type 0) (wire : W) (k : ℕ) (io : Io) (line : List ℕ) (t : ToldOfPorts) → Tells wire (at_port Pop (λ of. has_read of k io []) t) → IsLineRead Tells wire k line line (Open io) t
+pub nothing_came : {W : Type 0} (Tells : W → ToldOfPorts → Type 0) (wire : W) (k : ℕ) (io : Io) (line : List ℕ) (t : ToldOfPorts)
+    → Tells wire (at_port Pop (λ of. has_read of k io []) t) → IsLineRead Tells wire k line line (Open io) t
 nothing_came Tells wire k io line t h = record {
   told = at_port Pop (λ of. has_read of k io []) t;
   octets = [];
@@ -451,7 +479,8 @@ one_front n x [] lt le e is = absurd (let q : ◌≡◌ {A = ℕ} 0 1 = e in ome
 one_front n x (y ∷ []) lt le e is = let one : n ≡ 1 = omega arith in subst (λ m. take m (y ∷ []) ≡ x ∷ []) (sym one) (ap (λ z. z ∷ []) (sym is))
 one_front n x (y ∷ z ∷ xs) lt le e is = absurd (let q : suc (suc (length xs)) ≡ 1 = e in omega arith)
 
-pub octet_came : {W : Type 0} (Tells : W → ToldOfPorts → Type 0) (wire : W) (k n x : ℕ) (one line : List ℕ) (p : Progress) (t : ToldOfPorts) → Tells wire (at_port Pop (λ of. has_read of k (Count n) (take n one)) t)
+pub octet_came : {W : Type 0} (Tells : W → ToldOfPorts → Type 0) (wire : W) (k n x : ℕ) (one line : List ℕ) (p : Progress) (t : ToldOfPorts)
+    → Tells wire (at_port Pop (λ of. has_read of k (Count n) (take n one)) t)
     → 0 < n → n ≤ 1 → length one ≡ 1 → x ≡ get_or one 0 x → is_fault (io_of p) ≡ false → IsLineRead Tells wire k line (line ++ x ∷ []) p t
 octet_came Tells wire k n x one line p t h lt le e is fault = record {
   told = at_port Pop (λ of. has_read of k (Count n) (take n one)) t;
@@ -464,7 +493,8 @@ octet_came Tells wire k n x one line p t h lt le e is fault = record {
 }
 
 -- reads after one that gave an octet
-pub line_read_on : {W : Type 0} (Tells : W → ToldOfPorts → Type 0) (mid now : W) (k : ℕ) (a b c : List ℕ) (p q : Progress) (t : ToldOfPorts) → IsLineRead Tells mid k a b p t → is_fault (io_of p) ≡ false
+pub line_read_on : {W : Type 0} (Tells : W → ToldOfPorts → Type 0) (mid now : W) (k : ℕ) (a b c : List ℕ) (p q : Progress) (t : ToldOfPorts)
+    → IsLineRead Tells mid k a b p t → is_fault (io_of p) ≡ false
     → ((u : ToldOfPorts) → Tells mid u → IsLineRead Tells now k b c q u) → IsLineRead Tells now k a c q t
 line_read_on Tells mid now k a b c p q t first fine others =
     let next = others first.told first.tells in
@@ -496,14 +526,16 @@ forgets b b' known t u k a put = record {
 }
 
 -- the line of a link was read further
-pub reads_on : {W : Type 0} (Tells : W → ToldOfPorts → Type 0) (wire : W) (b b' : ℕ → Option Begun) (known : ℕ → Option (Option IpAddr)) (k : ℕ) (before now : List ℕ) (p p' : Progress) (t u : ToldOfPorts) → p ≡ p' → TellsProxied b known t u
+pub reads_on : {W : Type 0} (Tells : W → ToldOfPorts → Type 0) (wire : W) (b b' : ℕ → Option Begun) (known : ℕ → Option (Option IpAddr)) (k : ℕ)
+    (before now : List ℕ) (p p' : Progress) (t u : ToldOfPorts) → p ≡ p' → TellsProxied b known t u
     → IsBegun t.pop k before → IsPut b k None b' → IsLineRead Tells wire k before now p t → IsAsFarAs p now
     → (t' : ToldOfPorts) × Tells wire t' × TellsProxied b' known t' (at_port Pop (λ of. has_read of k (io_of p') []) u) × (k < t'.pop.accepted) × (t'.pop.read k ≡ now)
 reads_on Tells wire b b' known k before now p p' t u e a so put read far =
     let nothing : behind_line (before ++ read.octets) ≡ [] = ap behind_line (sym read.is) ∙ nothing_behind_so_far p now far in (
       read.told,
       read.tells,
-      subst (λ q. TellsProxied b' known read.told (at_port Pop (λ of. has_read of k (io_of q) []) u)) e (line_read b b' known t read.told u k (io_of p) read.octets before a so put read.gone read.admin nothing),
+      subst (λ q. TellsProxied b' known read.told (at_port Pop (λ of. has_read of k (io_of q) []) u)) e
+          (line_read b b' known t read.told u k (io_of p) read.octets before a so put read.gone read.admin nothing),
       subst (λ n. k < n) (sym read.gone.accepted) so.came,
       read.gone.read k ∙ (more_same k k read.octets t.pop.read refl ∙ (ap (λ xs. xs ++ read.octets) so.is ∙ sym read.is)),
     )
@@ -530,7 +562,8 @@ within_any End n h = tt
 within_any Broken n h = tt
 
 -- what is no fault is as if nothing came yet
-pub as_later : (b : ℕ → Option Begun) (known : ℕ → Option (Option IpAddr)) (t u : ToldOfPorts) (k : ℕ) (io : Io) → is_fault io ≡ false → TellsProxied b known t (at_port Pop (λ of. has_read of k io []) u) → TellsProxied b known t (at_port Pop (λ of. has_read of k Later []) u)
+pub as_later : (b : ℕ → Option Begun) (known : ℕ → Option (Option IpAddr)) (t u : ToldOfPorts) (k : ℕ) (io : Io) → is_fault io ≡ false
+    → TellsProxied b known t (at_port Pop (λ of. has_read of k io []) u) → TellsProxied b known t (at_port Pop (λ of. has_read of k Later []) u)
 as_later b known t u k (Count n) e a = a
 as_later b known t u k Later e a = a
 as_later b known t u k End e a = absurd (true≢false e)

@@ -1,12 +1,12 @@
 //! What a proxy's first line says.
-ghost use Rattle.std.specs.Prelude.{◌≡◌, ◌<◌, ◌≤◌, ◌-◌, length, take, drop, true, ◌&&◌};
-ghost use Rattle.std.specs.Prelude.{MatchOption, Option, IfSome, position, codes};
+ghost use Rattle.std.specs.Prelude.{◌≡◌, ◌<◌, ◌-◌, length, true, ◌&&◌};
+ghost use Rattle.std.specs.Prelude.{MatchOption, Option, IfSome, position};
 ghost use Rattle.std.specs.Net.Grammar.{IsIpv4Text, IsIpv6Text};
 ghost use Rattle.std.specs.declared.net.ip_addr.IpAddr.{IpAddr as Address};
 ghost use Rattle.std.specs.declared.net.ipv4_addr.Ipv4Addr.{Ipv4Addr as Address4};
 ghost use Rattle.std.specs.declared.net.ipv6_addr.Ipv6Addr.{Ipv6Addr as Address6};
 ghost use Rattle.proxy.specs.Lines.{is_space, is_digit, word, rest as behind_word};
-ghost use Rattle.proxy.specs.Lines.{are_digits_behind, is_port, AreEnds, Tells, text_of};
+ghost use Rattle.proxy.specs.Lines.{are_digits_behind, is_port, AreEnds, Tells};
 ghost use Rattle.proxy.specs.Lines.{IsProxyLine};
 
 use std::net::{IpAddr, Ipv4Addr, Ipv6Addr};

@@ -216,7 +216,8 @@ events_still : (owner after : Owners) → ((k c : ℕ) → owner k ≡ Some c �
 events_still owner after more [] i = tt
 events_still owner after more ((e, m) ∷ L) i = (either_still owner after more e i.0, events_still owner after more L i.1)
 
-pub adds_still : (owner after : Owners) → ((k c : ℕ) → owner k ≡ Some c → after k ≡ Some c) → (B : Records) (older L : Log) (beside : Beside) (calls : ℕ) → Adds owner B older L beside calls → Adds after B older L beside calls
+pub adds_still : (owner after : Owners) → ((k c : ℕ) → owner k ≡ Some c → after k ≡ Some c)
+    → (B : Records) (older L : Log) (beside : Beside) (calls : ℕ) → Adds owner B older L beside calls → Adds after B older L beside calls
 adds_still owner after more B older L beside calls a = record {
   events = record { more = a.events.more; is = a.events.is; each = events_still owner after more a.events.more a.events.each; filed = a.events.filed; counted = a.events.counted };
   requests = a.requests;

@@ -1,5 +1,6 @@
 -- Links that come, one after the other, and those that are closed.
-use Rattle.std.proofs.Common.{◌≡◌, ℕ, zero, suc, ◌+◌, ◌<◌, ◌≤◌, Bool, true, false, not, ◌||◌, List, [], ◌∷◌, ◌++◌, length, take, drop, map, get_or, refl, sym, ◌∙◌, ap, arith, Some, None, ⊎_elim, inl, inr, subst, append_assoc, length-append}
+use Rattle.std.proofs.Common.{◌≡◌, ℕ, zero, suc, ◌+◌, ◌<◌, ◌≤◌, Bool, true, false, not, ◌||◌, List, [], ◌∷◌, ◌++◌, length, take, drop, map, get_or, refl, sym, ◌∙◌, ap, arith, Some}
+use Rattle.std.proofs.Common.{None, ⊎_elim, inl, inr, subst, append_assoc, length-append}
 use Rattle.std.specs.Bool.{if◌then◌else◌}
 use Rattle.std.specs.List.{list_any, filter, filter_map, remove}
 use Rattle.std.proofs.lemmas.Bool.{cases_Bool}
@@ -19,7 +20,8 @@ use Rattle.serving.specs.declared.wire.Port.TheVariants.{Pop}
 use Rattle.serving.specs.Calls.{Call, Accepted, Closed}
 use Rattle.serving.specs.declared.links.Seat.{Seat}
 use Rattle.serving.specs.Wires.{opened_by}
-use Rattle.serving.specs.Works.{is_admin, wait_of, arrival_of, closing_of, none_waited, tells_none, moment_of, is_opening, refusals, is_refusal, HasCause, Came, Seated, TurnedAway, seat_of, unseated_of, link_of, is_open_seat, is_shut_seat, has_moved}
+use Rattle.serving.specs.Works.{is_admin, wait_of, arrival_of, closing_of, none_waited, tells_none, moment_of, is_opening, refusals, is_refusal, HasCause, Came, Seated, TurnedAway}
+use Rattle.serving.specs.Works.{seat_of, unseated_of, link_of, is_open_seat, is_shut_seat, has_moved}
 use Rattle.serving.specs.ClientParts.{is_client_write, IsOpening, HaveCome, AreAccepted, closing, IsClosed, AreClosed}
 use Rattle.serving.specs.Parts.{WasGiven}
 use Rattle.serving.proofs.Accepting.{IsRefusal}
@@ -127,7 +129,8 @@ module _ {V : Type 0} (Holds : V → Contents → Type 0) (IsClean : V → Type 
 
   -- ---- one after the other
 
-  come_then : (o o1 o2 : Office V) (seats seats1 seats2 : List Seat) (came1 came2 : List Came) (g1 g2 : Log) (c1 c2 : List Call) → WasGiven Holds IsClean Faults IsUp MayLeave o o1 g1 → WasGiven Holds IsClean Faults IsUp MayLeave o1 o2 g2
+  come_then : (o o1 o2 : Office V) (seats seats1 seats2 : List Seat) (came1 came2 : List Came) (g1 g2 : Log) (c1 c2 : List Call)
+      → WasGiven Holds IsClean Faults IsUp MayLeave o o1 g1 → WasGiven Holds IsClean Faults IsUp MayLeave o1 o2 g2
       → HaveCome Holds IsClean o o1 seats seats1 came1 g1 c1 → HaveCome Holds IsClean o1 o2 seats1 seats2 came2 g2 c2 → HaveCome Holds IsClean o o2 seats seats2 (came1 ++ came2) (g2 ++ g1) (c1 ++ c2)
   come_then o o1 o2 seats seats1 seats2 came1 came2 g1 g2 c1 c2 wa wb a b = record {
     no_moments = none_joined moment_of g2 g1 b.no_moments a.no_moments;
@@ -142,7 +145,8 @@ module _ {V : Type 0} (Holds : V → Contents → Type 0) (IsClean : V → Type 
         omega (arith, e, n, p, q));
     closed = filter_map-append closing_of c1 c2 ∙ (joined _ _ _ _ a.closed b.closed ∙ sym (filter_map-append unseated_of came1 came2));
     seated = b.seated
-        ∙ (ap (λ xs. xs ++ filter_map seat_of came2) a.seated ∙ (append_assoc seats (filter_map seat_of came1) (filter_map seat_of came2) ∙ ap (λ xs. seats ++ xs) (sym (filter_map-append seat_of came1 came2))));
+        ∙ (ap (λ xs. xs ++ filter_map seat_of came2) a.seated
+        ∙ (append_assoc seats (filter_map seat_of came1) (filter_map seat_of came2) ∙ ap (λ xs. seats ++ xs) (sym (filter_map-append seat_of came1 came2))));
     apart = none_of is_admin c1 c2 a.apart b.apart;
     unwritten = none_of is_client_write c1 c2 a.unwritten b.unwritten;
     only = All-append IsOpening g2 g1 b.only a.only;
@@ -152,8 +156,10 @@ module _ {V : Type 0} (Holds : V → Contents → Type 0) (IsClean : V → Type 
   pub accepting_none : (o : Office V) (seats : List Seat) → AreAccepted Holds IsClean o o seats seats 0 true [] []
   accepting_none o seats = record { came = []; come = come_none o seats; enough = λ e. omega arith; all = λ e. cc }
 
-  pub accepted_then : (o o1 o2 : Office V) (seats seats1 seats2 : List Seat) (n : ℕ) (goes : Bool) (g1 g2 : Log) (c1 c2 : List Call) → WasGiven Holds IsClean Faults IsUp MayLeave o o1 g1 → WasGiven Holds IsClean Faults IsUp MayLeave o1 o2 g2
-      → AreAccepted Holds IsClean o o1 seats seats1 n true g1 c1 → AreAccepted Holds IsClean o1 o2 seats1 seats2 1 goes g2 c2 → AreAccepted Holds IsClean o o2 seats seats2 (n + 1) goes (g2 ++ g1) (c1 ++ c2)
+  pub accepted_then : (o o1 o2 : Office V) (seats seats1 seats2 : List Seat) (n : ℕ) (goes : Bool) (g1 g2 : Log) (c1 c2 : List Call)
+      → WasGiven Holds IsClean Faults IsUp MayLeave o o1 g1 → WasGiven Holds IsClean Faults IsUp MayLeave o1 o2 g2
+      → AreAccepted Holds IsClean o o1 seats seats1 n true g1 c1 → AreAccepted Holds IsClean o1 o2 seats1 seats2 1 goes g2 c2
+      → AreAccepted Holds IsClean o o2 seats seats2 (n + 1) goes (g2 ++ g1) (c1 ++ c2)
   accepted_then o o1 o2 seats seats1 seats2 n goes g1 g2 c1 c2 wa wb a b = record {
     came = a.came ++ b.came;
     come = come_then o o1 o2 seats seats1 seats2 a.came b.came g1 g2 c1 c2 wa wb a.come b.come;
@@ -165,10 +171,12 @@ module _ {V : Type 0} (Holds : V → Contents → Type 0) (IsClean : V → Type 
         (b.all e);
   }
 
-  pub accepted_ended : (o o1 : Office V) (seats seats1 : List Seat) (n most : ℕ) (g : Log) (c : List Call) → AreAccepted Holds IsClean o o1 seats seats1 n false g c → AreAccepted Holds IsClean o o1 seats seats1 most false g c
+  pub accepted_ended : (o o1 : Office V) (seats seats1 : List Seat) (n most : ℕ) (g : Log) (c : List Call)
+      → AreAccepted Holds IsClean o o1 seats seats1 n false g c → AreAccepted Holds IsClean o o1 seats seats1 most false g c
   accepted_ended o o1 seats seats1 n most g c a = record { came = a.came; come = a.come; enough = λ e. cc; all = a.all }
 
-  pub accepted_all : (o o1 : Office V) (seats seats1 : List Seat) (n most : ℕ) (g : Log) (c : List Call) → most ≤ n → AreAccepted Holds IsClean o o1 seats seats1 n true g c → AreAccepted Holds IsClean o o1 seats seats1 most true g c
+  pub accepted_all : (o o1 : Office V) (seats seats1 : List Seat) (n most : ℕ) (g : Log) (c : List Call) → most ≤ n
+      → AreAccepted Holds IsClean o o1 seats seats1 n true g c → AreAccepted Holds IsClean o o1 seats seats1 most true g c
   accepted_all o o1 seats seats1 n most g c h a = record { came = a.came; come = a.come; enough = λ e. (let p = a.enough e in omega (arith, p, h)); all = a.all }
 
 -- ---- closing

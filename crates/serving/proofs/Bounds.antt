@@ -1,5 +1,6 @@
 -- How long a request may be that isn't whole.
-use Rattle.std.proofs.Common.{◌≡◌, ℕ, zero, suc, ◌+◌, ◌<◌, ◌≤◌, nat_le, nat_lt, ◌==◌, ◌&&◌, Bool, true, false, List, [], ◌∷◌, length, take, drop, refl, sym, ◌∙◌, ap, arith, Some, None, Option, option_map, ⊎_elim, inl, inr, subst, leb-true, le-leb}
+use Rattle.std.proofs.Common.{◌≡◌, ℕ, zero, suc, ◌+◌, ◌<◌, ◌≤◌, nat_le, nat_lt, ◌==◌, ◌&&◌, Bool, true, false, List, [], ◌∷◌, length, take, drop, refl, sym, ◌∙◌, ap, arith, Some}
+use Rattle.std.proofs.Common.{None, Option, option_map, ⊎_elim, inl, inr, subst, leb-true, le-leb}
 use Rattle.std.specs.Bool.{if◌then◌else◌}
 use Rattle.std.specs.Prelude.{codes, Result, Ok, Err}
 use Rattle.std.specs.Str.{bytes_eq, is_utf8}
@@ -31,7 +32,8 @@ use Rattle.adminhttp.specs.Sites.{Site, is_own}
 use Rattle.serving.specs.declared.requests.Exchange.{Exchange}
 use Rattle.serving.specs.declared.links.Links.{Links}
 use Rattle.serving.specs.Requests.{octets_of, HasOneMore, IsGiven, NotYet, NoCommand, GivenOne}
-use Rattle.serving.specs.HttpWorks.{IsShort, AreShort, HaveComeForAdmin, NoMore, IsKept, IsTurnedAway, WantsMemory, ComesTo, HasHeard, IsOver, HasResponse, GaveNothing, GaveItsEnd, GaveAPiece, HasHttpTurn, IsLate, IsServed, HadHttpTurns, NoneHeld, IsHeldOn, IsClosed}
+use Rattle.serving.specs.HttpWorks.{IsShort, AreShort, HaveComeForAdmin, NoMore, IsKept, IsTurnedAway, WantsMemory, ComesTo, HasHeard, IsOver, HasResponse, GaveNothing, GaveItsEnd}
+use Rattle.serving.specs.HttpWorks.{GaveAPiece, HasHttpTurn, IsLate, IsServed, HadHttpTurns, NoneHeld, IsHeldOn, IsClosed}
 use Rattle.serving.specs.Seen.{Seen, before_commands}
 use Rattle.serving.specs.Turns.{Accepts, ServesAdmin}
 use Rattle.adminhttp.specs.Head.{behind_head, head_text}
@@ -40,7 +42,7 @@ use Rattle.adminhttp.specs.declared.target.Target.TheVariants as target
 use Rattle.adminhttp.specs.declared.no_command.NoCommand.{NoCommand as Unread}
 use Rattle.adminhttp.specs.declared.no_command.NoCommand.TheVariants.{More, Bad, BadPolicy}
 use Rattle.adminhttp.specs.declared.refusal.Refusal.{Refusal}
-use Rattle.adminhttp.specs.declared.refusal.Refusal.TheVariants.{BadRequest, ForeignSite, NotFound, LengthRequired, TooLarge}
+use Rattle.adminhttp.specs.declared.refusal.Refusal.TheVariants.{BadRequest, NotFound, LengthRequired, TooLarge}
 use Rattle.policy.specs.Policy.{Policy}
 use Rattle.policy.specs.PolicyText.{rules_of}
 use Rattle.policy.specs.declared.fault.PolicyFault.{PolicyFault}
@@ -72,7 +74,8 @@ through_within fresh (b ∷ rest) n e = by (fresh && nat_lt 0 (empty_line (b ∷
   one : {a b : ℕ} → Some a ≡ Some b → a ≡ b
   one e = cc
 
-  by : (u : Bool) → ((k : ℕ) → through_empty_line (b == 10) rest ≡ Some k → k ≤ length rest) → (if u then Some (empty_line (b ∷ rest)) else option_map (λ n. 1 + n) (through_empty_line (b == 10) rest)) ≡ Some n
+  by : (u : Bool) → ((k : ℕ) → through_empty_line (b == 10) rest ≡ Some k → k ≤ length rest)
+      → (if u then Some (empty_line (b ∷ rest)) else option_map (λ n. 1 + n) (through_empty_line (b == 10) rest)) ≡ Some n
       → n ≤ suc (length rest)
   by true rec e = let p = empty_within b rest in let q : empty_line (b ∷ rest) ≡ n = one e in omega (arith, p, q)
   by false rec e = grows fresh (through_empty_line (b == 10) rest) (length rest) n rec e
@@ -198,7 +201,8 @@ clerk_put_short : (clerk : List ℕ) (headers : List Header) (behind : List ℕ)
 unfolding clerk_put
 clerk_put_short clerk headers behind e =
     behind_step (body_of headers behind) _ (body_short headers behind)
-    (λ body is more. absurd (behind_step (value_or (credential_of clerk (without_line_end body)) BadRequest) _ (or_no_more (credential_of clerk (without_line_end body)) BadRequest) (λ credential is k. cc) more)) e
+    (λ body is more. absurd (behind_step (value_or (credential_of clerk (without_line_end body)) BadRequest) _
+    (or_no_more (credential_of clerk (without_line_end body)) BadRequest) (λ credential is k. cc) more)) e
 
 policy_no_more : (body : List ℕ) → policy_of body ≡ Err More → ⊥
 unfolding policy_of

@@ -64,18 +64,25 @@ shut_then a b c x y = record { keeps = keeps_then a b c x.keeps y.keeps; seated 
 module _ {V W L : Type 0} (vault : Ghosts V) (wire : the_wire.Ghosts W) (listener : the_listener.Ghosts L) where
   -- nothing
   pub does_none : (s : Server V W L) (F : Log → List Call → Type 0) → F [] [] → Does vault wire listener s s F
-  does_none s F f = part_none vault.holds vault.is_clean vault.faults vault.is_up vault.may_leave wire.asked s.office s.wire _ (unheard vault.holds vault.is_clean listener.heard s.office s.listener, f)
+  does_none s F f = part_none vault.holds vault.is_clean vault.faults vault.is_up vault.may_leave wire.asked s.office s.wire _
+      (unheard vault.holds vault.is_clean listener.heard s.office s.listener, f)
 
   -- one after the other
   pub does_then : (s s1 s2 : Server V W L) (F G H : Log → List Call → Type 0)
-      → ((g1 g2 : Log) (c1 c2 : List Call) → WasGiven vault.holds vault.is_clean vault.faults vault.is_up vault.may_leave s.office s1.office g1 → WasGiven vault.holds vault.is_clean vault.faults vault.is_up vault.may_leave s1.office s2.office g2 → F g1 c1 → G g2 c2 → H (g2 ++ g1) (c1 ++ c2))
+      → ((g1 g2 : Log) (c1 c2 : List Call) → WasGiven vault.holds vault.is_clean vault.faults vault.is_up vault.may_leave s.office s1.office g1
+      → WasGiven vault.holds vault.is_clean vault.faults vault.is_up vault.may_leave s1.office s2.office g2 → F g1 c1 → G g2 c2 → H (g2 ++ g1) (c1 ++ c2))
       → Does vault wire listener s s1 F → Does vault wire listener s1 s2 G → Does vault wire listener s s2 H
   does_then s s1 s2 F G H join a b =
       part_then vault.holds vault.is_clean vault.faults vault.is_up vault.may_leave wire.asked s.office s1.office s2.office s.wire s1.wire s2.wire _ _ _
-      (λ g1 g2 c1 c2 wa wb x y. (heard_then vault.holds vault.is_clean listener.heard vault.faults vault.is_up vault.may_leave s.office s1.office s2.office s.listener s1.listener s2.listener g1 g2 wa wb x.0 y.0, join g1 g2 c1 c2 wa wb x.1 y.1)) a b
+      (λ g1 g2 c1 c2 wa wb x y. (
+        heard_then vault.holds vault.is_clean listener.heard vault.faults vault.is_up vault.may_leave s.office s1.office
+            s2.office s.listener s1.listener s2.listener g1 g2 wa wb x.0 y.0,
+        join g1 g2 c1 c2 wa wb x.1 y.1,
+      )) a b
 
   -- the same, of which something else holds
-  pub does_so : (s s1 : Server V W L) (F G : Log → List Call → Type 0) → ((g : Log) (c : List Call) → WasGiven vault.holds vault.is_clean vault.faults vault.is_up vault.may_leave s.office s1.office g → F g c → G g c)
+  pub does_so : (s s1 : Server V W L) (F G : Log → List Call → Type 0)
+      → ((g : Log) (c : List Call) → WasGiven vault.holds vault.is_clean vault.faults vault.is_up vault.may_leave s.office s1.office g → F g c → G g c)
       → Does vault wire listener s s1 F → Does vault wire listener s s1 G
   does_so s s1 F G so a = part_so vault.holds vault.is_clean vault.faults vault.is_up vault.may_leave wire.asked s.office s1.office s.wire s1.wire _ _ (λ g c wa x. (x.0, so g c wa x.1)) a
 

@@ -4,7 +4,7 @@ use Rattle.std.specs.Bool.{if◌then◌else◌}
 use Rattle.vault.specs.Records.{Records}
 use Rattle.vault.specs.Changes.{Contents}
 use Rattle.office.specs.History.{Tag, Done, Failed, NoMemory, Entry}
-use Rattle.office.specs.Events.{EventTag, Tagged, Log, Trace}
+use Rattle.office.specs.Events.{Tagged, Log, Trace}
 use Rattle.office.specs.Events as event
 use Rattle.office.specs.Trace.{history}
 use Rattle.office.specs.Expected.{IsOutcome, shown_at}
@@ -79,7 +79,8 @@ record Remains (told : Told) (owner : Owners) (T : Trace) (L : Log) (beside : Be
 abbrev with_acts : Beside → List FileAct → Beside
 with_acts beside acts = record { acts = acts; admin = beside.admin; x = beside.x }
 
-remains : (told : Told) (owner : Owners) (T : Trace) (L : Log) (beside : Beside) (seats : List Seat) (acts : List FileAct) → acts ≡ beside.acts → (L' : Log) (acts' : List FileAct) → IsOneFile (trace_of T.base L) acts L' acts'
+remains : (told : Told) (owner : Owners) (T : Trace) (L : Log) (beside : Beside) (seats : List Seat) (acts : List FileAct) → acts ≡ beside.acts
+    → (L' : Log) (acts' : List FileAct) → IsOneFile (trace_of T.base L) acts L' acts'
     → Remains told owner T L beside seats → Remains told owner T L' (with_acts beside acts') seats
 remains told owner T L beside seats acts e _ _ NoFile r = subst (λ a. Remains told owner T L (with_acts beside a) seats) (sym e) r
 remains told owner T L beside seats acts e _ _ (OneFile d class id text t acts' f) r = record {

@@ -1,5 +1,6 @@
 -- What the parts of a turn do together.
-use Rattle.std.proofs.Common.{◌≡◌, ◌||◌, ◌==◌, ℕ, ◌≤◌, Bool, true, false, not, List, [], ◌∷◌, ◌++◌, length, get_or, map, refl, sym, ◌∙◌, ap, arith, Some, Option, ⊎_elim, ◌⊎◌, inl, inr, subst, append_assoc, true≢false}
+use Rattle.std.proofs.Common.{◌≡◌, ◌||◌, ◌==◌, ℕ, ◌≤◌, Bool, true, false, not, List, [], ◌∷◌, ◌++◌, length, get_or, map, refl, sym, ◌∙◌, ap, arith, Some, Option, ⊎_elim, ◌⊎◌, inl}
+use Rattle.std.proofs.Common.{inr, subst, append_assoc, true≢false}
 use Rattle.std.specs.List.{All, Contains, list_any, filter, filter_map}
 use Rattle.std.proofs.lemmas.List.{append-nil}
 use Rattle.std.proofs.lemmas.List.Elements.{All-nil, All-cons, All-head, All-tail, All-append, All-weaker, filter_map-append, filter_agree}
@@ -42,7 +43,8 @@ use Rattle.serving.specs.Newcomers.{newcomer, limit, lies_unread, waited_of, All
 use Rattle.serving.specs.Late.{HasLived, IsNotedSince, HasEndedLate}
 use Rattle.serving.proofs.Timely.{lived_left, lived_right}
 use Rattle.serving.proofs.Settling.{late_still, may_same}
-use Rattle.serving.proofs.Working.{or_true, given_then, asked_then, none_of, count_joined, any_left, any_right, lies_left, lies_right, quiet_none, caused_more, fewer_quiet, fewer_gone, none_joined, turned_left, turned_right}
+use Rattle.serving.proofs.Working.{or_true, given_then, asked_then, none_of, count_joined, any_left, any_right, lies_left, lies_right, quiet_none, caused_more, fewer_quiet}
+use Rattle.serving.proofs.Working.{fewer_gone, none_joined, turned_left, turned_right}
 
 -- ---- deposits
 
@@ -143,7 +145,8 @@ module _ (cp ca cq cl cr cx : List Call) where
   seen_fifth : (p : Call → Bool) → list_any p cr ≡ true → list_any p (((((cp ++ ca) ++ cq) ++ cl) ++ cr) ++ cx) ≡ true
   seen_fifth p h = any_left p ((((cp ++ ca) ++ cq) ++ cl) ++ cr) cx (any_right p (((cp ++ ca) ++ cq) ++ cl) cr h)
 
-accepted_so : {V : Type 0} (Holds : V → Contents → Type 0) (IsClean : V → Type 0) (Faults : V → ℕ) (IsUp : V → Type 0) (MayLeave : V → Contents → Type 0) (o o1 : Office V) (seats seats1 : List Seat) (goes : Bool) (g : Log) (c all : List Call)
+accepted_so : {V : Type 0} (Holds : V → Contents → Type 0) (IsClean : V → Type 0) (Faults : V → ℕ) (IsUp : V → Type 0)
+    (MayLeave : V → Contents → Type 0) (o o1 : Office V) (seats seats1 : List Seat) (goes : Bool) (g : Log) (c all : List Call)
     → (list_any tells_none c ≡ true → list_any tells_none all ≡ true) → (a : AreAccepted Holds IsClean o o1 seats seats1 64 goes g c) → HasAccepted (length seats1) all ⊎ (most_links ≤ length a.came)
 accepted_so Holds IsClean Faults IsUp MayLeave o o1 seats seats1 true g c all more a = inr (a.enough refl)
 accepted_so Holds IsClean Faults IsUp MayLeave o o1 seats seats1 false g c all more a =
@@ -158,16 +161,20 @@ no_wait links e = rw e refl
 
 -- ---- the turn
 
-module _ {V W S H : Type 0} (Holds : V → Contents → Type 0) (IsClean : V → Type 0) (Faults : V → ℕ) (IsUp : V → Type 0) (MayLeave : V → Contents → Type 0) (Asked : W → List Call → Type 0) (AskedFiles : S → List FileCall → Type 0) (Heard : H → List Hearing → Type 0) where
-  pub turn_done : (T : Trace) (now : ℕ) (links links_then : Links) (o o1 o2 o3 o4 o5 o6 : Office V) (w w1 w2 w3 w4 w5 w6 : W) (f f1 : S) (l l1 l2 l3 l4 l5 : H) (seats2 : List Seat) (goes : Bool) (held : List Exchange) (more freed polling polled : Bool) (n0 n1 n2 : List Newcomer)
+module _ {V W S H : Type 0} (Holds : V → Contents → Type 0) (IsClean : V → Type 0) (Faults : V → ℕ) (IsUp : V → Type 0)
+    (MayLeave : V → Contents → Type 0) (Asked : W → List Call → Type 0) (AskedFiles : S → List FileCall → Type 0) (Heard : H → List Hearing → Type 0) where
+  pub turn_done : (T : Trace) (now : ℕ) (links links_then : Links) (o o1 o2 o3 o4 o5 o6 : Office V) (w w1 w2 w3 w4 w5 w6 : W) (f f1 : S)
+      (l l1 l2 l3 l4 l5 : H) (seats2 : List Seat) (goes : Bool) (held : List Exchange) (more freed polling polled : Bool) (n0 n1 n2 : List Newcomer)
       → Part Holds IsClean Faults IsUp MayLeave Asked o w o1 w1 (IsPassed (Waited (millis_of links) ∷ []) now)
       → ((U : Trace) → StandsFor Holds o1 U → WasTold Heard l l1 (idle_ends U links.clients.seats.items))
       → (acc : Part Holds IsClean Faults IsUp MayLeave Asked o1 w1 o2 w2 (AreAccepted Holds IsClean o1 o2 links.clients.seats.items seats2 64 goes))
       → Asking Asked w2 w3 (AskedApart (HasAcceptedForAdmin now 64 more links.requests.exchanges.items held))
       → WasTold Heard l1 l2 []
-      → Part Holds IsClean Faults IsUp MayLeave Asked o2 w3 o3 w4 (WithHeard Holds IsClean Heard o2 l2 o3 l3 (Also (WereServed Holds IsClean o2 o3 (settings links) now n0 freed polling n1 seats2 seats2) (PollsBy freed polling)))
+      → Part Holds IsClean Faults IsUp MayLeave Asked o2 w3 o3 w4
+      (WithHeard Holds IsClean Heard o2 l2 o3 l3 (Also (WereServed Holds IsClean o2 o3 (settings links) now n0 freed polling n1 seats2 seats2) (PollsBy freed polling)))
       → (freed ≡ true → polling ≡ true) → (polling ≡ true → polled ≡ true)
-      → Part Holds IsClean Faults IsUp MayLeave Asked o3 w4 o4 w5 (Also (DidApart Holds IsClean o3 o4 (HeardApart Heard l3 l4 (λ B L. HadHttpTurns links.site now B L held links_then.requests.exchanges.items))) (PollsBy false links_then.requests.poll_now))
+      → Part Holds IsClean Faults IsUp MayLeave Asked o3 w4 o4 w5
+      (Also (DidApart Holds IsClean o3 o4 (HeardApart Heard l3 l4 (λ B L. HadHttpTurns links.site now B L held links_then.requests.exchanges.items))) (PollsBy false links_then.requests.poll_now))
       → ((c : ℕ) → waited_of now (newcomer c n0) ≡ waited_of now (newcomer c links.clients.newcomers.newcomers.items))
       → ((c : ℕ) (n : Newcomer) → newcomer c links.clients.newcomers.newcomers.items ≡ Some n → IsSettled now (Some n) (newcomer c n1))
       → (AllHaveSeats links → All (IsComer now links.clients.newcomers.newcomers.items n1) (filter_map seat_of acc.facts.came))
@@ -175,10 +182,13 @@ module _ {V W S H : Type 0} (Holds : V → Contents → Type 0) (IsClean : V →
       (λ g. AreLateGone now (limit links (length seats2)) links.clients.newcomers.newcomers.items g × HasEndedLate Holds IsClean o4 o5 now (limit links (length seats2)) n1 n2 seats2 g
       × WasTold Heard l4 l5 (late_ends now links.clients.newcomers.seconds links.clients.newcomers.newcomers.items g))
       → ((U : Trace) → StandsFor Holds o5 U → (c : ℕ) → is_open U c ≡ true → newcomer c links_then.clients.newcomers.newcomers.items ≡ newcomer c n2)
-      → ((U : Trace) → StandsFor Holds o5 U → Asking Asked w5 w6 (λ calls. AreClosed U seats2 links_then.clients.seats.items calls × PollsBy polling polled calls × Releases links.clients.wait polled calls))
-      → SpoolPart Holds IsClean Faults IsUp MayLeave AskedFiles o5 f o6 f1 (λ U given calls. IsSpoolTurn (last_tried links) (last_tried links_then) U given calls × (links_then.clients.poll_now ≡ (polled || has_dealt calls)))
+      → ((U : Trace) → StandsFor Holds o5 U
+      → Asking Asked w5 w6 (λ calls. AreClosed U seats2 links_then.clients.seats.items calls × PollsBy polling polled calls × Releases links.clients.wait polled calls))
+      → SpoolPart Holds IsClean Faults IsUp MayLeave AskedFiles o5 f o6 f1
+      (λ U given calls. IsSpoolTurn (last_tried links) (last_tried links_then) U given calls × (links_then.clients.poll_now ≡ (polled || has_dealt calls)))
       → StandsFor Holds o T → IsClean (vault_of o6) → Works Holds Faults IsUp MayLeave Asked AskedFiles Heard T now links o w f l o6 links_then w6 f1 l5
-  turn_done T now links links_then o o1 o2 o3 o4 o5 o6 w w1 w2 w3 w4 w5 w6 f f1 l l1 l2 l3 l4 l5 seats2 goes held more freed polling polled n0 n1 n2 pass idle acc asked unheard served freeing still reqs waited keeps comers late forgets close spool s k6 =
+  turn_done T now links links_then o o1 o2 o3 o4 o5 o6 w w1 w2 w3 w4 w5 w6 f f1 l l1 l2 l3 l4 l5 seats2 goes held more freed polling polled n0 n1 n2
+      pass idle acc asked unheard served freeing still reqs waited keeps comers late forgets close spool s k6 =
       let B = T.base in
       let L = T.log in
       let seconds = limit links (length seats2) in
@@ -224,12 +234,14 @@ module _ {V W S H : Type 0} (Holds : V → Contents → Type 0) (IsClean : V →
       let filed = spool.facts (trace_of B ((gz ++ G3) ++ L)) (subst (λ l. StandsFor Holds o5 (trace_of B l)) (sym (append_assoc gz G3 L)) s5) k6 in
       let sleeps_not : polled ≡ true → millis_of links_then ≡ 0 = λ e. no_wait links_then (filed.1 ∙ is_left polled (has_dealt spool.calls) e) in
       let had = served_so Holds IsClean Faults IsUp MayLeave o2 o3 (way_by (settings links) now n0 seats2 freed polling) way n1 seats2 seats2 gl cl refl refl (λ e. e)
-      (λ i d within. may_same (settings links).slow_guesses now n0 newcomers seats2 freed (get_or seats2 i d).connection (waited (get_or seats2 i d).connection)) (λ e. ap (λ n. n == 0) (sleeps_not (still e))) served.facts.1.0.turns in
+      (λ i d within. may_same (settings links).slow_guesses now n0 newcomers seats2 freed (get_or seats2 i d).connection (waited (get_or seats2 i d).connection))
+      (λ e. ap (λ n. n == 0) (sleeps_not (still e))) served.facts.1.0.turns in
       let unread : All (IsNotedSo n1 B L G4 C5 way.wait way.may seats2) seats2 =
       All-weaker (IsNotedSo n1 B (G1 ++ L) gl cl way.wait way.may seats2) (IsNotedSo n1 B L G4 C5 way.wait way.may seats2)
       (λ q h e.
       lies_left B L way.wait (way.may q.connection) seats2 q.connection G3 gx ((((cp ++ ca) ++ cq) ++ cl) ++ cr) cx
-      (lies_left B L way.wait (way.may q.connection) seats2 q.connection G2 gr (((cp ++ ca) ++ cq) ++ cl) cr (lies_right B L way.wait (way.may q.connection) seats2 q.connection G1 gl ((cp ++ ca) ++ cq) cl (h e))))
+      (lies_left B L way.wait (way.may q.connection) seats2 q.connection G2 gr (((cp ++ ca) ++ cq) ++ cl) cr
+      (lies_right B L way.wait (way.may q.connection) seats2 q.connection G1 gl ((cp ++ ca) ++ cq) cl (h e))))
       seats2 (had.noted_so B (G1 ++ L) s2 k3) in
       let come = acc.facts.come in
       let idle_heard = idle_ends (trace_of B (gp ++ L)) links.clients.seats.items in
@@ -264,7 +276,8 @@ module _ {V W S H : Type 0} (Holds : V → Contents → Type 0) (IsClean : V →
       let moments_p : moments gp ≡ now ∷ [] = ap moments pass.facts.given_is in
       let openings_p : openings gp ≡ 0 = ap openings pass.facts.given_is in
       let refusals_p : refusals gp ≡ 0 = ap refusals pass.facts.given_is in
-      let shut_same : filter (is_shut_seat trace4) seats2 ≡ filter (is_shut_seat after) seats2 = filter_agree (is_shut_seat trace4) (is_shut_seat after) (λ q. ap not (sym (same q.connection))) seats2 in
+      let shut_same : filter (is_shut_seat trace4) seats2 ≡ filter (is_shut_seat after) seats2 =
+      filter_agree (is_shut_seat trace4) (is_shut_seat after) (λ q. ap not (sym (same q.connection))) seats2 in
       let open_same : filter (is_open_seat trace4) seats2 ≡ filter (is_open_seat after) seats2 = filter_agree (is_open_seat trace4) (is_open_seat after) (λ q. sym (same q.connection)) seats2 in
       let seen : Seen = record {
         wait = cp;

@@ -107,10 +107,12 @@ module _ {V : Type 0} (Holds : V → Contents → Type 0) (IsClean : V → Type 
 
   -- ---- all links
 
-  pub were_none : (o : Office V) (set : Settings) (m : ℕ) (ns : List Newcomer) (poll_now : Bool) (noted : List Newcomer) (seats : List Seat) → WereServed Holds IsClean o o set m ns false poll_now noted seats [] [] []
+  pub were_none : (o : Office V) (set : Settings) (m : ℕ) (ns : List Newcomer) (poll_now : Bool) (noted : List Newcomer) (seats : List Seat)
+      → WereServed Holds IsClean o o set m ns false poll_now noted seats [] [] []
   were_none o set m ns poll_now noted seats = record { turns = served_none Holds IsClean Faults IsUp MayLeave o (way_by set m ns seats false poll_now) noted seats; freed_by = λ e. cc }
 
-  pub were_next : (o o1 o2 : Office V) (set : Settings) (m : ℕ) (ns noted : List Newcomer) (seats : List Seat) (now : Clients) (freed poll_now : Bool) (i : ℕ) (d : Seat) (g1 g2 : Log) (c1 c2 : List Call)
+  pub were_next : (o o1 o2 : Office V) (set : Settings) (m : ℕ) (ns noted : List Newcomer) (seats : List Seat) (now : Clients) (freed poll_now : Bool)
+      (i : ℕ) (d : Seat) (g1 g2 : Log) (c1 c2 : List Call)
       → settings_of now ≡ set → now.seats.items ≡ seats → i < length now.seats.items
       → (now.lock_released ≡ true → freed ≡ true) → (now.poll_now ≡ true → poll_now ≡ true)
       → ((T U : Trace) → StandsFor Holds o1 T → StandsFor Holds o2 U
@@ -132,7 +134,8 @@ module _ {V : Type 0} (Holds : V → Contents → Type 0) (IsClean : V → Type 
       (line_more set.wait set.wait (set.slow_guesses || now.lock_released) (set.slow_guesses || freed) refl (or_more set.slow_guesses now.lock_released freed still))
       (λ j e inside. may_more set.slow_guesses m ns seats now.lock_released freed (get_or (take i seats) j e).connection still) polled a.turns in
       let next = served_so Holds IsClean Faults IsUp MayLeave o1 o2 (way_at m now poll_now) way noted now.seats.items (q ∷ []) g2 c2 (ap (λ xs. share_by (length xs)) (sym is)) (sym wait)
-      (line_more now.wait set.wait (now.guesses.are_slow || now.lock_released) (set.slow_guesses || freed) (sym wait) (λ e. or_more set.slow_guesses now.lock_released freed still (subst (λ b. (b || now.lock_released) ≡ true) slow e)))
+      (line_more now.wait set.wait (now.guesses.are_slow || now.lock_released) (set.slow_guesses || freed) (sym wait)
+      (λ e. or_more set.slow_guesses now.lock_released freed still (subst (λ b. (b || now.lock_released) ≡ true) slow e)))
       (All-cons (λ r. may_at m now r.connection ≡ true → way.may r.connection ≡ true) q []
       (subst (λ xs. may_at m now (get_or xs i d).connection ≡ true → way.may (get_or xs i d).connection ≡ true) (sym is)
       (may_then set.slow_guesses now.guesses.are_slow now.lock_released freed m ns now.newcomers.newcomers.items seats i d slow still within_seats touched))
@@ -140,11 +143,13 @@ module _ {V : Type 0} (Holds : V → Contents → Type 0) (IsClean : V → Type 
       record {
         turns = served_more Holds IsClean Faults IsUp MayLeave o o1 o2 way now.newcomers.newcomers.items noted seats now.seats.items i d g1 g2 c1 c2 is within unread wa wb first next;
         freed_by = freed_next o o1 o2 set.wait now.lock_released freed seats q g1 g2 (contained seats now.seats.items i d is within_seats)
-            (subst (λ n. (T U : Trace) → StandsFor Holds o1 T → StandsFor Holds o2 U → freed ≡ (now.lock_released || has_freed n (live (history T) q.connection) (live (history U) q.connection))) wait law)
+            (subst (λ n. (T U : Trace) → StandsFor Holds o1 T → StandsFor Holds o2 U
+            → freed ≡ (now.lock_released || has_freed n (live (history T) q.connection) (live (history U) q.connection))) wait law)
             (subst (λ n. freed ≡ true → (now.lock_released ≡ true) ⊎ ((n == 0) ≡ false)) wait waits) wa wb a.freed_by;
       }
 
-  pub were_whole : (o o1 : Office V) (set : Settings) (m : ℕ) (ns : List Newcomer) (freed poll_now : Bool) (noted : List Newcomer) (seats now : List Seat) (n : ℕ) (g : Log) (c : List Call) → now ≡ seats → length now ≤ n → WereServed Holds IsClean o o1 set m ns freed poll_now noted seats (take n seats) g c
+  pub were_whole : (o o1 : Office V) (set : Settings) (m : ℕ) (ns : List Newcomer) (freed poll_now : Bool) (noted : List Newcomer) (seats now : List Seat) (n : ℕ) (g : Log) (c : List Call)
+      → now ≡ seats → length now ≤ n → WereServed Holds IsClean o o1 set m ns freed poll_now noted seats (take n seats) g c
       → WereServed Holds IsClean o o1 set m ns freed poll_now noted seats seats g c
   were_whole o o1 set m ns freed poll_now noted seats now n g c is h a = record {
     turns = served_whole Holds IsClean Faults IsUp MayLeave o o1 (way_by set m ns seats freed poll_now) noted seats now n g c is h a.turns;

@@ -36,7 +36,8 @@ none_yet before = sym (append-nil before)
 one_more : (before : List (Option ℕ)) (moments : List ℕ) (now : ℕ) → (before ++ answers false moments) ++ Some now ∷ [] ≡ before ++ answers false (moments ++ now ∷ [])
 one_more before moments now =
     append_assoc before (answers false moments) (Some now ∷ [])
-    ∙ ap (λ xs. before ++ xs) (ap (λ xs. xs ++ Some now ∷ []) (append-nil (map (λ m. Some m) moments)) ∙ (sym (map-append (λ m. Some m) moments (now ∷ [])) ∙ sym (append-nil (map (λ m. Some m) (moments ++ now ∷ [])))))
+    ∙ ap (λ xs. before ++ xs) (ap (λ xs. xs ++ Some now ∷ []) (append-nil (map (λ m. Some m) moments))
+    ∙ (sym (map-append (λ m. Some m) moments (now ∷ [])) ∙ sym (append-nil (map (λ m. Some m) (moments ++ now ∷ [])))))
 
 none_more : (before : List (Option ℕ)) (moments : List ℕ) → (before ++ answers false moments) ++ None ∷ [] ≡ before ++ answers true moments
 none_more before moments =
@@ -73,7 +74,8 @@ serves_told Holds Tells TellsFiles T o w w1 f seats held site told s = record {
 }
 
 -- the moment after a wait
-pub passed_by : {V W : Type 0} (Holds : V → Contents → Type 0) (IsClean : V → Type 0) (Faults : V → ℕ) (IsUp : V → Type 0) (MayLeave : V → Contents → Type 0) (Asked : W → List Call → Type 0) (o o1 : Office V) (w w0 w1 : W) (wait : Call) (now : ℕ)
+pub passed_by : {V W : Type 0} (Holds : V → Contents → Type 0) (IsClean : V → Type 0) (Faults : V → ℕ) (IsUp : V → Type 0)
+    (MayLeave : V → Contents → Type 0) (Asked : W → List Call → Type 0) (o o1 : Office V) (w w0 w1 : W) (wait : Call) (now : ℕ)
     → WasAsked Asked w w0 (wait ∷ []) → Part Holds IsClean Faults IsUp MayLeave Asked o w0 o1 w1 (IsPassed [] now) → Part Holds IsClean Faults IsUp MayLeave Asked o w o1 w1 (IsPassed (wait ∷ []) now)
 passed_by Holds IsClean Faults IsUp MayLeave Asked o o1 w w0 w1 wait now waited p = record {
   given = p.given;
@@ -122,7 +124,8 @@ serves_still Holds Tells TellsFiles T o o1 w f seats held site still s = record 
   of_site = s.of_site;
 }
 
-module _ {V W S H : Type 0} (Holds : V → Contents → Type 0) (IsClean : V → Type 0) (Faults : V → ℕ) (IsUp : V → Type 0) (MayLeave : V → Contents → Type 0) (Asked : W → List Call → Type 0) (AskedFiles : S → List FileCall → Type 0) (Heard : H → List Hearing → Type 0) (T : Trace) where
+module _ {V W S H : Type 0} (Holds : V → Contents → Type 0) (IsClean : V → Type 0) (Faults : V → ℕ) (IsUp : V → Type 0)
+    (MayLeave : V → Contents → Type 0) (Asked : W → List Call → Type 0) (AskedFiles : S → List FileCall → Type 0) (Heard : H → List Hearing → Type 0) (T : Trace) where
   gone_none : (l : Links) (o : Office V) (w : W) (s : S) (h : H) → StandsFor Holds o T → HasGoneOn Holds IsClean Faults IsUp MayLeave Asked AskedFiles Heard T [] l o w s h l o w s h
   gone_none l o w s h stands = record { given = []; turns = NoTurn; stands = stands; admitted = tt; counted = omega arith; failed = λ e. cc }
 
@@ -139,7 +142,8 @@ module _ {V W S H : Type 0} (Holds : V → Contents → Type 0) (IsClean : V →
       record {
         given = given_in turn.seen ++ a.given;
         turns = OneMore moments a.given l1 o1 w1 s1 h1 now l2 o2 w2 s2 h2 o3 a.turns turn left kept;
-        stands = subst (λ x. StandsFor Holds o3 (trace_of T.base x)) (sym (append_assoc (given_in turn.seen) a.given T.log)) (still (trace_of T.base (given_in turn.seen ++ (a.given ++ T.log))) turn.stands);
+        stands = subst (λ x. StandsFor Holds o3 (trace_of T.base x)) (sym (append_assoc (given_in turn.seen) a.given T.log))
+            (still (trace_of T.base (given_in turn.seen ++ (a.given ++ T.log))) turn.stands);
         admitted = newly_then T.base T.log a.given (given_in turn.seen) a.admitted turn.admitted;
         counted = (let p = a.counted in let q = turn.counted in omega (arith, p, q, more));
         failed = λ e.
@@ -152,7 +156,8 @@ module _ {V W S H : Type 0} (Holds : V → Contents → Type 0) (IsClean : V →
             (or_cases (list_any is_failed (given_in turn.seen)) (list_any is_failed a.given) (sym (list_any-append is_failed (given_in turn.seen) a.given) ∙ e));
       }
 
-module _ {V W S H C : Type 0} (Holds : V → Contents → Type 0) (IsClean : V → Type 0) (Faults : V → ℕ) (IsUp : V → Type 0) (MayLeave : V → Contents → Type 0) (Asked : W → List Call → Type 0) (AskedFiles : S → List FileCall → Type 0) (Heard : H → List Hearing → Type 0) (Gave : C → List (Option ℕ) → Type 0)
+module _ {V W S H C : Type 0} (Holds : V → Contents → Type 0) (IsClean : V → Type 0) (Faults : V → ℕ) (IsUp : V → Type 0)
+    (MayLeave : V → Contents → Type 0) (Asked : W → List Call → Type 0) (AskedFiles : S → List FileCall → Type 0) (Heard : H → List Hearing → Type 0) (Gave : C → List (Option ℕ) → Type 0)
     (l : Links) (o : Office V) (w : W) (s : S) (h : H) (k : C) where
   pub turned_none : HasTurned Holds IsClean Faults IsUp MayLeave Asked AskedFiles Heard Gave false [] l o w s h k l o w s h k
   turned_none = record {

@@ -102,7 +102,8 @@ module _ {H : Type 0} (Heard : H → List Hearing → Type 0) where
   pub idle_shut : (l l1 : H) (T : Trace) (q : Seat) → is_open_seat T q ≡ false → ((h : List Hearing) → Heard l h → Heard l1 (h ++ idle_end q ∷ [])) → WasTold Heard l l1 (idle_ends T (q ∷ []))
   idle_shut l l1 T q e heard = subst (WasTold Heard l l1) (sym (ap (map idle_end) (shut_first T q [] e))) (record { is = heard })
 
-  pub idle_more : (l l1 l2 : H) (T : Trace) (seats : List Seat) (i : ℕ) (d : Seat) → i < length seats → WasTold Heard l l1 (idle_ends T (take i seats)) → WasTold Heard l1 l2 (idle_ends T (get_or seats i d ∷ []))
+  pub idle_more : (l l1 l2 : H) (T : Trace) (seats : List Seat) (i : ℕ) (d : Seat) → i < length seats
+      → WasTold Heard l l1 (idle_ends T (take i seats)) → WasTold Heard l1 l2 (idle_ends T (get_or seats i d ∷ []))
       → WasTold Heard l l2 (idle_ends T (take (i + 1) seats))
   idle_more l l1 l2 T seats i d within a b =
       let next : suc i ≡ i + 1 = omega arith in
@@ -126,7 +127,8 @@ module _ {H : Type 0} (Heard : H → List Hearing → Type 0) where
       subst (WasTold Heard l l1) (ap (λ n. late_ends now n ys g) is ∙ same_ends now seconds other xs ys less g gone) a
 
   -- of what was done after a log
-  pub apart_then : (l l1 l2 : H) (B : Records) (L g1 g2 : Log) → WasTold Heard l l1 (heard_of_all B L g1) → WasTold Heard l1 l2 (heard_of_all B (g1 ++ L) g2) → WasTold Heard l l2 (heard_of_all B L (g2 ++ g1))
+  pub apart_then : (l l1 l2 : H) (B : Records) (L g1 g2 : Log) → WasTold Heard l l1 (heard_of_all B L g1)
+      → WasTold Heard l1 l2 (heard_of_all B (g1 ++ L) g2) → WasTold Heard l l2 (heard_of_all B L (g2 ++ g1))
   apart_then l l1 l2 B L g1 g2 a b = subst (WasTold Heard l l2) (sym (heard_joined B L g1 g2)) (told_then l l1 l2 (heard_of_all B L g1) (heard_of_all B (g1 ++ L) g2) a b)
 
   -- after it no event was given
@@ -139,7 +141,8 @@ module _ {H : Type 0} (Heard : H → List Hearing → Type 0) where
       subst (WasTold Heard l l1) (sym (ap (λ g. heard_of_all B L (g2 ++ g)) none ∙ ap (heard_of_all B L) (append-nil g2))) (subst (λ g. WasTold Heard l l1 (heard_of_all B (g ++ L) g2)) none a)
 
   -- a command
-  pub command_told : (l l1 : H) (B : Records) (L : Log) (command : AdminCommand) (m : EventTag) (told : Account) → told ≡ account_of (trace_of B L) (event.Admin command) m → WasTold Heard l l1 (heard_by command told)
+  pub command_told : (l l1 : H) (B : Records) (L : Log) (command : AdminCommand) (m : EventTag) (told : Account)
+      → told ≡ account_of (trace_of B L) (event.Admin command) m → WasTold Heard l l1 (heard_by command told)
       → WasTold Heard l l1 (heard_of_all B L ((event.Admin command, m) ∷ []))
   command_told l l1 B L command m told is a = subst (λ x. WasTold Heard l l1 (heard_by command x)) is a
 
@@ -150,10 +153,12 @@ module _ {V H : Type 0} (Holds : V → Contents → Type 0) (IsClean : V → Typ
   unheard o l = record { is = λ B L s k. told_none Heard l }
 
   -- nothing is heard after it
-  pub heard_on : (o o1 : Office V) (l l1 l2 : H) (given : Log) → ((h : List Hearing) → Heard l1 h → Heard l2 h) → WasHeard Holds IsClean Heard o l o1 l1 given → WasHeard Holds IsClean Heard o l o1 l2 given
+  pub heard_on : (o o1 : Office V) (l l1 l2 : H) (given : Log) → ((h : List Hearing) → Heard l1 h → Heard l2 h)
+      → WasHeard Holds IsClean Heard o l o1 l1 given → WasHeard Holds IsClean Heard o l o1 l2 given
   heard_on o o1 l l1 l2 given same a = record { is = λ B L s k. told_on Heard l l1 l2 (heard_of_all B L given) same (a.is B L s k) }
 
-  pub heard_then : (Faults : V → ℕ) (IsUp : V → Type 0) (MayLeave : V → Contents → Type 0) (o o1 o2 : Office V) (l l1 l2 : H) (g1 g2 : Log) → WasGiven Holds IsClean Faults IsUp MayLeave o o1 g1 → WasGiven Holds IsClean Faults IsUp MayLeave o1 o2 g2
+  pub heard_then : (Faults : V → ℕ) (IsUp : V → Type 0) (MayLeave : V → Contents → Type 0) (o o1 o2 : Office V) (l l1 l2 : H) (g1 g2 : Log)
+      → WasGiven Holds IsClean Faults IsUp MayLeave o o1 g1 → WasGiven Holds IsClean Faults IsUp MayLeave o1 o2 g2
       → WasHeard Holds IsClean Heard o l o1 l1 g1 → WasHeard Holds IsClean Heard o1 l1 o2 l2 g2 → WasHeard Holds IsClean Heard o l o2 l2 (g2 ++ g1)
   heard_then Faults IsUp MayLeave o o1 o2 l l1 l2 g1 g2 wa wb a b = record {
     is = λ B L s k. apart_then Heard l l1 l2 B L g1 g2 (a.is B L s (wb.clean k)) (b.is B (g1 ++ L) (wa.stands B L s (wb.clean k)) k);

@@ -1,5 +1,6 @@
 -- What is done for the links of the administration, one after the other.
-use Rattle.std.proofs.Common.{◌≡◌, ℕ, zero, suc, ◌+◌, ◌<◌, ◌≤◌, nat_le, Bool, true, false, not, ◌||◌, ◌==◌, List, [], ◌∷◌, ◌++◌, length, take, drop, set, get_or, refl, sym, ◌∙◌, ap, arith, Some, None, Option, IfNone, ⊎_elim, ◌⊎◌, inl, inr, subst, true≢false, append_assoc, length-append, le-leb, leb-true}
+use Rattle.std.proofs.Common.{◌≡◌, ℕ, zero, suc, ◌+◌, ◌<◌, ◌≤◌, nat_le, Bool, true, false, not, ◌||◌, ◌==◌, List, [], ◌∷◌, ◌++◌, length, take, drop, set, get_or, refl, sym, ◌∙◌}
+use Rattle.std.proofs.Common.{ap, arith, Some, None, Option, IfNone, ⊎_elim, ◌⊎◌, inl, inr, subst, true≢false, append_assoc, length-append, le-leb, leb-true}
 use Rattle.std.specs.Bool.{if◌then◌else◌}
 use Rattle.std.specs.List.{list_any, remove}
 use Rattle.std.proofs.lemmas.Bool.{cases_Bool}
@@ -38,18 +39,22 @@ module _ (now : ℕ) where
   come_then _ _ h3 _ m _ c2 (NoMore held) b = let e : m ≡ 0 + m = omega arith in subst (λ k. HaveComeForAdmin now held h3 k c2) e b
   come_then _ _ h3 _ m _ c2 (IsKept link held more held_then came calls one rest) b =
       let e : suc (came + m) ≡ suc came + m = omega arith in
-      subst (λ k. HaveComeForAdmin now held h3 k (Accepted Admin (Some link) ∷ (calls ++ c2))) e (IsKept link held more h3 (came + m) (calls ++ c2) one (come_then more held_then h3 came m calls c2 rest b))
+      subst (λ k. HaveComeForAdmin now held h3 k (Accepted Admin (Some link) ∷ (calls ++ c2))) e
+      (IsKept link held more h3 (came + m) (calls ++ c2) one (come_then more held_then h3 came m calls c2 rest b))
   come_then _ _ h3 _ m _ c2 (IsTurnedAway link held held_then came calls full rest) b =
       let e : suc (came + m) ≡ suc came + m = omega arith in
-      subst (λ k. HaveComeForAdmin now held h3 k (Accepted Admin (Some link) ∷ Closed Admin link ∷ (calls ++ c2))) e (IsTurnedAway link held h3 (came + m) (calls ++ c2) full (come_then held held_then h3 came m calls c2 rest b))
+      subst (λ k. HaveComeForAdmin now held h3 k (Accepted Admin (Some link) ∷ Closed Admin link ∷ (calls ++ c2))) e
+      (IsTurnedAway link held h3 (came + m) (calls ++ c2) full (come_then held held_then h3 came m calls c2 rest b))
   come_then _ _ h3 _ m _ c2 (WantsMemory link held held_then came calls rest) b =
       let e : suc (came + m) ≡ suc came + m = omega arith in
-      subst (λ k. HaveComeForAdmin now held h3 k (Accepted Admin (Some link) ∷ Closed Admin link ∷ (calls ++ c2))) e (WantsMemory link held h3 (came + m) (calls ++ c2) (come_then held held_then h3 came m calls c2 rest b))
+      subst (λ k. HaveComeForAdmin now held h3 k (Accepted Admin (Some link) ∷ Closed Admin link ∷ (calls ++ c2))) e
+      (WantsMemory link held h3 (came + m) (calls ++ c2) (come_then held held_then h3 came m calls c2 rest b))
 
   pub accepted_none : (held : List Exchange) → HasAcceptedForAdmin now 0 true held held []
   accepted_none held = record { came = 0; arrivals = []; come = NoMore held; calls_are = refl; enough = λ e. omega arith }
 
-  pub accepted_then : (h1 h2 h3 : List Exchange) (n m : ℕ) (goes : Bool) (c1 c2 : List Call) → HasAcceptedForAdmin now n true h1 h2 c1 → HasAcceptedForAdmin now m goes h2 h3 c2 → HasAcceptedForAdmin now (n + m) goes h1 h3 (c1 ++ c2)
+  pub accepted_then : (h1 h2 h3 : List Exchange) (n m : ℕ) (goes : Bool) (c1 c2 : List Call) → HasAcceptedForAdmin now n true h1 h2 c1
+      → HasAcceptedForAdmin now m goes h2 h3 c2 → HasAcceptedForAdmin now (n + m) goes h1 h3 (c1 ++ c2)
   accepted_then h1 h2 h3 n m goes c1 c2 a b =
       let last : List Call = if goes then [] else Accepted Admin None ∷ [] in
       record {
@@ -62,13 +67,15 @@ module _ (now : ℕ) where
 
   -- fewer
   pub accepted_less : (h1 h2 : List Exchange) (n m : ℕ) (goes : Bool) (c : List Call) → (goes ≡ true → m ≤ n) → HasAcceptedForAdmin now n goes h1 h2 c → HasAcceptedForAdmin now m goes h1 h2 c
-  accepted_less h1 h2 n m goes c less a = record { came = a.came; arrivals = a.arrivals; come = a.come; calls_are = a.calls_are; enough = λ e. (let p = a.enough e in let q = less e in omega (arith, p, q)) }
+  accepted_less h1 h2 n m goes c less a =
+      record { came = a.came; arrivals = a.arrivals; come = a.come; calls_are = a.calls_are; enough = λ e. (let p = a.enough e in let q = less e in omega (arith, p, q)) }
 
 -- ---- what is read of a request
 
 module _ (site : Site) (B : Records) (L : Log) (e e2 : Exchange) where
   pub heard_piece : (n : ℕ) (piece : List ℕ) (g1 g2 : Log) (c1 c2 : List Call) → e.response ≡ None → e2.is_over ≡ false → IfNone e2.response (e2.read.items ≡ e.read.items ++ piece)
-      → e2.link ≡ e.link → e2.written ≡ e.written → g1 ≡ [] → c1 ≡ Read Admin e.link most_at_once (Count n) piece ∷ [] → (c2 ≡ []) × ComesTo site B (g1 ++ L) (e.read.items ++ piece) g2 (response_of e2) → HasHeard site B L e e2 (g2 ++ g1) (c1 ++ c2)
+      → e2.link ≡ e.link → e2.written ≡ e.written → g1 ≡ [] → c1 ≡ Read Admin e.link most_at_once (Count n) piece ∷ []
+      → (c2 ≡ []) × ComesTo site B (g1 ++ L) (e.read.items ++ piece) g2 (response_of e2) → HasHeard site B L e e2 (g2 ++ g1) (c1 ++ c2)
   heard_piece n piece g1 g2 c1 c2 none live reads link written none_given one_call q =
       let call = Read Admin e.link most_at_once (Count n) piece in
       let comes = subst (λ g. ComesTo site B (g ++ L) (e.read.items ++ piece) g2 (response_of e2)) none_given q.1 in
@@ -179,7 +186,8 @@ told_next e e1 e2 n m k j c1 c2 (inl (same, no_times, no_octets, no_calls)) b =
     (subst (λ c. IsToldOf e1 e2 (n + m) (k + j) (c ++ c2)) (sym no_calls) (told_less e1 e2 m (n + m) j (k + j) c2 times octets b))
 told_next e e1 e2 n m k j c1 c2 (inr a) b = told_then e e1 e2 n m k j c1 c2 a b
 
-pub told_more : (e e1 e2 : Exchange) (n m k j times octets : ℕ) (c1 c2 : List Call) → times ≤ n + m → octets ≤ k + j → ToldSoFar e e1 n k c1 → IsToldOf e1 e2 m j c2 → IsToldOf e e2 times octets (c1 ++ c2)
+pub told_more : (e e1 e2 : Exchange) (n m k j times octets : ℕ) (c1 c2 : List Call) → times ≤ n + m → octets ≤ k + j → ToldSoFar e e1 n k c1
+    → IsToldOf e1 e2 m j c2 → IsToldOf e e2 times octets (c1 ++ c2)
 told_more e e1 e2 n m k j times octets c1 c2 h h2 a b = told_less e e2 (n + m) times (k + j) octets (c1 ++ c2) h h2 (told_next e e1 e2 n m k j c1 c2 a b)
 
 -- nothing more can be written for now
@@ -241,9 +249,11 @@ told_no_response e none = record {
 
 module _ (e e2 : Exchange) (r : Response) where
   -- all is written
-  pub told_whole : e.response ≡ Some r → e2.link ≡ e.link → e2.read ≡ e.read → e2.response ≡ e.response → e2.written ≡ e.written → e2.is_over ≡ true → length (octets_of r) ≤ e.written → Tells e e2 0 0 false []
+  pub told_whole : e.response ≡ Some r → e2.link ≡ e.link → e2.read ≡ e.read → e2.response ≡ e.response → e2.written ≡ e.written → e2.is_over ≡ true
+      → length (octets_of r) ≤ e.written → Tells e e2 0 0 false []
   told_whole has link read same written over whole =
-      let full : is_whole e2.response e2.written ≡ true = whole_here e2.response r e2.written (same ∙ has) ∙ (ap (nat_le (length (octets_of r))) written ∙ le-leb (length (octets_of r)) e.written whole) in
+      let full : is_whole e2.response e2.written ≡ true = whole_here e2.response r e2.written (same ∙ has)
+      ∙ (ap (nat_le (length (octets_of r))) written ∙ le-leb (length (octets_of r)) e.written whole) in
       record {
         is = record {
           link = link;
@@ -353,7 +363,8 @@ module _ (site : Site) (now : ℕ) (B : Records) (L : Log) (e t : Exchange) (g :
   closed turn over l same =
       subst (λ k. HadHttpTurns site now B L (e ∷ []) [] g (c ++ Closed Admin k ∷ [])) (sym same) (IsClosed L g [] e t [] [] c [] turn over (NoneHeld (g ++ L)))
 
-pub closed_so : (site : Site) (now : ℕ) (B : Records) (L : Log) (e t : Exchange) (g1 g2 : Log) (c1 c2 : List Call) → HasHttpTurn site now B L e t g1 c1 → t.is_over ≡ true → (l : Link) → l ≡ e.link → g2 ≡ [] → c2 ≡ Closed Admin l ∷ []
+pub closed_so : (site : Site) (now : ℕ) (B : Records) (L : Log) (e t : Exchange) (g1 g2 : Log) (c1 c2 : List Call)
+    → HasHttpTurn site now B L e t g1 c1 → t.is_over ≡ true → (l : Link) → l ≡ e.link → g2 ≡ [] → c2 ≡ Closed Admin l ∷ []
     → HadHttpTurns site now B L (e ∷ []) [] (g2 ++ g1) (c1 ++ c2)
 closed_so site now B L e t g1 g2 c1 c2 turn over l same none call =
     subst (λ g. HadHttpTurns site now B L (e ∷ []) [] (g ++ g1) (c1 ++ c2)) (sym none)
@@ -399,7 +410,8 @@ module _ (site : Site) (now place : ℕ) (xs ys zs : List Exchange) (B : Records
       ∙ (sym (append_assoc a.done (take 1 (drop place ys)) (drop 1 (drop place ys)))
       ∙ ap (λ l. (a.done ++ take 1 (drop place ys)) ++ l) (drop-drop 1 place ys ∙ sym behind)))
 
-  pub had_held : HadSome site now place xs ys B L g1 c1 → HadHttpTurns site now B (g1 ++ L) (take 1 (drop place ys)) (take 1 (drop place zs)) g2 c2 → take place zs ≡ take place ys → drop (place + 1) zs ≡ drop (place + 1) ys
+  pub had_held : HadSome site now place xs ys B L g1 c1 → HadHttpTurns site now B (g1 ++ L) (take 1 (drop place ys)) (take 1 (drop place zs)) g2 c2
+      → take place zs ≡ take place ys → drop (place + 1) zs ≡ drop (place + 1) ys
       → HadSome site now (place + 1) xs zs B L (g2 ++ g1) (c1 ++ c2)
   had_held a turn front behind = record {
     done = a.done ++ take 1 (drop place ys);

@@ -1,10 +1,11 @@
 -- What happens to one link leaves each link served.
-use Rattle.std.proofs.Common.{◌≡◌, ℕ, ◌+◌, Bool, true, false, not, ◌&&◌, ◌||◌, ◌==◌, nat_lt, lt-ltb, List, [], ◌∷◌, ◌++◌, take, refl, sym, ◌∙◌, ap, None, Some, Option, eq-eqb, ne_eqb, ⊎_elim, subst, append-nil, true≢false, inl, inr, length}
+use Rattle.std.proofs.Common.{◌≡◌, ℕ, ◌+◌, Bool, true, false, not, ◌&&◌, ◌||◌, ◌==◌, nat_lt, lt-ltb, List, [], ◌∷◌, ◌++◌, take, refl, sym, ◌∙◌, ap, None, Some, Option, eq-eqb}
+use Rattle.std.proofs.Common.{ne_eqb, ⊎_elim, subst, append-nil, true≢false, inl, inr, length}
 use Rattle.std.specs.Bool.{if◌then◌else◌}
 use Rattle.std.proofs.lemmas.Bool.{cases_eq}
 use Rattle.vault.specs.Records.{Records}
 use Rattle.office.specs.History.{Tag}
-use Rattle.office.specs.Events.{Event, EventTag, Tagged, Ignored, Log, Trace}
+use Rattle.office.specs.Events.{Event, EventTag, Tagged, Log}
 use Rattle.office.specs.Events as event
 use Rattle.office.specs.Trace.{rest, history, is_open}
 use Rattle.office.specs.Taken.{trace_of, all_taken_by}
@@ -147,8 +148,10 @@ module _ (told : Told) (owner : Owners) (B : Records) (L : Log) (k c : ℕ) wher
         (λ (e : j ≡ k).
         (let at_j : owner j ≡ Some c = ap owner e ∙ at_k in
         let s : IsServed B L (Some c) (told.read j) (told.written j) = subst (λ o. IsServed B L o (told.read j) (told.written j)) at_j (a.each j) in
-        subst (λ o. IsServed B ((event.Bytes c piece, Tagged t) ∷ L) o (more_at k piece told.read j) (told.written j)) {y = owner j} (sym at_j)
-        (subst (λ i. more_at i piece told.read j ≡ given_by ((event.Bytes c piece, Tagged t) ∷ L) c) e (more_same j piece told.read ∙ (ap (λ xs. xs ++ piece) s.0 ∙ sym (bytes_same L c piece t))), s.1)))
+        subst (λ o. IsServed B ((event.Bytes c piece, Tagged t) ∷ L) o (more_at k piece told.read j) (told.written j)) {y = owner j} (sym at_j) (
+          subst (λ i. more_at i piece told.read j ≡ given_by ((event.Bytes c piece, Tagged t) ∷ L) c) e (more_same j piece told.read ∙ (ap (λ xs. xs ++ piece) s.0 ∙ sym (bytes_same L c piece t))),
+          s.1,
+        )))
         (λ (ne : j ≡ k → ⊥).
         same_lists_served B ((event.Bytes c piece, Tagged t) ∷ L) (owner j) (told.read j) (told.written j) (more_at k piece told.read j) (told.written j) (more_other k j piece told.read ne) refl
         (stays B L (event.Bytes c piece) (Tagged t) (owner j) (told.read j) (told.written j) (a.each j) (λ d at_j. (bytes_other L c d piece t (apart owner j k c d a.own at_k ne at_j), refl))))

@@ -1,5 +1,6 @@
 -- The text of a name is read as that name, and no other text is.
-use Rattle.std.proofs.Common.{◌≡◌, ℕ, ◌+◌, ◌<◌, ◌≤◌, List, ◌∷◌, ◌++◌, Bool, true, false, cond, length, take, drop, get_or, refl, sym, ◌∙◌, ap, ap₂, subst, ⊎_elim, Option, Some, None, lt-ltb, le-ltb, codes}
+use Rattle.std.proofs.Common.{◌≡◌, ℕ, ◌+◌, ◌<◌, ◌≤◌, List, ◌∷◌, ◌++◌, Bool, true, false, cond, length, take, drop, get_or, refl, sym, ◌∙◌, ap, ap₂, subst, ⊎_elim, Option, Some}
+use Rattle.std.proofs.Common.{None, lt-ltb, le-ltb, codes}
 use Rattle.std.proofs.lemmas.Bool.{and_parts, cases_lt, eqb-true}
 use Rattle.std.proofs.lemmas.Option.{option_and_then_some}
 use Rattle.std.proofs.lemmas.List.Sums.{split_at_first, passes_at_first}

@@ -1,5 +1,6 @@
 -- Newcomers, each with its seat, and those that are noted anew.
-use Rattle.std.proofs.Common.{◌≡◌, ◌≤◌, ◌<◌, ℕ, zero, suc, ◌==◌, Bool, true, false, List, [], ◌∷◌, ◌++◌, length, drop, get_or, refl, sym, ◌∙◌, ap, arith, Some, None, ⊎_elim, inl, inr, subst, eq-eqb, eqb-true, append_assoc}
+use Rattle.std.proofs.Common.{◌≡◌, ◌≤◌, ◌<◌, ℕ, zero, suc, ◌==◌, Bool, true, false, List, [], ◌∷◌, ◌++◌, length, drop, get_or, refl, sym, ◌∙◌, ap, arith, Some, None, ⊎_elim, inl}
+use Rattle.std.proofs.Common.{inr, subst, eq-eqb, eqb-true, append_assoc}
 use Rattle.std.specs.List.{remove}
 use Rattle.std.proofs.lemmas.Bool.{cases_Bool}
 use Rattle.std.proofs.lemmas.List.{append-nil}
@@ -54,7 +55,8 @@ seated_others c _ _ (IsNewcomers n s ns seats is rest) =
 seated_others c _ _ (IsAnothers s ns seats rest) = IsAnothers s (others c ns) seats (seated_others c ns seats rest)
 
 -- a seat goes, and who is noted of its connection
-pub seats_without : (c : ℕ) (ns : List Newcomer) (seats : List Seat) (i : ℕ) (d : Seat) → i < length seats → (get_or seats i d).connection ≡ c → HaveSeats ns seats → HaveSeats (others c ns) (remove seats i)
+pub seats_without : (c : ℕ) (ns : List Newcomer) (seats : List Seat) (i : ℕ) (d : Seat) → i < length seats → (get_or seats i d).connection ≡ c
+    → HaveSeats ns seats → HaveSeats (others c ns) (remove seats i)
 seats_without c _ _ i d h is NoSeat = absurd (omega (arith, h))
 seats_without c _ _ zero d h is (IsNewcomers n s ns seats own rest) =
     let e : (n.connection == c) ≡ true = eq-eqb n.connection c (own ∙ is) in
@@ -63,8 +65,10 @@ seats_without c _ _ zero d h is (IsAnothers s ns seats rest) = seated_others c n
 seats_without c _ _ (suc i) d h is (IsNewcomers n s ns seats own rest) =
     let k : i < length seats = omega (arith, h) in
     ⊎_elim
-    (λ (e : (n.connection == c) ≡ true). subst (λ l. HaveSeats l (s ∷ remove seats i)) (sym (others_gone c n ns e)) (IsAnothers s (others c ns) (remove seats i) (seats_without c ns seats i d k is rest)))
-    (λ (e : (n.connection == c) ≡ false). subst (λ l. HaveSeats l (s ∷ remove seats i)) (sym (others_kept c n ns e)) (IsNewcomers n s (others c ns) (remove seats i) own (seats_without c ns seats i d k is rest)))
+    (λ (e : (n.connection == c) ≡ true). subst (λ l. HaveSeats l (s ∷ remove seats i)) (sym (others_gone c n ns e))
+    (IsAnothers s (others c ns) (remove seats i) (seats_without c ns seats i d k is rest)))
+    (λ (e : (n.connection == c) ≡ false). subst (λ l. HaveSeats l (s ∷ remove seats i)) (sym (others_kept c n ns e))
+    (IsNewcomers n s (others c ns) (remove seats i) own (seats_without c ns seats i d k is rest)))
     (cases_Bool (n.connection == c))
 seats_without c _ _ (suc i) d h is (IsAnothers s ns seats rest) =
     let k : i < length seats = omega (arith, h) in
@@ -161,7 +165,8 @@ module _ (now : ℕ) where
             (λ (e : newcomer n news ≡ Some (record { connection = n; since = now; held = None })). inr e)
             (q.each n);
         newly = λ h.
-            (let still : (s : Seat) → newcomer s.connection mids ≡ Some (record { connection = s.connection; since = now; held = None }) → newcomer s.connection news ≡ Some (record { connection = s.connection; since = now; held = None }) = λ s k.
+            (let still : (s : Seat) → newcomer s.connection mids ≡ Some (record { connection = s.connection; since = now; held = None })
+            → newcomer s.connection news ≡ Some (record { connection = s.connection; since = now; held = None }) = λ s k.
             ⊎_elim
             (λ (e : newcomer s.connection news ≡ newcomer s.connection mids). e ∙ k)
             (λ (e : newcomer s.connection news ≡ Some (record { connection = s.connection; since = now; held = None })). e)

@@ -36,7 +36,8 @@ module _ {W : Type 0} (Asked : W → List Call → Type 0) where
   pub asks_none : (w : W) (F : List Call → Type 0) → F [] → Asking Asked w w (AskedApart F)
   asks_none w F f = record { calls = []; was_asked = asked_none Asked w; facts = (quiet_none, f) }
 
-  pub asks_one : (w w1 : W) (call : Call) (F : List Call → Type 0) → IsQuiet [] (call ∷ []) → F (call ∷ []) → ((before : List Call) → Asked w before → Asked w1 (before ++ call ∷ [])) → Asking Asked w w1 (AskedApart F)
+  pub asks_one : (w w1 : W) (call : Call) (F : List Call → Type 0) → IsQuiet [] (call ∷ []) → F (call ∷ [])
+      → ((before : List Call) → Asked w before → Asked w1 (before ++ call ∷ [])) → Asking Asked w w1 (AskedApart F)
   asks_one w w1 call F quiet f is = record { calls = call ∷ []; was_asked = asked_one Asked w w1 call is; facts = (quiet, f) }
 
   pub asks_two : (w w1 w2 : W) (x y : Call) (F : List Call → Type 0) → IsQuiet [] (x ∷ []) → IsQuiet [] (y ∷ []) → F (x ∷ y ∷ [])
@@ -47,7 +48,8 @@ module _ {W : Type 0} (Asked : W → List Call → Type 0) where
     facts = (quiet_then [] [] (x ∷ []) (y ∷ []) q1 q2, f);
   }
 
-  pub asks_then : (w w1 w2 : W) (F G H : List Call → Type 0) → ((c1 c2 : List Call) → F c1 → G c2 → H (c1 ++ c2)) → Asking Asked w w1 (AskedApart F) → Asking Asked w1 w2 (AskedApart G) → Asking Asked w w2 (AskedApart H)
+  pub asks_then : (w w1 w2 : W) (F G H : List Call → Type 0) → ((c1 c2 : List Call) → F c1 → G c2 → H (c1 ++ c2)) → Asking Asked w w1 (AskedApart F)
+      → Asking Asked w1 w2 (AskedApart G) → Asking Asked w w2 (AskedApart H)
   asks_then w w1 w2 F G H join a b =
       asking_then Asked w w1 w2 (AskedApart F) (AskedApart G) (AskedApart H) (λ c1 c2 p q. (quiet_then [] [] c1 c2 p.0 q.0, join c1 c2 p.1 q.1)) a b
 
@@ -66,7 +68,8 @@ IsOne call calls = calls ≡ call ∷ []
 -- ---- one event
 
 module _ {V : Type 0} (Holds : V → Contents → Type 0) (IsClean : V → Type 0) (Faults : V → ℕ) (IsUp : V → Type 0) (MayLeave : V → Contents → Type 0) where
-  pub gives_none : (o : Office V) (Did : Records → Log → Log → List Call → Type 0) → ((B : Records) (L : Log) → Did B L [] []) → Giving Holds IsClean Faults IsUp MayLeave o o (λ given. DidApart Holds IsClean o o Did given [])
+  pub gives_none : (o : Office V) (Did : Records → Log → Log → List Call → Type 0) → ((B : Records) (L : Log) → Did B L [] [])
+      → Giving Holds IsClean Faults IsUp MayLeave o o (λ given. DidApart Holds IsClean o o Did given [])
   gives_none o Did did = record {
     given = [];
     was_given = given_none Holds IsClean Faults IsUp MayLeave o;
@@ -82,7 +85,8 @@ module _ {V : Type 0} (Holds : V → Contents → Type 0) (IsClean : V → Type 
     facts = record { quiet = quiet_none; caused = All-nil (HasCause [] []); did = λ B L s k. did B L s };
   }
 
-  pub gives_command : (o o1 : Office V) (command : AdminCommand) (m : EventTag) (Did : Records → Log → Log → List Call → Type 0) → WasGiven Holds IsClean Faults IsUp MayLeave o o1 ((event.Admin command, m) ∷ [])
+  pub gives_command : (o o1 : Office V) (command : AdminCommand) (m : EventTag) (Did : Records → Log → Log → List Call → Type 0)
+      → WasGiven Holds IsClean Faults IsUp MayLeave o o1 ((event.Admin command, m) ∷ [])
       → ((B : Records) (L : Log) → StandsFor Holds o (trace_of B L) → IsClean (vault_of o1) → Did B L ((event.Admin command, m) ∷ []) [])
       → Giving Holds IsClean Faults IsUp MayLeave o o1 (λ given. DidApart Holds IsClean o o1 Did given [])
   gives_command o o1 command m Did is did = record {
@@ -98,7 +102,8 @@ module _ {V : Type 0} (Holds : V → Contents → Type 0) (IsClean : V → Type 
 -- ---- parts
 
 module _ {V W : Type 0} (Holds : V → Contents → Type 0) (IsClean : V → Type 0) (Faults : V → ℕ) (IsUp : V → Type 0) (MayLeave : V → Contents → Type 0) (Asked : W → List Call → Type 0) where
-  pub did_none : (o : Office V) (w : W) (Did : Records → Log → Log → List Call → Type 0) → ((B : Records) (L : Log) → Did B L [] []) → Part Holds IsClean Faults IsUp MayLeave Asked o w o w (DidApart Holds IsClean o o Did)
+  pub did_none : (o : Office V) (w : W) (Did : Records → Log → Log → List Call → Type 0) → ((B : Records) (L : Log) → Did B L [] [])
+      → Part Holds IsClean Faults IsUp MayLeave Asked o w o w (DidApart Holds IsClean o o Did)
   did_none o w Did did = record {
     given = [];
     calls = [];
@@ -140,7 +145,8 @@ module _ {V W : Type 0} (Holds : V → Contents → Type 0) (IsClean : V → Typ
 
   pub also_then : (o o1 o2 : Office V) (w w1 w2 : W) (D E F : Records → Log → Log → List Call → Type 0) (M N K : List Call → Type 0)
       → ((B : Records) (L g1 g2 : Log) (c1 c2 : List Call) → D B L g1 c1 → E B (g1 ++ L) g2 c2 → F B L (g2 ++ g1) (c1 ++ c2)) → ((c1 c2 : List Call) → M c1 → N c2 → K (c1 ++ c2))
-      → Part Holds IsClean Faults IsUp MayLeave Asked o w o1 w1 (Also (DidApart Holds IsClean o o1 D) M) → Part Holds IsClean Faults IsUp MayLeave Asked o1 w1 o2 w2 (Also (DidApart Holds IsClean o1 o2 E) N)
+      → Part Holds IsClean Faults IsUp MayLeave Asked o w o1 w1 (Also (DidApart Holds IsClean o o1 D) M)
+      → Part Holds IsClean Faults IsUp MayLeave Asked o1 w1 o2 w2 (Also (DidApart Holds IsClean o1 o2 E) N)
       → Part Holds IsClean Faults IsUp MayLeave Asked o w o2 w2 (Also (DidApart Holds IsClean o o2 F) K)
   also_then o o1 o2 w w1 w2 D E F M N K join more a b =
       part_then Holds IsClean Faults IsUp MayLeave Asked o o1 o2 w w1 w2 (Also (DidApart Holds IsClean o o1 D) M) (Also (DidApart Holds IsClean o1 o2 E) N) (Also (DidApart Holds IsClean o o2 F) K)
@@ -156,7 +162,8 @@ module _ {V W : Type 0} (Holds : V → Contents → Type 0) (IsClean : V → Typ
 
   pub also_so : (o o1 : Office V) (w w1 : W) (D E : Records → Log → Log → List Call → Type 0) (M N : List Call → Type 0) → ((B : Records) (L g : Log) (c : List Call) → D B L g c → E B L g c)
       → ((c : List Call) → M c → N c)
-      → Part Holds IsClean Faults IsUp MayLeave Asked o w o1 w1 (Also (DidApart Holds IsClean o o1 D) M) → Part Holds IsClean Faults IsUp MayLeave Asked o w o1 w1 (Also (DidApart Holds IsClean o o1 E) N)
+      → Part Holds IsClean Faults IsUp MayLeave Asked o w o1 w1 (Also (DidApart Holds IsClean o o1 D) M)
+      → Part Holds IsClean Faults IsUp MayLeave Asked o w o1 w1 (Also (DidApart Holds IsClean o o1 E) N)
   also_so o o1 w w1 D E M N so more a = record {
     given = a.given;
     calls = a.calls;

@@ -1,5 +1,6 @@
 -- What is read and written on a link of the administration leaves each exchange right.
-use Rattle.std.proofs.Common.{◌≡◌, ℕ, zero, suc, ◌+◌, ◌<◌, ◌≤◌, Bool, true, false, ◌==◌, ◌||◌, List, [], ◌∷◌, ◌++◌, length, take, drop, refl, sym, ◌∙◌, ap, arith, None, Some, Option, eq-eqb, ne_eqb, ⊎_elim, ◌⊎◌, inl, inr, subst, length-append, append-nil, not, ◌&&◌, nat_lt, lt-ltb, option_map, IfNone, set, get_or}
+use Rattle.std.proofs.Common.{◌≡◌, ℕ, zero, suc, ◌+◌, ◌<◌, ◌≤◌, Bool, true, false, ◌==◌, ◌||◌, List, [], ◌∷◌, ◌++◌, length, take, drop, refl, sym, ◌∙◌, ap, arith, None, Some}
+use Rattle.std.proofs.Common.{Option, eq-eqb, ne_eqb, ⊎_elim, ◌⊎◌, inl, inr, subst, length-append, append-nil, not, ◌&&◌, nat_lt, lt-ltb, option_map, IfNone, set, get_or}
 use Rattle.std.specs.List.{AllPairs, remove}
 use Rattle.std.proofs.lemmas.List.{length-set, get_or-set_same, get_or-set_other}
 use Rattle.std.proofs.lemmas.List.Edits.{length-remove, get_or-remove_below, get_or-remove_above}
@@ -15,7 +16,7 @@ use Rattle.vault.specs.Changes.{Contents}
 use Rattle.policy.specs.declared.fault.PolicyFault.{PolicyFault}
 use Rattle.office.specs.History.{Tag, Done, Failed, NoMemory, Entry}
 use Rattle.office.specs.Answers.{AdminCommand}
-use Rattle.office.specs.Events.{Event, EventTag, Tagged, Log, Trace}
+use Rattle.office.specs.Events.{Event, EventTag, Tagged, Log}
 use Rattle.office.specs.Events as event
 use Rattle.office.specs.Log.{access_in}
 use Rattle.office.specs.Trace.{history}
@@ -36,7 +37,8 @@ use Rattle.serving.specs.declared.wire.Io.TheVariants.{Count}
 use Rattle.serving.specs.Wires.{Told, ToldOfPorts, more_at, over_at, is_live, has_read, has_written, has_closed, has_accepted, begun_at}
 use Rattle.serving.specs.Served.{IsCommand}
 use Rattle.serving.specs.HttpWorks.{ComesTo}
-use Rattle.serving.specs.Requests.{IsAnswer, IsResponse, ToRefusal, ToFault, ForMemory, ToCommand, Exchanges, IsExchange, AreExchanged, octets_of, IsKept, IsHeld, put_at, IsToldBy, IsGiven, NotYet, NoCommand, GivenOne, HasAsked, Asks, AsksMore, IsAnswering, IsAsked, AreOthersHeld, AreKeptBeside, AreHeld, Precedes}
+use Rattle.serving.specs.Requests.{IsAnswer, IsResponse, ToRefusal, ToFault, ForMemory, ToCommand, Exchanges, IsExchange, AreExchanged, octets_of, IsKept, IsHeld, put_at, IsToldBy}
+use Rattle.serving.specs.Requests.{IsGiven, NotYet, NoCommand, GivenOne, HasAsked, Asks, AsksMore, IsAnswering, IsAsked, AreOthersHeld, AreKeptBeside, AreHeld, Precedes}
 
 -- ---- one value more
 
@@ -104,14 +106,16 @@ to_fault site B L read response fault q (inr e) = subst (IsResponse site B L rea
 
 -- ---- a log with one event more
 
-response_grows : (site : Site) (B : Records) (L : Log) (e : Event) (m : EventTag) (read : List ℕ) (place : Option ℕ) (response : List ℕ) → IsResponse site B L read place response → IsResponse site B ((e, m) ∷ L) read place response
+response_grows : (site : Site) (B : Records) (L : Log) (e : Event) (m : EventTag) (read : List ℕ) (place : Option ℕ) (response : List ℕ)
+    → IsResponse site B L read place response → IsResponse site B ((e, m) ∷ L) read place response
 response_grows site B L e m read _ _ (ToRefusal refusal newer older q is) = ToRefusal refusal ((e, m) ∷ newer) older q (ap (λ l. (e, m) ∷ l) is)
 response_grows site B L e m read _ _ (ToFault fault newer older q is) = ToFault fault ((e, m) ∷ newer) older q (ap (λ l. (e, m) ∷ l) is)
 response_grows site B L e m read _ _ ForMemory = ForMemory
 response_grows site B L e m read _ _ (ToCommand command t newer older response q is a) =
     ToCommand command t ((e, m) ∷ newer) older response q (ap (λ l. (e, m) ∷ l) is) a
 
-pub exchange_grows : (site : Site) (B : Records) (L : Log) (e : Event) (m : EventTag) (r : Option (List ℕ)) (place : Option ℕ) (read written : List ℕ) → IsExchange site B L r place read written → IsExchange site B ((e, m) ∷ L) r place read written
+pub exchange_grows : (site : Site) (B : Records) (L : Log) (e : Event) (m : EventTag) (r : Option (List ℕ)) (place : Option ℕ) (read written : List ℕ)
+    → IsExchange site B L r place read written → IsExchange site B ((e, m) ∷ L) r place read written
 exchange_grows site B L e m None place read written x = x
 exchange_grows site B L e m (Some response) place read written x = (response_grows site B L e m read place response x.0, x.1)
 
@@ -127,7 +131,8 @@ no_command : (L : Log) (e : Event) (m : EventTag) → (IsCommand e → ⊥) → 
 no_command L e m none [] older command m2 is = absurd (none (subst IsCommand (sym (ap (λ (p : Event × EventTag). p.0) (one_first is))) tt))
 no_command L e m none (y ∷ newer) older command m2 is = (newer, one_rest is)
 
-pub exchanged_more : (told : Told) (x : Exchanges) (B : Records) (start : ℕ) (L : Log) (e : Event) (m : EventTag) → (IsCommand e → ⊥) → AreExchanged told x B start L → AreExchanged told x B start ((e, m) ∷ L)
+pub exchanged_more : (told : Told) (x : Exchanges) (B : Records) (start : ℕ) (L : Log) (e : Event) (m : EventTag) → (IsCommand e → ⊥)
+    → AreExchanged told x B start L → AreExchanged told x B start ((e, m) ∷ L)
 exchanged_more told x B start L e m none a = record {
   each = λ k. exchange_grows x.site B L e m (x.response k) (x.place k) (told.read k) (told.written k) (a.each k);
   own = a.own;
@@ -190,7 +195,8 @@ pub record SameAt (told told2 : Told) (x x2 : Exchanges) (k : ℕ) : Type 0 wher
   pub written : told2.written k ≡ told.written k
   pub response : x2.response k ≡ x.response k
 
-kept_same : (told told2 : Told) (x x2 : Exchanges) (k : ℕ) (read : List ℕ) (r : Option Response) (written : ℕ) → SameAt told told2 x x2 k → IsKept told x k read r written → IsKept told2 x2 k read r written
+kept_same : (told told2 : Told) (x x2 : Exchanges) (k : ℕ) (read : List ℕ) (r : Option Response) (written : ℕ) → SameAt told told2 x x2 k
+    → IsKept told x k read r written → IsKept told2 x2 k read r written
 kept_same told told2 x x2 k read None written s h = (s.read ∙ h.0, s.response ∙ h.1, h.2)
 kept_same told told2 x x2 k read (Some response) written s h = (s.response ∙ h.0, s.written ∙ h.1)
 
@@ -358,7 +364,8 @@ given_asks site B L first _ whole _ _ (GivenOne command t response q is) a = Ask
 kept_none : (told : Told) (x : Exchanges) (n : ℕ) (items : List ℕ) (r : Option Response) (w : ℕ) → r ≡ None → IsKept told x n items r w → (told.read n ≡ items) × (x.response n ≡ None) × (w ≡ 0)
 kept_none told x n items r w e h = subst (λ o. IsKept told x n items o w) e h
 
-kept_told : (told told2 : Told) (x : Exchanges) (n : ℕ) (items : List ℕ) (r : Option Response) (w : ℕ) → told2.read n ≡ told.read n → told2.written n ≡ told.written n → IsKept told x n items r w → IsKept told2 x n items r w
+kept_told : (told told2 : Told) (x : Exchanges) (n : ℕ) (items : List ℕ) (r : Option Response) (w : ℕ) → told2.read n ≡ told.read n
+    → told2.written n ≡ told.written n → IsKept told x n items r w → IsKept told2 x n items r w
 kept_told told told2 x n items None w a b h = (a ∙ h.0, h.1, h.2)
 kept_told told told2 x n items (Some response) w a b h = (h.0, b ∙ h.1)
 
@@ -371,7 +378,8 @@ any_default [] i c d h = absurd (omega (arith, h))
 any_default (y ∷ xs) zero c d h = refl
 any_default (y ∷ xs) (suc i) c d h = any_default xs i c d (omega (arith, h))
 
-others_same : (told told2 : Told) (x x2 : Exchanges) (n n2 : ℕ) (others : List Exchange) → n2 ≡ n → ((k : ℕ) → (k ≡ n → ⊥) → SameAt told told2 x x2 k) → AreOthersHeld told x n others → AreOthersHeld told2 x2 n2 others
+others_same : (told told2 : Told) (x x2 : Exchanges) (n n2 : ℕ) (others : List Exchange) → n2 ≡ n → ((k : ℕ) → (k ≡ n → ⊥) → SameAt told told2 x x2 k)
+    → AreOthersHeld told x n others → AreOthersHeld told2 x2 n2 others
 others_same told told2 x x2 n n2 others e same h = λ k d within ne.
     (let apart = λ (q : (get_or others k d).link.number ≡ n). ne (q ∙ sym e) in
     held_same told told2 x x2 (get_or others k d) (same (get_or others k d).link.number apart) (h k d within apart))

@@ -1,5 +1,6 @@
 -- Octets that go over a wire in memory.
-use Rattle.std.proofs.Common.{◌≡◌, ℕ, zero, suc, ◌+◌, ◌<◌, ◌≤◌, ◌==◌, nat_lt, lt-ltb, le-ltb, Bool, true, false, not, ◌&&◌, ◌||◌, true≢false, List, [], ◌∷◌, ◌++◌, length, take, drop, refl, sym, ◌∙◌, ap, arith, None, Some, Option, ⊎_elim, subst, slice_get, set, get_or, length-append, eq-eqb, ne_eqb}
+use Rattle.std.proofs.Common.{◌≡◌, ℕ, zero, suc, ◌+◌, ◌<◌, ◌≤◌, ◌==◌, nat_lt, lt-ltb, le-ltb, Bool, true, false, not, ◌&&◌, ◌||◌, true≢false, List, [], ◌∷◌, ◌++◌, length, take}
+use Rattle.std.proofs.Common.{drop, refl, sym, ◌∙◌, ap, arith, None, Some, Option, ⊎_elim, subst, slice_get, set, get_or, length-append, eq-eqb, ne_eqb}
 use Rattle.std.specs.Bool.{if◌then◌else◌}
 use Rattle.std.specs.Prelude.{vec_items}
 use Rattle.std.proofs.lemmas.Bool.{cases_eq}
@@ -124,7 +125,8 @@ module _ (xs : List ScriptLink) (strayed : Bool) (t : Told) (i : ℕ) where
   }
 
   -- it was closed
-  pub close_one : (x y : ScriptLink) → TellsOf xs strayed t → slice_get xs i ≡ Some x → taken_of y ≡ taken_of x → y.written ≡ x.written → y.is_over ≡ true → TellsOf (set xs i y) strayed (has_closed t i)
+  pub close_one : (x y : ScriptLink) → TellsOf xs strayed t → slice_get xs i ≡ Some x → taken_of y ≡ taken_of x → y.written ≡ x.written
+      → y.is_over ≡ true → TellsOf (set xs i y) strayed (has_closed t i)
   close_one x y h at r s o = record {
     accepted = h.accepted ∙ sym (length-set xs i y);
     read = view_same read_by t.read xs i x y h.read at r;

@@ -1,10 +1,12 @@
 -- Newcomers whose login is noted as lying unread, or not, while links are served.
-use Rattle.std.proofs.Common.{◌≡◌, ℕ, zero, suc, ◌+◌, ◌-◌, ◌<◌, ◌≤◌, ◌==◌, min, Bool, true, false, not, ◌&&◌, List, [], ◌∷◌, ◌++◌, length, take, drop, set, get_or, map, refl, sym, ◌∙◌, ap, arith, Some, None, Option, ⊎_elim, ◌⊎◌, inl, inr, subst, true≢false, eqb-true, eq-eqb, le-leb, nat_le, nat_lt, ◌||◌, add-one}
+use Rattle.std.proofs.Common.{◌≡◌, ℕ, zero, suc, ◌+◌, ◌-◌, ◌<◌, ◌≤◌, ◌==◌, min, Bool, true, false, not, ◌&&◌, List, [], ◌∷◌, ◌++◌, length, take, drop, set, get_or, map, refl, sym}
+use Rattle.std.proofs.Common.{◌∙◌, ap, arith, Some, None, Option, ⊎_elim, ◌⊎◌, inl, inr, subst, true≢false, eqb-true, eq-eqb, le-leb, nat_le, nat_lt, ◌||◌, add-one}
 use Rattle.std.proofs.lemmas.Bool.{cases_Bool}
 use Rattle.std.proofs.Math.Nat.{min-le_right, min-eq_left}
 use Rattle.serving.specs.declared.links.Seat.{Seat}
 use Rattle.serving.specs.declared.newcomers.Newcomer.{Newcomer}
-use Rattle.serving.specs.Newcomers.{newcomer, until, spent, is_late_by, lies_unread, since_at, held_at, settled, settled_if, settled_in, HaveSeats, NoSeat, IsNewcomers, IsAnothers, IsSettled, connection_of, AreSettled, CountsFrom, IsNewlyNoted, IsComer, AreNotedNow, waited_of}
+use Rattle.serving.specs.Newcomers.{newcomer, until, spent, is_late_by, lies_unread, since_at, held_at, settled, settled_if, settled_in, HaveSeats, NoSeat, IsNewcomers, IsAnothers}
+use Rattle.serving.specs.Newcomers.{IsSettled, connection_of, AreSettled, CountsFrom, IsNewlyNoted, IsComer, AreNotedNow, waited_of}
 use Rattle.serving.specs.Works.{is_late, is_shared, may_by}
 use Rattle.serving.specs.Parts.{AreNoMoreLate}
 use Rattle.serving.specs.Paces.{most_paced}
@@ -225,7 +227,8 @@ pub comer_so : (now : ℕ) (xs ys zs : List Newcomer) (s : Seat) → AreSettled 
 comer_so now xs ys zs s a k none = counts_from now s.connection (newcomer s.connection ys) (newcomer s.connection zs) (k none) (a.each s.connection)
 
 -- whoever is late is so still
-pub late_still : (now seconds : ℕ) (xs ys : List Newcomer) (c : ℕ) → ((n : Newcomer) → newcomer c xs ≡ Some n → IsSettled now (Some n) (newcomer c ys)) → is_late now seconds xs c ≡ true → is_late now seconds ys c ≡ true
+pub late_still : (now seconds : ℕ) (xs ys : List Newcomer) (c : ℕ)
+    → ((n : Newcomer) → newcomer c xs ≡ Some n → IsSettled now (Some n) (newcomer c ys)) → is_late now seconds xs c ≡ true → is_late now seconds ys c ≡ true
 late_still now seconds xs ys c keeps h = by (newcomer c xs) refl where
   by : (m : Option Newcomer) → newcomer c xs ≡ m → is_late now seconds ys c ≡ true
   by None is =
@@ -316,7 +319,8 @@ touched_next now b ns ms ms2 seats cur i d same h is before c =
 
 -- ---- which logins may be kept back
 
-pub may_more : (slow : Bool) (now : ℕ) (ns : List Newcomer) (seats : List Seat) (freed freed2 : Bool) (c : ℕ) → (freed ≡ true → freed2 ≡ true) → may_by slow now ns seats freed c ≡ true → may_by slow now ns seats freed2 c ≡ true
+pub may_more : (slow : Bool) (now : ℕ) (ns : List Newcomer) (seats : List Seat) (freed freed2 : Bool) (c : ℕ) → (freed ≡ true → freed2 ≡ true)
+    → may_by slow now ns seats freed c ≡ true → may_by slow now ns seats freed2 c ≡ true
 may_more slow now ns seats true freed2 c more h = ap (λ b. b || (slow && (nat_lt (waited_of now (newcomer c ns)) most_paced || is_shared seats c))) (more refl)
 may_more slow now ns seats false true c more h = refl
 may_more slow now ns seats false false c more h = h
@@ -332,7 +336,8 @@ paced_shared true less false shared e h = e
 paced_shared false less less2 shared e h = cc
 
 -- of the connection of a seat, behind those before it
-pub may_then : (slow slow2 freed freed2 : Bool) (now : ℕ) (ns ms : List Newcomer) (seats : List Seat) (i : ℕ) (d : Seat) → slow2 ≡ slow → (freed ≡ true → freed2 ≡ true) → i < length seats → AreTouched ns ms (take i seats)
+pub may_then : (slow slow2 freed freed2 : Bool) (now : ℕ) (ns ms : List Newcomer) (seats : List Seat) (i : ℕ) (d : Seat) → slow2 ≡ slow
+    → (freed ≡ true → freed2 ≡ true) → i < length seats → AreTouched ns ms (take i seats)
     → (freed || (slow2 && nat_lt (waited_of now (newcomer (get_or seats i d).connection ms)) most_paced)) ≡ true → may_by slow now ns seats freed2 (get_or seats i d).connection ≡ true
 may_then slow slow2 freed freed2 now ns ms seats i d same more h touched k =
     let c = (get_or seats i d).connection in
@@ -350,11 +355,13 @@ may_then slow slow2 freed freed2 now ns ms seats i d same more h touched k =
     ap (λ b. freed2 || b) by_pace ∙ or_true freed2))
     (or_cases freed (slow2 && less2) k)
 
-pub may_same : (slow : Bool) (now : ℕ) (ns ms : List Newcomer) (seats : List Seat) (freed : Bool) (c : ℕ) → waited_of now (newcomer c ns) ≡ waited_of now (newcomer c ms) → may_by slow now ns seats freed c ≡ true → may_by slow now ms seats freed c ≡ true
+pub may_same : (slow : Bool) (now : ℕ) (ns ms : List Newcomer) (seats : List Seat) (freed : Bool) (c : ℕ)
+    → waited_of now (newcomer c ns) ≡ waited_of now (newcomer c ms) → may_by slow now ns seats freed c ≡ true → may_by slow now ms seats freed c ≡ true
 may_same slow now ns ms seats freed c e h = subst (λ n. (freed || (slow && (nat_lt n most_paced || is_shared seats c))) ≡ true) e h
 
 -- whoever comes has waited for nothing
-pub waited_same : (now : ℕ) (ns ms : List Newcomer) → AreNotedNow now ns ms → ((c : ℕ) (n : Newcomer) → newcomer c ns ≡ Some n → newcomer c ms ≡ Some n) → (c : ℕ) → waited_of now (newcomer c ms) ≡ waited_of now (newcomer c ns)
+pub waited_same : (now : ℕ) (ns ms : List Newcomer) → AreNotedNow now ns ms
+    → ((c : ℕ) (n : Newcomer) → newcomer c ns ≡ Some n → newcomer c ms ≡ Some n) → (c : ℕ) → waited_of now (newcomer c ms) ≡ waited_of now (newcomer c ns)
 waited_same now ns ms each keeps c = by (newcomer c ns) refl where
   by : (m : Option Newcomer) → newcomer c ns ≡ m → waited_of now (newcomer c ms) ≡ waited_of now (newcomer c ns)
   by None is =

@@ -247,13 +247,15 @@ ended_if : (at before : Bool) → (if at then false else before) ≡ true → be
 ended_if true before e = cc
 ended_if false before e = e
 
-end_connected : (t : Tag) (lives : Bool) (n d : ℕ) (b : Bool) → connected_after (Administer (EndSession n)) t (answers_if_done t (if lives then answer.Ended else answer.NoSuchSession)) d b ≡ true → b ≡ true
+end_connected : (t : Tag) (lives : Bool) (n d : ℕ) (b : Bool)
+    → connected_after (Administer (EndSession n)) t (answers_if_done t (if lives then answer.Ended else answer.NoSuchSession)) d b ≡ true → b ≡ true
 end_connected Done true n d b e = ended_if (n == d) b e
 end_connected Done false n d b e = e
 end_connected Failed lives n d b e = e
 end_connected NoMemory lives n d b e = e
 
-command_connected : (B : Records) (G : List Entry) (command : AdminCommand) (t : Tag) (d : ℕ) (b : Bool) → connected_after (Administer command) t (said_to B G (Administer command) t) d b ≡ true → b ≡ true
+command_connected : (B : Records) (G : List Entry) (command : AdminCommand) (t : Tag) (d : ℕ) (b : Bool)
+    → connected_after (Administer command) t (said_to B G (Administer command) t) d b ≡ true → b ≡ true
 command_connected B G ListMaildrops t d b e = e
 command_connected B G (ShowMaildrop m) t d b e = e
 command_connected B G (AddMaildrop m) t d b e = e

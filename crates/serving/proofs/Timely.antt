@@ -1,5 +1,6 @@
 -- Clients that took too long for their login are ended, and nobody is forgotten early.
-use Rattle.std.proofs.Common.{◌≡◌, ℕ, ◌+◌, ◌<◌, ◌≤◌, ◌==◌, ◌&&◌, not, Bool, true, false, List, [], ◌∷◌, ◌++◌, length, take, get_or, refl, sym, ◌∙◌, ap, Some, None, Option, ⊎_elim, ◌⊎◌, inl, inr, subst, true≢false, append_assoc, eqb-true}
+use Rattle.std.proofs.Common.{◌≡◌, ℕ, ◌+◌, ◌<◌, ◌≤◌, ◌==◌, ◌&&◌, not, Bool, true, false, List, [], ◌∷◌, ◌++◌, length, take, get_or, refl, sym, ◌∙◌, ap, Some, None, Option, ⊎_elim}
+use Rattle.std.proofs.Common.{◌⊎◌, inl, inr, subst, true≢false, append_assoc, eqb-true}
 use Rattle.std.proofs.lemmas.Bool.{cases_Bool}
 use Rattle.std.proofs.lemmas.List.Elements.{All-nil, All-cons, All-head, All-append, All-weaker, All-more}
 use Rattle.vault.specs.Records.{Records}
@@ -42,7 +43,8 @@ ended_left : (B : Records) (L g1 g2 : Log) (xs : List Newcomer) (c : ℕ) → Ha
 ended_left B L g1 g2 xs c (inl u) = inl (lived_left B L g1 g2 c u)
 ended_left B L g1 g2 xs c (inr h) = inr h
 
-ended_right : (B : Records) (L g1 g2 : Log) (xs ys : List Newcomer) (c : ℕ) → newcomer c ys ≡ newcomer c xs → HasLived B (g1 ++ L) g2 c ⊎ (lies_unread (newcomer c ys) ≡ true) → HasLived B L (g2 ++ g1) c ⊎ (lies_unread (newcomer c xs) ≡ true)
+ended_right : (B : Records) (L g1 g2 : Log) (xs ys : List Newcomer) (c : ℕ) → newcomer c ys ≡ newcomer c xs
+    → HasLived B (g1 ++ L) g2 c ⊎ (lies_unread (newcomer c ys) ≡ true) → HasLived B L (g2 ++ g1) c ⊎ (lies_unread (newcomer c xs) ≡ true)
 ended_right B L g1 g2 xs ys c e (inl u) = inl (lived_right B L g1 g2 c u)
 ended_right B L g1 g2 xs ys c e (inr h) = inr (ap lies_unread (sym e) ∙ h)
 
@@ -63,7 +65,8 @@ late_same : (now seconds : ℕ) (xs ys : List Newcomer) (c : ℕ) → newcomer c
 late_same now seconds xs ys c e h = ap (λ n. not (seconds == 0) && is_late_by now seconds n) e ∙ h
 
 -- whoever is late is late by who was noted, if that is noted still
-pub late_kept : (now seconds : ℕ) (xs ys : List Newcomer) (c : ℕ) → ((n : Newcomer) → newcomer c xs ≡ Some n → newcomer c ys ≡ Some n) → is_late now seconds xs c ≡ true → is_late now seconds ys c ≡ true
+pub late_kept : (now seconds : ℕ) (xs ys : List Newcomer) (c : ℕ) → ((n : Newcomer) → newcomer c xs ≡ Some n → newcomer c ys ≡ Some n)
+    → is_late now seconds xs c ≡ true → is_late now seconds ys c ≡ true
 late_kept now seconds xs ys c keeps h = by (newcomer c xs) refl where
   by : (m : Option Newcomer) → newcomer c xs ≡ m → is_late now seconds ys c ≡ true
   by None is =
@@ -106,7 +109,8 @@ module _ {V : Type 0} (Holds : V → Contents → Type 0) (IsClean : V → Type 
   late_lived o xs ys q is lives = record {
     gone = All-nil (IsLateGone now seconds xs);
     each = λ B L s k.
-        All-cons (IsEndedInTime now seconds xs B L [] (trace_of B L)) q [] (λ late here. inl (lived_now B L q.connection (lives (trace_of B L) s))) (All-nil (IsEndedInTime now seconds xs B L [] (trace_of B L)));
+        All-cons (IsEndedInTime now seconds xs B L [] (trace_of B L)) q [] (λ late here. inl (lived_now B L q.connection (lives (trace_of B L) s)))
+        (All-nil (IsEndedInTime now seconds xs B L [] (trace_of B L)));
     noted = λ B L s k c.
         ⊎_elim
         (λ (e : (c == q.connection) ≡ true). inr (lived_now B L c (subst (λ n. live (history (trace_of B L)) n ≡ true) (sym (eqb-true c q.connection e)) (lives (trace_of B L) s))))
@@ -131,11 +135,13 @@ module _ {V : Type 0} (Holds : V → Contents → Type 0) (IsClean : V → Type 
     noted = λ B L s k c. inl refl;
   }
 
-  pub late_shut : (o o1 : Office V) (xs : List Newcomer) (q : Seat) (g : Log) → AreLateGone now seconds xs g → IsShutBy Holds IsClean o o1 q.connection g → HasEndedLate Holds IsClean o o1 now seconds xs xs (q ∷ []) g
+  pub late_shut : (o o1 : Office V) (xs : List Newcomer) (q : Seat) (g : Log) → AreLateGone now seconds xs g
+      → IsShutBy Holds IsClean o o1 q.connection g → HasEndedLate Holds IsClean o o1 now seconds xs xs (q ∷ []) g
   late_shut o o1 xs q g gone shut = record {
     gone = gone;
     each = λ B L s k.
-        All-cons (IsEndedInTime now seconds xs B L g (trace_of B (g ++ L))) q [] (λ late here. absurd (true≢false (sym here ∙ shut B L s k))) (All-nil (IsEndedInTime now seconds xs B L g (trace_of B (g ++ L))));
+        All-cons (IsEndedInTime now seconds xs B L g (trace_of B (g ++ L))) q [] (λ late here. absurd (true≢false (sym here ∙ shut B L s k)))
+        (All-nil (IsEndedInTime now seconds xs B L g (trace_of B (g ++ L))));
     noted = λ B L s k c. inl refl;
   }
 
@@ -164,7 +170,8 @@ module _ {V : Type 0} (Holds : V → Contents → Type 0) (IsClean : V → Type 
             ⊎_elim
             (λ (e : newcomer q.connection ys ≡ newcomer q.connection xs).
             ended_right B L g1 g2 xs ys q.connection e
-            (All-head (IsEndedInTime now seconds ys B (g1 ++ L) g2 (trace_of B (g2 ++ (g1 ++ L)))) q [] (b.each B (g1 ++ L) s1 k) (late_same now seconds xs ys q.connection e late) (same q.connection here)))
+            (All-head (IsEndedInTime now seconds ys B (g1 ++ L) g2 (trace_of B (g2 ++ (g1 ++ L)))) q [] (b.each B (g1 ++ L) s1 k)
+            (late_same now seconds xs ys q.connection e late) (same q.connection here)))
             (λ (u : HasLived B L g1 q.connection). inl (lived_left B L g1 g2 q.connection u))
             (a.noted B L s (wb.clean k) q.connection)));
         noted = λ B L s k c.

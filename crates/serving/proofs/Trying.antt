@@ -42,9 +42,18 @@ module _ {V S : Type 0} (Holds : V → Contents → Type 0) (IsClean : V → Typ
   pub tries_none : (o : Office V) (s s1 : S) (last : Option FileName) → ((before : List FileCall) → Asked s before → Asked s1 (before ++ Next last None ∷ []))
       → (b : Bool)
       → SpoolPart Holds IsClean Faults IsUp MayLeave Asked o s o s1 (λ T given calls. IsSpoolTurn last last T given calls × (b ≡ (b || has_dealt calls)))
-  tries_none o s s1 last is b = record { given = []; calls = Next last None ∷ []; was_given = given_none Holds IsClean Faults IsUp MayLeave o; was_asked = is; deposits = tt; facts = λ T st k. (NoFileThere T, none_more b) }
+  tries_none o s s1 last is b = record {
+    given = [];
+    calls = Next last None ∷ [];
+    was_given =
+        given_none Holds IsClean Faults IsUp MayLeave o;
+    was_asked = is;
+    deposits = tt;
+    facts = λ T st k. (NoFileThere T, none_more b);
+  }
 
-  pub tries_one : (o o1 : Office V) (s s1 s2 : S) (last : Option FileName) (name : FileName) (b dealt : Bool) → ((before : List FileCall) → Asked s before → Asked s1 (before ++ Next last (Some name) ∷ []))
+  pub tries_one : (o o1 : Office V) (s s1 s2 : S) (last : Option FileName) (name : FileName) (b dealt : Bool)
+      → ((before : List FileCall) → Asked s before → Asked s1 (before ++ Next last (Some name) ∷ []))
       → SpoolPart Holds IsClean Faults IsUp MayLeave Asked o s1 o1 s2 (λ T given calls. IsTrying name T given calls × (dealt ≡ has_dealt calls))
       → SpoolPart Holds IsClean Faults IsUp MayLeave Asked o s o1 s2 (λ T given calls. IsSpoolTurn last (Some name) T given calls × ((b || dealt) ≡ (b || has_dealt calls)))
   tries_one o o1 s s1 s2 last name b dealt is a = record {
@@ -56,11 +65,22 @@ module _ {V S : Type 0} (Holds : V → Contents → Type 0) (IsClean : V → Typ
     facts = λ T st k. (let f = a.facts T st k in (TriesOne name T a.given a.calls f.0, ap (λ x. b || x) f.1));
   }
 
-  pub tries_unread : (o : Office V) (s s1 : S) (name : FileName) → ((before : List FileCall) → Asked s before → Asked s1 (before ++ Read name None ∷ [])) → SpoolPart Holds IsClean Faults IsUp MayLeave Asked o s o s1 (λ T given calls. IsTrying name T given calls × (false ≡ has_dealt calls))
-  tries_unread o s s1 name is = record { given = []; calls = Read name None ∷ []; was_given = given_none Holds IsClean Faults IsUp MayLeave o; was_asked = is; deposits = tt; facts = λ T st k. (CouldNotRead, refl) }
+  pub tries_unread : (o : Office V) (s s1 : S) (name : FileName)
+      → ((before : List FileCall) → Asked s before → Asked s1 (before ++ Read name None ∷ []))
+      → SpoolPart Holds IsClean Faults IsUp MayLeave Asked o s o s1 (λ T given calls. IsTrying name T given calls × (false ≡ has_dealt calls))
+  tries_unread o s s1 name is = record {
+    given = [];
+    calls = Read name None ∷ [];
+    was_given =
+        given_none Holds IsClean Faults IsUp MayLeave o;
+    was_asked = is;
+    deposits = tt;
+    facts = λ T st k. (CouldNotRead, refl);
+  }
 
   -- a file was read and deposited, and these further calls were made
-  pub tries_read : (o o1 : Office V) (s s1 s2 : S) (lent : ℕ → ℕ) (name : FileName) (text read : List ℕ) (out : Outcome) (d : Disposal) (is_done dealt : Bool) → dealt ≡ has_dealt (disposing name is_done d) → text ≡ read → d ≡ disposal_of out
+  pub tries_read : (o o1 : Office V) (s s1 s2 : S) (lent : ℕ → ℕ) (name : FileName) (text read : List ℕ) (out : Outcome) (d : Disposal) (is_done dealt : Bool)
+      → dealt ≡ has_dealt (disposing name is_done d) → text ≡ read → d ≡ disposal_of out
       → WasGiven Holds IsClean Faults IsUp MayLeave o o1 ((deposit_of name text, event_tag_of out) ∷ [])
       → ((T : Trace) → StandsFor Holds o T → IsClean (vault_of o1) → IsOutcome T lent (deposit_of name text) out)
       → ((before : List FileCall) → Asked s before → Asked s1 (before ++ Read name (Some read) ∷ []))

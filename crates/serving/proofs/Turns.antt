@@ -8,7 +8,7 @@ use Rattle.std.proofs.lemmas.List.{append-nil, length-take}
 use Rattle.std.proofs.lemmas.List.Elements.{All-nil, All-cons, All-head, All-weaker, All-more, Contains-append_right}
 use Rattle.vault.specs.Records.{Records}
 use Rattle.vault.specs.Changes.{Contents}
-use Rattle.office.specs.Events.{Event, EventTag, Tagged, Ignored, Log, Trace}
+use Rattle.office.specs.Events.{EventTag, Log, Trace}
 use Rattle.office.specs.Events as event
 use Rattle.office.specs.Trace.{history, is_open, rest, rest_if, untaken, most_lent}
 use Rattle.office.specs.Taken.{trace_of}
@@ -144,7 +144,8 @@ module _ {V : Type 0} (Holds : V → Contents → Type 0) (IsClean : V → Type 
     read_some io octets piece m = WasRead io octets ((event.Bytes seat.connection piece, m) ∷ []) (record {
       quiet = record { no_moments = refl; no_openings = refl; no_refusals = refl; no_waits = refl; no_arrivals = refl; no_closings = refl };
       apart = refl;
-      caused = All-cons (HasCause (seat ∷ []) (Read Pop seat.link room io octets ∷ [])) (event.Bytes seat.connection piece, m) [] tt (All-nil (HasCause (seat ∷ []) (Read Pop seat.link room io octets ∷ [])));
+      caused = All-cons (HasCause (seat ∷ []) (Read Pop seat.link room io octets ∷ [])) (event.Bytes seat.connection piece, m) [] tt
+          (All-nil (HasCause (seat ∷ []) (Read Pop seat.link room io octets ∷ [])));
     })
 
     pub read_later : (io : Io) (octets : List ℕ) → IsReadOnce Holds o seat room [] (Read Pop seat.link room io octets ∷ [])
@@ -180,9 +181,11 @@ module _ {V : Type 0} (Holds : V → Contents → Type 0) (IsClean : V → Type 
         rw (n, k) refl
 
     -- what was looked at was read, all or by its line
-    heard_so : (o : Office V) (seat : Seat) (pace : Pace) (refusals : List Refusal) (room : ℕ) (login : Option LoginName) (io : Io) (octets : List ℕ) (looks : List Call) → (room == 0) ≡ false → (pace.by_line ≡ true → by_line ≡ true) → HasLooked Holds o seat pace refusals room login looks
+    heard_so : (o : Office V) (seat : Seat) (pace : Pace) (refusals : List Refusal) (room : ℕ) (login : Option LoginName) (io : Io) (octets : List ℕ) (looks : List Call)
+        → (room == 0) ≡ false → (pace.by_line ≡ true → by_line ≡ true) → HasLooked Holds o seat pace refusals room login looks
         → (list_any (is_read_of seat.link) (looks ++ Read Pop seat.link room io octets ∷ []) ≡ true) ⊎ IsReadByLine (looks ++ Read Pop seat.link room io octets ∷ []) by_line seat
-    heard_so o seat pace refusals room _ io octets looks some line (Unlooked e) = inl (any_right (is_read_of seat.link) [] (Read Pop seat.link 4096 io octets ∷ []) (whole_read seat 4096 io octets refl))
+    heard_so o seat pace refusals room _ io octets looks some line (Unlooked e) =
+        inl (any_right (is_read_of seat.link) [] (Read Pop seat.link 4096 io octets ∷ []) (whole_read seat 4096 io octets refl))
     heard_so o seat pace refusals room _ io octets looks some line (NothingCame i e) =
         inl (any_right (is_read_of seat.link) (Looked Pop seat.link i [] ∷ []) (Read Pop seat.link 4096 io octets ∷ []) (whole_read seat 4096 io octets refl))
     heard_so o seat pace refusals room _ io octets looks some line (PieceCame n piece count login lined lies is brought part) =
@@ -199,8 +202,10 @@ module _ {V : Type 0} (Holds : V → Contents → Type 0) (IsClean : V → Type 
         })
 
     -- it was looked at first
-    pub heard_behind : (o : Office V) (seat : Seat) (pace : Pace) (refusals : List Refusal) (room : ℕ) (login : Option LoginName) (given : Log) (looks calls : List Call) → IsQuietFor (seat ∷ []) [] looks → HasLooked Holds o seat pace refusals room login looks
-        → (room == 0) ≡ false → (pace.by_line ≡ true → by_line ≡ true) → (is_noted ≡ true → ⊥) → IsReadOnce Holds o seat room given calls → IsHeard Holds o seat wait by_line may is_noted given (looks ++ calls)
+    pub heard_behind : (o : Office V) (seat : Seat) (pace : Pace) (refusals : List Refusal) (room : ℕ) (login : Option LoginName) (given : Log) (looks calls : List Call)
+        → IsQuietFor (seat ∷ []) [] looks → HasLooked Holds o seat pace refusals room login looks
+        → (room == 0) ≡ false → (pace.by_line ≡ true → by_line ≡ true) → (is_noted ≡ true → ⊥) → IsReadOnce Holds o seat room given calls
+        → IsHeard Holds o seat wait by_line may is_noted given (looks ++ calls)
     heard_behind o seat pace refusals room login _ looks _ quiet looked some line calm (NotReady idle) = record {
       of_seat = of_then (seat ∷ []) [] [] looks [] quiet (of_none (seat ∷ []));
       heard = inr (inr (refl, inl idle));
@@ -225,10 +230,12 @@ module _ {V : Type 0} (Holds : V → Contents → Type 0) (IsClean : V → Type 
   pub written_none : (o : Office V) (seat : Seat) → IsWritten Holds IsClean o o seat 0 0 true [] []
   written_none o seat = record { of_seat = of_none (seat ∷ []); taken = omega arith; octets_are = omega arith; offered = λ B L s k. All-nil (IsOffered B L [] (seat ∷ [])); ends = λ e. cc }
 
-  owes_then : (o o1 o2 : Office V) (c : ℕ) (g1 g2 : Log) → WasGiven Holds IsClean Faults IsUp MayLeave o o1 g1 → WasGiven Holds IsClean Faults IsUp MayLeave o1 o2 g2 → OwesNothing Holds IsClean o1 o2 c g2 → OwesNothing Holds IsClean o o2 c (g2 ++ g1)
+  owes_then : (o o1 o2 : Office V) (c : ℕ) (g1 g2 : Log) → WasGiven Holds IsClean Faults IsUp MayLeave o o1 g1
+      → WasGiven Holds IsClean Faults IsUp MayLeave o1 o2 g2 → OwesNothing Holds IsClean o1 o2 c g2 → OwesNothing Holds IsClean o o2 c (g2 ++ g1)
   owes_then o o1 o2 c g1 g2 a b owes = λ B L s k. subst (λ l. rest (trace_of B l) c ≡ []) (sym (append_assoc g2 g1 L)) (owes B (g1 ++ L) (a.stands B L s (b.clean k)) k)
 
-  pub written_then : (o o1 o2 : Office V) (seat : Seat) (n1 n2 k1 k2 : ℕ) (goes : Bool) (g1 g2 : Log) (c1 c2 : List Call) → WasGiven Holds IsClean Faults IsUp MayLeave o o1 g1 → WasGiven Holds IsClean Faults IsUp MayLeave o1 o2 g2
+  pub written_then : (o o1 o2 : Office V) (seat : Seat) (n1 n2 k1 k2 : ℕ) (goes : Bool) (g1 g2 : Log) (c1 c2 : List Call)
+      → WasGiven Holds IsClean Faults IsUp MayLeave o o1 g1 → WasGiven Holds IsClean Faults IsUp MayLeave o1 o2 g2
       → IsWritten Holds IsClean o o1 seat n1 k1 true g1 c1 → IsWritten Holds IsClean o1 o2 seat n2 k2 goes g2 c2 → IsWritten Holds IsClean o o2 seat (n1 + n2) (k1 + k2) goes (g2 ++ g1) (c1 ++ c2)
   written_then o o1 o2 seat n1 n2 k1 k2 goes g1 g2 c1 c2 wa wb a b = record {
     of_seat = of_then (seat ∷ []) g1 g2 c1 c2 a.of_seat b.of_seat;
@@ -243,7 +250,8 @@ module _ {V : Type 0} (Holds : V → Contents → Type 0) (IsClean : V → Type 
   }
 
   -- fewer writes, and fewer octets
-  pub written_less : (o o1 : Office V) (seat : Seat) (n n2 k k2 : ℕ) (goes : Bool) (g : Log) (c : List Call) → n2 ≤ n → k2 ≤ k → IsWritten Holds IsClean o o1 seat n k goes g c → IsWritten Holds IsClean o o1 seat n2 k2 goes g c
+  pub written_less : (o o1 : Office V) (seat : Seat) (n n2 k k2 : ℕ) (goes : Bool) (g : Log) (c : List Call) → n2 ≤ n → k2 ≤ k
+      → IsWritten Holds IsClean o o1 seat n k goes g c → IsWritten Holds IsClean o o1 seat n2 k2 goes g c
   written_less o o1 seat n n2 k k2 goes g c h h2 a = record {
     of_seat = a.of_seat;
     taken = (let p = a.taken in omega (arith, p, h));
@@ -257,21 +265,25 @@ module _ {V : Type 0} (Holds : V → Contents → Type 0) (IsClean : V → Type 
   written_ended o o1 seat n k share g c a = record { of_seat = a.of_seat; offered = a.offered; goes_on = λ e. cc; ends = a.ends }
 
   -- the share is written
-  pub written_share : (o o1 : Office V) (seat : Seat) (n k share : ℕ) (goes : Bool) (g : Log) (c : List Call) → share ≤ k → IsWritten Holds IsClean o o1 seat n k goes g c → IsWrittenOut Holds IsClean o o1 seat share true g c
+  pub written_share : (o o1 : Office V) (seat : Seat) (n k share : ℕ) (goes : Bool) (g : Log) (c : List Call) → share ≤ k
+      → IsWritten Holds IsClean o o1 seat n k goes g c → IsWrittenOut Holds IsClean o o1 seat share true g c
   written_share o o1 seat n k share goes g c h a = record { of_seat = a.of_seat; offered = a.offered; goes_on = λ e. inr (let p = a.octets_are in omega (arith, p, h)); ends = λ e. cc }
 
-  pub written_all : (o o1 : Office V) (seat : Seat) (n k share : ℕ) (goes : Bool) (g : Log) (c : List Call) → most_writes ≤ n → IsWritten Holds IsClean o o1 seat n k goes g c → IsWrittenOut Holds IsClean o o1 seat share true g c
+  pub written_all : (o o1 : Office V) (seat : Seat) (n k share : ℕ) (goes : Bool) (g : Log) (c : List Call) → most_writes ≤ n
+      → IsWritten Holds IsClean o o1 seat n k goes g c → IsWrittenOut Holds IsClean o o1 seat share true g c
   written_all o o1 seat n k share goes g c h a = record { of_seat = a.of_seat; offered = a.offered; goes_on = λ e. inl (let p = a.taken in omega (arith, p, h)); ends = λ e. cc }
 
   -- a link that was written its share had its turn
-  turn_written : (o o1 : Office V) (way : Way) (seat : Seat) (g : Log) (c : List Call) → way.poll_now ≡ true → IsWrittenOut Holds IsClean o o1 seat way.share true g c → had_its_turn way.share way.poll_now seat.link c ≡ true
+  turn_written : (o o1 : Office V) (way : Way) (seat : Seat) (g : Log) (c : List Call) → way.poll_now ≡ true
+      → IsWrittenOut Holds IsClean o o1 seat way.share true g c → had_its_turn way.share way.poll_now seat.link c ≡ true
   turn_written o o1 way seat g c e a =
       ⊎_elim
       (λ (full : most_writes ≤ length (filter (is_taking_of seat.link) c)). turn_full way.share way.poll_now seat.link c e full)
       (λ (taken : way.share ≤ octets_taken seat.link c). turn_shared way.share way.poll_now seat.link c e taken)
       (a.goes_on refl)
 
-  pub served_written : (o o1 : Office V) (way : Way) (noted : List Newcomer) (seat : Seat) (g : Log) (c : List Call) → way.poll_now ≡ true → (lies_unread (newcomer seat.connection noted) ≡ true → ⊥) → IsWrittenOut Holds IsClean o o1 seat way.share true g c
+  pub served_written : (o o1 : Office V) (way : Way) (noted : List Newcomer) (seat : Seat) (g : Log) (c : List Call) → way.poll_now ≡ true
+      → (lies_unread (newcomer seat.connection noted) ≡ true → ⊥) → IsWrittenOut Holds IsClean o o1 seat way.share true g c
       → HadTurns Holds IsClean o o1 way noted (seat ∷ []) (seat ∷ []) g c
   served_written o o1 way noted seat g c e calm a = record {
     of_seats = a.of_seat;
@@ -284,7 +296,8 @@ module _ {V : Type 0} (Holds : V → Contents → Type 0) (IsClean : V → Type 
 
   served_unless : (o o1 o2 : Office V) (way : Way) (seat : Seat) (g1 : Log) (c1 c2 : List Call) → WasGiven Holds IsClean Faults IsUp MayLeave o o1 g1 → (IsClean (vault_of o2) → IsClean (vault_of o1))
       → IsWrittenOut Holds IsClean o o1 seat way.share false g1 c1 → IsNotReady Holds o1 seat.connection
-      → (B : Records) (L : Log) → StandsFor Holds o (trace_of B L) → IsClean (vault_of o2) → is_open (trace_of B (g1 ++ L)) seat.connection ≡ true → had_its_turn way.share way.poll_now seat.link (c1 ++ c2) ≡ true
+      → (B : Records) (L : Log) → StandsFor Holds o (trace_of B L) → IsClean (vault_of o2) → is_open (trace_of B (g1 ++ L)) seat.connection ≡ true
+      → had_its_turn way.share way.poll_now seat.link (c1 ++ c2) ≡ true
   served_unless o o1 o2 way seat g1 c1 c2 wa clean a idle B L s k here =
       ⊎_elim
       (λ (later : list_any (is_later_of seat.link) c1 ≡ true). turn_left way.share way.poll_now seat.link c1 c2 (turn_later way.share way.poll_now seat.link c1 later))
@@ -293,8 +306,11 @@ module _ {V : Type 0} (Holds : V → Contents → Type 0) (IsClean : V → Type 
       absurd (shut_by (is_open T seat.connection) (untaken T.log (history T) seat.connection) (owes B L s (clean k)) (idle B (g1 ++ L) (wa.stands B L s (clean k))) here)))
       (a.ends refl)
 
-  pub served_one : (o o1 o2 : Office V) (way : Way) (noted : List Newcomer) (seat : Seat) (g1 g2 : Log) (c1 c2 : List Call) → WasGiven Holds IsClean Faults IsUp MayLeave o o1 g1 → WasGiven Holds IsClean Faults IsUp MayLeave o1 o2 g2
-      → IsWrittenOut Holds IsClean o o1 seat way.share false g1 c1 → IsHeard Holds o1 seat way.wait way.by_line (way.may seat.connection) (lies_unread (newcomer seat.connection noted)) g2 c2 → HadTurns Holds IsClean o o2 way noted (seat ∷ []) (seat ∷ []) (g2 ++ g1) (c1 ++ c2)
+  pub served_one : (o o1 o2 : Office V) (way : Way) (noted : List Newcomer) (seat : Seat) (g1 g2 : Log) (c1 c2 : List Call)
+      → WasGiven Holds IsClean Faults IsUp MayLeave o o1 g1 → WasGiven Holds IsClean Faults IsUp MayLeave o1 o2 g2
+      → IsWrittenOut Holds IsClean o o1 seat way.share false g1 c1
+      → IsHeard Holds o1 seat way.wait way.by_line (way.may seat.connection) (lies_unread (newcomer seat.connection noted)) g2 c2
+      → HadTurns Holds IsClean o o2 way noted (seat ∷ []) (seat ∷ []) (g2 ++ g1) (c1 ++ c2)
   served_one o o1 o2 way noted seat g1 g2 c1 c2 wa wb a b = record {
     of_seats = of_then (seat ∷ []) g1 g2 c1 c2 a.of_seat b.of_seat;
     offered = λ B L s k. offered_then B L g1 g2 (seat ∷ []) c1 c2 (a.offered B L s (wb.clean k)) (none_offered B (g1 ++ L) g2 (seat ∷ []) c2 b.unwritten);
@@ -302,9 +318,11 @@ module _ {V : Type 0} (Holds : V → Contents → Type 0) (IsClean : V → Type 
         All-cons (IsNotedSo noted B L (g2 ++ g1) (c1 ++ c2) way.wait way.may (seat ∷ [])) seat []
         (λ h. record { seat = seat; among = first_seat seat; is = refl; unread = unread_at B L s k (b.noted h) })
         (All-nil (IsNotedSo noted B L (g2 ++ g1) (c1 ++ c2) way.wait way.may (seat ∷ [])));
-    turns = λ B L s k. All-cons (HadTurn way B L (g2 ++ g1) (trace_of B ((g2 ++ g1) ++ L)) (c1 ++ c2)) seat [] (by B L s k b.heard) (All-nil (HadTurn way B L (g2 ++ g1) (trace_of B ((g2 ++ g1) ++ L)) (c1 ++ c2)));
+    turns = λ B L s k. All-cons (HadTurn way B L (g2 ++ g1) (trace_of B ((g2 ++ g1) ++ L)) (c1 ++ c2)) seat [] (by B L s k b.heard)
+        (All-nil (HadTurn way B L (g2 ++ g1) (trace_of B ((g2 ++ g1) ++ L)) (c1 ++ c2)));
   } where
-    unread_at : (B : Records) (L : Log) → StandsFor Holds o (trace_of B L) → IsClean (vault_of o2) → IsUnread Holds o1 seat way.wait (way.may seat.connection) c2 → StaysUnread B L (g2 ++ g1) (c1 ++ c2) way.wait (way.may seat.connection) seat
+    unread_at : (B : Records) (L : Log) → StandsFor Holds o (trace_of B L) → IsClean (vault_of o2)
+        → IsUnread Holds o1 seat way.wait (way.may seat.connection) c2 → StaysUnread B L (g2 ++ g1) (c1 ++ c2) way.wait (way.may seat.connection) seat
     unread_at B L s k u = record {
       piece = u.piece;
       io = u.io;
@@ -316,7 +334,8 @@ module _ {V : Type 0} (Holds : V → Contents → Type 0) (IsClean : V → Type 
     }
 
     by : (B : Records) (L : Log) → StandsFor Holds o (trace_of B L) → IsClean (vault_of o2)
-        → (list_any (is_read_of seat.link) c2 ≡ true) ⊎ (IsReadByLine c2 way.by_line seat ⊎ ((g2 ≡ []) × (IsNotReady Holds o1 seat.connection ⊎ IsUnread Holds o1 seat way.wait (way.may seat.connection) c2)))
+        → (list_any (is_read_of seat.link) c2 ≡ true)
+        ⊎ (IsReadByLine c2 way.by_line seat ⊎ ((g2 ≡ []) × (IsNotReady Holds o1 seat.connection ⊎ IsUnread Holds o1 seat way.wait (way.may seat.connection) c2)))
         → HadTurn way B L (g2 ++ g1) (trace_of B ((g2 ++ g1) ++ L)) (c1 ++ c2) seat
     by B L s k (inl r) here = inl (turn_right way.share way.poll_now seat.link c1 c2 (turn_read way.share way.poll_now seat.link c2 r))
     by B L s k (inr (inl u)) here = inr (inl (line_right way.by_line seat c1 c2 u))
@@ -325,7 +344,8 @@ module _ {V : Type 0} (Holds : V → Contents → Type 0) (IsClean : V → Type 
     by B L s k (inr (inr (none, inr u))) here = inr (inr (unread_at B L s k u))
 
   -- more is done for the same link
-  pub served_then : (o o1 o2 : Office V) (way : Way) (noted : List Newcomer) (seat : Seat) (g1 g2 : Log) (c1 c2 : List Call) → WasGiven Holds IsClean Faults IsUp MayLeave o o1 g1 → WasGiven Holds IsClean Faults IsUp MayLeave o1 o2 g2
+  pub served_then : (o o1 o2 : Office V) (way : Way) (noted : List Newcomer) (seat : Seat) (g1 g2 : Log) (c1 c2 : List Call)
+      → WasGiven Holds IsClean Faults IsUp MayLeave o o1 g1 → WasGiven Holds IsClean Faults IsUp MayLeave o1 o2 g2
       → HadTurns Holds IsClean o o1 way noted (seat ∷ []) (seat ∷ []) g1 c1 → IsQuietFor (seat ∷ []) g2 c2
       → AreOffered Holds IsClean o1 o2 (seat ∷ []) g2 c2 → HadTurns Holds IsClean o o2 way noted (seat ∷ []) (seat ∷ []) (g2 ++ g1) (c1 ++ c2)
   served_then o o1 o2 way noted seat g1 g2 c1 c2 wa wb a b all = record {
@@ -343,7 +363,8 @@ module _ {V : Type 0} (Holds : V → Contents → Type 0) (IsClean : V → Type 
   -- ---- all links
 
   -- served in another way: the same share, the same wait, more logins may be kept back, and the next turn doesn't wait for another cause
-  pub served_so : (o o1 : Office V) (way way2 : Way) (noted : List Newcomer) (seats these : List Seat) (g : Log) (c : List Call) → way2.share ≡ way.share → way2.wait ≡ way.wait → (way.by_line ≡ true → way2.by_line ≡ true)
+  pub served_so : (o o1 : Office V) (way way2 : Way) (noted : List Newcomer) (seats these : List Seat) (g : Log) (c : List Call)
+      → way2.share ≡ way.share → way2.wait ≡ way.wait → (way.by_line ≡ true → way2.by_line ≡ true)
       → All (λ q. way.may q.connection ≡ true → way2.may q.connection ≡ true) these → (way.poll_now ≡ true → way2.poll_now ≡ true)
       → HadTurns Holds IsClean o o1 way noted seats these g c → HadTurns Holds IsClean o o1 way2 noted seats these g c
   served_so o o1 way way2 noted seats these g c share wait lines may still a = record {
@@ -365,13 +386,15 @@ module _ {V : Type 0} (Holds : V → Contents → Type 0) (IsClean : V → Type 
       kept = subst (λ n. IsKeptBack (trace_of B (u.front ++ L)) q.connection u.piece n m2) (sym wait) (kept_more (trace_of B (u.front ++ L)) q.connection u.piece way.wait m m2 more u.kept);
     }
 
-    by : (B : Records) (L : Log) (q : Seat) → (way.may q.connection ≡ true → way2.may q.connection ≡ true) → (had_its_turn way.share way.poll_now q.link c ≡ true) ⊎ IsHeldBack B L g c way.wait way.by_line (way.may q.connection) q
+    by : (B : Records) (L : Log) (q : Seat) → (way.may q.connection ≡ true → way2.may q.connection ≡ true)
+        → (had_its_turn way.share way.poll_now q.link c ≡ true) ⊎ IsHeldBack B L g c way.wait way.by_line (way.may q.connection) q
         → (had_its_turn way2.share way2.poll_now q.link c ≡ true) ⊎ IsHeldBack B L g c way2.wait way2.by_line (way2.may q.connection) q
     by B L q more (inl t) = inl (subst (λ n. had_its_turn n way2.poll_now q.link c ≡ true) (sym share) (turn_polled way.share way.poll_now way2.poll_now q.link c still t))
     by B L q more (inr (inl u)) = inr (inl (record { piece = u.piece; io = u.io; io_then = u.io_then; octets = u.octets; held = lines u.held; shown = u.shown; read = u.read }))
     by B L q more (inr (inr u)) = inr (inr (unread_in B L q (way.may q.connection) (way2.may q.connection) more u))
 
-  pub served_among : (o o1 : Office V) (way : Way) (noted : List Newcomer) (seats : List Seat) (seat : Seat) (g : Log) (c : List Call) → Contains seats seat → HadTurns Holds IsClean o o1 way noted (seat ∷ []) (seat ∷ []) g c → HadTurns Holds IsClean o o1 way noted seats (seat ∷ []) g c
+  pub served_among : (o o1 : Office V) (way : Way) (noted : List Newcomer) (seats : List Seat) (seat : Seat) (g : Log) (c : List Call)
+      → Contains seats seat → HadTurns Holds IsClean o o1 way noted (seat ∷ []) (seat ∷ []) g c → HadTurns Holds IsClean o o1 way noted seats (seat ∷ []) g c
   served_among o o1 way noted seats seat g c has a = record {
     of_seats = of_more (seat ∷ []) seats g c (λ s h. subst (Contains seats) (only_one seat s h) has) a.of_seats;
     offered = λ B L s k. offered_more B L g (seat ∷ []) seats c (λ q h. subst (Contains seats) (only_one seat q h) has) (a.offered B L s k);
@@ -382,7 +405,8 @@ module _ {V : Type 0} (Holds : V → Contents → Type 0) (IsClean : V → Type 
   }
 
   -- by its place
-  pub served_at : (o o1 : Office V) (way : Way) (noted : List Newcomer) (xs ys : List Seat) (i : ℕ) (e : Seat) (g : Log) (c : List Call) → ys ≡ xs → i < length xs → HadTurns Holds IsClean o o1 way noted (get_or ys i e ∷ []) (get_or ys i e ∷ []) g c
+  pub served_at : (o o1 : Office V) (way : Way) (noted : List Newcomer) (xs ys : List Seat) (i : ℕ) (e : Seat) (g : Log) (c : List Call) → ys ≡ xs
+      → i < length xs → HadTurns Holds IsClean o o1 way noted (get_or ys i e ∷ []) (get_or ys i e ∷ []) g c
       → (d : Seat) → HadTurns Holds IsClean o o1 way noted xs (get_or xs i d ∷ []) g c
   served_at o o1 way noted xs ys i e g c is h a d =
       let same : get_or ys i e ≡ get_or xs i d = ap (λ zs. get_or zs i e) is ∙ any_default xs i e d h in
@@ -399,7 +423,8 @@ module _ {V : Type 0} (Holds : V → Contents → Type 0) (IsClean : V → Type 
   pub served_more : (o o1 o2 : Office V) (way : Way) (noted noted2 : List Newcomer) (seats now : List Seat) (i : ℕ) (d : Seat) (g1 g2 : Log) (c1 c2 : List Call) → now ≡ seats → i < length now
       → ((c : ℕ) → lies_unread (newcomer c noted2) ≡ true → (lies_unread (newcomer c noted) ≡ true) ⊎ (c ≡ (get_or now i d).connection))
       → WasGiven Holds IsClean Faults IsUp MayLeave o o1 g1 → WasGiven Holds IsClean Faults IsUp MayLeave o1 o2 g2
-      → HadTurns Holds IsClean o o1 way noted seats (take i seats) g1 c1 → HadTurns Holds IsClean o1 o2 way noted2 now (get_or now i d ∷ []) g2 c2 → HadTurns Holds IsClean o o2 way noted2 seats (take (i + 1) seats) (g2 ++ g1) (c1 ++ c2)
+      → HadTurns Holds IsClean o o1 way noted seats (take i seats) g1 c1 → HadTurns Holds IsClean o1 o2 way noted2 now (get_or now i d ∷ []) g2 c2
+      → HadTurns Holds IsClean o o2 way noted2 seats (take (i + 1) seats) (g2 ++ g1) (c1 ++ c2)
   served_more o o1 o2 way noted noted2 seats now i d g1 g2 c1 c2 is within law wa wb a at_now =
       let h : i < length seats = subst (λ xs. i < length xs) is within in
       let b = subst (λ xs. HadTurns Holds IsClean o1 o2 way noted2 xs (get_or xs i d ∷ []) g2 c2) is at_now in
@@ -433,20 +458,26 @@ module _ {V : Type 0} (Holds : V → Contents → Type 0) (IsClean : V → Type 
             by_last);
       }
 
-  pub served_whole : (o o1 : Office V) (way : Way) (noted : List Newcomer) (seats now : List Seat) (n : ℕ) (g : Log) (c : List Call) → now ≡ seats → length now ≤ n → HadTurns Holds IsClean o o1 way noted seats (take n seats) g c → HadTurns Holds IsClean o o1 way noted seats seats g c
+  pub served_whole : (o o1 : Office V) (way : Way) (noted : List Newcomer) (seats now : List Seat) (n : ℕ) (g : Log) (c : List Call) → now ≡ seats
+      → length now ≤ n → HadTurns Holds IsClean o o1 way noted seats (take n seats) g c → HadTurns Holds IsClean o o1 way noted seats seats g c
   served_whole o o1 way noted seats now n g c is h a =
       let k : length seats ≤ n = subst (λ xs. length xs ≤ n) is h in
       subst (λ xs. HadTurns Holds IsClean o o1 way noted seats xs g c) (whole_front seats n k) a
 
 -- ---- what was looked at first
 
-module _ {V W H : Type 0} (Holds : V → Contents → Type 0) (IsClean : V → Type 0) (Faults : V → ℕ) (IsUp : V → Type 0) (MayLeave : V → Contents → Type 0) (Asked : W → List Call → Type 0) (Heard : H → List Hearing → Type 0) where
-  pub heard_asked : (o : Office V) (w w1 : W) (l : H) (seat : Seat) (wait : ℕ) (by_line may is_noted : Bool) (N : List Call → Type 0) (calls : List Call) → WasAsked Asked w w1 calls → IsHeard Holds o seat wait by_line may is_noted [] calls → N calls
+module _ {V W H : Type 0} (Holds : V → Contents → Type 0) (IsClean : V → Type 0) (Faults : V → ℕ) (IsUp : V → Type 0)
+    (MayLeave : V → Contents → Type 0) (Asked : W → List Call → Type 0) (Heard : H → List Hearing → Type 0) where
+  pub heard_asked : (o : Office V) (w w1 : W) (l : H) (seat : Seat) (wait : ℕ) (by_line may is_noted : Bool) (N : List Call → Type 0) (calls : List Call)
+      → WasAsked Asked w w1 calls → IsHeard Holds o seat wait by_line may is_noted [] calls → N calls
       → Part Holds IsClean Faults IsUp MayLeave Asked o w o w1 (WithHeard Holds IsClean Heard o l o l (Also (IsHeard Holds o seat wait by_line may is_noted) N))
-  heard_asked o w w1 l seat wait by_line may is_noted N calls asked a n = record { given = []; calls = calls; was_given = given_none Holds IsClean Faults IsUp MayLeave o; was_asked = asked; facts = (unheard Holds IsClean Heard o l, (a, n)) }
+  heard_asked o w w1 l seat wait by_line may is_noted N calls asked a n =
+      record { given = []; calls = calls; was_given = given_none Holds IsClean Faults IsUp MayLeave o; was_asked = asked; facts = (unheard Holds IsClean Heard o l, (a, n)) }
 
-  pub heard_after : (o o1 : Office V) (w w1 w2 : W) (l l1 : H) (seat : Seat) (wait : ℕ) (by_line may is_noted : Bool) (pace : Pace) (refusals : List Refusal) (room : ℕ) (login : Option LoginName) (M N : List Call → Type 0) (looks : List Call) → ((c : List Call) → M c → N (looks ++ c))
-      → IsQuietFor (seat ∷ []) [] looks → HasLooked Holds o seat pace refusals room login looks → (room == 0) ≡ false → (pace.by_line ≡ true → by_line ≡ true) → (is_noted ≡ true → ⊥) → WasAsked Asked w w1 looks
+  pub heard_after : (o o1 : Office V) (w w1 w2 : W) (l l1 : H) (seat : Seat) (wait : ℕ) (by_line may is_noted : Bool) (pace : Pace)
+      (refusals : List Refusal) (room : ℕ) (login : Option LoginName) (M N : List Call → Type 0) (looks : List Call) → ((c : List Call) → M c → N (looks ++ c))
+      → IsQuietFor (seat ∷ []) [] looks → HasLooked Holds o seat pace refusals room login looks → (room == 0) ≡ false
+      → (pace.by_line ≡ true → by_line ≡ true) → (is_noted ≡ true → ⊥) → WasAsked Asked w w1 looks
       → Part Holds IsClean Faults IsUp MayLeave Asked o w1 o1 w2 (WithHeard Holds IsClean Heard o l o1 l1 (Also (IsReadOnce Holds o seat room) M))
       → Part Holds IsClean Faults IsUp MayLeave Asked o w o1 w2 (WithHeard Holds IsClean Heard o l o1 l1 (Also (IsHeard Holds o seat wait by_line may is_noted) N))
   heard_after o o1 w w1 w2 l l1 seat wait by_line may is_noted pace refusals room login M N looks more quiet looked some line calm asked a = record {
@@ -454,7 +485,13 @@ module _ {V W H : Type 0} (Holds : V → Contents → Type 0) (IsClean : V → T
     calls = looks ++ a.calls;
     was_given = a.was_given;
     was_asked = asked_then Asked w w1 w2 looks a.calls asked a.was_asked;
-    facts = (a.facts.0, (heard_behind Holds IsClean Faults IsUp MayLeave wait by_line may is_noted o seat pace refusals room login a.given looks a.calls quiet looked some line calm a.facts.1.0, more a.calls a.facts.1.1));
+    facts = (
+      a.facts.0,
+      (
+        heard_behind Holds IsClean Faults IsUp MayLeave wait by_line may is_noted o seat pace refusals room login a.given looks a.calls quiet looked some line calm a.facts.1.0,
+        more a.calls a.facts.1.1,
+      ),
+    );
   }
 
   -- a read that had room for so many octets of a buffer

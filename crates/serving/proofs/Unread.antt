@@ -42,12 +42,16 @@ and_second : (a b : Bool) → (a && b) ≡ true → b ≡ true
 and_second true b e = e
 and_second false b e = cc
 
-kept_by : (pace : Pace) (refusals : List Refusal) (login : Option LoginName) → keeps pace refusals login ≡ true → ((pace.is_shut ≡ true) ⊎ ((is_some pace.origin ≡ true) × (nat_lt pace.waited most_paced ≡ true))) × (is_some login ≡ true)
+kept_by : (pace : Pace) (refusals : List Refusal) (login : Option LoginName) → keeps pace refusals login ≡ true
+    → ((pace.is_shut ≡ true) ⊎ ((is_some pace.origin ≡ true) × (nat_lt pace.waited most_paced ≡ true))) × (is_some login ≡ true)
 kept_by pace refusals None h = cc
 kept_by pace refusals (Some name) h = (
   ⊎_elim
       (λ (s : pace.is_shut ≡ true). inl s)
-      (λ (p : (nat_lt pace.waited most_paced && is_paced pace.now pace.origin name refusals) ≡ true). inr (paced_so pace.now pace.origin name refusals (and_second (nat_lt pace.waited most_paced) (is_paced pace.now pace.origin name refusals) p), and_first (nat_lt pace.waited most_paced) (is_paced pace.now pace.origin name refusals) p))
+      (λ (p : (nat_lt pace.waited most_paced && is_paced pace.now pace.origin name refusals) ≡ true). inr (
+        paced_so pace.now pace.origin name refusals (and_second (nat_lt pace.waited most_paced) (is_paced pace.now pace.origin name refusals) p),
+        and_first (nat_lt pace.waited most_paced) (is_paced pace.now pace.origin name refusals) p,
+      ))
       (or_cases pace.is_shut (nat_lt pace.waited most_paced && is_paced pace.now pace.origin name refusals) h),
   refl,
 )
@@ -57,7 +61,8 @@ no_origin None e h = cc
 no_origin (Some n) e h = cc
 
 -- where logins may be kept back
-pub may_so : (slow freed shut less : Bool) (origin : Option ℕ) → shut ≡ freed → (slow ≡ false → origin ≡ None) → (shut ≡ true) ⊎ ((is_some origin ≡ true) × (less ≡ true)) → (freed || (slow && less)) ≡ true
+pub may_so : (slow freed shut less : Bool) (origin : Option ℕ) → shut ≡ freed → (slow ≡ false → origin ≡ None)
+    → (shut ≡ true) ⊎ ((is_some origin ≡ true) × (less ≡ true)) → (freed || (slow && less)) ≡ true
 may_so slow true shut less origin same fast h = refl
 may_so true false shut less origin same fast (inl s) = let k : false ≡ true = sym same ∙ s in cc
 may_so true false shut less origin same fast (inr p) = p.1
@@ -76,7 +81,8 @@ line_so false false false wait origin same fast h =
     (λ (o : is_some origin ≡ true). absurd (no_origin origin (fast refl) o))
     (or_cases (not (wait == 0) || false) (is_some origin) h)
 
-kept_so : (T : Trace) (c : ℕ) (piece : List ℕ) (may : Bool) (pace : Pace) (refusals : List Refusal) → ((pace.is_shut ≡ true) ⊎ ((is_some pace.origin ≡ true) × (nat_lt pace.waited most_paced ≡ true)) → may ≡ true) → is_held T c piece pace refusals ≡ true → IsKeptBack T c piece pace.wait may
+kept_so : (T : Trace) (c : ℕ) (piece : List ℕ) (may : Bool) (pace : Pace) (refusals : List Refusal)
+    → ((pace.is_shut ≡ true) ⊎ ((is_some pace.origin ≡ true) × (nat_lt pace.waited most_paced ≡ true)) → may ≡ true) → is_held T c piece pace refusals ≡ true → IsKeptBack T c piece pace.wait may
 kept_so T c piece may pace refusals so h =
     ⊎_elim
     (λ (w : waiting.waits T c piece pace.wait ≡ true). inl w)
@@ -87,11 +93,31 @@ kept_so T c piece may pace refusals so h =
 
 module _ {V : Type 0} (Holds : V → Contents → Type 0) (o : Office V) (seat : Seat) (pace : Pace) (refusals : List Refusal) where
   pub looked_quiet : (n : ℕ) (login : Option LoginName) (calls : List Call) → HasLooked Holds o seat pace refusals n login calls → IsQuietFor (seat ∷ []) [] calls
-  looked_quiet n _ calls (Unlooked e) = record { quiet = record { no_moments = refl; no_openings = refl; no_refusals = refl; no_waits = refl; no_arrivals = refl; no_closings = refl }; apart = refl; caused = All-nil (HasCause (seat ∷ []) []) }
-  looked_quiet n _ calls (NothingCame io e) = record { quiet = record { no_moments = refl; no_openings = refl; no_refusals = refl; no_waits = refl; no_arrivals = refl; no_closings = refl }; apart = refl; caused = All-nil (HasCause (seat ∷ []) (Looked Pop seat.link io [] ∷ [])) }
-  looked_quiet n _ calls (PieceCame k piece count login by_line some is brought part) = record { quiet = record { no_moments = refl; no_openings = refl; no_refusals = refl; no_waits = refl; no_arrivals = refl; no_closings = refl }; apart = refl; caused = All-nil (HasCause (seat ∷ []) (Looked Pop seat.link (Count k) piece ∷ [])) }
+  looked_quiet n _ calls (Unlooked e) =
+      record {
+        quiet = record { no_moments = refl; no_openings = refl; no_refusals = refl; no_waits = refl; no_arrivals = refl; no_closings = refl };
+        apart =
+            refl;
+        caused = All-nil (HasCause (seat ∷ []) []);
+      }
+  looked_quiet n _ calls (NothingCame io e) =
+      record {
+        quiet = record { no_moments = refl; no_openings = refl; no_refusals = refl; no_waits = refl; no_arrivals = refl; no_closings = refl };
+        apart =
+            refl;
+        caused = All-nil (HasCause (seat ∷ []) (Looked Pop seat.link io [] ∷ []));
+      }
+  looked_quiet n _ calls (PieceCame k piece count login by_line some is brought part) =
+      record {
+        quiet = record { no_moments = refl; no_openings = refl; no_refusals = refl; no_waits = refl; no_arrivals = refl; no_closings = refl };
+        apart =
+            refl;
+        caused = All-nil (HasCause (seat ∷ []) (Looked Pop seat.link (Count k) piece ∷ []));
+      }
 
-  pub unread_so : (may : Bool) (n : ℕ) (login : Option LoginName) (calls : List Call) → ((pace.is_shut ≡ true) ⊎ ((is_some pace.origin ≡ true) × (nat_lt pace.waited most_paced ≡ true)) → may ≡ true) → n ≡ 0 → HasLooked Holds o seat pace refusals n login calls → IsUnread Holds o seat pace.wait may calls
+  pub unread_so : (may : Bool) (n : ℕ) (login : Option LoginName) (calls : List Call)
+      → ((pace.is_shut ≡ true) ⊎ ((is_some pace.origin ≡ true) × (nat_lt pace.waited most_paced ≡ true)) → may ≡ true) → n ≡ 0
+      → HasLooked Holds o seat pace refusals n login calls → IsUnread Holds o seat pace.wait may calls
   unread_so may n _ calls so z (Unlooked e) = absurd (omega (arith, z))
   unread_so may n _ calls so z (NothingCame io e) = absurd (omega (arith, z))
   unread_so may n _ calls so z (PieceCame k piece count login by_line some is brought part) = record {

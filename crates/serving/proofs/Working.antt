@@ -1,5 +1,6 @@
 -- That parts of a turn, one after the other, do what they do all together.
-use Rattle.std.proofs.Common.{◌≡◌, ℕ, ◌+◌, ◌<◌, ◌≤◌, Bool, true, false, not, ◌&&◌, ◌||◌, ◌==◌, List, [], ◌∷◌, ◌++◌, length, min, refl, sym, ◌∙◌, ap, arith, Some, Option, ⊎_elim, ◌⊎◌, inl, inr, subst, true≢false, append_assoc, length-append, le-leb, leb-true, nat_le, nat_lt, eqb-true}
+use Rattle.std.proofs.Common.{◌≡◌, ℕ, ◌+◌, ◌<◌, ◌≤◌, Bool, true, false, not, ◌&&◌, ◌||◌, ◌==◌, List, [], ◌∷◌, ◌++◌, length, min, refl, sym, ◌∙◌, ap, arith, Some, Option, ⊎_elim}
+use Rattle.std.proofs.Common.{◌⊎◌, inl, inr, subst, true≢false, append_assoc, length-append, le-leb, leb-true, nat_le, nat_lt, eqb-true}
 use Rattle.std.specs.Bool.{if◌then◌else◌}
 use Rattle.std.specs.List.{All, Contains, list_any, filter, filter_map}
 use Rattle.std.proofs.lemmas.Bool.{or_cases, ltb-true, lt-ltb}
@@ -15,7 +16,7 @@ use Rattle.office.specs.Events.{Event, EventTag, Tagged, Ignored, Log, Trace}
 use Rattle.office.specs.Events as event
 use Rattle.office.specs.Trace.{is_open, rest_if}
 use Rattle.office.specs.Expected.{or_ignored, reason_if}
-use Rattle.office.specs.Outcomes.{Outcome, Reason, NoSuchConnection, NotReady, PieceTooLong, event_tag_of, HasCause as HasItsCause}
+use Rattle.office.specs.Outcomes.{Outcome, Reason, NoSuchConnection, event_tag_of, HasCause as HasItsCause}
 use Rattle.office.specs.Outcomes as outcome
 use Rattle.office.specs.Taken.{trace_of, IsAdmitted}
 use Rattle.office.specs.Stands.{StandsFor, vault_of}
@@ -28,7 +29,8 @@ use Rattle.serving.specs.Calls.{Call, Looked, Read}
 use Rattle.serving.specs.declared.wire.Port.TheVariants.{Pop}
 use Rattle.serving.specs.declared.links.Seat.{Seat}
 use Rattle.serving.specs.declared.newcomers.Newcomer.{Newcomer}
-use Rattle.serving.specs.Works.{is_admin, is_read_of, is_later_of, is_taking_of, is_cut_of, is_cut, most_writes, octets_taken, is_written_out, had_its_turn, openings, is_opening, AreNewlyAdmitted, is_failed, IsLateGone, AreLateGone, HasCause, AreCaused, WasAsked, IsKeptBack, StaysUnread, IsReadByLine, IsHeldBack, LiesUnread}
+use Rattle.serving.specs.Works.{is_admin, is_read_of, is_later_of, is_taking_of, is_cut_of, is_cut, most_writes, octets_taken, is_written_out, had_its_turn, openings, is_opening}
+use Rattle.serving.specs.Works.{AreNewlyAdmitted, is_failed, IsLateGone, AreLateGone, HasCause, AreCaused, WasAsked, IsKeptBack, StaysUnread, IsReadByLine, IsHeldBack, LiesUnread}
 use Rattle.serving.specs.Ways.{Way, HadTurn}
 use Rattle.serving.specs.Parts.{WasGiven, Part, Asking, Giving, IsQuiet, IsQuietFor}
 use Rattle.serving.proofs.Staying.{Fewer, fewer_framed, frame_read, frame_took, frame_gone, fewer_tick, deposit_same, fewer_command}
@@ -73,7 +75,8 @@ module _ {V : Type 0} (Holds : V → Contents → Type 0) (IsClean : V → Type 
   pub given_none : (o : Office V) → WasGiven Holds IsClean Faults IsUp MayLeave o o []
   given_none o = record { clean = λ k. k; stands = λ B L s k. s; admitted = λ B L s k. tt; counted = omega arith; failed = λ B L s k e. cc; outlasts = outlasts_none Holds IsClean IsUp MayLeave o }
 
-  pub given_then : (o o1 o2 : Office V) (g1 g2 : Log) → WasGiven Holds IsClean Faults IsUp MayLeave o o1 g1 → WasGiven Holds IsClean Faults IsUp MayLeave o1 o2 g2 → WasGiven Holds IsClean Faults IsUp MayLeave o o2 (g2 ++ g1)
+  pub given_then : (o o1 o2 : Office V) (g1 g2 : Log) → WasGiven Holds IsClean Faults IsUp MayLeave o o1 g1
+      → WasGiven Holds IsClean Faults IsUp MayLeave o1 o2 g2 → WasGiven Holds IsClean Faults IsUp MayLeave o o2 (g2 ++ g1)
   given_then o o1 o2 g1 g2 a b = record {
     clean = λ k. a.clean (b.clean k);
     stands = λ B L s k. subst (λ l. StandsFor Holds o2 (trace_of B l)) (sym (append_assoc g2 g1 L)) (b.stands B (g1 ++ L) (a.stands B L s (b.clean k)) k);
@@ -150,7 +153,8 @@ module _ {V W : Type 0} (Holds : V → Contents → Type 0) (IsClean : V → Typ
   pub part_asking : (o : Office V) (w w1 : W) (F : List Call → Type 0) → Asking Asked w w1 F → Part Holds IsClean Faults IsUp MayLeave Asked o w o w1 (λ given calls. (given ≡ []) × F calls)
   part_asking o w w1 F a = record { given = []; calls = a.calls; was_given = given_none Holds IsClean Faults IsUp MayLeave o; was_asked = a.was_asked; facts = (refl, a.facts) }
 
-  pub part_giving : (o o1 : Office V) (w : W) (F : Log → Type 0) → Giving Holds IsClean Faults IsUp MayLeave o o1 F → Part Holds IsClean Faults IsUp MayLeave Asked o w o1 w (λ given calls. (calls ≡ []) × F given)
+  pub part_giving : (o o1 : Office V) (w : W) (F : Log → Type 0) → Giving Holds IsClean Faults IsUp MayLeave o o1 F
+      → Part Holds IsClean Faults IsUp MayLeave Asked o w o1 w (λ given calls. (calls ≡ []) × F given)
   part_giving o o1 w F a = record { given = a.given; calls = []; was_given = a.was_given; was_asked = asked_none Asked w; facts = (refl, a.facts) }
 
 -- ---- what is seen of calls and events, one after the other
@@ -198,7 +202,8 @@ cause_more seats more calls calls_then has cut (event.Deposit d class id text, m
 cause_more seats more calls calls_then has cut (event.Admin command, m) h = tt
 cause_more seats more calls calls_then has cut (event.Restart boot, m) h = h
 
-pub caused_more : (seats more : List Seat) (calls calls_then : List Call) (given : Log) → ((s : Seat) → Contains seats s → Contains more s) → ((l : Link) → is_cut l calls ≡ true → is_cut l calls_then ≡ true)
+pub caused_more : (seats more : List Seat) (calls calls_then : List Call) (given : Log) → ((s : Seat) → Contains seats s → Contains more s)
+    → ((l : Link) → is_cut l calls ≡ true → is_cut l calls_then ≡ true)
     → AreCaused seats calls given → AreCaused more calls_then given
 caused_more seats more calls calls_then given has cut a = All-weaker (HasCause seats calls) (HasCause more calls_then) (cause_more seats more calls calls_then has cut) given a
 
@@ -240,7 +245,8 @@ turn_out share poll_now link calls e h =
     let x = list_any (is_read_of link) calls || list_any (is_later_of link) calls in
     ap (λ b. x || (b && is_written_out share link calls)) e ∙ (ap (λ b. x || b) h ∙ or_true x)
 
-pub turn_full : (share : ℕ) (poll_now : Bool) (link : Link) (calls : List Call) → poll_now ≡ true → most_writes ≤ length (filter (is_taking_of link) calls) → had_its_turn share poll_now link calls ≡ true
+pub turn_full : (share : ℕ) (poll_now : Bool) (link : Link) (calls : List Call) → poll_now ≡ true
+    → most_writes ≤ length (filter (is_taking_of link) calls) → had_its_turn share poll_now link calls ≡ true
 turn_full share poll_now link calls e h =
     let k = le-leb most_writes (length (filter (is_taking_of link) calls)) h in
     let s = nat_le share (octets_taken link calls) in
@@ -260,9 +266,11 @@ both_second : (a b : Bool) → (a && b) ≡ true → b ≡ true
 both_second true b e = e
 both_second false b e = cc
 
-turn_joined : (share : ℕ) (poll_now poll_now2 : Bool) (link : Link) (c c' : List Call) → (poll_now ≡ true → poll_now2 ≡ true) → (list_any (is_read_of link) c ≡ true → list_any (is_read_of link) c' ≡ true)
+turn_joined : (share : ℕ) (poll_now poll_now2 : Bool) (link : Link) (c c' : List Call) → (poll_now ≡ true → poll_now2 ≡ true)
+    → (list_any (is_read_of link) c ≡ true → list_any (is_read_of link) c' ≡ true)
     → (list_any (is_later_of link) c ≡ true → list_any (is_later_of link) c' ≡ true)
-    → length (filter (is_taking_of link) c) ≤ length (filter (is_taking_of link) c') → octets_taken link c ≤ octets_taken link c' → had_its_turn share poll_now link c ≡ true → had_its_turn share poll_now2 link c' ≡ true
+    → length (filter (is_taking_of link) c) ≤ length (filter (is_taking_of link) c') → octets_taken link c ≤ octets_taken link c'
+    → had_its_turn share poll_now link c ≡ true → had_its_turn share poll_now2 link c' ≡ true
 turn_joined share poll_now poll_now2 link c c' still read later full taken h =
     let r = list_any (is_read_of link) c in
     let l = list_any (is_later_of link) c in
@@ -299,7 +307,8 @@ turn_right share poll_now link c1 c2 h =
     turn_joined share poll_now poll_now link c2 (c1 ++ c2) (λ k. k) (any_right (is_read_of link) c1 c2) (any_right (is_later_of link) c1 c2) (omega (arith, e)) (omega (arith, t)) h
 
 -- the next turn doesn't wait for another cause
-pub turn_polled : (share : ℕ) (poll_now poll_now2 : Bool) (link : Link) (c : List Call) → (poll_now ≡ true → poll_now2 ≡ true) → had_its_turn share poll_now link c ≡ true → had_its_turn share poll_now2 link c ≡ true
+pub turn_polled : (share : ℕ) (poll_now poll_now2 : Bool) (link : Link) (c : List Call) → (poll_now ≡ true → poll_now2 ≡ true)
+    → had_its_turn share poll_now link c ≡ true → had_its_turn share poll_now2 link c ≡ true
 turn_polled share poll_now poll_now2 link c still h = turn_joined share poll_now poll_now2 link c c still (λ k. k) (λ k. k) (omega arith) (omega arith) h
 
 -- ---- links that stay unread
@@ -327,10 +336,12 @@ module _ (B : Records) (L : Log) (wait : ℕ) (may : Bool) (s : Seat) where
     kept = subst (λ l. IsKeptBack (trace_of B l) s.connection u.piece wait may) (sym (append_assoc u.front g1 L)) u.kept;
   }
 
-pub lies_left : (B : Records) (L : Log) (wait : ℕ) (may : Bool) (seats : List Seat) (c : ℕ) (g1 g2 : Log) (c1 c2 : List Call) → LiesUnread B L g1 c1 wait may seats c → LiesUnread B L (g2 ++ g1) (c1 ++ c2) wait may seats c
+pub lies_left : (B : Records) (L : Log) (wait : ℕ) (may : Bool) (seats : List Seat) (c : ℕ) (g1 g2 : Log) (c1 c2 : List Call)
+    → LiesUnread B L g1 c1 wait may seats c → LiesUnread B L (g2 ++ g1) (c1 ++ c2) wait may seats c
 lies_left B L wait may seats c g1 g2 c1 c2 u = record { seat = u.seat; among = u.among; is = u.is; unread = unread_left B L wait may u.seat g1 g2 c1 c2 u.unread }
 
-pub lies_right : (B : Records) (L : Log) (wait : ℕ) (may : Bool) (seats : List Seat) (c : ℕ) (g1 g2 : Log) (c1 c2 : List Call) → LiesUnread B (g1 ++ L) g2 c2 wait may seats c → LiesUnread B L (g2 ++ g1) (c1 ++ c2) wait may seats c
+pub lies_right : (B : Records) (L : Log) (wait : ℕ) (may : Bool) (seats : List Seat) (c : ℕ) (g1 g2 : Log) (c1 c2 : List Call)
+    → LiesUnread B (g1 ++ L) g2 c2 wait may seats c → LiesUnread B L (g2 ++ g1) (c1 ++ c2) wait may seats c
 lies_right B L wait may seats c g1 g2 c1 c2 u = record { seat = u.seat; among = u.among; is = u.is; unread = unread_right B L wait may u.seat g1 g2 c1 c2 u.unread }
 
 -- ---- links that are read by lines
@@ -359,13 +370,15 @@ line_right may s c1 c2 u = record {
 
 -- in a turn that goes on
 pub turned_left : (way : Way) (B : Records) (L g1 g2 : Log) (c1 c2 : List Call) (s : Seat)
-    → (had_its_turn way.share way.poll_now s.link c1 ≡ true) ⊎ IsHeldBack B L g1 c1 way.wait way.by_line (way.may s.connection) s → (had_its_turn way.share way.poll_now s.link (c1 ++ c2) ≡ true) ⊎ IsHeldBack B L (g2 ++ g1) (c1 ++ c2) way.wait way.by_line (way.may s.connection) s
+    → (had_its_turn way.share way.poll_now s.link c1 ≡ true) ⊎ IsHeldBack B L g1 c1 way.wait way.by_line (way.may s.connection) s
+    → (had_its_turn way.share way.poll_now s.link (c1 ++ c2) ≡ true) ⊎ IsHeldBack B L (g2 ++ g1) (c1 ++ c2) way.wait way.by_line (way.may s.connection) s
 turned_left way B L g1 g2 c1 c2 s (inl t) = inl (turn_left way.share way.poll_now s.link c1 c2 t)
 turned_left way B L g1 g2 c1 c2 s (inr (inl u)) = inr (inl (line_left way.by_line s c1 c2 u))
 turned_left way B L g1 g2 c1 c2 s (inr (inr u)) = inr (inr (unread_left B L way.wait (way.may s.connection) s g1 g2 c1 c2 u))
 
 pub turned_right : (way : Way) (B : Records) (L g1 g2 : Log) (c1 c2 : List Call) (s : Seat)
-    → (had_its_turn way.share way.poll_now s.link c2 ≡ true) ⊎ IsHeldBack B (g1 ++ L) g2 c2 way.wait way.by_line (way.may s.connection) s → (had_its_turn way.share way.poll_now s.link (c1 ++ c2) ≡ true) ⊎ IsHeldBack B L (g2 ++ g1) (c1 ++ c2) way.wait way.by_line (way.may s.connection) s
+    → (had_its_turn way.share way.poll_now s.link c2 ≡ true) ⊎ IsHeldBack B (g1 ++ L) g2 c2 way.wait way.by_line (way.may s.connection) s
+    → (had_its_turn way.share way.poll_now s.link (c1 ++ c2) ≡ true) ⊎ IsHeldBack B L (g2 ++ g1) (c1 ++ c2) way.wait way.by_line (way.may s.connection) s
 turned_right way B L g1 g2 c1 c2 s (inl t) = inl (turn_right way.share way.poll_now s.link c1 c2 t)
 turned_right way B L g1 g2 c1 c2 s (inr (inl u)) = inr (inl (line_right way.by_line s c1 c2 u))
 turned_right way B L g1 g2 c1 c2 s (inr (inr u)) = inr (inr (unread_right B L way.wait (way.may s.connection) s g1 g2 c1 c2 u))

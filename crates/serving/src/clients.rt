@@ -1,6 +1,6 @@
 //! What a turn does for the clients whose links are open: it writes what they are owed, and reads
 //! what comes.
-ghost use Rattle.std.specs.Prelude.{◌≡◌, ◌⊎◌, ◌≤◌, ◌==◌, ◌||◌, not, ℕ, Bool, true, false};
+ghost use Rattle.std.specs.Prelude.{◌≡◌, ◌≤◌, ◌==◌, ◌||◌, not, true, false};
 ghost use Rattle.std.specs.Prelude.{◌∷◌, [], length, if◌then◌else◌};
 ghost use Rattle.office.specs.Events.{Trace};
 ghost use Rattle.office.specs.Trace.{history};

@@ -1,5 +1,5 @@
 //! One file of a spool in a turn.
-ghost use Rattle.std.specs.Prelude.{◌≡◌, ◌||◌, List, Option};
+ghost use Rattle.std.specs.Prelude.{◌≡◌, ◌||◌, List};
 ghost use Rattle.office.specs.Events.{Trace};
 ghost use Rattle.office.specs.Seen.{outcome_seen};
 ghost use Rattle.office.specs.Stands.{StandsFor, vault_of};

@@ -1,6 +1,6 @@
 //! How what comes on a client's link is read: as it comes, or a line at a time, and but for logins
 //! that are kept back.
-ghost use Rattle.std.specs.Prelude.{◌≡◌, ◌≤◌, ◌<◌, ◌==◌, ◌&&◌, not, ℕ, List, true, false, None};
+ghost use Rattle.std.specs.Prelude.{◌≡◌, ◌≤◌, ◌<◌, ◌==◌, ◌&&◌, not, true, false, None};
 ghost use Rattle.std.specs.Prelude.{length, position, nat_lt};
 ghost use Rattle.office.specs.Events.{Trace};
 ghost use Rattle.office.specs.Trace.{history};

@@ -75,7 +75,7 @@ impl<V: Vault, W: Wire, L: Listener> Server<V, W, L> {
         ensures clean { V.is_clean (vault_of self.new.office)
             → V.is_clean (vault_of self.old.office) }
         ensures runs { HasRun V.holds V.is_clean V.faults V.is_up V.may_leave
-        W.asked S.asked L.heard C.gave most
+            W.asked S.asked L.heard C.gave most
             links.old self.old.office self.old.wire spool.old self.old.listener clock.old
             links.new self.new.office self.new.wire spool.new self.new.listener clock.new }
         ensures few { AreFew links.old → AreFew links.new }

@@ -1,6 +1,6 @@
 //! Links in memory, of one port of a wire.
 ghost use Rattle.std.specs.Prelude.{◌≡◌, ℕ, List, ◌<◌, ◌≤◌, ◌++◌, ◌||◌, true, false, [], length};
-ghost use Rattle.std.specs.Prelude.{take, drop, MatchOption};
+ghost use Rattle.std.specs.Prelude.{MatchOption};
 ghost use Rattle.serving.specs.Wires.{Told, IsWithin, counted, has_accepted, has_read, has_written};
 ghost use Rattle.serving.specs.Wires.{has_closed, is_fault};
 ghost use Rattle.serving.specs.Scripts.{TellsOf, taken_of};

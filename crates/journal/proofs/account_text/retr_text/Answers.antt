@@ -2,7 +2,6 @@ use Rattle.std.proofs.Common.{◌≡◌, ◌++◌, ◌∙◌, append_assoc, code
 use Rattle.std.specs.Prelude.{string_bytes}
 use Rattle.std.specs.Fmt.{decimal}
 use Rattle.creds.specs.Uid.{uid_text}
-use Rattle.journal.specs.Lines.{retr_text}
 use Rattle.journal.proofs.account_text.retr_text.Goals as goal
 
 joined : (p w u i o d : List ℕ) → p ++ (w ++ (u ++ (i ++ (o ++ d)))) ≡ p ++ w ++ u ++ i ++ o ++ d

@@ -1,4 +1,4 @@
-use Rattle.std.proofs.Common.{rules, slice_index, arith, [], ◌∷◌, ◌++◌, ◌≡◌, refl}
+use Rattle.std.proofs.Common.{rules, slice_index, arith, [], refl}
 use Rattle.serving.specs.declared.wire.Io.TheVariants.{Later, End, Broken, Count}
 use Rattle.proxy.specs.declared.wire.Progress.TheVariants.{Whole, Open}
 use Rattle.proxy.proofs.Telling.{nothing_came, octet_came, still_open}
@@ -50,10 +50,12 @@ returns-in-Broken-clause-called g c a h = one_read g.W.Wire.asked c.read.new.sel
 
 pub returns-then-octet-eq10-clause-called : goal.returns-then-octet-eq10-clause-called
 returns-then-octet-eq10-clause-called g c a h =
-    octet_read g.W.Wire.asked c.read.new.self c.args.link c.in-Count.field-0 10 c.read.new.buffer Whole a (c.in-Count.ensures.called a h) c.in-Count.ensures.within.0 c.in-Count.ensures.within.1 (search rules) (search rules)
+    octet_read g.W.Wire.asked c.read.new.self c.args.link c.in-Count.field-0 10 c.read.new.buffer Whole a
+    (c.in-Count.ensures.called a h) c.in-Count.ensures.within.0 c.in-Count.ensures.within.1 (search rules) (search rules)
     ([], refl, refl) refl
 
 pub returns-clause-called : goal.returns-clause-called
 returns-clause-called g c a h =
-    octet_read g.W.Wire.asked c.read.new.self c.args.link c.in-Count.field-0 (slice_index c.read.new.buffer 0) c.read.new.buffer (Open (Count 1)) a (c.in-Count.ensures.called a h) c.in-Count.ensures.within.0 c.in-Count.ensures.within.1 (search rules) (search rules)
+    octet_read g.W.Wire.asked c.read.new.self c.args.link c.in-Count.field-0 (slice_index c.read.new.buffer 0) c.read.new.buffer (Open (Count 1)) a
+    (c.in-Count.ensures.called a h) c.in-Count.ensures.within.0 c.in-Count.ensures.within.1 (search rules) (search rules)
     (still_open [] (slice_index c.read.new.buffer 0) refl (search rules)) refl

@@ -69,7 +69,8 @@ loop-place-preserved g c =
       newcomers = λ T s q here.
           (let seat = get_or k.links.seats.items k.place no_seat in
           let shut : is_open T seat.connection ≡ false = sym (c.if-close_seat.ensures.works T no_seat s).facts.0.stays_if in
-          others_open T q seat.connection k.links.newcomers.newcomers.items x.new.links.newcomers.newcomers.items (c.if-close_seat.ensures.closes.newcomers no_seat) here shut ∙ k.invariant.newcomers T s q here);
+          others_open T q seat.connection k.links.newcomers.newcomers.items x.new.links.newcomers.newcomers.items (c.if-close_seat.ensures.closes.newcomers no_seat) here shut
+          ∙ k.invariant.newcomers T s q here);
       works = λ T s.
           asking_then g.W.Wire.asked c.args.wire.now k.wire x.new.wire _ _ _
           (λ c1 c2 a b. (

@@ -41,7 +41,9 @@ returns-clause-tried g c = λ T acts s h clean.
     (c.in-Some.ensures.told acts h) (inl refl))
 
 pub returns-in_default-clause-works : goal.returns-in_default-clause-works
-returns-in_default-clause-works g c = tries_unread g.V.Vault.holds g.V.Vault.is_clean g.V.Vault.faults g.V.Vault.is_up g.V.Vault.may_leave g.S.Spool.asked c.args.office.now c.args.spool.now c.read.new.self c.args.name.now c.in_default.ensures.called
+returns-in_default-clause-works g c =
+    tries_unread g.V.Vault.holds g.V.Vault.is_clean g.V.Vault.faults g.V.Vault.is_up g.V.Vault.may_leave g.S.Spool.asked c.args.office.now
+    c.args.spool.now c.read.new.self c.args.name.now c.in_default.ensures.called
 
 pub returns-in-Remove-clause-works : goal.returns-in-Remove-clause-works
 returns-in-Remove-clause-works g c =
@@ -49,9 +51,11 @@ returns-in-Remove-clause-works g c =
     let o1 = c.step.new.self in
     let out = outcome_seen c.step.result in
     let n = c.args.name.now in
-    tries_read g.V.Vault.holds g.V.Vault.is_clean g.V.Vault.faults g.V.Vault.is_up g.V.Vault.may_leave g.S.Spool.asked o o1 c.args.spool.now c.read.new.self c.remove.new.self (lent_by o) n c.as_slice.result.now c.in-Some.text.items out disposal.Remove c.remove.result c.remove.result (dealt_so c.remove.result)
+    tries_read g.V.Vault.holds g.V.Vault.is_clean g.V.Vault.faults g.V.Vault.is_up g.V.Vault.may_leave g.S.Spool.asked o o1 c.args.spool.now c.read.new.self c.remove.new.self
+    (lent_by o) n c.as_slice.result.now c.in-Some.text.items out disposal.Remove c.remove.result c.remove.result (dealt_so c.remove.result)
     c.as_slice.ensures.value (sym c.in-Remove.is ∙ c.disposal_by-fate.ensures)
-    (given_one g.V.Vault.holds g.V.Vault.is_clean g.V.Vault.faults g.V.Vault.is_up g.V.Vault.may_leave o o1 _ (outcome_seen c.step.result) c.step.ensures.clean c.step.ensures.stands c.step.ensures.admitted c.step.ensures.counted c.step.ensures.cause c.step.ensures.up c.step.ensures.stop)
+    (given_one g.V.Vault.holds g.V.Vault.is_clean g.V.Vault.faults g.V.Vault.is_up g.V.Vault.may_leave o o1 _
+    (outcome_seen c.step.result) c.step.ensures.clean c.step.ensures.stands c.step.ensures.admitted c.step.ensures.counted c.step.ensures.cause c.step.ensures.up c.step.ensures.stop)
     c.step.ensures.outcome c.in-Some.ensures.called c.remove.ensures.called
 
 pub returns-in-Rename-clause-works : goal.returns-in-Rename-clause-works
@@ -60,9 +64,11 @@ returns-in-Rename-clause-works g c =
     let o1 = c.step.new.self in
     let out = outcome_seen c.step.result in
     let n = c.args.name.now in
-    tries_read g.V.Vault.holds g.V.Vault.is_clean g.V.Vault.faults g.V.Vault.is_up g.V.Vault.may_leave g.S.Spool.asked o o1 c.args.spool.now c.read.new.self c.rename.new.self (lent_by o) n c.as_slice.result.now c.in-Some.text.items out disposal.Rename c.rename.result c.rename.result (dealt_so c.rename.result)
+    tries_read g.V.Vault.holds g.V.Vault.is_clean g.V.Vault.faults g.V.Vault.is_up g.V.Vault.may_leave g.S.Spool.asked o o1 c.args.spool.now c.read.new.self c.rename.new.self
+    (lent_by o) n c.as_slice.result.now c.in-Some.text.items out disposal.Rename c.rename.result c.rename.result (dealt_so c.rename.result)
     c.as_slice.ensures.value (sym c.in-Rename.is ∙ c.disposal_by-fate.ensures)
-    (given_one g.V.Vault.holds g.V.Vault.is_clean g.V.Vault.faults g.V.Vault.is_up g.V.Vault.may_leave o o1 _ (outcome_seen c.step.result) c.step.ensures.clean c.step.ensures.stands c.step.ensures.admitted c.step.ensures.counted c.step.ensures.cause c.step.ensures.up c.step.ensures.stop)
+    (given_one g.V.Vault.holds g.V.Vault.is_clean g.V.Vault.faults g.V.Vault.is_up g.V.Vault.may_leave o o1 _
+    (outcome_seen c.step.result) c.step.ensures.clean c.step.ensures.stands c.step.ensures.admitted c.step.ensures.counted c.step.ensures.cause c.step.ensures.up c.step.ensures.stop)
     c.step.ensures.outcome c.in-Some.ensures.called c.rename.ensures.called
 
 pub returns-clause-works : goal.returns-clause-works
@@ -71,7 +77,9 @@ returns-clause-works g c =
     let o1 = c.step.new.self in
     let out = outcome_seen c.step.result in
     let n = c.args.name.now in
-    tries_read g.V.Vault.holds g.V.Vault.is_clean g.V.Vault.faults g.V.Vault.is_up g.V.Vault.may_leave g.S.Spool.asked o o1 c.args.spool.now c.read.new.self c.read.new.self (lent_by o) n c.as_slice.result.now c.in-Some.text.items out disposal.Leave false false refl
+    tries_read g.V.Vault.holds g.V.Vault.is_clean g.V.Vault.faults g.V.Vault.is_up g.V.Vault.may_leave g.S.Spool.asked o o1 c.args.spool.now c.read.new.self c.read.new.self
+    (lent_by o) n c.as_slice.result.now c.in-Some.text.items out disposal.Leave false false refl
     c.as_slice.ensures.value (sym c.in-Leave.is ∙ c.disposal_by-fate.ensures)
-    (given_one g.V.Vault.holds g.V.Vault.is_clean g.V.Vault.faults g.V.Vault.is_up g.V.Vault.may_leave o o1 _ (outcome_seen c.step.result) c.step.ensures.clean c.step.ensures.stands c.step.ensures.admitted c.step.ensures.counted c.step.ensures.cause c.step.ensures.up c.step.ensures.stop)
+    (given_one g.V.Vault.holds g.V.Vault.is_clean g.V.Vault.faults g.V.Vault.is_up g.V.Vault.may_leave o o1 _
+    (outcome_seen c.step.result) c.step.ensures.clean c.step.ensures.stands c.step.ensures.admitted c.step.ensures.counted c.step.ensures.cause c.step.ensures.up c.step.ensures.stop)
     c.step.ensures.outcome c.in-Some.ensures.called (λ before k. subst (g.S.Spool.asked c.read.new.self) (sym (append-nil before)) k)

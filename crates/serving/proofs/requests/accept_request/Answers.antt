@@ -60,7 +60,14 @@ returns-in-Ok-true-clause-works g c =
     let xs = c.args.requests.now.exchanges.items in
     let ys = c.keep.new.self.exchanges.items in
     asks_one g.W.Wire.asked c.args.wire.now c.accept.new.self (Accepted Admin (Some link)) (HasAcceptedForAdmin c.args.now 1 true xs ys) (quiet_accepted (Some link))
-    (record { came = 1; arrivals = Accepted Admin (Some link) ∷ []; come = IsKept link xs ys ys 0 [] (c.in-Ok-true.ensures.kept (search rules)) (NoMore ys); calls_are = refl; enough = λ e. omega arith }) c.in-Some.ensures.called
+    (record {
+      came = 1;
+      arrivals = Accepted Admin (Some link) ∷ [];
+      come =
+          IsKept link xs ys ys 0 [] (c.in-Ok-true.ensures.kept (search rules)) (NoMore ys);
+      calls_are = refl;
+      enough = λ e. omega arith;
+    }) c.in-Some.ensures.called
 
 pub returns-in-Ok-false-clause-works : goal.returns-in-Ok-false-clause-works
 returns-in-Ok-false-clause-works g c =
@@ -68,7 +75,8 @@ returns-in-Ok-false-clause-works g c =
     let xs = c.args.requests.now.exchanges.items in
     let ys = c.keep.new.self.exchanges.items in
     let calls = Accepted Admin (Some link) ∷ Closed Admin link ∷ [] in
-    asks_two g.W.Wire.asked c.args.wire.now c.accept.new.self c.close_link.new.wire (Accepted Admin (Some link)) (Closed Admin link) (HasAcceptedForAdmin c.args.now 1 true xs ys) (quiet_accepted (Some link)) (quiet_closed link)
+    asks_two g.W.Wire.asked c.args.wire.now c.accept.new.self c.close_link.new.wire (Accepted Admin (Some link)) (Closed Admin link)
+    (HasAcceptedForAdmin c.args.now 1 true xs ys) (quiet_accepted (Some link)) (quiet_closed link)
     (subst (λ l. HasAcceptedForAdmin c.args.now 1 true xs l calls) (sym (c.in-Ok-false.ensures.turned_away (search rules)))
     (record { came = 1; arrivals = calls; come = IsTurnedAway link xs xs 0 [] (c.in-Ok-false.ensures.full (search rules)) (NoMore xs); calls_are = refl; enough = λ e. omega arith }))
     c.in-Some.ensures.called c.close_link.ensures.called
@@ -79,7 +87,8 @@ returns-in-Err-clause-works g c =
     let xs = c.args.requests.now.exchanges.items in
     let ys = c.keep.new.self.exchanges.items in
     let calls = Accepted Admin (Some link) ∷ Closed Admin link ∷ [] in
-    asks_two g.W.Wire.asked c.args.wire.now c.accept.new.self c.close_link-in-Err.new.wire (Accepted Admin (Some link)) (Closed Admin link) (HasAcceptedForAdmin c.args.now 1 true xs ys) (quiet_accepted (Some link)) (quiet_closed link)
+    asks_two g.W.Wire.asked c.args.wire.now c.accept.new.self c.close_link-in-Err.new.wire (Accepted Admin (Some link)) (Closed Admin link)
+    (HasAcceptedForAdmin c.args.now 1 true xs ys) (quiet_accepted (Some link)) (quiet_closed link)
     (subst (λ l. HasAcceptedForAdmin c.args.now 1 true xs l calls) (sym c.in-Err.ensures.refused)
     (record { came = 1; arrivals = calls; come = WantsMemory link xs xs 0 [] (NoMore xs); calls_are = refl; enough = λ e. omega arith }))
     c.in-Some.ensures.called c.close_link-in-Err.ensures.called

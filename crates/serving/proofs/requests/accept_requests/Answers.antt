@@ -9,7 +9,13 @@ use Rattle.serving.proofs.requests.accept_requests.Goals as goal
 pub loop-times-init : goal.loop-times-init
 loop-times-init g c =
     let xs = c.args.requests.now.exchanges.items in
-    record { answers = λ x B start L pop s. s; few = λ h. h; heard = λ h q. q; works = asks_none g.W.Wire.asked c.args.wire.now (HasAcceptedForAdmin c.args.now 0 true xs xs) (accepted_none c.args.now xs) }
+    record {
+      answers = λ x B start L pop s. s;
+      few = λ h. h;
+      heard = λ h q. q;
+      works =
+          asks_none g.W.Wire.asked c.args.wire.now (HasAcceptedForAdmin c.args.now 0 true xs xs) (accepted_none c.args.now xs);
+    }
 
 pub loop-times-preserved : goal.loop-times-preserved
 loop-times-preserved g c =
@@ -24,7 +30,8 @@ loop-times-preserved g c =
       answers = λ y B start L pop s. x.ensures.answers y B start L pop (k.invariant.answers y B start L pop s);
       few = λ h. x.ensures.few (k.invariant.few h);
       heard = λ h q. x.ensures.heard h (k.invariant.heard h q);
-      works = asks_then g.W.Wire.asked c.args.wire.now k.wire x.new.wire (HasAcceptedForAdmin c.args.now k._times true xs ys) (HasAcceptedForAdmin c.args.now 1 true ys zs) (HasAcceptedForAdmin c.args.now (k._times + 1) true xs zs)
+      works = asks_then g.W.Wire.asked c.args.wire.now k.wire x.new.wire (HasAcceptedForAdmin c.args.now k._times true xs ys)
+          (HasAcceptedForAdmin c.args.now 1 true ys zs) (HasAcceptedForAdmin c.args.now (k._times + 1) true xs zs)
           (λ c1 c2 a b. accepted_then c.args.now xs ys zs k._times 1 true c1 c2 a b) k.invariant.works once;
     }
 

@@ -16,8 +16,10 @@ use Rattle.serving.proofs.requests.command.Goals as goal
 pub returns-clause-asked : goal.returns-clause-asked
 returns-clause-asked g c = λ site B L read stands asks clean.
     (let now = trace_of B L in
-    asked_one g.V.Vault.holds site B L read c.step_with_account-report.new.self (lent_by c.args.office.now) (command_seen c.args.command.now) (outcome_seen c.step_with_account-report.result.outcome) (octets_of c.response_to-response.result.0)
-    (c.step_with_account-report.ensures.outcome now stands clean) (c.step_with_account-report.ensures.stands now stands clean) (c.step_with_account-report.ensures.admitted now stands clean) asks c.response_to-response.ensures.told)
+    asked_one g.V.Vault.holds site B L read c.step_with_account-report.new.self (lent_by c.args.office.now) (command_seen c.args.command.now)
+    (outcome_seen c.step_with_account-report.result.outcome) (octets_of c.response_to-response.result.0)
+    (c.step_with_account-report.ensures.outcome now stands clean) (c.step_with_account-report.ensures.stands now stands clean)
+    (c.step_with_account-report.ensures.admitted now stands clean) asks c.response_to-response.ensures.told)
 
 pub returns-clause-works : goal.returns-clause-works
 returns-clause-works g c = λ site read asks.
@@ -30,8 +32,12 @@ returns-clause-works g c = λ site read asks.
     let l1 = c.tell_end.new.listener in
     let l2 = c.asked.new.self in
     let told = c.step_with_account-report.result.account in
-    gives_command g.V.Vault.holds g.V.Vault.is_clean g.V.Vault.faults g.V.Vault.is_up g.V.Vault.may_leave o o1 seen (event_tag_of out) (HeardApart g.L.Listener.heard l l2 (ComeTo site read (Some response)))
-    (given_one g.V.Vault.holds g.V.Vault.is_clean g.V.Vault.faults g.V.Vault.is_up g.V.Vault.may_leave o o1 (event.Admin seen) out c.step_with_account-report.ensures.clean c.step_with_account-report.ensures.stands c.step_with_account-report.ensures.admitted c.step_with_account-report.ensures.counted c.step_with_account-report.ensures.cause c.step_with_account-report.ensures.up c.step_with_account-report.ensures.stop)
+    gives_command g.V.Vault.holds g.V.Vault.is_clean g.V.Vault.faults g.V.Vault.is_up g.V.Vault.may_leave o o1 seen (event_tag_of out)
+    (HeardApart g.L.Listener.heard l l2 (ComeTo site read (Some response)))
+    (given_one g.V.Vault.holds g.V.Vault.is_clean g.V.Vault.faults g.V.Vault.is_up g.V.Vault.may_leave o o1
+    (event.Admin seen) out c.step_with_account-report.ensures.clean c.step_with_account-report.ensures.stands
+    c.step_with_account-report.ensures.admitted c.step_with_account-report.ensures.counted c.step_with_account-report.ensures.cause
+    c.step_with_account-report.ensures.up c.step_with_account-report.ensures.stop)
     (λ B L stands clean. (
       told_still g.L.Listener.heard l l1 l2 (heard_of_all B L ((event.Admin seen, event_tag_of out) ∷ []))
           (command_told g.L.Listener.heard l l1 B L seen (event_tag_of out) told (c.step_with_account-report.ensures.account (trace_of B L) stands clean) c.tell_end.ensures)

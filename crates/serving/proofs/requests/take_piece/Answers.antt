@@ -13,7 +13,8 @@ pub returns-then-is_err-clause-asked : goal.returns-then-is_err-clause-asked
 returns-then-is_err-clause-asked g c = λ B L stands clean.
     (let response = octets_of c.refuse-response.result in
     let read = c.args.exchange.now.read.items ++ c.args.piece.now in
-    asked_none g.V.Vault.holds c.args.site.now B L read c.args.office.now (Some response) stands (NoCommand response (subst (λ (r : List ℕ). IsResponse c.args.site.now B L read None r) (sym c.refuse-response.ensures.told) ForMemory)))
+    asked_none g.V.Vault.holds c.args.site.now B L read c.args.office.now (Some response) stands
+    (NoCommand response (subst (λ (r : List ℕ). IsResponse c.args.site.now B L read None r) (sym c.refuse-response.ensures.told) ForMemory)))
 
 pub returns-clause-asked : goal.returns-clause-asked
 returns-clause-asked g c = λ B L stands clean.
@@ -36,4 +37,6 @@ returns-clause-works g c =
     let o = c.args.office.now in
     let o1 = c.respond_to.new.office in
     let same : c.as_slice.result.now ≡ c.args.exchange.now.read.items ++ c.args.piece.now = search rules in
-    subst (λ read. Giving g.V.Vault.holds g.V.Vault.is_clean g.V.Vault.faults g.V.Vault.is_up g.V.Vault.may_leave o o1 (λ given. DidApart g.V.Vault.holds g.V.Vault.is_clean o o1 (HeardApart g.L.Listener.heard c.args.listener.now c.respond_to.new.listener (ComeTo c.args.site.now read (option_map octets_of c.respond_to.result))) given [])) same c.respond_to.ensures.works
+    subst (λ read. Giving g.V.Vault.holds g.V.Vault.is_clean g.V.Vault.faults g.V.Vault.is_up g.V.Vault.may_leave o o1
+    (λ given. DidApart g.V.Vault.holds g.V.Vault.is_clean o o1
+    (HeardApart g.L.Listener.heard c.args.listener.now c.respond_to.new.listener (ComeTo c.args.site.now read (option_map octets_of c.respond_to.result))) given [])) same c.respond_to.ensures.works

@@ -13,7 +13,13 @@ use Rattle.serving.proofs.requests.write_response.Goals as goal
 pub loop-times-init : goal.loop-times-init
 loop-times-init g c =
     let e = c.args.exchange.now in
-    record { answers = λ x B start L pop others s. s; keeps = record { link = refl; since = refl }; heard = λ h k. k; works = asks_none g.W.Wire.asked c.args.wire.now (TellsSoFar e e 0 0) (inl (refl, refl, refl, refl), λ h. absurd (omega (arith, h))) }
+    record {
+      answers = λ x B start L pop others s. s;
+      keeps = record { link = refl; since = refl };
+      heard = λ h k. k;
+      works =
+          asks_none g.W.Wire.asked c.args.wire.now (TellsSoFar e e 0 0) (inl (refl, refl, refl, refl), λ h. absurd (omega (arith, h)));
+    }
 
 pub loop-times-preserved : goal.loop-times-preserved
 loop-times-preserved g c =
@@ -31,7 +37,8 @@ loop-times-preserved g c =
       answers = λ y B start L pop others s. x.ensures.answers y B start L pop others (k.invariant.answers y B start L pop others s);
       keeps = record { link = x.ensures.keeps.link ∙ k.invariant.keeps.link; since = x.ensures.keeps.since ∙ k.invariant.keeps.since };
       heard = λ h q. x.ensures.heard h (k.invariant.heard h q);
-      works = asks_then g.W.Wire.asked c.args.wire.now k.wire x.new.wire (TellsSoFar e e1 k._times k.written) (Tells e1 e2 (if n == 0 then 0 else 1) n (not (n == 0))) (TellsSoFar e e2 (k._times + 1) sum)
+      works = asks_then g.W.Wire.asked c.args.wire.now k.wire x.new.wire (TellsSoFar e e1 k._times k.written)
+          (Tells e1 e2 (if n == 0 then 0 else 1) n (not (n == 0))) (TellsSoFar e e2 (k._times + 1) sum)
           (λ c1 c2 a b. (
             inr (told_more e e1 e2 k._times (if n == 0 then 0 else 1) k.written n (k._times + 1) sum c1 c2 (omega (arith, one)) fits a.0 b.is),
             λ h. any_right is_moving c1 c2 (told_moved e1 e2 (if n == 0 then 0 else 1) n c2 some b.is),
@@ -47,7 +54,8 @@ returns-then-count-eq0-clause-works g c =
     let e1 = k.exchange in
     let e2 = x.new.exchange in
     let none : (n == 0) ≡ true = search rules in
-    asks_then g.W.Wire.asked c.args.wire.now k.wire x.new.wire (TellsSoFar e e1 k._times k.written) (Tells e1 e2 (if n == 0 then 0 else 1) n (not (n == 0))) (λ cs. HasTold e e2 cs × PollsBy false false cs)
+    asks_then g.W.Wire.asked c.args.wire.now k.wire x.new.wire (TellsSoFar e e1 k._times k.written)
+    (Tells e1 e2 (if n == 0 then 0 else 1) n (not (n == 0))) (λ cs. HasTold e e2 cs × PollsBy false false cs)
     (λ c1 c2 a b. (told_ended e e1 e2 k._times (if n == 0 then 0 else 1) k.written n c1 c2 a.0 b.is (b.ends (ap not none)), polled_same false (c1 ++ c2))) k.invariant.works x.ensures.works
 
 pub returns-then-written-ge-SHARE-clause-works : goal.returns-then-written-ge-SHARE-clause-works
@@ -62,7 +70,8 @@ returns-then-written-ge-SHARE-clause-works g c =
     let fits : sum ≤ k.written + n = search rules in
     let enough : 16384 ≤ sum = search rules in
     let some : (n == 0) ≡ false = search rules in
-    asks_then g.W.Wire.asked c.args.wire.now k.wire x.new.wire (TellsSoFar e e1 k._times k.written) (Tells e1 e2 (if n == 0 then 0 else 1) n (not (n == 0))) (λ cs. HasTold e e2 cs × PollsBy false true cs)
+    asks_then g.W.Wire.asked c.args.wire.now k.wire x.new.wire (TellsSoFar e e1 k._times k.written)
+    (Tells e1 e2 (if n == 0 then 0 else 1) n (not (n == 0))) (λ cs. HasTold e e2 cs × PollsBy false true cs)
     (λ c1 c2 a b. (
       told_share e e1 e2 k._times (if n == 0 then 0 else 1) k.written n c1 c2 (omega (arith, fits, enough)) a.0 b.is,
       polled_moved false true (c1 ++ c2) (any_right is_moving c1 c2 (told_moved e1 e2 (if n == 0 then 0 else 1) n c2 some b.is)),

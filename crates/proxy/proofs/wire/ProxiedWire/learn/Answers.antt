@@ -31,7 +31,8 @@ returns-in-Ok-clause-called g c room a h =
     let k = c.args.link.number in
     let source = c.in-Some.read.source in
     let known = c.args.self.now.known in
-    line_whole g.W.Wire.asked c.args.self.now.wire (get nat_cmp known) (get nat_cmp c.insert.new.self) c.args.self.now.hurries c.args.link source room a (updated_put known c.insert.new.self k (Some source) c.in-Ok.ensures.updates) h
+    line_whole g.W.Wire.asked c.args.self.now.wire (get nat_cmp known)
+    (get nat_cmp c.insert.new.self) c.args.self.now.hurries c.args.link source room a (updated_put known c.insert.new.self k (Some source) c.in-Ok.ensures.updates) h
 
 pub returns-in_default-clause-called : goal.returns-in_default-clause-called
 returns-in_default-clause-called g c room a h = c.break_off.ensures.called 1 Whole room a h
@@ -40,4 +41,5 @@ pub returns-in-Err-clause-called : goal.returns-in-Err-clause-called
 returns-in-Err-clause-called g c room a h =
     let known = c.args.self.now.known in
     c.break_off-in-Err.ensures.called 1 Whole room a
-    (same_known g.W.Wire.asked c.args.self.now.wire (get nat_cmp known) (get nat_cmp c.insert.new.self) c.args.self.now.hurries c.args.link Whole a (entries_same known c.insert.new.self (search rules)) h)
+    (same_known g.W.Wire.asked c.args.self.now.wire (get nat_cmp known) (get nat_cmp c.insert.new.self) c.args.self.now.hurries c.args.link Whole a
+    (entries_same known c.insert.new.self (search rules)) h)

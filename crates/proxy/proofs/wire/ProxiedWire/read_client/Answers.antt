@@ -1,4 +1,4 @@
-use Rattle.std.proofs.Common.{rules, ◌≡◌, ◌∙◌, true, sym, subst, length, [], is_some}
+use Rattle.std.proofs.Common.{◌≡◌, ◌∙◌, true, sym, subst, length, [], is_some}
 use Rattle.std.specs.Ordering.{nat_cmp}
 use Rattle.std.specs.BTreeMap.{get}
 use Rattle.serving.specs.Wires.{at_port, has_read, counted}
@@ -29,7 +29,8 @@ returns-clause-told g c u h =
     let r = c.read_line.new.self in
     let k = c.args.link.number in
     let io = c.read_line.result in
-    subst (λ xs. TellsProxy g.W.Wire.tells r.wire (get nat_cmp r.begun) (get nat_cmp r.known) (at_port Pop (λ of. has_read of k io xs) u)) (sym (counted_none io c.args.buffer.now c.read_line.ensures.within)) (c.read_line.ensures.told u h)
+    subst (λ xs. TellsProxy g.W.Wire.tells r.wire (get nat_cmp r.begun) (get nat_cmp r.known) (at_port Pop (λ of. has_read of k io xs) u))
+    (sym (counted_none io c.args.buffer.now c.read_line.ensures.within)) (c.read_line.ensures.told u h)
 
 pub returns-then-contains_key-clause-called : goal.returns-then-contains_key-clause-called
 returns-then-contains_key-clause-called g c a h =
@@ -46,5 +47,6 @@ returns-clause-called g c a h =
     let k = c.args.link.number in
     let io = c.read_line.result in
     let away : is_some (get nat_cmp c.args.self.now.known k) ≡ false = sym c.contains_key.ensures ∙ c.if-contains_key.false in
-    subst (λ xs. AskedBehind g.W.Wire.asked r.wire (get nat_cmp r.known) r.hurries (a ++ Read Pop c.args.link (length c.args.buffer.now) io xs ∷ [])) (sym (counted_none io c.args.buffer.now c.read_line.ensures.within))
+    subst (λ xs. AskedBehind g.W.Wire.asked r.wire (get nat_cmp r.known) r.hurries (a ++ Read Pop c.args.link (length c.args.buffer.now) io xs ∷ []))
+    (sym (counted_none io c.args.buffer.now c.read_line.ensures.within))
     (c.read_line.ensures.called (length c.args.buffer.now) a (none_known _ away) h)

@@ -22,7 +22,8 @@ returns-in-Whole-clause-told g c u (t, h, a) =
     let so = subst (λ o. IfSome o (λ x. IsBegun t.pop k x.line.items)) there (a.begun_so k) in
     let put = updated_put c.args.self.now.begun c.remove.new.self k None c.remove.ensures.updates in
     let far = c.read_octets.ensures.so_far so.open_yet in
-    let x = reads_on g.W.Wire.tells c.read_octets.new.wire b b' known k c.in-Some.begun.line.items now c.read_octets.result Whole t u c.in-Whole.is a so put (c.read_octets.ensures.told t (c.look.ensures.told t h)) far in
+    let x = reads_on g.W.Wire.tells c.read_octets.new.wire b b' known k c.in-Some.begun.line.items now c.read_octets.result Whole t u c.in-Whole.is a so put
+    (c.read_octets.ensures.told t (c.look.ensures.told t h)) far in
     let whole = subst (λ l. IsAsFarAs Whole l) (sym c.as_slice.ensures.value) (subst (λ p. IsAsFarAs p now) c.in-Whole.is far) in
     c.learn.ensures.told u (x.0, x.1, x.2, x.3, x.4 ∙ sym c.as_slice.ensures.value) whole
 
@@ -37,7 +38,8 @@ returns-in-Open-End-clause-told g c u (t, h, a) =
     let so = subst (λ o. IfSome o (λ x. IsBegun t.pop k x.line.items)) there (a.begun_so k) in
     let put = updated_put c.args.self.now.begun c.remove.new.self k None c.remove.ensures.updates in
     let far = c.read_octets.ensures.so_far so.open_yet in
-    let x = reads_on g.W.Wire.tells c.read_octets.new.wire b b' known k c.in-Some.begun.line.items now c.read_octets.result (Open End) t u (c.in-Open-End.is ∙ ap Open c.in-Open-End.field-0-is) a so put (c.read_octets.ensures.told t (c.look.ensures.told t h)) far in
+    let x = reads_on g.W.Wire.tells c.read_octets.new.wire b b' known k c.in-Some.begun.line.items now c.read_octets.result (Open End) t u
+    (c.in-Open-End.is ∙ ap Open c.in-Open-End.field-0-is) a so put (c.read_octets.ensures.told t (c.look.ensures.told t h)) far in
     (x.0, x.1, x.2)
 
 pub returns-in-Open-Broken-clause-told : goal.returns-in-Open-Broken-clause-told
@@ -51,7 +53,8 @@ returns-in-Open-Broken-clause-told g c u (t, h, a) =
     let so = subst (λ o. IfSome o (λ x. IsBegun t.pop k x.line.items)) there (a.begun_so k) in
     let put = updated_put c.args.self.now.begun c.remove.new.self k None c.remove.ensures.updates in
     let far = c.read_octets.ensures.so_far so.open_yet in
-    let x = reads_on g.W.Wire.tells c.read_octets.new.wire b b' known k c.in-Some.begun.line.items now c.read_octets.result (Open Broken) t u (c.in-Open-Broken.is ∙ ap Open c.in-Open-Broken.field-0-is) a so put (c.read_octets.ensures.told t (c.look.ensures.told t h)) far in
+    let x = reads_on g.W.Wire.tells c.read_octets.new.wire b b' known k c.in-Some.begun.line.items now c.read_octets.result (Open Broken) t u
+    (c.in-Open-Broken.is ∙ ap Open c.in-Open-Broken.field-0-is) a so put (c.read_octets.ensures.told t (c.look.ensures.told t h)) far in
     (x.0, x.1, x.2)
 
 pub returns-in-Open-Later-clause-told : goal.returns-in-Open-Later-clause-told
@@ -65,7 +68,8 @@ returns-in-Open-Later-clause-told g c u (t, h, a) =
     let so = subst (λ o. IfSome o (λ x. IsBegun t.pop k x.line.items)) there (a.begun_so k) in
     let put = updated_put c.args.self.now.begun c.remove.new.self k None c.remove.ensures.updates in
     let far = c.read_octets.ensures.so_far so.open_yet in
-    let x = reads_on g.W.Wire.tells c.read_octets.new.wire b b' known k c.in-Some.begun.line.items now c.read_octets.result (Open c.in-Open-Later.field-0) t u c.in-Open-Later.is a so put (c.read_octets.ensures.told t (c.look.ensures.told t h)) far in
+    let x = reads_on g.W.Wire.tells c.read_octets.new.wire b b' known k c.in-Some.begun.line.items now c.read_octets.result
+    (Open c.in-Open-Later.field-0) t u c.in-Open-Later.is a so put (c.read_octets.ensures.told t (c.look.ensures.told t h)) far in
     let fine : is_fault c.in-Open-Later.field-0 ≡ false = ap is_fault c.in-Open-Later.field-0-is in
     c.keep.ensures.told u (x.0, x.1, as_later b' known x.0 u k c.in-Open-Later.field-0 fine x.2, x.3, x.4) (subst (λ p. IsAsFarAs p now) c.in-Open-Later.is far)
 
@@ -80,7 +84,8 @@ returns-in-Open-Count-clause-told g c u (t, h, a) =
     let so = subst (λ o. IfSome o (λ x. IsBegun t.pop k x.line.items)) there (a.begun_so k) in
     let put = updated_put c.args.self.now.begun c.remove.new.self k None c.remove.ensures.updates in
     let far = c.read_octets.ensures.so_far so.open_yet in
-    let x = reads_on g.W.Wire.tells c.read_octets.new.wire b b' known k c.in-Some.begun.line.items now c.read_octets.result (Open c.in-Open-Count.field-0) t u c.in-Open-Count.is a so put (c.read_octets.ensures.told t (c.look.ensures.told t h)) far in
+    let x = reads_on g.W.Wire.tells c.read_octets.new.wire b b' known k c.in-Some.begun.line.items now c.read_octets.result
+    (Open c.in-Open-Count.field-0) t u c.in-Open-Count.is a so put (c.read_octets.ensures.told t (c.look.ensures.told t h)) far in
     let fine : is_fault c.in-Open-Count.field-0 ≡ false = ap is_fault c.in-Open-Count.field-0-is in
     c.keep-in-Open-Count.ensures.told u (x.0, x.1, as_later b' known x.0 u k c.in-Open-Count.field-0 fine x.2, x.3, x.4) (subst (λ p. IsAsFarAs p now) c.in-Open-Count.is far)
 
@@ -102,7 +107,8 @@ returns-in-Open-End-clause-called g c room a none h =
     let p = c.read_octets.result in
     let m = amid g.W.Wire.asked c.args.self.now.wire w known hurries c.args.link 1 p a h none
     (λ b k. looked_first g.W.Wire.asked w c.args.link c.look.result (counted c.look.result c.look.new.buffer) p b (c.read_octets.ensures.called _ (c.look.ensures.called b k))) in
-    line_open g.W.Wire.asked w known hurries c.args.link 1 End room End a refl (omega arith) (subst (λ q. AskedAmid g.W.Wire.asked w known hurries c.args.link 1 q a) (c.in-Open-End.is ∙ ap Open c.in-Open-End.field-0-is) m)
+    line_open g.W.Wire.asked w known hurries c.args.link 1 End room End a refl (omega arith)
+    (subst (λ q. AskedAmid g.W.Wire.asked w known hurries c.args.link 1 q a) (c.in-Open-End.is ∙ ap Open c.in-Open-End.field-0-is) m)
 
 pub returns-in-Open-Broken-clause-called : goal.returns-in-Open-Broken-clause-called
 returns-in-Open-Broken-clause-called g c room a none h =
@@ -112,7 +118,8 @@ returns-in-Open-Broken-clause-called g c room a none h =
     let p = c.read_octets.result in
     let m = amid g.W.Wire.asked c.args.self.now.wire w known hurries c.args.link 1 p a h none
     (λ b k. looked_first g.W.Wire.asked w c.args.link c.look.result (counted c.look.result c.look.new.buffer) p b (c.read_octets.ensures.called _ (c.look.ensures.called b k))) in
-    line_open g.W.Wire.asked w known hurries c.args.link 1 Broken room Broken a refl (omega arith) (subst (λ q. AskedAmid g.W.Wire.asked w known hurries c.args.link 1 q a) (c.in-Open-Broken.is ∙ ap Open c.in-Open-Broken.field-0-is) m)
+    line_open g.W.Wire.asked w known hurries c.args.link 1 Broken room Broken a refl (omega arith)
+    (subst (λ q. AskedAmid g.W.Wire.asked w known hurries c.args.link 1 q a) (c.in-Open-Broken.is ∙ ap Open c.in-Open-Broken.field-0-is) m)
 
 pub returns-in-Open-Later-clause-called : goal.returns-in-Open-Later-clause-called
 returns-in-Open-Later-clause-called g c room a none h =
@@ -132,4 +139,5 @@ returns-in-Open-Count-clause-called g c room a none h =
     let p = c.read_octets.result in
     let m = amid g.W.Wire.asked c.args.self.now.wire w known hurries c.args.link 1 p a h none
     (λ b k. looked_first g.W.Wire.asked w c.args.link c.look.result (counted c.look.result c.look.new.buffer) p b (c.read_octets.ensures.called _ (c.look.ensures.called b k))) in
-    c.keep-in-Open-Count.ensures.called c.in-Open-Count.field-0 room a (ap is_fault c.in-Open-Count.field-0-is) (subst (λ q. AskedAmid g.W.Wire.asked w known hurries c.args.link 1 q a) c.in-Open-Count.is m)
+    c.keep-in-Open-Count.ensures.called c.in-Open-Count.field-0 room a (ap is_fault c.in-Open-Count.field-0-is)
+    (subst (λ q. AskedAmid g.W.Wire.asked w known hurries c.args.link 1 q a) c.in-Open-Count.is m)

@@ -1,7 +1,7 @@
 use Rattle.std.proofs.Common.{refl, sym, subst, [], ◌∷◌, ◌++◌, None}
 use Rattle.std.specs.Ordering.{nat_cmp}
 use Rattle.std.specs.BTreeMap.{get}
-use Rattle.serving.specs.Calls.{Call, Waited, Accepted, Looked, Read, Wrote, Closed}
+use Rattle.serving.specs.Calls.{Closed}
 use Rattle.proxy.specs.Behind.{AskedBehind}
 use Rattle.proxy.proofs.Telling.{updated_put}
 use Rattle.proxy.proofs.HandingOn.{hands_on, hands_close}

@@ -1,7 +1,7 @@
 use Rattle.std.proofs.Common.{◌≡◌, ◌∙◌, true, false, refl, sym, subst, is_some, [], ◌∷◌, ◌++◌}
 use Rattle.std.specs.Ordering.{nat_cmp}
 use Rattle.std.specs.BTreeMap.{get}
-use Rattle.serving.specs.Calls.{Call, Waited, Accepted, Looked, Read, Wrote, Closed}
+use Rattle.serving.specs.Calls.{Looked}
 use Rattle.serving.specs.Wires.{counted}
 use Rattle.serving.specs.declared.wire.Io.TheVariants.{Later}
 use Rattle.proxy.specs.Behind.{IsBehindLine, AskedBehind}

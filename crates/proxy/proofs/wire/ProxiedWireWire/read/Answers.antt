@@ -13,7 +13,8 @@ pub returns-in-Pop-clause-told : goal.returns-in-Pop-clause-told
 returns-in-Pop-clause-told g c u h =
     let r = c.read_client.new.self in
     let io = c.read_client.result in
-    subst (λ p. TellsProxy g.W.Wire.tells r.wire (get nat_cmp r.begun) (get nat_cmp r.known) (at_port p (λ of. has_read of c.args.link.number io (counted io c.read_client.new.buffer)) u)) (sym c.in-Pop.is) (c.read_client.ensures.told u h)
+    subst (λ p. TellsProxy g.W.Wire.tells r.wire (get nat_cmp r.begun) (get nat_cmp r.known) (at_port p (λ of. has_read of c.args.link.number io (counted io c.read_client.new.buffer)) u))
+    (sym c.in-Pop.is) (c.read_client.ensures.told u h)
 
 pub returns-in-Admin-clause-called : goal.returns-in-Admin-clause-called
 returns-in-Admin-clause-called g c a h =

@@ -1,7 +1,7 @@
 use Rattle.std.proofs.Common.{[], ◌∷◌, ◌++◌, subst}
 use Rattle.std.specs.Ordering.{nat_cmp}
 use Rattle.std.specs.BTreeMap.{get}
-use Rattle.serving.specs.Calls.{Call, Waited, Accepted, Looked, Read, Wrote, Closed}
+use Rattle.serving.specs.Calls.{Waited}
 use Rattle.proxy.proofs.HandingOn.{hands_wait}
 use Rattle.proxy.proofs.wire.ProxiedWireWire.wait.Goals as goal
 

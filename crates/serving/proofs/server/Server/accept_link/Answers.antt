@@ -45,7 +45,8 @@ returns-in-Some-number-clause-serves g c = λ T beside s clean.
       served = subst (λ m. AreServed (has_accepted s.told) after T.base ((event.Connect, m) ∷ s.log)) (sym k.0) (served_accepted s.told s.owner T.base s.log s.served);
       seated = seated_more s.owner after T.base s.log ((event.Connect, event_tag_of o) ∷ s.log) seats _ (record { link = link; connection = connection }) c.push.ensures.items still
           (opened_before s.told s.owner T.base s.log connection k.1 s.served) own
-          (subst (λ m. Frame T.base s.log ((event.Connect, m) ∷ s.log) connection) (sym k.0) (subst (Frame T.base s.log ((event.Connect, Tagged Done) ∷ s.log)) (sym k.1) (frame_connect T.base s.log))) s.seated;
+          (subst (λ m. Frame T.base s.log ((event.Connect, m) ∷ s.log) connection) (sym k.0)
+          (subst (Frame T.base s.log ((event.Connect, Tagged Done) ∷ s.log)) (sym k.1) (frame_connect T.base s.log))) s.seated;
       adds = adds_connect after T.base T.log s.log beside s.told.accepted (event_tag_of o) (adds_still s.owner after still T.base T.log s.log beside s.told.accepted s.adds);
     })
 
@@ -74,7 +75,8 @@ returns-then-is_full-clause-works g c =
     let seats = c.args.clients.now.seats.items in
     let is : c.is_full.result ≡ true = search rules in
     let full : length seats ≡ 128 = eqb-true (length seats) 128 (sym c.is_full.ensures.value ∙ is) in
-    does_none g.V.Vault g.W.Wire g.L.Listener c.args.self.now _ (accepted_full g.V.Vault.holds g.V.Vault.is_clean g.V.Vault.faults g.V.Vault.is_up g.V.Vault.may_leave c.args.self.now.office seats full)
+    does_none g.V.Vault g.W.Wire g.L.Listener c.args.self.now _
+    (accepted_full g.V.Vault.holds g.V.Vault.is_clean g.V.Vault.faults g.V.Vault.is_up g.V.Vault.may_leave c.args.self.now.office seats full)
 
 pub returns-in_default-clause-works : goal.returns-in_default-clause-works
 returns-in_default-clause-works g c =
@@ -94,11 +96,13 @@ returns-in-Some-number-clause-works g c =
     record {
       given = (event.Connect, event_tag_of o) ∷ [];
       calls = Accepted Pop (Some link) ∷ [];
-      was_given = given_one Holds IsClean g.V.Vault.faults g.V.Vault.is_up g.V.Vault.may_leave s.office c.step.new.self event.Connect o c.step.ensures.clean c.step.ensures.stands c.step.ensures.admitted c.step.ensures.counted c.step.ensures.cause c.step.ensures.up c.step.ensures.stop;
+      was_given = given_one Holds IsClean g.V.Vault.faults g.V.Vault.is_up g.V.Vault.may_leave s.office c.step.new.self event.Connect o
+          c.step.ensures.clean c.step.ensures.stands c.step.ensures.admitted c.step.ensures.counted c.step.ensures.cause c.step.ensures.up c.step.ensures.stop;
       was_asked = asked_one g.W.Wire.asked s.wire c.accept.new.self (Accepted Pop (Some link)) c.in-Some.ensures.called;
       facts = (
         record { is = λ B L st clean. told_same g.L.Listener.heard s.listener c.open.new.self (λ h k. c.open.ensures.told h (c.follow.ensures.told h k)) },
-        accepted_seated Holds IsClean g.V.Vault.faults g.V.Vault.is_up g.V.Vault.may_leave s.office c.step.new.self c.args.clients.now.seats.items _ link connection (event_tag_of o) (done_mark o connection e) c.push.ensures.items,
+        accepted_seated Holds IsClean g.V.Vault.faults g.V.Vault.is_up g.V.Vault.may_leave s.office c.step.new.self c.args.clients.now.seats.items _ link connection
+            (event_tag_of o) (done_mark o connection e) c.push.ensures.items,
       );
     }
 
@@ -114,7 +118,8 @@ returns-in-None-clause-works g c =
     record {
       given = (event.Connect, event_tag_of o) ∷ [];
       calls = Accepted Pop (Some link) ∷ Closed Pop link ∷ [];
-      was_given = given_one Holds IsClean g.V.Vault.faults g.V.Vault.is_up g.V.Vault.may_leave office c.step.new.self event.Connect o c.step.ensures.clean c.step.ensures.stands c.step.ensures.admitted c.step.ensures.counted c.step.ensures.cause c.step.ensures.up c.step.ensures.stop;
+      was_given = given_one Holds IsClean g.V.Vault.faults g.V.Vault.is_up g.V.Vault.may_leave office c.step.new.self event.Connect o
+          c.step.ensures.clean c.step.ensures.stands c.step.ensures.admitted c.step.ensures.counted c.step.ensures.cause c.step.ensures.up c.step.ensures.stop;
       was_asked = asked_then g.W.Wire.asked s.wire c.accept.new.self c.close_link.new.wire (Accepted Pop (Some link) ∷ []) (Closed Pop link ∷ [])
           (asked_one g.W.Wire.asked s.wire c.accept.new.self (Accepted Pop (Some link)) c.in-Some.ensures.called)
           (asked_one g.W.Wire.asked c.accept.new.self c.close_link.new.wire (Closed Pop link) c.close_link.ensures.called);
@@ -141,5 +146,11 @@ returns-in-Some-number-clause-comers g c =
     let free : length c.args.clients.now.seats.items < 128 = search rules in
     let old = c.args.clients.now in
     noted_one c.args.now old _ c.in-Some.link c.in-Some-number.connection c.note.result
-    (record { set = set_same old.wait old.newcomers.seconds _ old.newcomers.full_house_seconds _ old.guesses.are_slow c.note.ensures.seconds c.note.ensures.full; last = refl; polled = λ e. e; pacing = λ h. h })
+    (record {
+      set = set_same old.wait old.newcomers.seconds _ old.newcomers.full_house_seconds _ old.guesses.are_slow c.note.ensures.seconds c.note.ensures.full;
+      last =
+          refl;
+      polled = λ e. e;
+      pacing = λ h. h;
+    })
     refl c.push.ensures.items c.note.ensures.newcomers c.note.ensures.room free

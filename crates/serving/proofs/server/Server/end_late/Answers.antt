@@ -37,7 +37,8 @@ returns-then-is_logged_in-clause-works g c =
         given = [];
         was_given = given_none g.V.Vault.holds g.V.Vault.is_clean g.V.Vault.faults g.V.Vault.is_up g.V.Vault.may_leave o;
         facts = (
-          λ on. late_lived g.V.Vault.holds g.V.Vault.is_clean g.V.Vault.faults g.V.Vault.is_up g.V.Vault.may_leave c.args.now c.args.seconds o n.newcomers.items c.forget.new.self.newcomers.items c.args.seat c.forget.ensures.newcomers (λ T s. sym (c.is_logged_in.ensures T s) ∙ yes),
+          λ on. late_lived g.V.Vault.holds g.V.Vault.is_clean g.V.Vault.faults g.V.Vault.is_up g.V.Vault.may_leave c.args.now c.args.seconds o
+              n.newcomers.items c.forget.new.self.newcomers.items c.args.seat c.forget.ensures.newcomers (λ T s. sym (c.is_logged_in.ensures T s) ∙ yes),
           told_none g.L.Listener.heard c.args.self.now.listener,
         );
       };
@@ -54,7 +55,8 @@ returns-then-lies_unread-clause-works g c =
         given = [];
         was_given = given_none g.V.Vault.holds g.V.Vault.is_clean g.V.Vault.faults g.V.Vault.is_up g.V.Vault.may_leave o;
         facts = (
-          λ on. late_unread g.V.Vault.holds g.V.Vault.is_clean g.V.Vault.faults g.V.Vault.is_up g.V.Vault.may_leave c.args.now c.args.seconds o n.newcomers.items c.args.seat (sym c.lies_unread.ensures ∙ yes),
+          λ on. late_unread g.V.Vault.holds g.V.Vault.is_clean g.V.Vault.faults g.V.Vault.is_up g.V.Vault.may_leave c.args.now c.args.seconds o n.newcomers.items c.args.seat
+              (sym c.lies_unread.ensures ∙ yes),
           told_none g.L.Listener.heard c.args.self.now.listener,
         );
       };
@@ -71,7 +73,8 @@ returns-then-not-is_late-clause-works g c =
         given = [];
         was_given = given_none g.V.Vault.holds g.V.Vault.is_clean g.V.Vault.faults g.V.Vault.is_up g.V.Vault.may_leave o;
         facts = (
-          λ on. late_prompt g.V.Vault.holds g.V.Vault.is_clean g.V.Vault.faults g.V.Vault.is_up g.V.Vault.may_leave c.args.now c.args.seconds o n.newcomers.items c.args.seat (prompt_so c.args.now c.args.seconds n.newcomers.items c.args.seat.connection (sym c.is_late.ensures ∙ no)),
+          λ on. late_prompt g.V.Vault.holds g.V.Vault.is_clean g.V.Vault.faults g.V.Vault.is_up g.V.Vault.may_leave c.args.now c.args.seconds o n.newcomers.items c.args.seat
+              (prompt_so c.args.now c.args.seconds n.newcomers.items c.args.seat.connection (sym c.is_late.ensures ∙ no)),
           told_none g.L.Listener.heard c.args.self.now.listener,
         );
       };
@@ -88,7 +91,8 @@ returns-clause-works g c =
         given = w.given;
         was_given = w.was_given;
         facts = (
-          λ on. late_shut g.V.Vault.holds g.V.Vault.is_clean g.V.Vault.faults g.V.Vault.is_up g.V.Vault.may_leave c.args.now c.args.seconds c.args.self.now.office c.end_seat.new.self.office n.newcomers.items c.args.seat w.given
+          λ on. late_shut g.V.Vault.holds g.V.Vault.is_clean g.V.Vault.faults g.V.Vault.is_up g.V.Vault.may_leave c.args.now c.args.seconds
+              c.args.self.now.office c.end_seat.new.self.office n.newcomers.items c.args.seat w.given
               (w.facts.0.gone c.args.now c.args.seconds n.newcomers.items (late_so c.args.now c.args.seconds n.newcomers.items _ on (sym c.is_late.ensures ∙ is))) w.facts.0.shut,
           w.facts.1,
         );

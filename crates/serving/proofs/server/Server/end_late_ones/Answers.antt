@@ -25,7 +25,11 @@ returns-then-seconds-eq0-clause-works g c =
       part = record {
         given = [];
         was_given = given_none g.V.Vault.holds g.V.Vault.is_clean g.V.Vault.faults g.V.Vault.is_up g.V.Vault.may_leave c.args.self.now.office;
-        facts = (late_off g.V.Vault.holds g.V.Vault.is_clean g.V.Vault.faults g.V.Vault.is_up g.V.Vault.may_leave c.args.now c.args.seconds c.args.self.now.office n.newcomers.items c.args.clients.now.seats.items off, told_none g.L.Listener.heard c.args.self.now.listener);
+        facts = (
+          late_off g.V.Vault.holds g.V.Vault.is_clean g.V.Vault.faults g.V.Vault.is_up g.V.Vault.may_leave c.args.now c.args.seconds
+              c.args.self.now.office n.newcomers.items c.args.clients.now.seats.items off,
+          told_none g.L.Listener.heard c.args.self.now.listener,
+        );
       };
     }
 
@@ -37,7 +41,20 @@ loop-place-init g c = record {
   serves = λ T beside s clean. s;
   keeps = seats_none c.args.clients.now;
   ends = ends_none c.args.now c.args.seconds c.args.clients.now;
-  works = record { wire = refl; part = record { given = []; was_given = given_none g.V.Vault.holds g.V.Vault.is_clean g.V.Vault.faults g.V.Vault.is_up g.V.Vault.may_leave c.args.self.now.office; facts = (late_none g.V.Vault.holds g.V.Vault.is_clean g.V.Vault.faults g.V.Vault.is_up g.V.Vault.may_leave c.args.now c.args.seconds c.args.self.now.office c.args.clients.now.newcomers.newcomers.items, told_none g.L.Listener.heard c.args.self.now.listener) } };
+  works = record {
+    wire = refl;
+    part =
+        record {
+          given = [];
+          was_given =
+              given_none g.V.Vault.holds g.V.Vault.is_clean g.V.Vault.faults g.V.Vault.is_up g.V.Vault.may_leave c.args.self.now.office;
+          facts = (
+            late_none g.V.Vault.holds g.V.Vault.is_clean g.V.Vault.faults g.V.Vault.is_up g.V.Vault.may_leave c.args.now c.args.seconds
+                c.args.self.now.office c.args.clients.now.newcomers.newcomers.items,
+            told_none g.L.Listener.heard c.args.self.now.listener,
+          );
+        };
+  };
 }
 
 pub loop-place-preserved : goal.loop-place-preserved
@@ -63,20 +80,24 @@ loop-place-preserved g c =
       ends = ends_then now c.args.seconds c.args.clients.now k.clients x.new.clients k.invariant.ends x.ensures.ends;
       works = record {
         wire = x.ensures.works.wire ∙ k.invariant.works.wire;
-        part = late_step g.V.Vault.holds g.V.Vault.is_clean g.V.Vault.faults g.V.Vault.is_up g.V.Vault.may_leave now c.args.seconds c.args.self.now.office k.self.office x.new.self.office n.newcomers.items k.clients.newcomers.newcomers.items x.new.clients.newcomers.newcomers.items c.args.clients.now.seats.items k.clients.seats.items k.place no_seat
+        part = late_step g.V.Vault.holds g.V.Vault.is_clean g.V.Vault.faults g.V.Vault.is_up g.V.Vault.may_leave now c.args.seconds
+            c.args.self.now.office k.self.office x.new.self.office n.newcomers.items k.clients.newcomers.newcomers.items
+            x.new.clients.newcomers.newcomers.items c.args.clients.now.seats.items k.clients.seats.items k.place no_seat
             (λ given. WasTold Heard l k.self.listener (late_ends now n.seconds n.newcomers.items given))
             (λ given. WasTold Heard k.self.listener x.new.self.listener (late_ends now k.clients.newcomers.seconds k.clients.newcomers.newcomers.items given))
             (λ given. WasTold Heard l x.new.self.listener (late_ends now n.seconds n.newcomers.items given)) (ap (λ v. v.items) k.invariant.keeps.seats) within k.invariant.ends.late
             (λ g1 g2 gone a b.
             late_told Heard now n.seconds n.newcomers.items l k.self.listener x.new.self.listener g1 g2 a
-            (late_heard Heard now c.args.seconds n.seconds k.clients.newcomers.seconds n.newcomers.items k.clients.newcomers.newcomers.items k.invariant.ends.late same k.self.listener x.new.self.listener g2 gone b))
+            (late_heard Heard now c.args.seconds n.seconds k.clients.newcomers.seconds n.newcomers.items k.clients.newcomers.newcomers.items
+            k.invariant.ends.late same k.self.listener x.new.self.listener g2 gone b))
             k.invariant.works.part
             (record {
               given = w.given;
               was_given = w.was_given;
               facts = (
                 λ d. at_place seats ys k.place _
-                    (λ q. HasEndedLate g.V.Vault.holds g.V.Vault.is_clean k.self.office x.new.self.office now c.args.seconds k.clients.newcomers.newcomers.items x.new.clients.newcomers.newcomers.items (q ∷ []) w.given) c.deref.ensures.0 within (w.facts.0 some) d,
+                    (λ q. HasEndedLate g.V.Vault.holds g.V.Vault.is_clean k.self.office x.new.self.office now c.args.seconds
+                    k.clients.newcomers.newcomers.items x.new.clients.newcomers.newcomers.items (q ∷ []) w.given) c.deref.ensures.0 within (w.facts.0 some) d,
                 w.facts.1,
               );
             });

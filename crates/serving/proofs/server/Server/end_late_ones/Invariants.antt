@@ -11,7 +11,8 @@ invariant-loop-place g l = record {
   keeps : KeepsSeats l.fn.clients l.clients;
   ends : Ends l.fn.clients l.clients l.fn.now l.fn.seconds;
   works : Gives g.V.Vault l.fn.self l.self
-      (λ given. HasEndedLate g.V.Vault.holds g.V.Vault.is_clean l.fn.self.office l.self.office l.fn.now l.fn.seconds l.fn.clients.newcomers.newcomers.items l.clients.newcomers.newcomers.items (take l.place l.fn.clients.seats.items) given
+      (λ given. HasEndedLate g.V.Vault.holds g.V.Vault.is_clean l.fn.self.office l.self.office l.fn.now l.fn.seconds l.fn.clients.newcomers.newcomers.items l.clients.newcomers.newcomers.items
+      (take l.place l.fn.clients.seats.items) given
       × WasTold g.L.Listener.heard l.fn.self.listener l.self.listener (late_ends l.fn.now l.fn.clients.newcomers.seconds l.fn.clients.newcomers.newcomers.items given));
 }
 

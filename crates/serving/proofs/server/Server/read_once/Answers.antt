@@ -35,7 +35,8 @@ returns-in-Count-clause-serves g c = λ seats these has before T beside s clean.
     let ready = sym (c.ready.ensures now s.stands) ∙ is_so in
     let here = ready_open now connection ready in
     let at_k = seat_owns s.owner seats c.args.seat has s.seated.own in
-    let k = bytes_mark now (lent_by c.args.self.now.office) connection piece o ready (short_piece n most_in_a_piece c.read.new.buffer (omega (arith, within.1, c.requires))) (c.step_with_account-report.ensures.outcome now s.stands clean) in
+    let k = bytes_mark now (lent_by c.args.self.now.office) connection piece o ready
+    (short_piece n most_in_a_piece c.read.new.buffer (omega (arith, within.1, c.requires))) (c.step_with_account-report.ensures.outcome now s.stands clean) in
     record {
       log = (event.Bytes connection piece, event_tag_of o) ∷ s.log;
       told = has_read s.told number (Count n) piece;
@@ -46,7 +47,9 @@ returns-in-Count-clause-serves g c = λ seats these has before T beside s clean.
       served = subst (λ m. AreServed (has_read s.told number (Count n) piece) s.owner T.base ((event.Bytes connection piece, m) ∷ s.log)) (sym k.1)
           (served_read s.told s.owner T.base s.log number connection n piece k.0 s.served at_k here);
       seated = subst (λ m. AreSeated s.owner (trace_of T.base ((event.Bytes connection piece, m) ∷ s.log)) seats these) (sym k.1)
-          (seated_one s.owner T.base s.log seats these ((event.Bytes connection piece, Tagged k.0) ∷ s.log) c.args.seat before (fewer_framed T.base s.log connection ((event.Bytes connection piece, Tagged k.0) ∷ s.log) here (frame_read T.base s.log connection piece k.0)) (frame_read T.base s.log connection piece k.0) s.seated);
+          (seated_one s.owner T.base s.log seats these ((event.Bytes connection piece, Tagged k.0) ∷ s.log) c.args.seat before
+          (fewer_framed T.base s.log connection ((event.Bytes connection piece, Tagged k.0) ∷ s.log) here (frame_read T.base s.log connection piece k.0))
+          (frame_read T.base s.log connection piece k.0) s.seated);
       adds = adds_one s.owner T.base T.log s.log beside s.told.accepted (event.Bytes connection piece) (event_tag_of o) (number, at_k) (λ l Before h. h) (λ l. refl) s.adds;
     })
 
@@ -90,11 +93,13 @@ returns-in-End-clause-serves g c = λ seats these has before T beside s clean.
       owner = s.owner;
       stands = c.step_with_account-report-in-End.ensures.stands now s.stands clean;
       admitted = (c.step_with_account-report-in-End.ensures.admitted now s.stands clean, s.admitted);
-      tells = subst (λ xs. g.W.Wire.tells c.read.new.self (record { pop = has_read s.told number io xs; admin = beside.admin })) (fault_none io c.read.new.buffer fault) (c.read.ensures.told both s.tells);
+      tells = subst (λ xs. g.W.Wire.tells c.read.new.self (record { pop = has_read s.told number io xs; admin = beside.admin }))
+          (fault_none io c.read.new.buffer fault) (c.read.ensures.told both s.tells);
       served = subst (λ m. AreServed (has_read s.told number io []) s.owner T.base ((event.Gone connection, m) ∷ s.log)) (sym k.1)
           (served_read_fault s.told s.owner T.base s.log number connection io k.0 fault s.served at_k here);
       seated = subst (λ m. AreSeated s.owner (trace_of T.base ((event.Gone connection, m) ∷ s.log)) seats these) (sym k.1)
-          (seated_one s.owner T.base s.log seats these ((event.Gone connection, Tagged k.0) ∷ s.log) c.args.seat before (fewer_framed T.base s.log connection ((event.Gone connection, Tagged k.0) ∷ s.log) here (frame_gone T.base s.log connection k.0)) (frame_gone T.base s.log connection k.0) s.seated);
+          (seated_one s.owner T.base s.log seats these ((event.Gone connection, Tagged k.0) ∷ s.log) c.args.seat before
+          (fewer_framed T.base s.log connection ((event.Gone connection, Tagged k.0) ∷ s.log) here (frame_gone T.base s.log connection k.0)) (frame_gone T.base s.log connection k.0) s.seated);
       adds = adds_one s.owner T.base T.log s.log beside s.told.accepted (event.Gone connection) (event_tag_of o) (number, at_k) (λ l Before h. h) (λ l. refl) s.adds;
     })
 
@@ -111,8 +116,10 @@ returns-in-Count-clause-works g c =
     let n = c.in-Count.count in
     let piece = take n c.read.new.buffer in
     let x = c.step_with_account-report in
-    does_event g.V.Vault g.W.Wire g.L.Listener o x.new.self c.args.self.now.listener c.hear.new.self c.args.self.now.wire c.read.new.self (Read Pop seat.link room (Count n) piece) (event.Bytes seat.connection piece) (outcome_seen x.result.outcome) seat.connection x.result.account _ (λ T. refl)
-    x.ensures.clean x.ensures.stands x.ensures.admitted x.ensures.counted x.ensures.cause x.ensures.up x.ensures.stop x.ensures.account c.in-Count.ensures.called (λ h k. c.hear.ensures.told h (c.follow.ensures.told h k))
+    does_event g.V.Vault g.W.Wire g.L.Listener o x.new.self c.args.self.now.listener c.hear.new.self c.args.self.now.wire c.read.new.self
+    (Read Pop seat.link room (Count n) piece) (event.Bytes seat.connection piece) (outcome_seen x.result.outcome) seat.connection x.result.account _ (λ T. refl)
+    x.ensures.clean x.ensures.stands x.ensures.admitted x.ensures.counted x.ensures.cause x.ensures.up x.ensures.stop x.ensures.account c.in-Count.ensures.called
+    (λ h k. c.hear.ensures.told h (c.follow.ensures.told h k))
     (read_some g.V.Vault.holds g.V.Vault.is_clean g.V.Vault.faults g.V.Vault.is_up g.V.Vault.may_leave o seat room (Count n) piece piece (event_tag_of (outcome_seen x.result.outcome)), λ e. refl)
 
 pub returns-in-Later-clause-works : goal.returns-in-Later-clause-works
@@ -132,6 +139,10 @@ returns-in-End-clause-works g c =
     let io = c.read.result in
     let octets = counted io c.read.new.buffer in
     let fault : is_fault io ≡ true = search rules in
-    does_event g.V.Vault g.W.Wire g.L.Listener o x.new.self c.args.self.now.listener c.hear-in-End.new.self c.args.self.now.wire c.read.new.self (Read Pop seat.link room io octets) (event.Gone seat.connection) (outcome_seen x.result.outcome) seat.connection x.result.account _ (λ T. refl)
-    x.ensures.clean x.ensures.stands x.ensures.admitted x.ensures.counted x.ensures.cause x.ensures.up x.ensures.stop x.ensures.account c.read.ensures.called (λ h k. c.hear-in-End.ensures.told h (c.follow-in-End.ensures.told h k))
-    (read_cut g.V.Vault.holds g.V.Vault.is_clean g.V.Vault.faults g.V.Vault.is_up g.V.Vault.may_leave o seat room io octets (event_tag_of (outcome_seen x.result.outcome)) fault, polled_quiet false (Read Pop seat.link room io octets ∷ []))
+    does_event g.V.Vault g.W.Wire g.L.Listener o x.new.self c.args.self.now.listener c.hear-in-End.new.self c.args.self.now.wire c.read.new.self
+    (Read Pop seat.link room io octets) (event.Gone seat.connection) (outcome_seen x.result.outcome) seat.connection x.result.account _ (λ T. refl)
+    x.ensures.clean x.ensures.stands x.ensures.admitted x.ensures.counted x.ensures.cause x.ensures.up x.ensures.stop x.ensures.account c.read.ensures.called
+    (λ h k. c.hear-in-End.ensures.told h (c.follow-in-End.ensures.told h k)) (
+      read_cut g.V.Vault.holds g.V.Vault.is_clean g.V.Vault.faults g.V.Vault.is_up g.V.Vault.may_leave o seat room io octets (event_tag_of (outcome_seen x.result.outcome)) fault,
+      polled_quiet false (Read Pop seat.link room io octets ∷ []),
+    )

@@ -46,8 +46,11 @@ returns-then-not-ready-clause-works g c =
     let links = c.args.clients.now in
     let no : c.ready.result ≡ false = search rules in
     does_none g.V.Vault g.W.Wire g.L.Listener c.args.self.now _ (
-      heard_none g.V.Vault.holds g.V.Vault.is_clean g.V.Vault.faults g.V.Vault.is_up g.V.Vault.may_leave links.wait (reads_by_line links.wait (may_keep links)) (may_at c.args.now links c.args.seat.connection) (lies_unread (newcomer c.args.seat.connection c.settle.new.self.newcomers.items)) c.args.self.now.office c.args.seat
-          (not_unread c.args.seat.connection c.args.now links.newcomers.newcomers.items c.settle.new.self.newcomers.items c.settle.ensures.newcomers) (λ B L s. sym (c.ready.ensures (trace_of B L) s) ∙ no),
+      heard_none g.V.Vault.holds g.V.Vault.is_clean g.V.Vault.faults g.V.Vault.is_up g.V.Vault.may_leave links.wait
+          (reads_by_line links.wait (may_keep links)) (may_at c.args.now links c.args.seat.connection)
+          (lies_unread (newcomer c.args.seat.connection c.settle.new.self.newcomers.items)) c.args.self.now.office c.args.seat
+          (not_unread c.args.seat.connection c.args.now links.newcomers.newcomers.items c.settle.new.self.newcomers.items c.settle.ensures.newcomers)
+          (λ B L s. sym (c.ready.ensures (trace_of B L) s) ∙ no),
       polled_quiet links.poll_now [],
     )
 
@@ -68,11 +71,14 @@ returns-then-part-eq0-clause-works g c =
     let none : part.result.count ≡ 0 = search rules in
     let noted = lies_unread (newcomer seat.connection c.settle-2.new.self.newcomers.items) in
     let unread = subst (λ w. IsUnread Holds o seat w may a.calls) p.ensures.pace.wait
-    (unread_so Holds o seat pace refusals may part.result.count part.result.login a.calls (λ h. subst (λ w. (links.lock_released || (links.guesses.are_slow && nat_lt w most_paced)) ≡ true) p.ensures.pace.waited (may_so links.guesses.are_slow links.lock_released pace.is_shut (nat_lt pace.waited most_paced) pace.origin p.ensures.pace.shut p.ensures.fast h)) none a.facts) in
+    (unread_so Holds o seat pace refusals may part.result.count part.result.login a.calls
+    (λ h. subst (λ w. (links.lock_released || (links.guesses.are_slow && nat_lt w most_paced)) ≡ true) p.ensures.pace.waited
+    (may_so links.guesses.are_slow links.lock_released pace.is_shut (nat_lt pace.waited most_paced) pace.origin p.ensures.pace.shut p.ensures.fast h)) none a.facts) in
     let l = c.args.self.now.listener in
     part_so Holds IsClean g.V.Vault.faults g.V.Vault.is_up g.V.Vault.may_leave g.W.Wire.asked o o c.args.self.now.wire part.new.wire _ _
     (λ given calls was heard. (heard_on Holds IsClean g.L.Listener.heard o o l l c.follow.new.self given c.follow.ensures.told heard.0, heard.1))
-    (heard_asked Holds IsClean g.V.Vault.faults g.V.Vault.is_up g.V.Vault.may_leave g.W.Wire.asked g.L.Listener.heard o c.args.self.now.wire part.new.wire l seat links.wait lines may noted (PollsBy links.poll_now (links.poll_now || false)) a.calls a.was_asked
+    (heard_asked Holds IsClean g.V.Vault.faults g.V.Vault.is_up g.V.Vault.may_leave g.W.Wire.asked g.L.Listener.heard o c.args.self.now.wire part.new.wire l seat links.wait lines may noted
+    (PollsBy links.poll_now (links.poll_now || false)) a.calls a.was_asked
     (heard_unread Holds IsClean g.V.Vault.faults g.V.Vault.is_up g.V.Vault.may_leave links.wait lines may noted o seat a.calls
     (unwritten_look Holds o seat pace refusals part.result.count part.result.login a.calls a.facts) (looked_quiet Holds o seat pace refusals part.result.count part.result.login a.calls a.facts)
     unread) (polled_quiet links.poll_now a.calls))
@@ -89,9 +95,19 @@ returns-then-not-read_once-clause-works g c =
     let quiet = looked_quiet g.V.Vault.holds c.args.self.now.office seat pace refusals part.result.count part.result.login a.calls a.facts in
     let some : (part.result.count == 0) ≡ false = search rules in
     let line : pace.by_line ≡ true → reads_by_line links.wait (may_keep links) ≡ true = λ b.
-    subst (λ w. reads_by_line w (may_keep links) ≡ true) p.ensures.pace.wait (line_so links.guesses.are_slow links.lock_released pace.is_shut pace.wait pace.origin p.ensures.pace.shut p.ensures.fast (p.ensures.lines b)) in
-    heard_after g.V.Vault.holds g.V.Vault.is_clean g.V.Vault.faults g.V.Vault.is_up g.V.Vault.may_leave g.W.Wire.asked g.L.Listener.heard c.args.self.now.office c.read_once.new.self.office c.args.self.now.wire part.new.wire c.read_once.new.self.wire c.args.self.now.listener c.read_once.new.self.listener seat links.wait (reads_by_line links.wait (may_keep links)) (may_at c.args.now links seat.connection) (lies_unread (newcomer seat.connection c.settle-2.new.self.newcomers.items)) pace refusals part.result.count part.result.login (PollsBy false c.read_once.result) (PollsBy links.poll_now (links.poll_now || false)) a.calls (λ cs m. polled_quiet links.poll_now (a.calls ++ cs)) quiet a.facts some line (not_unread seat.connection c.args.now links.newcomers.newcomers.items c.settle-2.new.self.newcomers.items (subst (λ b. c.settle-2.new.self.newcomers.items ≡ settled_in seat.connection b c.args.now links.newcomers.newcomers.items) some c.settle-2.ensures.newcomers)) a.was_asked
-    (read_part g.V.Vault.holds g.V.Vault.is_clean g.V.Vault.faults g.V.Vault.is_up g.V.Vault.may_leave g.W.Wire.asked g.L.Listener.heard c.args.self.now.office c.read_once.new.self.office part.new.wire c.read_once.new.self.wire c.args.self.now.listener c.read_once.new.self.listener seat part.result.count _ (PollsBy false c.read_once.result) c.read_once.ensures.works part.ensures.most)
+    subst (λ w. reads_by_line w (may_keep links) ≡ true) p.ensures.pace.wait
+    (line_so links.guesses.are_slow links.lock_released pace.is_shut pace.wait pace.origin p.ensures.pace.shut p.ensures.fast (p.ensures.lines b)) in
+    heard_after g.V.Vault.holds g.V.Vault.is_clean g.V.Vault.faults g.V.Vault.is_up g.V.Vault.may_leave g.W.Wire.asked g.L.Listener.heard
+    c.args.self.now.office c.read_once.new.self.office c.args.self.now.wire part.new.wire c.read_once.new.self.wire c.args.self.now.listener c.read_once.new.self.listener seat links.wait
+    (reads_by_line links.wait (may_keep links)) (may_at c.args.now links seat.connection)
+    (lies_unread (newcomer seat.connection c.settle-2.new.self.newcomers.items)) pace refusals part.result.count part.result.login
+    (PollsBy false c.read_once.result) (PollsBy links.poll_now (links.poll_now || false)) a.calls
+    (λ cs m. polled_quiet links.poll_now (a.calls ++ cs)) quiet a.facts some line
+    (not_unread seat.connection c.args.now links.newcomers.newcomers.items c.settle-2.new.self.newcomers.items
+    (subst (λ b. c.settle-2.new.self.newcomers.items ≡ settled_in seat.connection b c.args.now links.newcomers.newcomers.items) some c.settle-2.ensures.newcomers)) a.was_asked
+    (read_part g.V.Vault.holds g.V.Vault.is_clean g.V.Vault.faults g.V.Vault.is_up g.V.Vault.may_leave g.W.Wire.asked g.L.Listener.heard
+    c.args.self.now.office c.read_once.new.self.office part.new.wire c.read_once.new.self.wire c.args.self.now.listener c.read_once.new.self.listener seat part.result.count _
+    (PollsBy false c.read_once.result) c.read_once.ensures.works part.ensures.most)
 
 pub returns-clause-works : goal.returns-clause-works
 returns-clause-works g c =
@@ -106,8 +122,18 @@ returns-clause-works g c =
     let quiet = looked_quiet g.V.Vault.holds c.args.self.now.office seat pace refusals part.result.count part.result.login a.calls a.facts in
     let some : (part.result.count == 0) ≡ false = search rules in
     let line : pace.by_line ≡ true → reads_by_line links.wait (may_keep links) ≡ true = λ b.
-    subst (λ w. reads_by_line w (may_keep links) ≡ true) p.ensures.pace.wait (line_so links.guesses.are_slow links.lock_released pace.is_shut pace.wait pace.origin p.ensures.pace.shut p.ensures.fast (p.ensures.lines b)) in
+    subst (λ w. reads_by_line w (may_keep links) ≡ true) p.ensures.pace.wait
+    (line_so links.guesses.are_slow links.lock_released pace.is_shut pace.wait pace.origin p.ensures.pace.shut p.ensures.fast (p.ensures.lines b)) in
     let poll_now = c.note_guess.new.links.poll_now || true in
-    heard_after g.V.Vault.holds g.V.Vault.is_clean g.V.Vault.faults g.V.Vault.is_up g.V.Vault.may_leave g.W.Wire.asked g.L.Listener.heard c.args.self.now.office c.read_once.new.self.office c.args.self.now.wire part.new.wire c.read_once.new.self.wire c.args.self.now.listener c.read_once.new.self.listener seat links.wait (reads_by_line links.wait (may_keep links)) (may_at c.args.now links seat.connection) (lies_unread (newcomer seat.connection c.note_guess.new.links.newcomers.newcomers.items)) pace refusals part.result.count part.result.login (PollsBy false c.read_once.result) (PollsBy links.poll_now poll_now) a.calls
-    (λ cs m. polled_moved links.poll_now poll_now (a.calls ++ cs) (any_right is_moving a.calls cs (m came))) quiet a.facts some line (not_unread seat.connection c.args.now links.newcomers.newcomers.items c.note_guess.new.links.newcomers.newcomers.items (ap (λ n. n.newcomers.items) c.note_guess.ensures.keeps.newcomers ∙ subst (λ b. c.settle-2.new.self.newcomers.items ≡ settled_in seat.connection b c.args.now links.newcomers.newcomers.items) some c.settle-2.ensures.newcomers)) a.was_asked
-    (read_part g.V.Vault.holds g.V.Vault.is_clean g.V.Vault.faults g.V.Vault.is_up g.V.Vault.may_leave g.W.Wire.asked g.L.Listener.heard c.args.self.now.office c.read_once.new.self.office part.new.wire c.read_once.new.self.wire c.args.self.now.listener c.read_once.new.self.listener seat part.result.count _ (PollsBy false c.read_once.result) c.read_once.ensures.works part.ensures.most)
+    heard_after g.V.Vault.holds g.V.Vault.is_clean g.V.Vault.faults g.V.Vault.is_up g.V.Vault.may_leave g.W.Wire.asked g.L.Listener.heard
+    c.args.self.now.office c.read_once.new.self.office c.args.self.now.wire part.new.wire c.read_once.new.self.wire c.args.self.now.listener c.read_once.new.self.listener seat links.wait
+    (reads_by_line links.wait (may_keep links)) (may_at c.args.now links seat.connection)
+    (lies_unread (newcomer seat.connection c.note_guess.new.links.newcomers.newcomers.items)) pace refusals part.result.count part.result.login
+    (PollsBy false c.read_once.result) (PollsBy links.poll_now poll_now) a.calls
+    (λ cs m. polled_moved links.poll_now poll_now (a.calls ++ cs) (any_right is_moving a.calls cs (m came))) quiet a.facts some line
+    (not_unread seat.connection c.args.now links.newcomers.newcomers.items c.note_guess.new.links.newcomers.newcomers.items
+    (ap (λ n. n.newcomers.items) c.note_guess.ensures.keeps.newcomers
+    ∙ subst (λ b. c.settle-2.new.self.newcomers.items ≡ settled_in seat.connection b c.args.now links.newcomers.newcomers.items) some c.settle-2.ensures.newcomers)) a.was_asked
+    (read_part g.V.Vault.holds g.V.Vault.is_clean g.V.Vault.faults g.V.Vault.is_up g.V.Vault.may_leave g.W.Wire.asked g.L.Listener.heard
+    c.args.self.now.office c.read_once.new.self.office part.new.wire c.read_once.new.self.wire c.args.self.now.listener c.read_once.new.self.listener seat part.result.count _
+    (PollsBy false c.read_once.result) c.read_once.ensures.works part.ensures.most)

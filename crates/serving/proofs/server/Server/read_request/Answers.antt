@@ -23,7 +23,8 @@ returns-in-Count-clause-asked g c = λ B start L pop others s clean.
     let piece = take count c.read.new.buffer in
     let none : e.response ≡ None = search rules in
     let goes : e.is_over ≡ false = search rules in
-    heard g.V.Vault.holds g.W.Wire.tells c.args.site.now B start L pop others e c.take_piece.new.exchange c.args.self.now.office c.take_piece.new.office c.args.self.now.wire c.read.new.self count piece s
+    heard g.V.Vault.holds g.W.Wire.tells c.args.site.now B start L pop others e c.take_piece.new.exchange c.args.self.now.office
+    c.take_piece.new.office c.args.self.now.wire c.read.new.self count piece s
     (c.take_piece.ensures.asked B s.log s.stands clean) none goes c.take_piece.ensures.keeps.link c.take_piece.ensures.keeps.written c.take_piece.ensures.keeps.over c.take_piece.ensures.read
     (c.in-Count.ensures.told (record { pop = pop; admin = s.is.told }) s.is.tells))
 
@@ -58,13 +59,17 @@ pub returns-then-exchange-clause-works : goal.returns-then-exchange-clause-works
 returns-then-exchange-clause-works g c =
     let e = c.args.exchange.now in
     let over : e.is_over ≡ true = search rules in
-    did_none g.V.Vault.holds g.V.Vault.is_clean g.V.Vault.faults g.V.Vault.is_up g.V.Vault.may_leave g.W.Wire.asked c.args.self.now.office c.args.self.now.wire (HeardApart g.L.Listener.heard c.args.self.now.listener c.args.self.now.listener (λ B L. HasHeard c.args.site.now B L e e)) (λ B L. (told_none g.L.Listener.heard c.args.self.now.listener, IsOver over refl))
+    did_none g.V.Vault.holds g.V.Vault.is_clean g.V.Vault.faults g.V.Vault.is_up g.V.Vault.may_leave g.W.Wire.asked c.args.self.now.office c.args.self.now.wire
+    (HeardApart g.L.Listener.heard c.args.self.now.listener c.args.self.now.listener (λ B L. HasHeard c.args.site.now B L e e))
+    (λ B L. (told_none g.L.Listener.heard c.args.self.now.listener, IsOver over refl))
 
 pub returns-then-is_some-clause-works : goal.returns-then-is_some-clause-works
 returns-then-is_some-clause-works g c =
     let e = c.args.exchange.now in
     let some : is_some e.response ≡ true = search rules in
-    did_none g.V.Vault.holds g.V.Vault.is_clean g.V.Vault.faults g.V.Vault.is_up g.V.Vault.may_leave g.W.Wire.asked c.args.self.now.office c.args.self.now.wire (HeardApart g.L.Listener.heard c.args.self.now.listener c.args.self.now.listener (λ B L. HasHeard c.args.site.now B L e e)) (λ B L. (told_none g.L.Listener.heard c.args.self.now.listener, HasResponse some refl))
+    did_none g.V.Vault.holds g.V.Vault.is_clean g.V.Vault.faults g.V.Vault.is_up g.V.Vault.may_leave g.W.Wire.asked c.args.self.now.office c.args.self.now.wire
+    (HeardApart g.L.Listener.heard c.args.self.now.listener c.args.self.now.listener (λ B L. HasHeard c.args.site.now B L e e))
+    (λ B L. (told_none g.L.Listener.heard c.args.self.now.listener, HasResponse some refl))
 
 pub returns-in-Count-clause-works : goal.returns-in-Count-clause-works
 returns-in-Count-clause-works g c =
@@ -81,14 +86,18 @@ returns-in-Count-clause-works g c =
     let call = Read Admin e.link 4096 (Count n) piece in
     let none : e.response ≡ None = search rules in
     let goes : e.is_over ≡ false = search rules in
-    did_then g.V.Vault.holds g.V.Vault.is_clean g.V.Vault.faults g.V.Vault.is_up g.V.Vault.may_leave g.W.Wire.asked o o o1 w w1 w1 (NoEvent (IsOne call)) (λ B L given calls. (calls ≡ []) × HeardApart g.L.Listener.heard l l1 (ComeTo c.args.site.now (e.read.items ++ piece) (response_of e2)) B L given []) (HeardApart g.L.Listener.heard l l1 (λ B L. HasHeard c.args.site.now B L e e2))
+    did_then g.V.Vault.holds g.V.Vault.is_clean g.V.Vault.faults g.V.Vault.is_up g.V.Vault.may_leave g.W.Wire.asked o o o1 w w1 w1
+    (NoEvent (IsOne call)) (λ B L given calls. (calls ≡ []) × HeardApart g.L.Listener.heard l l1 (ComeTo c.args.site.now (e.read.items ++ piece) (response_of e2)) B L given [])
+    (HeardApart g.L.Listener.heard l l1 (λ B L. HasHeard c.args.site.now B L e e2))
     (λ B L g1 g2 c1 c2 p q. (
       apart_first g.L.Listener.heard l l1 B L g1 g2 p.0 q.1.0,
-      heard_piece c.args.site.now B L e e2 n piece g1 g2 c1 c2 none (c.take_piece.ensures.keeps.over ∙ goes) c.take_piece.ensures.read c.take_piece.ensures.keeps.link c.take_piece.ensures.keeps.written p.0 p.1 (q.0, q.1.1),
+      heard_piece c.args.site.now B L e e2 n piece g1 g2 c1 c2 none
+          (c.take_piece.ensures.keeps.over ∙ goes) c.take_piece.ensures.read c.take_piece.ensures.keeps.link c.take_piece.ensures.keeps.written p.0 p.1 (q.0, q.1.1),
     ))
     (did_asked g.V.Vault.holds g.V.Vault.is_clean g.V.Vault.faults g.V.Vault.is_up g.V.Vault.may_leave g.W.Wire.asked o w w1 (IsOne call) (NoEvent (IsOne call)) (λ B L cs is. (refl, is))
     (asks_one g.W.Wire.asked w w1 call (IsOne call) (quiet_read e.link 4096 (Count n) piece) refl c.in-Count.ensures.called))
-    (did_given g.V.Vault.holds g.V.Vault.is_clean g.V.Vault.faults g.V.Vault.is_up g.V.Vault.may_leave g.W.Wire.asked o o1 w1 (HeardApart g.L.Listener.heard l l1 (ComeTo c.args.site.now (e.read.items ++ piece) (response_of e2))) c.take_piece.ensures.works)
+    (did_given g.V.Vault.holds g.V.Vault.is_clean g.V.Vault.faults g.V.Vault.is_up g.V.Vault.may_leave g.W.Wire.asked o o1 w1
+    (HeardApart g.L.Listener.heard l l1 (ComeTo c.args.site.now (e.read.items ++ piece) (response_of e2))) c.take_piece.ensures.works)
 
 pub returns-in-Later-clause-works : goal.returns-in-Later-clause-works
 returns-in-Later-clause-works g c =
@@ -97,7 +106,9 @@ returns-in-Later-clause-works g c =
     let w1 = c.read.new.self in
     let call = Read Admin e.link 4096 Later [] in
     let none : e.response ≡ None = search rules in
-    did_asked g.V.Vault.holds g.V.Vault.is_clean g.V.Vault.faults g.V.Vault.is_up g.V.Vault.may_leave g.W.Wire.asked c.args.self.now.office w w1 (IsOne call) (HeardApart g.L.Listener.heard c.args.self.now.listener c.args.self.now.listener (λ B L. HasHeard c.args.site.now B L e e)) (λ B L cs is. (told_none g.L.Listener.heard c.args.self.now.listener, subst (HasHeard c.args.site.now B L e e []) (sym is) (GaveNothing none refl)))
+    did_asked g.V.Vault.holds g.V.Vault.is_clean g.V.Vault.faults g.V.Vault.is_up g.V.Vault.may_leave g.W.Wire.asked c.args.self.now.office w w1
+    (IsOne call) (HeardApart g.L.Listener.heard c.args.self.now.listener c.args.self.now.listener (λ B L. HasHeard c.args.site.now B L e e))
+    (λ B L cs is. (told_none g.L.Listener.heard c.args.self.now.listener, subst (HasHeard c.args.site.now B L e e []) (sym is) (GaveNothing none refl)))
     (asks_one g.W.Wire.asked w w1 call (IsOne call) (quiet_read e.link 4096 Later []) refl c.in-Later.ensures.called)
 
 pub returns-in-End-clause-works : goal.returns-in-End-clause-works
@@ -112,6 +123,10 @@ returns-in-End-clause-works g c =
     let fault : is_fault io ≡ true = search rules in
     let empty : octets ≡ [] = search rules in
     let e2 : Exchange = record { link = e.link; since = e.since; read = e.read; response = e.response; written = e.written; is_over = true } in
-    did_asked g.V.Vault.holds g.V.Vault.is_clean g.V.Vault.faults g.V.Vault.is_up g.V.Vault.may_leave g.W.Wire.asked c.args.self.now.office w w1 (IsOne call) (HeardApart g.L.Listener.heard c.args.self.now.listener c.args.self.now.listener (λ B L. HasHeard c.args.site.now B L e e2))
-    (λ B L cs is. (told_none g.L.Listener.heard c.args.self.now.listener, subst (HasHeard c.args.site.now B L e e2 []) (sym is) (subst (λ xs. HasHeard c.args.site.now B L e e2 [] (Read Admin e.link 4096 io xs ∷ [])) (sym empty) (GaveItsEnd io none fault refl))))
+    did_asked g.V.Vault.holds g.V.Vault.is_clean g.V.Vault.faults g.V.Vault.is_up g.V.Vault.may_leave g.W.Wire.asked c.args.self.now.office w w1
+    (IsOne call) (HeardApart g.L.Listener.heard c.args.self.now.listener c.args.self.now.listener (λ B L. HasHeard c.args.site.now B L e e2))
+    (λ B L cs is. (
+      told_none g.L.Listener.heard c.args.self.now.listener,
+      subst (HasHeard c.args.site.now B L e e2 []) (sym is) (subst (λ xs. HasHeard c.args.site.now B L e e2 [] (Read Admin e.link 4096 io xs ∷ [])) (sym empty) (GaveItsEnd io none fault refl)),
+    ))
     (asks_one g.W.Wire.asked w w1 call (IsOne call) (quiet_read e.link 4096 io octets) refl c.read.ensures.called)

@@ -70,7 +70,8 @@ returns-clause-serves g c = λ T s clean.
     let closed = c.close_links.ensures.serves T b3 late late_clean in
     let tried = c.serve_spool.ensures.tried (trace_of T.base closed.log) b.acts closed.stands s.tells clean in
     let serves = serves_tried Holds Tells g.S.Spool.tells T b3 _ _ _ _ _ _ _ closed c.taken_is_sent.ensures k.is.held k.of_site tried in
-    subst (λ seats. Serves Holds Tells g.S.Spool.tells T c.serve_spool.new.office c.close_links.new.wire c.serve_spool.new.spool seats.items c.serve_requests.new.requests.exchanges.items c.args.links.now.site) (sym c.serve_spool.ensures.keeps.seats) serves)
+    subst (λ seats. Serves Holds Tells g.S.Spool.tells T c.serve_spool.new.office c.close_links.new.wire c.serve_spool.new.spool seats.items
+    c.serve_requests.new.requests.exchanges.items c.args.links.now.site) (sym c.serve_spool.ensures.keeps.seats) serves)
 
 pub returns-clause-clean : goal.returns-clause-clean
 returns-clause-clean g c = λ clean.
@@ -116,10 +117,17 @@ returns-clause-works g c = λ wire asked T s clean.
     part_so Holds IsClean g.V.Vault.faults g.V.Vault.is_up g.V.Vault.may_leave Asked o1 o2 w1 c.accept_links.new.self.wire _ _ (λ gv cl wa x. x.1) a.1 in
     let ticked : Part Holds IsClean g.V.Vault.faults g.V.Vault.is_up g.V.Vault.may_leave Asked c.args.self.now.office c.args.self.now.wire o1 w1 (IsPassed [] now) =
     part_so Holds IsClean g.V.Vault.faults g.V.Vault.is_up g.V.Vault.may_leave Asked c.args.self.now.office o1 c.args.self.now.wire w1 _ _ (λ gv cl wa x. x.1) c.tick.ensures.works in
-    let passed = passed_by Holds IsClean g.V.Vault.faults g.V.Vault.is_up g.V.Vault.may_leave Asked c.args.self.now.office o1 wire c.args.self.now.wire w1 (Waited (millis_of links)) now asked ticked in
+    let passed = passed_by Holds IsClean g.V.Vault.faults g.V.Vault.is_up g.V.Vault.may_leave Asked c.args.self.now.office o1 wire c.args.self.now.wire w1
+    (Waited (millis_of links)) now asked ticked in
     let untold = subst (λ gv. WasTold Heard l l0 (heard_of_all T.base T.log gv)) c.tick.ensures.works.facts.1.given_is (c.tick.ensures.works.facts.0.is T.base T.log s passed_clean) in
-    let turned = subst (λ set. Part Holds IsClean g.V.Vault.faults g.V.Vault.is_up g.V.Vault.may_leave Asked o2 w3 o3 w4 (WithHeard Holds IsClean Heard o2 l2 o3 l3 (Also (WereServed Holds IsClean o2 o3 set now came.newcomers.newcomers.items served.lock_released served.poll_now served.newcomers.newcomers.items seats2 seats2) (PollsBy served.lock_released served.poll_now)))) c.accept_links.ensures.comers.keeps.set
-    (subst (λ b. Part Holds IsClean g.V.Vault.faults g.V.Vault.is_up g.V.Vault.may_leave Asked o2 w3 o3 w4 (WithHeard Holds IsClean Heard o2 l2 o3 l3 (Also (WereServed Holds IsClean o2 o3 (settings_of came) now came.newcomers.newcomers.items served.lock_released served.poll_now served.newcomers.newcomers.items seats2 seats2) (PollsBy (b || served.lock_released) served.poll_now)))) c.accept_links.ensures.comers.poll_now c.serve_links.ensures.works) in
+    let turned = subst (λ set. Part Holds IsClean g.V.Vault.faults g.V.Vault.is_up g.V.Vault.may_leave Asked o2 w3 o3 w4
+    (WithHeard Holds IsClean Heard o2 l2 o3 l3
+    (Also (WereServed Holds IsClean o2 o3 set now came.newcomers.newcomers.items served.lock_released served.poll_now served.newcomers.newcomers.items seats2 seats2)
+    (PollsBy served.lock_released served.poll_now)))) c.accept_links.ensures.comers.keeps.set
+    (subst (λ b. Part Holds IsClean g.V.Vault.faults g.V.Vault.is_up g.V.Vault.may_leave Asked o2 w3 o3 w4
+    (WithHeard Holds IsClean Heard o2 l2 o3 l3
+    (Also (WereServed Holds IsClean o2 o3 (settings_of came) now came.newcomers.newcomers.items served.lock_released served.poll_now served.newcomers.newcomers.items seats2 seats2)
+    (PollsBy (b || served.lock_released) served.poll_now)))) c.accept_links.ensures.comers.poll_now c.serve_links.ensures.works) in
     let settled = c.serve_links.ensures.settled in
     let set = c.serve_links.ensures.keeps.keeps.set ∙ c.accept_links.ensures.comers.keeps.set in
     let most = limit links (length seats2) in
@@ -127,13 +135,16 @@ returns-clause-works g c = λ wire asked T s clean.
     c.limit-seconds.ensures
     ∙ (ap (λ n. limit_by n served.newcomers.seconds served.newcomers.full_house_seconds) (c.len.ensures.value ∙ ap (λ v. length v.items) c.serve_links.ensures.keeps.seats)
     ∙ (ap (λ (s : Settings). limit_by (length seats2) s.login_seconds s.full_house_seconds) set)) in
-    let less = late_then now most old.newcomers.newcomers.items came.newcomers.newcomers.items served.newcomers.newcomers.items (late_comers now most old.newcomers.newcomers.items came.newcomers.newcomers.items c.accept_links.ensures.comers.each)
+    let less = late_then now most old.newcomers.newcomers.items came.newcomers.newcomers.items served.newcomers.newcomers.items
+    (late_comers now most old.newcomers.newcomers.items came.newcomers.newcomers.items c.accept_links.ensures.comers.each)
     (late_settled now most came.newcomers.newcomers.items served.newcomers.newcomers.items settled) in
     let login_same : served.newcomers.seconds ≡ old.newcomers.seconds = ap (λ (s : Settings). s.login_seconds) set in
-    let late = late_both Holds IsClean g.V.Vault.faults g.V.Vault.is_up g.V.Vault.may_leave now c.limit-seconds.result most old.newcomers.newcomers.items served.newcomers.newcomers.items ended.newcomers.newcomers.items seats2 o4 o5
+    let late = late_both Holds IsClean g.V.Vault.faults g.V.Vault.is_up g.V.Vault.may_leave now c.limit-seconds.result most
+    old.newcomers.newcomers.items served.newcomers.newcomers.items ended.newcomers.newcomers.items seats2 o4 o5
     (λ given. WasTold Heard l4 l5 (late_ends now served.newcomers.seconds served.newcomers.newcomers.items given))
     (λ given. WasTold Heard l4 l6 (late_ends now old.newcomers.seconds old.newcomers.newcomers.items given)) seconds less
-    (λ given gone told. told_on Heard l4 l5 l6 _ c.close_links.ensures.heard (late_heard Heard now most old.newcomers.seconds served.newcomers.seconds old.newcomers.newcomers.items served.newcomers.newcomers.items less login_same l4 l5 given gone told))
+    (λ given gone told. told_on Heard l4 l5 l6 _ c.close_links.ensures.heard
+    (late_heard Heard now most old.newcomers.seconds served.newcomers.seconds old.newcomers.newcomers.items served.newcomers.newcomers.items less login_same l4 l5 given gone told))
     (subst (λ v. Giving Holds IsClean g.V.Vault.faults g.V.Vault.is_up g.V.Vault.may_leave o4 o5
     (λ given. HasEndedLate Holds IsClean o4 o5 now c.limit-seconds.result served.newcomers.newcomers.items ended.newcomers.newcomers.items v.items given
     × WasTold Heard l4 l5 (late_ends now served.newcomers.seconds served.newcomers.newcomers.items given)))
@@ -145,34 +156,51 @@ returns-clause-works g c = λ wire asked T s clean.
     let newly : AllHaveSeats links → All (IsComer now old.newcomers.newcomers.items served.newcomers.newcomers.items) (filter_map seat_of accepted.facts.came) =
     λ h. All-weaker (IsNewlyNoted now old.newcomers.newcomers.items came.newcomers.newcomers.items) (IsComer now old.newcomers.newcomers.items served.newcomers.newcomers.items)
     (λ q k. comer_so now old.newcomers.newcomers.items came.newcomers.newcomers.items served.newcomers.newcomers.items q settled k) (filter_map seat_of accepted.facts.came)
-    (subst (All (IsNewlyNoted now old.newcomers.newcomers.items came.newcomers.newcomers.items)) (more_is old.seats.items comers.more (filter_map seat_of accepted.facts.came) seats2 comers.is accepted.facts.come.seated) (comers.newly h)) in
+    (subst (All (IsNewlyNoted now old.newcomers.newcomers.items came.newcomers.newcomers.items))
+    (more_is old.seats.items comers.more (filter_map seat_of accepted.facts.came) seats2 comers.is accepted.facts.come.seated) (comers.newly h)) in
     let forgets : (U : Trace) → StandsFor Holds o5 U → (n : ℕ) → is_open U n ≡ true → newcomer n c.serve_spool.new.links.newcomers.newcomers.items ≡ newcomer n ended.newcomers.newcomers.items =
     λ U su n here. ap (λ v. newcomer n v.newcomers.items) c.serve_spool.ensures.keeps.newcomers ∙ c.close_links.ensures.newcomers U su n here in
     let last = c.close_links.ensures.closes.keeps.last ∙ (c.end_late_ones.ensures.keeps.keeps.last ∙ (c.serve_links.ensures.keeps.keeps.last ∙ c.accept_links.ensures.comers.keeps.last)) in
-    let tried = subst (λ l. SpoolPart Holds IsClean g.V.Vault.faults g.V.Vault.is_up g.V.Vault.may_leave g.S.Spool.asked o5 c.args.spool.now c.serve_spool.new.office c.serve_spool.new.spool (λ U given calls. IsSpoolTurn l c.serve_spool.new.links.last U given calls × (c.serve_spool.new.links.poll_now ≡ (c.close_links.new.links.poll_now || has_dealt calls)))) last c.serve_spool.ensures.works in
+    let tried = subst (λ l. SpoolPart Holds IsClean g.V.Vault.faults g.V.Vault.is_up g.V.Vault.may_leave g.S.Spool.asked o5 c.args.spool.now c.serve_spool.new.office c.serve_spool.new.spool
+    (λ U given calls. IsSpoolTurn l c.serve_spool.new.links.last U given calls
+    × (c.serve_spool.new.links.poll_now ≡ (c.close_links.new.links.poll_now || has_dealt calls)))) last c.serve_spool.ensures.works in
     let waits : ended.wait ≡ old.wait = ap (λ (s : Settings). s.wait) (c.end_late_ones.ensures.keeps.keeps.set ∙ (c.serve_links.ensures.keeps.keeps.set ∙ c.accept_links.ensures.comers.keeps.set)) in
     let seats_same = c.end_late_ones.ensures.keeps.seats ∙ c.serve_links.ensures.keeps.seats in
     turn_done Holds IsClean g.V.Vault.faults g.V.Vault.is_up g.V.Vault.may_leave Asked g.S.Spool.asked Heard T now links
     (record { clients = c.serve_spool.new.links; requests = c.serve_requests.new.requests; site = c.args.links.now.site })
     c.args.self.now.office o1 o2 o3 o4 o5 c.serve_spool.new.office
     wire w1 c.accept_links.new.self.wire w3 w4 w5 w6 c.args.spool.now c.serve_spool.new.spool c.args.self.now.listener l1 l2 l3 l4 l6
-    seats2 a.0 c.accept_requests.new.requests.exchanges.items c.accept_requests.ensures.works.0 served.lock_released served.poll_now c.close_links.new.links.poll_now came.newcomers.newcomers.items served.newcomers.newcomers.items ended.newcomers.newcomers.items passed (λ U su. told_then Heard l l0 l1 [] (idle_ends U old.seats.items) untold (c.tell_idle_ones.ensures U su)) accepted c.accept_requests.ensures.works.1 (told_same Heard l1 l2 (λ h q. c.accept_requests.ensures.heard h (c.accept_links.ensures.heard h q))) turned c.serve_links.ensures.frees
+    seats2 a.0 c.accept_requests.new.requests.exchanges.items c.accept_requests.ensures.works.0 served.lock_released served.poll_now
+    c.close_links.new.links.poll_now came.newcomers.newcomers.items served.newcomers.newcomers.items ended.newcomers.newcomers.items passed
+    (λ U su. told_then Heard l l0 l1 [] (idle_ends U old.seats.items) untold (c.tell_idle_ones.ensures U su)) accepted c.accept_requests.ensures.works.1
+    (told_same Heard l1 l2 (λ h q. c.accept_requests.ensures.heard h (c.accept_links.ensures.heard h q))) turned c.serve_links.ensures.frees
     (λ e. c.close_links.ensures.closes.keeps.polled (c.end_late_ones.ensures.ends.poll_now ∙ e)) c.serve_requests.ensures.works waited keeps newly late forgets
     (λ U su.
-    subst (λ w. Asking Asked w w6 (λ calls. AreClosed U seats2 c.serve_spool.new.links.seats.items calls × PollsBy served.poll_now c.close_links.new.links.poll_now calls × Releases old.wait c.close_links.new.links.poll_now calls)) same_wire
-    (subst (λ v. Asking Asked c.end_late_ones.new.self.wire w6 (λ calls. AreClosed U v.items c.serve_spool.new.links.seats.items calls × PollsBy served.poll_now c.close_links.new.links.poll_now calls × Releases old.wait c.close_links.new.links.poll_now calls)) seats_same
-    (subst (λ v. Asking Asked c.end_late_ones.new.self.wire w6 (λ calls. AreClosed U ended.seats.items v.items calls × PollsBy served.poll_now c.close_links.new.links.poll_now calls × Releases old.wait c.close_links.new.links.poll_now calls)) (sym c.serve_spool.ensures.keeps.seats)
-    (subst (λ n. Asking Asked c.end_late_ones.new.self.wire w6 (λ calls. AreClosed U ended.seats.items c.close_links.new.links.seats.items calls × PollsBy served.poll_now c.close_links.new.links.poll_now calls × Releases n c.close_links.new.links.poll_now calls)) waits
-    (subst (λ b. Asking Asked c.end_late_ones.new.self.wire w6 (λ calls. AreClosed U ended.seats.items c.close_links.new.links.seats.items calls × PollsBy b c.close_links.new.links.poll_now calls × Releases ended.wait c.close_links.new.links.poll_now calls)) c.end_late_ones.ensures.ends.poll_now (c.close_links.ensures.works U su))))))
+    subst (λ w. Asking Asked w w6 (λ calls. AreClosed U seats2 c.serve_spool.new.links.seats.items calls
+    × PollsBy served.poll_now c.close_links.new.links.poll_now calls × Releases old.wait c.close_links.new.links.poll_now calls)) same_wire
+    (subst (λ v. Asking Asked c.end_late_ones.new.self.wire w6
+    (λ calls. AreClosed U v.items c.serve_spool.new.links.seats.items calls × PollsBy served.poll_now c.close_links.new.links.poll_now calls
+    × Releases old.wait c.close_links.new.links.poll_now calls)) seats_same
+    (subst (λ v. Asking Asked c.end_late_ones.new.self.wire w6
+    (λ calls. AreClosed U ended.seats.items v.items calls × PollsBy served.poll_now c.close_links.new.links.poll_now calls × Releases old.wait c.close_links.new.links.poll_now calls))
+    (sym c.serve_spool.ensures.keeps.seats)
+    (subst (λ n. Asking Asked c.end_late_ones.new.self.wire w6
+    (λ calls. AreClosed U ended.seats.items c.close_links.new.links.seats.items calls × PollsBy served.poll_now c.close_links.new.links.poll_now calls
+    × Releases n c.close_links.new.links.poll_now calls)) waits
+    (subst (λ b. Asking Asked c.end_late_ones.new.self.wire w6
+    (λ calls. AreClosed U ended.seats.items c.close_links.new.links.seats.items calls × PollsBy b c.close_links.new.links.poll_now calls
+    × Releases ended.wait c.close_links.new.links.poll_now calls)) c.end_late_ones.ensures.ends.poll_now (c.close_links.ensures.works U su))))))
     tried s clean)
 
 pub returns-clause-left : goal.returns-clause-left
 returns-clause-left g c = record {
-  set = c.serve_spool.ensures.keeps.set ∙ (c.close_links.ensures.closes.keeps.set ∙ (c.end_late_ones.ensures.keeps.keeps.set ∙ (c.serve_links.ensures.keeps.keeps.set ∙ c.accept_links.ensures.comers.keeps.set)));
+  set = c.serve_spool.ensures.keeps.set
+      ∙ (c.close_links.ensures.closes.keeps.set ∙ (c.end_late_ones.ensures.keeps.keeps.set ∙ (c.serve_links.ensures.keeps.keeps.set ∙ c.accept_links.ensures.comers.keeps.set)));
   site = refl;
   seated = λ h.
       (let came = c.accept_links.ensures.comers.seated h in
-      let served = settled_seats c.accept_links.new.clients.newcomers.newcomers.items c.serve_links.new.clients.newcomers.newcomers.items c.serve_links.new.clients.seats.items c.serve_links.ensures.settled.same
+      let served = settled_seats c.accept_links.new.clients.newcomers.newcomers.items c.serve_links.new.clients.newcomers.newcomers.items
+      c.serve_links.new.clients.seats.items c.serve_links.ensures.settled.same
       (subst (λ v. HaveSeats c.accept_links.new.clients.newcomers.newcomers.items v.items) (sym c.serve_links.ensures.keeps.seats) came) in
       let closed = c.close_links.ensures.closes.seated (c.end_late_ones.ensures.ends.seated served) in
       subst (λ n. HaveSeats n.newcomers.items c.serve_spool.new.links.seats.items) (sym c.serve_spool.ensures.keeps.newcomers)

@@ -57,8 +57,11 @@ returns-clause-works g c =
     let now = c.args.now in
     let seat = c.args.seat in
     does_so g.V.Vault g.W.Wire g.L.Listener s s1 _ _ (λ gv cl wa a. (
-      served_so Holds IsClean g.V.Vault.faults g.V.Vault.is_up g.V.Vault.may_leave s.office s1.office (way_at now clients (x.new.clients.poll_now || x.result)) (way_at now clients n.poll_now) n.newcomers.newcomers.items (seat ∷ []) (seat ∷ []) gv cl refl refl (λ e. e) (λ i d within e. e) c.note_freed.ensures.keeps.keeps.polled
-          (subst (λ m. HadTurns Holds IsClean s.office s1.office (way_at now clients (x.new.clients.poll_now || x.result)) m.newcomers.items (seat ∷ []) (seat ∷ []) gv cl) (sym c.note_freed.ensures.newcomers) a.0),
+      served_so Holds IsClean g.V.Vault.faults g.V.Vault.is_up g.V.Vault.may_leave s.office s1.office
+          (way_at now clients (x.new.clients.poll_now || x.result)) (way_at now clients n.poll_now) n.newcomers.newcomers.items (seat ∷ [])
+          (seat ∷ []) gv cl refl refl (λ e. e) (λ i d within e. e) c.note_freed.ensures.keeps.keeps.polled
+          (subst (λ m. HadTurns Holds IsClean s.office s1.office (way_at now clients (x.new.clients.poll_now || x.result)) m.newcomers.items (seat ∷ []) (seat ∷ []) gv cl)
+          (sym c.note_freed.ensures.newcomers) a.0),
       client_polled clients.poll_now (x.new.clients.poll_now || x.result) n.lock_released n.poll_now cl a.1 c.note_freed.ensures.poll_now,
     )) x.ensures.works
 

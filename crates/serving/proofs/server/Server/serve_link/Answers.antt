@@ -66,7 +66,8 @@ returns-clause-works g c =
     let way = way_at c.args.now clients (noted.poll_now || z.result) in
     let out = subst (λ b. Does g.V.Vault g.W.Wire g.L.Listener s s1 (IsWrittenOut Holds IsClean s.office s1.office c.args.seat way.share b)) ends
     (subst (λ n. Does g.V.Vault g.W.Wire g.L.Listener s s1 (IsWrittenOut Holds IsClean s.office s1.office c.args.seat n x.result)) c.share_of-share.ensures x.ensures.works) in
-    let first : Does g.V.Vault g.W.Wire g.L.Listener s s2 (Also (HadTurns Holds IsClean s.office s2.office way noted.newcomers.newcomers.items (c.args.seat ∷ []) (c.args.seat ∷ [])) (PollsBy clients.poll_now true)) =
+    let first : Does g.V.Vault g.W.Wire g.L.Listener s s2
+    (Also (HadTurns Holds IsClean s.office s2.office way noted.newcomers.newcomers.items (c.args.seat ∷ []) (c.args.seat ∷ [])) (PollsBy clients.poll_now true)) =
     does_then g.V.Vault g.W.Wire g.L.Listener s s1 s2 _ _ _
     (λ g1 g2 c1 c2 wa wb a b. (
       served_one Holds IsClean g.V.Vault.faults g.V.Vault.is_up g.V.Vault.may_leave s.office s1.office s2.office way noted.newcomers.newcomers.items c.args.seat g1 g2 c1 c2 wa wb a b.0,
@@ -74,7 +75,8 @@ returns-clause-works g c =
     )) out y.ensures.works in
     does_then g.V.Vault g.W.Wire g.L.Listener s s2 s3 _ _ _
     (λ g1 g2 c1 c2 wa wb a b. (
-      served_then Holds IsClean g.V.Vault.faults g.V.Vault.is_up g.V.Vault.may_leave s.office s2.office s3.office way noted.newcomers.newcomers.items c.args.seat g1 g2 c1 c2 wa wb a.0 b.of_seat b.offered,
+      served_then Holds IsClean g.V.Vault.faults g.V.Vault.is_up g.V.Vault.may_leave s.office s2.office s3.office way noted.newcomers.newcomers.items
+          c.args.seat g1 g2 c1 c2 wa wb a.0 b.of_seat b.offered,
       polled_then clients.poll_now true (noted.poll_now || z.result) c1 c2 a.1 (λ e. refl),
     )) first z.ensures.works
 

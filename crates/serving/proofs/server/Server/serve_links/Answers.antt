@@ -28,7 +28,8 @@ loop-place-init g c =
       touched = λ n. inl refl;
       frees = λ e. cc;
       works = does_none g.V.Vault g.W.Wire g.L.Listener c.args.self.now _ (
-        were_none g.V.Vault.holds g.V.Vault.is_clean g.V.Vault.faults g.V.Vault.is_up g.V.Vault.may_leave c.args.self.now.office (settings_of clients) c.args.now newcomers clients.poll_now newcomers clients.seats.items,
+        were_none g.V.Vault.holds g.V.Vault.is_clean g.V.Vault.faults g.V.Vault.is_up g.V.Vault.may_leave c.args.self.now.office
+            (settings_of clients) c.args.now newcomers clients.poll_now newcomers clients.seats.items,
         λ e. is_left (clients.poll_now || false) false (is_left clients.poll_now false e),
       );
     }
@@ -59,14 +60,17 @@ loop-place-preserved g c =
       keeps = seats_then old k.clients served k.invariant.keeps x.ensures.keeps;
       settled = settled_then c.args.now old.newcomers.newcomers.items k.clients.newcomers.newcomers.items served.newcomers.newcomers.items k.invariant.settled
           (are_settled _ lies.lies c.args.now k.clients.newcomers.newcomers.items served.newcomers.newcomers.items lies.is);
-      touched = touched_next c.args.now lies.lies old.newcomers.newcomers.items k.clients.newcomers.newcomers.items served.newcomers.newcomers.items old.seats.items seats k.place no_seat same within lies.is k.invariant.touched;
+      touched = touched_next c.args.now lies.lies old.newcomers.newcomers.items k.clients.newcomers.newcomers.items served.newcomers.newcomers.items
+          old.seats.items seats k.place no_seat same within lies.is k.invariant.touched;
       frees = λ e. ⊎_elim (λ (b : k.clients.lock_released ≡ true). polled (k.invariant.frees b)) (λ (h : served.poll_now ≡ true). h) (frees.more.poll_now e);
       works = does_then g.V.Vault g.W.Wire g.L.Listener s s1 s2 _ _ _
           (λ g1 g2 c1 c2 wa wb a b. (
-            were_next Holds IsClean g.V.Vault.faults g.V.Vault.is_up g.V.Vault.may_leave s.office s1.office s2.office (settings_of old) c.args.now old.newcomers.newcomers.items served.newcomers.newcomers.items old.seats.items k.clients served.lock_released served.poll_now k.place no_seat g1 g2 c1 c2
+            were_next Holds IsClean g.V.Vault.faults g.V.Vault.is_up g.V.Vault.may_leave s.office s1.office s2.office
+                (settings_of old) c.args.now old.newcomers.newcomers.items served.newcomers.newcomers.items old.seats.items k.clients served.lock_released served.poll_now k.place no_seat g1 g2 c1 c2
                 k.invariant.keeps.keeps.set same within frees.more.still polled frees.is frees.more.waits
                 (unread_before _ lies.lies c.args.now k.clients.newcomers.newcomers.items served.newcomers.newcomers.items lies.is) k.invariant.touched wa wb a.0
-                (served_at Holds IsClean g.V.Vault.faults g.V.Vault.is_up g.V.Vault.may_leave s1.office s2.office (way_at c.args.now k.clients served.poll_now) served.newcomers.newcomers.items seats ys k.place _ g2 c2 c.deref.ensures.0 within b.0 no_seat),
+                (served_at Holds IsClean g.V.Vault.faults g.V.Vault.is_up g.V.Vault.may_leave s1.office s2.office
+                (way_at c.args.now k.clients served.poll_now) served.newcomers.newcomers.items seats ys k.place _ g2 c2 c.deref.ensures.0 within b.0 no_seat),
             clients_polled old.poll_now k.clients.poll_now served.poll_now k.clients.lock_released served.lock_released c1 c2 frees.more.still a.1 b.1,
           ))
           k.invariant.works x.ensures.works;
@@ -79,6 +83,8 @@ returns-clause-works g c =
     let old = c.args.clients.now in
     let done : length k.clients.seats.items ≤ k.place = search rules in
     does_so g.V.Vault g.W.Wire g.L.Listener s k.self _ _ (λ gv cl wa a. (
-      were_whole g.V.Vault.holds g.V.Vault.is_clean g.V.Vault.faults g.V.Vault.is_up g.V.Vault.may_leave s.office k.self.office (settings_of old) c.args.now old.newcomers.newcomers.items k.clients.lock_released k.clients.poll_now k.clients.newcomers.newcomers.items old.seats.items k.clients.seats.items k.place gv cl (ap (λ v. v.items) k.invariant.keeps.seats) done a.0,
+      were_whole g.V.Vault.holds g.V.Vault.is_clean g.V.Vault.faults g.V.Vault.is_up g.V.Vault.may_leave s.office k.self.office
+          (settings_of old) c.args.now old.newcomers.newcomers.items k.clients.lock_released k.clients.poll_now k.clients.newcomers.newcomers.items old.seats.items k.clients.seats.items k.place gv cl
+          (ap (λ v. v.items) k.invariant.keeps.seats) done a.0,
       a.1,
     )) k.invariant.works

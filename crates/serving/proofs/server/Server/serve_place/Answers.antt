@@ -26,7 +26,8 @@ returns-then-not-exchange-clause-asked g c = λ B start L pop s clean.
     let one = asked_so g.V.Vault.holds g.W.Wire.tells c.args.site.now B start L pop c.args.self.now.office c.args.self.now.wire (λ told x. AreHeld told x xs) (AreKeptBeside xs e)
     (λ told x a. subst (λ y. AreKeptBeside xs y told x) (sym value) (one_held told x xs place e c.requires a)) s in
     let k = c.serve_exchange.ensures.asked B start L pop xs one clean in
-    asked_so g.V.Vault.holds g.W.Wire.tells c.args.site.now B start L pop c.serve_exchange.new.self.office c.serve_exchange.new.self.wire (AreKeptBeside xs e2) (λ told x. AreHeld told x (set xs place e2))
+    asked_so g.V.Vault.holds g.W.Wire.tells c.args.site.now B start L pop c.serve_exchange.new.self.office c.serve_exchange.new.self.wire
+    (AreKeptBeside xs e2) (λ told x. AreHeld told x (set xs place e2))
     (λ told x a. held_again told x xs place e2 e c.requires s.is.held.ascend (c.serve_exchange.ensures.keeps.link ∙ ap (λ y. y.link) value) a) k)
 
 pub returns-clause-asked : goal.returns-clause-asked
@@ -46,7 +47,8 @@ returns-clause-asked g c = λ B start L pop s clean.
     let told = all.is.told in
     let told2 = has_closed told n in
     let within : place < length ys = (let h = c.requires in omega (arith, h, length-set xs place e2)) in
-    asked_still g.V.Vault.holds g.W.Wire.tells c.args.site.now B start L pop c.serve_exchange.new.self.office c.serve_exchange.new.self.wire c.close_link.new.wire (λ told x. AreHeld told x ys) (λ told x. AreHeld told x c.remove.new.self.items) all
+    asked_still g.V.Vault.holds g.W.Wire.tells c.args.site.now B start L pop c.serve_exchange.new.self.office c.serve_exchange.new.self.wire c.close_link.new.wire
+    (λ told x. AreHeld told x ys) (λ told x. AreHeld told x c.remove.new.self.items) all
     (record {
       told = told2;
       tells = c.close_link.ensures.told (record { pop = pop; admin = told }) all.is.tells;
@@ -69,11 +71,15 @@ returns-then-not-exchange-clause-works g c =
     let live : e2.is_over ≡ false = search rules in
     let is : take 1 (drop place xs) ≡ e ∷ [] = one_at xs place e c.requires ∙ ap (λ y. y ∷ []) (sym c.index_mut-exchange.ensures.value) in
     let left = one_set xs place e2 c.requires in
-    also_so g.V.Vault.holds g.V.Vault.is_clean g.V.Vault.faults g.V.Vault.is_up g.V.Vault.may_leave g.W.Wire.asked c.args.self.now.office c.serve_exchange.new.self.office c.args.self.now.wire c.serve_exchange.new.self.wire
-    (HeardApart g.L.Listener.heard l l1 (λ B L. HasHttpTurn c.args.site.now now B L e e2)) (HeardApart g.L.Listener.heard l l1 (λ B L. HadHttpTurns c.args.site.now now B L (take 1 (drop place xs)) (take 1 (drop place (set xs place e2))))) (PollsBy false polled) (PollsBy before (before || polled))
+    also_so g.V.Vault.holds g.V.Vault.is_clean g.V.Vault.faults g.V.Vault.is_up g.V.Vault.may_leave g.W.Wire.asked c.args.self.now.office
+    c.serve_exchange.new.self.office c.args.self.now.wire c.serve_exchange.new.self.wire
+    (HeardApart g.L.Listener.heard l l1 (λ B L. HasHttpTurn c.args.site.now now B L e e2))
+    (HeardApart g.L.Listener.heard l l1 (λ B L. HadHttpTurns c.args.site.now now B L (take 1 (drop place xs)) (take 1 (drop place (set xs place e2)))))
+    (PollsBy false polled) (PollsBy before (before || polled))
     (λ B L given calls turn. (
       turn.0,
-      subst (λ v. HadHttpTurns c.args.site.now now B L v (take 1 (drop place (set xs place e2))) given calls) (sym is) (subst (λ v. HadHttpTurns c.args.site.now now B L (e ∷ []) v given calls) (sym left) (held_on c.args.site.now now B L e e2 given calls turn.1 live c.serve_exchange.ensures.keeps.since)),
+      subst (λ v. HadHttpTurns c.args.site.now now B L v (take 1 (drop place (set xs place e2))) given calls) (sym is)
+          (subst (λ v. HadHttpTurns c.args.site.now now B L (e ∷ []) v given calls) (sym left) (held_on c.args.site.now now B L e e2 given calls turn.1 live c.serve_exchange.ensures.keeps.since)),
     ))
     (admin_polled before polled)
     c.serve_exchange.ensures.works

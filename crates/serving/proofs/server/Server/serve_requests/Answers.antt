@@ -17,8 +17,10 @@ loop-place-init g c = record {
   asked = λ B start L pop s clean. s;
   stay = none_yet c.args.now c.args.requests.now.exchanges.items;
   no_more = omega arith;
-  works = also_from g.V.Vault.holds g.V.Vault.is_clean g.V.Vault.faults g.V.Vault.is_up g.V.Vault.may_leave g.W.Wire.asked c.args.self.now.office c.args.self.now.office c.args.self.now.wire c.args.self.now.wire _ (PollsBy false false) (polled_same false)
-      (did_none g.V.Vault.holds g.V.Vault.is_clean g.V.Vault.faults g.V.Vault.is_up g.V.Vault.may_leave g.W.Wire.asked c.args.self.now.office c.args.self.now.wire (HeardApart g.L.Listener.heard c.args.self.now.listener c.args.self.now.listener (HadSome c.args.site.now c.args.now 0 c.args.requests.now.exchanges.items c.args.requests.now.exchanges.items))
+  works = also_from g.V.Vault.holds g.V.Vault.is_clean g.V.Vault.faults g.V.Vault.is_up g.V.Vault.may_leave g.W.Wire.asked c.args.self.now.office
+      c.args.self.now.office c.args.self.now.wire c.args.self.now.wire _ (PollsBy false false) (polled_same false)
+      (did_none g.V.Vault.holds g.V.Vault.is_clean g.V.Vault.faults g.V.Vault.is_up g.V.Vault.may_leave g.W.Wire.asked c.args.self.now.office c.args.self.now.wire
+      (HeardApart g.L.Listener.heard c.args.self.now.listener c.args.self.now.listener (HadSome c.args.site.now c.args.now 0 c.args.requests.now.exchanges.items c.args.requests.now.exchanges.items))
       (λ B L. (told_none g.L.Listener.heard c.args.self.now.listener, had_none c.args.site.now c.args.now c.args.requests.now.exchanges.items B L)));
 }
 
@@ -37,10 +39,14 @@ loop-place-preserved-then-serve_place g c =
       stay = one_more c.args.now k.requests.exchanges.items x.new.requests.exchanges.items k.place x.ensures.held.before (x.ensures.held.goes_on c.if-serve_place.true) k.invariant.stay;
       no_more = (let a = x.ensures.left in let b = k.invariant.no_more in omega (arith, a, b));
       works =
-          (let one = subst (λ b. ServesApart g.V.Vault g.W.Wire g.L.Listener k.self x.new.self (PollsBy k.requests.poll_now x.new.requests.poll_now) (λ B L. HadHttpTurns c.args.site.now now B L (take 1 (drop k.place ys)) (take (if b then 1 else 0) (drop k.place zs)))) so x.ensures.works in
-          also_then g.V.Vault.holds g.V.Vault.is_clean g.V.Vault.faults g.V.Vault.is_up g.V.Vault.may_leave g.W.Wire.asked c.args.self.now.office k.self.office x.new.self.office c.args.self.now.wire k.self.wire x.new.self.wire
-          (HeardApart g.L.Listener.heard l k.self.listener (HadSome c.args.site.now now k.place xs ys)) (HeardApart g.L.Listener.heard k.self.listener x.new.self.listener (λ B L. HadHttpTurns c.args.site.now now B L (take 1 (drop k.place ys)) (take 1 (drop k.place zs))))
-          (HeardApart g.L.Listener.heard l x.new.self.listener (HadSome c.args.site.now now (k.place + 1) xs zs)) (PollsBy false k.requests.poll_now) (PollsBy k.requests.poll_now x.new.requests.poll_now) (PollsBy false x.new.requests.poll_now)
+          (let one = subst (λ b. ServesApart g.V.Vault g.W.Wire g.L.Listener k.self x.new.self (PollsBy k.requests.poll_now x.new.requests.poll_now)
+          (λ B L. HadHttpTurns c.args.site.now now B L (take 1 (drop k.place ys)) (take (if b then 1 else 0) (drop k.place zs)))) so x.ensures.works in
+          also_then g.V.Vault.holds g.V.Vault.is_clean g.V.Vault.faults g.V.Vault.is_up g.V.Vault.may_leave g.W.Wire.asked c.args.self.now.office
+          k.self.office x.new.self.office c.args.self.now.wire k.self.wire x.new.self.wire
+          (HeardApart g.L.Listener.heard l k.self.listener (HadSome c.args.site.now now k.place xs ys))
+          (HeardApart g.L.Listener.heard k.self.listener x.new.self.listener (λ B L. HadHttpTurns c.args.site.now now B L (take 1 (drop k.place ys)) (take 1 (drop k.place zs))))
+          (HeardApart g.L.Listener.heard l x.new.self.listener (HadSome c.args.site.now now (k.place + 1) xs zs)) (PollsBy false k.requests.poll_now)
+          (PollsBy k.requests.poll_now x.new.requests.poll_now) (PollsBy false x.new.requests.poll_now)
           (λ B L g1 g2 c1 c2 a turn. (
             apart_then g.L.Listener.heard l k.self.listener x.new.self.listener B L g1 g2 a.0 turn.0,
             had_held c.args.site.now now k.place xs ys zs B L g1 g2 c1 c2 a.1 turn.1 x.ensures.held.before
@@ -65,10 +71,14 @@ loop-place-preserved g c =
       stay = as_many c.args.now k.requests.exchanges.items x.new.requests.exchanges.items k.place x.ensures.held.before k.invariant.stay;
       no_more = (let a = x.ensures.left in let b = k.invariant.no_more in omega (arith, a, b));
       works =
-          (let one = subst (λ b. ServesApart g.V.Vault g.W.Wire g.L.Listener k.self x.new.self (PollsBy k.requests.poll_now x.new.requests.poll_now) (λ B L. HadHttpTurns c.args.site.now now B L (take 1 (drop k.place ys)) (take (if b then 1 else 0) (drop k.place zs)))) so x.ensures.works in
-          also_then g.V.Vault.holds g.V.Vault.is_clean g.V.Vault.faults g.V.Vault.is_up g.V.Vault.may_leave g.W.Wire.asked c.args.self.now.office k.self.office x.new.self.office c.args.self.now.wire k.self.wire x.new.self.wire
-          (HeardApart g.L.Listener.heard l k.self.listener (HadSome c.args.site.now now k.place xs ys)) (HeardApart g.L.Listener.heard k.self.listener x.new.self.listener (λ B L. HadHttpTurns c.args.site.now now B L (take 1 (drop k.place ys)) []))
-          (HeardApart g.L.Listener.heard l x.new.self.listener (HadSome c.args.site.now now k.place xs zs)) (PollsBy false k.requests.poll_now) (PollsBy k.requests.poll_now x.new.requests.poll_now) (PollsBy false x.new.requests.poll_now)
+          (let one = subst (λ b. ServesApart g.V.Vault g.W.Wire g.L.Listener k.self x.new.self (PollsBy k.requests.poll_now x.new.requests.poll_now)
+          (λ B L. HadHttpTurns c.args.site.now now B L (take 1 (drop k.place ys)) (take (if b then 1 else 0) (drop k.place zs)))) so x.ensures.works in
+          also_then g.V.Vault.holds g.V.Vault.is_clean g.V.Vault.faults g.V.Vault.is_up g.V.Vault.may_leave g.W.Wire.asked c.args.self.now.office
+          k.self.office x.new.self.office c.args.self.now.wire k.self.wire x.new.self.wire
+          (HeardApart g.L.Listener.heard l k.self.listener (HadSome c.args.site.now now k.place xs ys))
+          (HeardApart g.L.Listener.heard k.self.listener x.new.self.listener (λ B L. HadHttpTurns c.args.site.now now B L (take 1 (drop k.place ys)) []))
+          (HeardApart g.L.Listener.heard l x.new.self.listener (HadSome c.args.site.now now k.place xs zs)) (PollsBy false k.requests.poll_now)
+          (PollsBy k.requests.poll_now x.new.requests.poll_now) (PollsBy false x.new.requests.poll_now)
           (λ B L g1 g2 c1 c2 a turn. (
             apart_then g.L.Listener.heard l k.self.listener x.new.self.listener B L g1 g2 a.0 turn.0,
             had_closed c.args.site.now now k.place xs ys zs B L g1 g2 c1 c2 a.1 turn.1 x.ensures.held.before
@@ -92,5 +102,6 @@ returns-clause-works g c =
     let ys = k.requests.exchanges.items in
     let done : length ys ≤ k.place = search rules in
     also_so g.V.Vault.holds g.V.Vault.is_clean g.V.Vault.faults g.V.Vault.is_up g.V.Vault.may_leave g.W.Wire.asked c.args.self.now.office k.self.office c.args.self.now.wire k.self.wire
-    (HeardApart g.L.Listener.heard c.args.self.now.listener k.self.listener (HadSome c.args.site.now now k.place xs ys)) (HeardApart g.L.Listener.heard c.args.self.now.listener k.self.listener (λ B L. HadHttpTurns c.args.site.now now B L xs ys)) (PollsBy false k.requests.poll_now) (PollsBy false k.requests.poll_now)
+    (HeardApart g.L.Listener.heard c.args.self.now.listener k.self.listener (HadSome c.args.site.now now k.place xs ys))
+    (HeardApart g.L.Listener.heard c.args.self.now.listener k.self.listener (λ B L. HadHttpTurns c.args.site.now now B L xs ys)) (PollsBy false k.requests.poll_now) (PollsBy false k.requests.poll_now)
     (λ B L given calls a. (a.0, had_all c.args.site.now now k.place xs ys B L given calls done a.1)) (λ cs m. m) k.invariant.works

@@ -12,7 +12,8 @@ invariant-loop-place g l = record {
   asked : AllStillAsked g.V.Vault.holds g.V.Vault.is_clean g.W.Wire.tells l.fn.site l.fn.self.office l.fn.self.wire l.fn.requests.exchanges.items l.self.office l.self.wire l.requests.exchanges.items;
   stay : All (GoesOn l.fn.now) (take l.place l.requests.exchanges.items);
   no_more : length l.requests.exchanges.items ≤ length l.fn.requests.exchanges.items;
-  works : ServesApart g.V.Vault g.W.Wire g.L.Listener l.fn.self l.self (PollsBy false l.requests.poll_now) (HadSome l.fn.site l.fn.now l.place l.fn.requests.exchanges.items l.requests.exchanges.items);
+  works : ServesApart g.V.Vault g.W.Wire g.L.Listener l.fn.self l.self (PollsBy false l.requests.poll_now)
+      (HadSome l.fn.site l.fn.now l.place l.fn.requests.exchanges.items l.requests.exchanges.items);
 }
 
 abbrev pub decreases-loop-place : goal.decreases-loop-place

@@ -12,7 +12,8 @@ use Rattle.serving.proofs.server.Server.serve_while.Given as goal
 
 abbrev pub invariant-loop-turn : goal.invariant-loop-turn
 invariant-loop-turn g l = record {
-  serves : (T : Trace) → Serves g.V.Vault.holds g.W.Wire.tells g.S.Spool.tells T l.fn.self.office l.fn.self.wire l.fn.spool l.fn.links.clients.seats.items l.fn.links.requests.exchanges.items l.fn.links.site
+  serves : (T : Trace) → Serves g.V.Vault.holds g.W.Wire.tells g.S.Spool.tells T l.fn.self.office l.fn.self.wire l.fn.spool
+      l.fn.links.clients.seats.items l.fn.links.requests.exchanges.items l.fn.links.site
       → g.V.Vault.is_clean (vault_of l.self.office)
       → Serves g.V.Vault.holds g.W.Wire.tells g.S.Spool.tells T l.self.office l.self.wire l.spool l.links.clients.seats.items l.links.requests.exchanges.items l.links.site;
   clean : g.V.Vault.is_clean (vault_of l.self.office) → g.V.Vault.is_clean (vault_of l.fn.self.office);

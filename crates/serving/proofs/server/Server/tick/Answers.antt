@@ -32,7 +32,9 @@ returns-clause-works g c =
     record {
       given = (event.Tick c.args.now, m) ∷ [];
       calls = [];
-      was_given = given_one g.V.Vault.holds g.V.Vault.is_clean g.V.Vault.faults g.V.Vault.is_up g.V.Vault.may_leave c.args.self.now.office c.step.new.self (event.Tick c.args.now) (outcome_seen c.step.result) c.step.ensures.clean c.step.ensures.stands c.step.ensures.admitted c.step.ensures.counted c.step.ensures.cause c.step.ensures.up c.step.ensures.stop;
+      was_given = given_one g.V.Vault.holds g.V.Vault.is_clean g.V.Vault.faults g.V.Vault.is_up g.V.Vault.may_leave c.args.self.now.office c.step.new.self
+          (event.Tick c.args.now) (outcome_seen c.step.result) c.step.ensures.clean c.step.ensures.stands c.step.ensures.admitted
+          c.step.ensures.counted c.step.ensures.cause c.step.ensures.up c.step.ensures.stop;
       was_asked = asked_none g.W.Wire.asked c.args.self.now.wire;
       facts = (
         record { is = λ B L s k. told_none g.L.Listener.heard c.args.self.now.listener },

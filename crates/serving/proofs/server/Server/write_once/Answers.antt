@@ -44,7 +44,8 @@ returns-in-Count-clause-serves g c = λ seats these has before T beside s clean.
       served = subst (λ m. AreServed (has_written s.told number (Count n) (take n lent)) s.owner T.base ((event.Took connection n, m) ∷ s.log)) (sym k.1)
           (served_written s.told s.owner T.base s.log number connection n (take n lent) k.0 (lent_rest now connection n lent is within.1) s.served at_k here);
       seated = subst (λ m. AreSeated s.owner (trace_of T.base ((event.Took connection n, m) ∷ s.log)) seats these) (sym k.1)
-          (seated_one s.owner T.base s.log seats these ((event.Took connection n, Tagged k.0) ∷ s.log) c.args.seat before (fewer_framed T.base s.log connection ((event.Took connection n, Tagged k.0) ∷ s.log) here (frame_took T.base s.log connection n k.0)) (frame_took T.base s.log connection n k.0) s.seated);
+          (seated_one s.owner T.base s.log seats these ((event.Took connection n, Tagged k.0) ∷ s.log) c.args.seat before
+          (fewer_framed T.base s.log connection ((event.Took connection n, Tagged k.0) ∷ s.log) here (frame_took T.base s.log connection n k.0)) (frame_took T.base s.log connection n k.0) s.seated);
       adds = adds_one s.owner T.base T.log s.log beside s.told.accepted (event.Took connection n) (event_tag_of o) (number, at_k) (λ l Before h. h) (λ l. refl) s.adds;
     })
 
@@ -90,11 +91,13 @@ returns-in-End-clause-serves g c = λ seats these has before T beside s clean.
       owner = s.owner;
       stands = c.step_with_account-report-in-End.ensures.stands now s.stands clean;
       admitted = (c.step_with_account-report-in-End.ensures.admitted now s.stands clean, s.admitted);
-      tells = subst (λ xs. g.W.Wire.tells c.write.new.self (record { pop = has_written s.told number io xs; admin = beside.admin })) (fault_none io lent fault) (c.write.ensures.told (record { pop = s.told; admin = beside.admin }) s.tells);
+      tells = subst (λ xs. g.W.Wire.tells c.write.new.self (record { pop = has_written s.told number io xs; admin = beside.admin }))
+          (fault_none io lent fault) (c.write.ensures.told (record { pop = s.told; admin = beside.admin }) s.tells);
       served = subst (λ m. AreServed (has_written s.told number io []) s.owner T.base ((event.Gone connection, m) ∷ s.log)) (sym k.1)
           (served_written_fault s.told s.owner T.base s.log number connection io k.0 fault s.served at_k here);
       seated = subst (λ m. AreSeated s.owner (trace_of T.base ((event.Gone connection, m) ∷ s.log)) seats these) (sym k.1)
-          (seated_one s.owner T.base s.log seats these ((event.Gone connection, Tagged k.0) ∷ s.log) c.args.seat before (fewer_framed T.base s.log connection ((event.Gone connection, Tagged k.0) ∷ s.log) here (frame_gone T.base s.log connection k.0)) (frame_gone T.base s.log connection k.0) s.seated);
+          (seated_one s.owner T.base s.log seats these ((event.Gone connection, Tagged k.0) ∷ s.log) c.args.seat before
+          (fewer_framed T.base s.log connection ((event.Gone connection, Tagged k.0) ∷ s.log) here (frame_gone T.base s.log connection k.0)) (frame_gone T.base s.log connection k.0) s.seated);
       adds = adds_one s.owner T.base T.log s.log beside s.told.accepted (event.Gone connection) (event_tag_of o) (number, at_k) (λ l Before h. h) (λ l. refl) s.adds;
     })
 
@@ -114,9 +117,11 @@ returns-in-Count-clause-works g c =
     let n = c.in-Count.count in
     let lent = c.owed-lent.result.now in
     let x = c.step_with_account-report in
-    does_event g.V.Vault g.W.Wire g.L.Listener o x.new.self c.args.self.now.listener c.hear.new.self c.args.self.now.wire c.write.new.self (Wrote Pop seat.link (length lent) (Count n) (take n lent)) (event.Took seat.connection n) (outcome_seen x.result.outcome) seat.connection x.result.account _ (λ T. refl)
+    does_event g.V.Vault g.W.Wire g.L.Listener o x.new.self c.args.self.now.listener c.hear.new.self c.args.self.now.wire c.write.new.self
+    (Wrote Pop seat.link (length lent) (Count n) (take n lent)) (event.Took seat.connection n) (outcome_seen x.result.outcome) seat.connection x.result.account _ (λ T. refl)
     x.ensures.clean x.ensures.stands x.ensures.admitted x.ensures.counted x.ensures.cause x.ensures.up x.ensures.stop x.ensures.account c.in-Count.ensures.called c.hear.ensures.told
-    (wrote_some g.V.Vault.holds g.V.Vault.is_clean g.V.Vault.faults g.V.Vault.is_up g.V.Vault.may_leave o x.new.self seat (length lent) n (take n lent) (event_tag_of (outcome_seen x.result.outcome)) c.in-Count.ensures.within.0 (λ B L s. c.owed-lent.ensures.exact (trace_of B L) s))
+    (wrote_some g.V.Vault.holds g.V.Vault.is_clean g.V.Vault.faults g.V.Vault.is_up g.V.Vault.may_leave o x.new.self seat (length lent) n
+    (take n lent) (event_tag_of (outcome_seen x.result.outcome)) c.in-Count.ensures.within.0 (λ B L s. c.owed-lent.ensures.exact (trace_of B L) s))
 
 pub returns-in-Later-clause-works : goal.returns-in-Later-clause-works
 returns-in-Later-clause-works g c =
@@ -139,9 +144,11 @@ returns-in-End-clause-works g c =
     let no : c.is_empty.result ≡ false = search rules in
     let some = lent_some c.is_empty.result (length lent) c.is_empty.ensures no in
     let octets = counted io lent in
-    does_event g.V.Vault g.W.Wire g.L.Listener office x.new.self c.args.self.now.listener c.hear-in-End.new.self c.args.self.now.wire c.write.new.self (Wrote Pop seat.link (length lent) io octets) (event.Gone connection) o connection x.result.account _ (λ T. refl)
+    does_event g.V.Vault g.W.Wire g.L.Listener office x.new.self c.args.self.now.listener c.hear-in-End.new.self c.args.self.now.wire c.write.new.self
+    (Wrote Pop seat.link (length lent) io octets) (event.Gone connection) o connection x.result.account _ (λ T. refl)
     x.ensures.clean x.ensures.stands x.ensures.admitted x.ensures.counted x.ensures.cause x.ensures.up x.ensures.stop x.ensures.account c.write.ensures.called c.hear-in-End.ensures.told
-    (wrote_cut g.V.Vault.holds g.V.Vault.is_clean g.V.Vault.faults g.V.Vault.is_up g.V.Vault.may_leave office x.new.self seat (length lent) io octets (event_tag_of o) fault (λ B L s. c.owed-lent.ensures.exact (trace_of B L) s)
+    (wrote_cut g.V.Vault.holds g.V.Vault.is_clean g.V.Vault.faults g.V.Vault.is_up g.V.Vault.may_leave office x.new.self seat (length lent) io octets
+    (event_tag_of o) fault (λ B L s. c.owed-lent.ensures.exact (trace_of B L) s)
     (λ B L s k.
     (let now = trace_of B L in
     let here = lent_open now connection (length lent) lent (c.owed-lent.ensures.lent now s) some (omega arith) in
