@@ -231,10 +231,10 @@ def office(program, folder, *words, **how):
         server.end()
 
 
-def log_in(client, *texts):
-    """Logs in to the maildrop `orders`, which has these texts."""
+def log_in(client, *texts, first=b""):
+    """Logs in to the maildrop `orders`, which has these texts, behind what is sent `first`."""
     reply = b"+OK maildrop has %d messages (%d octets)\r\n" % (len(texts), sum(map(len, texts)))
-    client.asks(b"USER ann/orders\r\nPASS s3 cret\r\n", b"+OK send PASS\r\n" + reply)
+    client.asks(first + b"USER ann/orders\r\nPASS s3 cret\r\n", b"+OK send PASS\r\n" + reply)
 
 
 def is_silent(client, seconds):
