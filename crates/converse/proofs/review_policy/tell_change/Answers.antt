@@ -37,7 +37,8 @@ returns-in_err-write_text-clause-cause g c =
 
 pub returns-clause-ok : goal.returns-clause-ok
 returns-clause-ok g c =
-    change_whole c.args.choice.now c.in_ok-before.ensures.ok c.in_ok-policy.ensures.ok c.in_ok-review.ensures.differ c.deref.ensures.value c.in_ok-review.ensures.text c.nobody-none.ensures c.in_ok-write_text.ensures.ok
+    change_whole c.args.choice.now c.in_ok-before.ensures.ok c.in_ok-policy.ensures.ok c.in_ok-review.ensures.differ
+    c.deref.ensures.value c.in_ok-review.ensures.text c.nobody-none.ensures c.in_ok-write_text.ensures.ok
 
 pub returns-clause-part : goal.returns-clause-part
 returns-clause-part g c =

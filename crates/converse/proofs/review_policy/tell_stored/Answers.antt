@@ -13,7 +13,8 @@ returns-in_err-policy-clause-cause g c =
     handed_as c.from_residual.result _ (IsPolicyEnd Is written) c.from_residual.ensures.1 (ended_unwritten Is Is written (λ e is. is) _ c.in_err-policy.ensures.cause)
 
 pub returns-in_err-write_text-clause-part : goal.returns-in_err-write_text-clause-part
-returns-in_err-write_text-clause-part g c = inr (stored_part c.args.choice.now c.in_ok-policy.ensures.ok c.deref.ensures.value c.args.before.now c.args.kept.now c.in_ok-review.ensures.text c.in_err-write_text.ensures.part)
+returns-in_err-write_text-clause-part g c =
+    inr (stored_part c.args.choice.now c.in_ok-policy.ensures.ok c.deref.ensures.value c.args.before.now c.args.kept.now c.in_ok-review.ensures.text c.in_err-write_text.ensures.part)
 
 pub returns-in_err-write_text-clause-cause : goal.returns-in_err-write_text-clause-cause
 returns-in_err-write_text-clause-cause g c =
@@ -23,10 +24,13 @@ returns-in_err-write_text-clause-cause g c =
     handed_as c.from_residual-in_err-write_text.result _ (IsPolicyEnd Faults failed) c.from_residual-in_err-write_text.ensures.1 (ended_writing Faults failed _ cause.0 cause.1)
 
 pub returns-clause-ok : goal.returns-clause-ok
-returns-clause-ok g c = stored_whole c.args.choice.now c.in_ok-policy.ensures.ok c.deref.ensures.value c.args.before.now c.args.kept.now c.in_ok-review.ensures.text c.in_ok-review.ensures.differ c.in_ok-write_text.ensures.ok
+returns-clause-ok g c =
+    stored_whole c.args.choice.now c.in_ok-policy.ensures.ok
+    c.deref.ensures.value c.args.before.now c.args.kept.now c.in_ok-review.ensures.text c.in_ok-review.ensures.differ c.in_ok-write_text.ensures.ok
 
 pub returns-clause-part : goal.returns-clause-part
-returns-clause-part g c = inr (stored_part c.args.choice.now c.in_ok-policy.ensures.ok c.deref.ensures.value c.args.before.now c.args.kept.now c.in_ok-review.ensures.text c.in_ok-write_text.ensures.part)
+returns-clause-part g c =
+    inr (stored_part c.args.choice.now c.in_ok-policy.ensures.ok c.deref.ensures.value c.args.before.now c.args.kept.now c.in_ok-review.ensures.text c.in_ok-write_text.ensures.part)
 
 pub returns-clause-flushed : goal.returns-clause-flushed
 returns-clause-flushed g c = λ one. c.in_ok-write_text.ensures.flushed
