@@ -11,6 +11,7 @@ use Rattle.vault.specs.declared.answer.Total.{Total}
 use Rattle.vault.specs.declared.fault.VaultFault.{VaultFault}
 use Rattle.vault.specs.declared.record.Keyed.{Keyed}
 use Rattle.vault.specs.declared.record.Receipt.{Receipt}
+use Rattle.vault.specs.Calls.{IsDone}
 use Rattle.vault.specs.Changes.{Contents, records_of, totals}
 use Rattle.converse.specs.declared.check_store.StoreFile.{StoreFile}
 use Rattle.converse.specs.Checked.{counted, counts_line, last_line, file_lines, maildrop_line, clerk_line, end_text, store_text}
@@ -47,6 +48,35 @@ count_or_none (Err e) = 0
 
 pub rules_answered : (p q : Policy) → ◌≡◌ {A = Result Policy VaultFault} (Ok p) (Ok q) → length q.rules ≡ length p.rules
 rules_answered p q e = sym (ap count_or_none e)
+
+-- ---- the calls of a check, one after the other
+
+-- The store was asked of its maildrops and its policy, and printed these clerks: what is known of whatever it held at first, if it is clean now.
+pub record HasAsked {V : Type 0} (Holds : V → Contents → Type 0) (IsClean : V → Type 0) (first now : V) (names : List (List ℕ)) (ts : List Total) (p : Policy) (x y : List ℕ) : Type 0 where
+  pub held : (c : Contents) → Holds first c → IsClean now → Holds now c
+  pub totals_are : (c : Contents) → Holds first c → IsClean now → ts ≡ totals (records_of c)
+  pub rules_are : (c : Contents) → Holds first c → IsClean now → length p.rules ≡ length c.policy.rules
+  pub clerks_are : (c : Contents) → Holds first c → IsClean now → y ≡ x ++ flat_map (clerk_line c.clerks) names
+
+pub has_asked : {V : Type 0} (Holds : V → Contents → Type 0) (IsClean : V → Type 0) {first second third now : V} {names : List (List ℕ)} {ts : List Total} {p : Policy} {x y : List ℕ}
+    → (IsClean second → IsClean first) → ((c : Contents) → Holds first c → IsClean second → IsDone (Holds second) c c (Ok (totals (records_of c))) (Ok ts))
+    → (IsClean third → IsClean second) → ((c : Contents) → Holds second c → IsClean third → IsDone (Holds third) c c (Ok c.policy) (Ok p))
+    → (IsClean now → IsClean third) → ((c : Contents) → Holds third c → IsClean now → Holds now c)
+    → ((c : Contents) → Holds third c → IsClean now → y ≡ x ++ flat_map (clerk_line c.clerks) names) → HasAsked Holds IsClean first now names ts p x y
+has_asked Holds IsClean {first} {second} {third} {now} {ts = ts} {p = p} back totals_done back2 policy_done back3 held clerks =
+    let one = λ (c : Contents) (h : Holds first c) (k : IsClean now). totals_done c h (back2 (back3 k)) in
+    let two = λ (c : Contents) (h : Holds first c) (k : IsClean now). policy_done c (one c h k).held (back3 k) in
+    record {
+      held = λ c h k. held c (two c h k).held k;
+      totals_are = λ c h k. totals_answered _ ts (one c h k).answer;
+      rules_are = λ c h k. rules_answered _ p (two c h k).answer;
+      clerks_are = λ c h k. clerks c (two c h k).held k;
+    }
+
+-- what was put into an empty text is what is lent of it
+pub lent_of_each : {V : Type 0} (Holds : V → Contents → Type 0) (IsClean : V → Type 0) {first now : V} (text : Contents → List ℕ) {lent items before : List ℕ}
+    → ((c : Contents) → Holds first c → IsClean now → items ≡ before ++ text c) → lent ≡ items → before ≡ [] → (c : Contents) → Holds first c → IsClean now → lent ≡ text c
+lent_of_each Holds IsClean text put is none c held clean = is ∙ put c held clean ∙ ap (λ (xs : List ℕ). xs ++ text c) none
 
 -- ---- all of it
 

@@ -1,5 +1,7 @@
 -- What the clauses of the functions say of one trace.
-use Rattle.std.proofs.Common.{◌≡◌, ℕ, ◌<◌, ◌≤◌, Bool, true, false, not, ◌&&◌, ◌||◌, cond, List, [], ◌∷◌, ◌++◌, length, take, refl, sym, ◌∙◌, ap, arith, subst, nat_lt, nat_le, ltb-true, lt-ltb, le-ltb, le-leb, leb-true, ◌⊎◌, inl, inr, ⊎_elim, MatchResult, Ok, Err, append-nil, append_assoc, min, Option, Some, None, Result, IsErrAnd, eqb-true, eq-eqb, ◌==◌}
+use Rattle.std.proofs.Common.{◌≡◌, ℕ, ◌<◌, ◌≤◌, Bool, true, false, not, ◌&&◌, ◌||◌, cond, List, [], ◌∷◌, ◌++◌, length, take, refl, sym, ◌∙◌, ap, arith, subst, nat_lt, nat_le}
+use Rattle.std.proofs.Common.{ltb-true, lt-ltb, le-ltb, le-leb, leb-true, ◌⊎◌, inl, inr, ⊎_elim, MatchResult, Ok, Err, append-nil, append_assoc, min, Option, Some, None, Result}
+use Rattle.std.proofs.Common.{IsErrAnd, eqb-true, ◌==◌}
 use Rattle.std.specs.Io.KnownBytes.{Appends, Consumes, Keeps}
 use Rattle.vault.specs.Records.{Records}
 use Rattle.vault.specs.Calls.{has_grown, greatest_count}
@@ -188,15 +190,6 @@ shut_by a false e f = refl
 -- one more of them
 pub one_more : (c : ℕ) (older L : Log) (e : Event × EventTag) → is_own c e ≡ true → Extends c older L → Extends c older (e ∷ L)
 one_more c older L e h w = record { opening = w.opening; own = e ∷ w.own; each = rw h w.each; is = ap (λ (X : Log). e ∷ X) w.is }
-
-pub one_heard : (c : ℕ) (older L : Log) (piece : List ℕ) (m : EventTag) → Extends c older L → Extends c older ((event.Bytes c piece, m) ∷ L)
-one_heard c older L piece m w = one_more c older L (event.Bytes c piece, m) (eq-eqb c c refl) w
-
-pub one_taken : (c : ℕ) (older L : Log) (n : ℕ) (m : EventTag) → Extends c older L → Extends c older ((event.Took c n, m) ∷ L)
-one_taken c older L n m w = one_more c older L (event.Took c n, m) (eq-eqb c c refl) w
-
-pub one_gone : (c : ℕ) (older L : Log) (m : EventTag) → Extends c older L → Extends c older ((event.Gone c, m) ∷ L)
-one_gone c older L m w = one_more c older L (event.Gone c, m) (eq-eqb c c refl) w
 
 -- what a turn of writing says if it wrote nothing, and if it wrote something
 pub none_written : {A : Type 0} (b : Bool) (P Q : A → Type 0) (L : A) → b ≡ false → cond b (P L) (Q L) → Q L

@@ -1,6 +1,7 @@
 -- How a conversation begins, and how it comes out once its connection is gone.
 use Rattle.std.proofs.lemmas.Bool.{and_right}
-use Rattle.std.proofs.Common.{◌≡◌, ℕ, zero, suc, ◌-◌, ◌<◌, ◌≤◌, Bool, true, false, not, ◌&&◌, ◌||◌, cond, List, [], ◌∷◌, ◌++◌, length, take, drop, refl, sym, ◌∙◌, ap, arith, length-append, subst, eq-eqb, inl, inr, ⊎_elim, MatchResult}
+use Rattle.std.proofs.Common.{◌≡◌, ℕ, zero, suc, ◌-◌, ◌<◌, ◌≤◌, Bool, true, false, not, ◌&&◌, ◌||◌, cond, List, [], ◌∷◌, ◌++◌, length, take, drop, refl, sym, ◌∙◌, ap, arith}
+use Rattle.std.proofs.Common.{length-append, subst, eq-eqb, inl, inr, ⊎_elim, MatchResult}
 use Rattle.std.proofs.lemmas.List.{length-take}
 use Rattle.std.proofs.lemmas.List.Folds.{list_any-append}
 use Rattle.std.specs.List.{list_any, zip}
@@ -79,7 +80,8 @@ module _ (T : Trace) (lent : ℕ → ℕ) where
   refused_full false NoMemory r e = cc
 
   pub connects : (o : Outcome) → IsOutcome T lent event.Connect o
-      → MatchResult (opened_by o) (λ c. (c ≡ next_number T.log) × GoesOn T.base (next_number T.log) (acts T) [] [] ((event.Connect, event_tag_of o) ∷ T.log)) (λ e. Refuses T e ((event.Connect, event_tag_of o) ∷ T.log))
+      → MatchResult (opened_by o) (λ c. (c ≡ next_number T.log) × GoesOn T.base (next_number T.log) (acts T) [] [] ((event.Connect, event_tag_of o) ∷ T.log))
+      (λ e. Refuses T e ((event.Connect, event_tag_of o) ∷ T.log))
   unfolding is_odd
   connects (Opened c) h = (opened_number h.tag c (opened_if (is_full T) (shown_at T.base T.log (history T) event.Connect h.tag) c (sym h.is)), begun)
   connects outcome.Done h = let q = even (is_full T) h.tag outcome.Done h.may h.is in cc

@@ -1,5 +1,6 @@
 -- What one more event on a connection says of its conversation.
-use Rattle.std.proofs.Common.{◌≡◌, ℕ, zero, suc, ◌<◌, ◌≤◌, Bool, true, false, not, ◌&&◌, List, [], ◌∷◌, ◌++◌, length, drop, refl, sym, ◌∙◌, ap, arith, slice_get, Some, None, Option, length-append, subst, eq-eqb, nat_lt, inl, ⊎_elim}
+use Rattle.std.proofs.Common.{◌≡◌, ℕ, zero, suc, ◌<◌, ◌≤◌, Bool, true, false, not, ◌&&◌, List, [], ◌∷◌, ◌++◌, length, drop, refl, sym, ◌∙◌, ap, arith, slice_get, Some, None}
+use Rattle.std.proofs.Common.{Option, length-append, subst, eq-eqb, nat_lt, inl, ⊎_elim}
 use Rattle.std.proofs.lemmas.Bool.{cases_Bool}
 use Rattle.std.specs.Bool.{if◌then◌else◌}
 use Rattle.popline.specs.Cutting.{Cut, cut, has_newline}

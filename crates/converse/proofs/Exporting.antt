@@ -1,5 +1,6 @@
 -- What a contract of an export needs of the contents: the text under a message's key is the message's own.
-use Rattle.std.proofs.Common.{◌≡◌, ◌⊎◌, inl, inr, ◌<◌, ◌≤◌, ◌+◌, ◌==◌, ℕ, Bool, true, false, not, List, [], ◌∷◌, ◌++◌, length, take, drop, get_or, map, refl, subst, sym, ◌∙◌, ap, ap₂, append_assoc, append-nil, zero, suc, cond, arith, Option, None, Some, Result, Ok, Err, true≢false, take_all}
+use Rattle.std.proofs.Common.{◌≡◌, ◌⊎◌, inl, inr, ◌<◌, ◌≤◌, ◌+◌, ◌==◌, ℕ, Bool, true, false, not, List, [], ◌∷◌, ◌++◌, length, take, drop, get_or, map, refl, subst, sym, ◌∙◌, ap}
+use Rattle.std.proofs.Common.{ap₂, append_assoc, append-nil, zero, suc, cond, arith, Option, None, Some, Result, Ok, Err, true≢false, take_all}
 use Rattle.std.proofs.lemmas.List.{take_more, take-map, map-append, length-map}
 use Rattle.std.proofs.lemmas.Bool.{and_parts, or_parts, eq-eqb, not-true}
 use Rattle.std.specs.Prelude.{OnErr, unwrap_or, filter, is_ok, if◌then◌else◌}
@@ -105,7 +106,8 @@ other true x e o h = true≢false (ap is_ok h)
 other false x e o h = true≢false (ap is_missing h ∙ o)
 
 -- a call that looks at a maildrop refuses for a cause
-pub look_refused : {A : Type 0} (there counted : Bool) (x : A) (e : VaultFault) → IsRefusal {A = A} (if there then Ok x else Err vault.NoMaildrop) e → (e ≡ vault.Store → counted ≡ true) → IsRefused there counted e
+pub look_refused : {A : Type 0} (there counted : Bool) (x : A) (e : VaultFault) → IsRefusal {A = A} (if there then Ok x else Err vault.NoMaildrop) e
+    → (e ≡ vault.Store → counted ≡ true) → IsRefused there counted e
 look_refused there counted x vault.NoMaildrop h s = missing there x h
 look_refused there counted x vault.Conflict h s = absurd (other there x vault.Conflict refl h)
 look_refused there counted x vault.Full h s = absurd (other there x vault.Full refl h)

@@ -1,5 +1,6 @@
 -- What lines print one after the other, and what an office lends.
-use Rattle.std.proofs.Common.{◌≡◌, ℕ, ◌<◌, ◌≤◌, ltb-true, ltb-false, Bool, true, false, not, ◌||◌, ◌==◌, nat_lt, List, [], ◌∷◌, ◌++◌, ◌+◌, length, take, get_or, map, option_map, Option, Some, None, IfSome, Result, Ok, Err, refl, arith, sym, ◌∙◌, ap, subst, true≢false, append-nil, append_assoc, if◌then◌else◌}
+use Rattle.std.proofs.Common.{◌≡◌, ℕ, ◌<◌, ◌≤◌, ltb-true, ltb-false, Bool, true, false, not, ◌||◌, ◌==◌, nat_lt, List, [], ◌∷◌, ◌++◌, ◌+◌, length, take, get_or, map, option_map}
+use Rattle.std.proofs.Common.{Option, Some, None, IfSome, Result, Ok, Err, refl, arith, sym, ◌∙◌, ap, subst, true≢false, append-nil, append_assoc, if◌then◌else◌}
 use Rattle.std.proofs.KnownBytes.{Appends-nil, Appends-trans}
 use Rattle.std.proofs.lemmas.List.{take_all, take_more, take_min, take-append-le, length-take, map-append}
 use Rattle.std.proofs.lemmas.Grind.{flat_map-append}
@@ -27,7 +28,8 @@ use Rattle.converse.specs.Script.{ScriptLine, Does, Drains, line_seen, script_of
 use Rattle.converse.specs.declared.script.Line.{Line}
 use Rattle.converse.specs.Escapes.{escape, escaped}
 use Rattle.converse.specs.Talked.{trace_of}
-use Rattle.converse.specs.Played.{lent_at, owed_by, sent_before, TakesAll, Acts, ComesTo, WithCause, Caused, failures, told_text, still_known, drained, drained_octets, AreTakings, Takes, Point, point, PlaysLine, Plays, HasPlayed, HasRun}
+use Rattle.converse.specs.Played.{lent_at, owed_by, sent_before, TakesAll, Acts, ComesTo, WithCause, Caused, failures, told_text, still_known, drained, drained_octets, AreTakings}
+use Rattle.converse.specs.Played.{Takes, Point, point, PlaysLine, Plays, HasPlayed, HasRun}
 use Rattle.vault.specs.Calls.{has_grown}
 use Rattle.office.specs.Outcomes.{HasCause}
 use Rattle.converse.proofs.Clauses.{appends_kept, grown_since, grown_still}
@@ -122,9 +124,11 @@ takes_next T c os p are some is =
 pub takes_more : (T : Trace) (c : ℕ) (o p : Outcome) (printed : List ℕ) (U : Trace) → TakesSoFar T c o printed U → 0 < owed_by U c
     → IsOutcome U (owed_by U) (event.Took c (owed_by U c)) p → TakesSoFar T c p (printed ++ escaped (lent_at U c)) (given U (event.Took c (owed_by U c)) (event_tag_of p))
 takes_more T c o p printed U (os, t, e) =
-    subst (λ (w : List ℕ). 0 < owed_by U c → IsOutcome U (owed_by U) (event.Took c (owed_by U c)) p → TakesSoFar T c p (w ++ escaped (lent_at U c)) (given U (event.Took c (owed_by U c)) (event_tag_of p)))
+    subst (λ (w : List ℕ). 0 < owed_by U c → IsOutcome U (owed_by U) (event.Took c (owed_by U c)) p
+    → TakesSoFar T c p (w ++ escaped (lent_at U c)) (given U (event.Took c (owed_by U c)) (event_tag_of p)))
     (sym e)
-    (subst (λ X. 0 < owed_by X c → IsOutcome X (owed_by X) (event.Took c (owed_by X c)) p → TakesSoFar T c p (escaped (drained_octets c T os) ++ escaped (lent_at X c)) (given X (event.Took c (owed_by X c)) (event_tag_of p)))
+    (subst (λ X. 0 < owed_by X c → IsOutcome X (owed_by X) (event.Took c (owed_by X c)) p
+    → TakesSoFar T c p (escaped (drained_octets c T os) ++ escaped (lent_at X c)) (given X (event.Took c (owed_by X c)) (event_tag_of p)))
     (sym t.behind) (takes_next T c os p t.are))
 
 pub takes_lent : (T : Trace) (c : ℕ) (o p : Outcome) (printed : List ℕ) (U : Trace) (lent : List ℕ) → lent ≡ lent_at U c → TakesSoFar T c o printed U → 0 < length lent
@@ -174,7 +178,7 @@ caused_next first was now T L e o a b k h =
 
 module _ {V : Type 0} (Holds : V → Contents → Type 0) (new : Office V) (T : Trace) (first now : ℕ) where
   -- one event in front of which nothing is printed
-  pub did_one : (old : Office V) (line : ScriptLine) (e : Event) (o : Outcome) (known : Option (List ℕ)) → line ≡ Does e → sent_before T e ≡ [] → StandsFor Holds old T
+  did_one : (old : Office V) (line : ScriptLine) (e : Event) (o : Outcome) (known : Option (List ℕ)) → line ≡ Does e → sent_before T e ≡ [] → StandsFor Holds old T
       → IsOutcome T (lent_by old) e o → HasCause first now o → StandsFor Holds new (given T e (event_tag_of o)) → ComesTo Holds new known known (WithCause first now T (Acts T line (Some o)))
   did_one old line e o known s none st is cause stands =
       subst (λ (l : ScriptLine). ComesTo Holds new known known (WithCause first now T (Acts T l (Some o)))) (sym s) (record {
@@ -190,7 +194,8 @@ module _ {V : Type 0} (Holds : V → Contents → Type 0) (new : Office V) (T : 
       → ComesTo Holds new before after (WithCause first now T (Acts T line o))
   of_line line said o before after s h = subst (λ (l : ScriptLine). ComesTo Holds new before after (WithCause first now T (Acts T l o))) (sym s) h
 
-  pub by_told : (line : ScriptLine) (told x : Option Shown) (before after : Option (List ℕ)) → told ≡ x → ComesTo Holds new before after (WithCause first now T (Acts T line (option_map outcome_seen told)))
+  pub by_told : (line : ScriptLine) (told x : Option Shown) (before after : Option (List ℕ)) → told ≡ x
+      → ComesTo Holds new before after (WithCause first now T (Acts T line (option_map outcome_seen told)))
       → ComesTo Holds new before after (WithCause first now T (Acts T line (option_map outcome_seen x)))
   by_told line told x before after e h = subst (λ (o : Option Shown). ComesTo Holds new before after (WithCause first now T (Acts T line (option_map outcome_seen o)))) e h
 
@@ -216,6 +221,16 @@ module _ {V : Type 0} (Holds : V → Contents → Type 0) (new : Office V) (T : 
     stands = h.stands;
     is = (record { sent = h.printed; told = Some o; acts = h.is.0; text = refl; left = kept }, h.is.1);
   }
+
+-- what comes of one event, over every trace: by what `step` promises
+pub does_one : {V : Type 0} {Holds : V → Contents → Type 0} {old new : Office V} {IsClean : Type 0} {line : ScriptLine} {e : Event} {o : Outcome} (first now : ℕ) (known : Option (List ℕ))
+    → line ≡ Does e → ((T : Trace) → sent_before T e ≡ [])
+    → ((T : Trace) → StandsFor Holds old T → IsClean → StandsFor Holds new (given T e (event_tag_of o)))
+    → ((T : Trace) → StandsFor Holds old T → IsClean → IsOutcome T (lent_by old) e o)
+    → ((T : Trace) → StandsFor Holds old T → IsClean → HasCause first now o)
+    → (T : Trace) → StandsFor Holds old T → IsClean → ComesTo Holds new known known (WithCause first now T (Acts T line (Some o)))
+does_one {V} {Holds} {old} {new} {IsClean} {line} {e} {o} first now known is none stands outcome cause T st clean =
+    did_one Holds new T first now old line e o known is (none T) st (outcome T st clean) (cause T st clean) (stands T st clean)
 
 -- one line more of a list of lines
 pub played_more : {V : Type 0} (Holds : V → Contents → Type 0) (mid new : Office V) (P : Point) (lines : List Line) (i : ℕ) (x : Line) → i < length lines → x ≡ get_or lines i x
@@ -269,7 +284,8 @@ comes_kept Holds o before during after Is k h =
     record { printed = h.printed; trace = h.trace; appends = appends_kept before during after h.printed h.appends k; stands = h.stands; is = h.is }
 
 -- what the store keeps
-pub has_run : {V : Type 0} (Holds : V → Contents → Type 0) (o : Office V) (v : V) (T : Trace) (first opened now : ℕ) → first ≤ opened → (before after : Option (List ℕ)) (given lines : List ScriptLine) → v ≡ vault_of o → given ≡ lines
+pub has_run : {V : Type 0} (Holds : V → Contents → Type 0) (o : Office V) (v : V) (T : Trace) (first opened now : ℕ) → first ≤ opened
+    → (before after : Option (List ℕ)) (given lines : List ScriptLine) → v ≡ vault_of o → given ≡ lines
     → ComesTo Holds o before after (WithCause opened now T (HasPlayed T given)) → HasRun Holds v first now before after T lines
 has_run Holds o v T first opened now le before after given lines e same h = record {
   trace = h.trace;

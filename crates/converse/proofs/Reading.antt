@@ -1,5 +1,6 @@
 -- The parts of a script's line in the words of `specs/Script`.
-use Rattle.std.proofs.Common.{◌≡◌, ◌==◌, length-drop, ◌+◌, ◌++◌, ◌⊎◌, inl, inr, Result, ℕ, take_all, append_assoc, append-nil, le-ltb, ◌<◌, ◌≤◌, Bool, true, false, cond, List, [], ◌∷◌, length, Option, Some, None, Ok, Err, refl, sym, ap, ◌∙◌, lt-ltb, arith}
+use Rattle.std.proofs.Common.{◌≡◌, ◌==◌, length-drop, ◌+◌, ◌++◌, ◌⊎◌, inl, inr, Result, ℕ, take_all, append_assoc, append-nil, le-ltb, ◌<◌, ◌≤◌, Bool, true, false, cond, List, []}
+use Rattle.std.proofs.Common.{◌∷◌, length, Option, Some, None, Ok, Err, refl, sym, ap, ◌∙◌, lt-ltb, arith}
 use Rattle.std.proofs.lemmas.Bool.{false≢true, cases_lt}
 use Rattle.std.proofs.lemmas.List.Splits.{slice_split_first, slice_split_none}
 use Rattle.std.proofs.lemmas.List.Sums.{fails_before_first}

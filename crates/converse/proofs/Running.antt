@@ -36,14 +36,22 @@ any_grown AtEnd grown T c octets written fault.NoMemory L h = h
 any_grown AtEnd grown T c octets written fault.Endless L h = h
 
 -- a fault broke it off
-pub has_broken : {V : Type 0} (Holds : V → Contents → Type 0) (faults : V → ℕ) (before : ℕ) (o : Office V) (T : Trace) (octets written : List ℕ) (AtEnd : Type 0) {reads writes : Bool} (f : TalkFault) → HasFailed reads writes f
+pub has_broken : {V : Type 0} (Holds : V → Contents → Type 0) (faults : V → ℕ) (before : ℕ) (o : Office V) (T : Trace) (octets written : List ℕ)
+    (AtEnd : Type 0) {reads writes : Bool} (f : TalkFault) → HasFailed reads writes f
     → StandsSo Holds faults before o T (next_number T.log) (ComesOut AtEnd (has_grown before (faults (vault_of o))) T (next_number T.log) octets written (Err f))
     → HasBroken Holds (vault_of o) (has_grown before (faults (vault_of o))) reads writes T octets written AtEnd
 has_broken Holds faults before o T octets written AtEnd f failed h =
-    record { fault = f; log = h.log; keeps = h.stands.keeps; on = record { own = h.own; caused = h.caused; failed = failed; came_out = any_grown AtEnd (has_grown before (faults (vault_of o))) T _ octets written f h.log h.so } }
+    record {
+      fault = f;
+      log = h.log;
+      keeps = h.stands.keeps;
+      on =
+          record { own = h.own; caused = h.caused; failed = failed; came_out = any_grown AtEnd (has_grown before (faults (vault_of o))) T _ octets written f h.log h.so };
+    }
 
 -- the same, of a longer time
-pub broken_since : {V : Type 0} (Holds : V → Contents → Type 0) (new : V) (T : Trace) (octets written : List ℕ) (AtEnd : Type 0) (grown more : Bool) {reads writes : Bool} → (grown ≡ true → more ≡ true)
+pub broken_since : {V : Type 0} (Holds : V → Contents → Type 0) (new : V) (T : Trace) (octets written : List ℕ) (AtEnd : Type 0) (grown more : Bool) {reads writes : Bool}
+    → (grown ≡ true → more ≡ true)
     → HasBroken Holds new grown reads writes T octets written AtEnd → HasBroken Holds new more reads writes T octets written AtEnd
 broken_since Holds new T octets written AtEnd grown more h t =
     record { fault = t.fault; log = t.log; keeps = t.keeps; on = record { own = t.on.own; caused = λ lt. h (t.on.caused lt); failed = t.on.failed; came_out = t.on.came_out } }

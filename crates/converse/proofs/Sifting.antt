@@ -1,5 +1,6 @@
 -- Messages that are sifted by the digests of their deposits.
-use Rattle.std.proofs.Common.{◌≡◌, ℕ, ◌+◌, ◌<◌, Bool, true, false, cond, not, ◌&&◌, ◌||◌, ◌==◌, List, [], ◌∷◌, ◌++◌, length, map, take, get_or, refl, sym, ap, ap₂, subst, ◌∙◌, append_assoc, true≢false, Option, None, Some, arith, Ordering}
+use Rattle.std.proofs.Common.{◌≡◌, ℕ, ◌+◌, ◌<◌, Bool, true, false, cond, not, ◌&&◌, ◌||◌, ◌==◌, List, [], ◌∷◌, ◌++◌, length, map, take, get_or, refl, sym, ap, ap₂, subst, ◌∙◌}
+use Rattle.std.proofs.Common.{append_assoc, true≢false, Option, None, Some, arith, Ordering}
 use Rattle.std.proofs.lemmas.Bool.{and_from, and_parts, eq-eqb, eqb-true}
 use Rattle.std.proofs.lemmas.Cmp.{tied_itself}
 use Rattle.std.specs.Cmp.{nat_cmp_total}
@@ -27,7 +28,8 @@ use Rattle.vault.specs.Calls.{text_under}
 use Rattle.vault.specs.Changes.{Contents, AreSound, head_of, heads, kept_in, records_of, totals}
 use Rattle.vault.proofs.ListLemmas.{bytes_same, bytes_are}
 use Rattle.converse.specs.Checked.{last_line, end_text}
-use Rattle.converse.specs.Texts.{Mark, mark_of, mark_cmp, has_mark, IsSetOf, has_digest, is_intact, has_intact, message_under, AreMarks, intact_in, differing_in, differing, differs_text, differs_line, HasNone}
+use Rattle.converse.specs.Texts.{Mark, mark_of, mark_cmp, has_mark, IsSetOf, has_digest, is_intact, has_intact, message_under, AreMarks, intact_in, differing_in, differing}
+use Rattle.converse.specs.Texts.{differs_text, differs_line, HasNone}
 use Rattle.converse.proofs.Exporting.{Against, Each, HasOwn, IsNamed, kept_named, own_in}
 
 -- ---- marks that compare equal are the same

@@ -10,9 +10,9 @@ use Rattle.office.specs.Stands.{Keeps as Kept_by}
 use Rattle.office.specs.declared.office.Office.{Office}
 use Rattle.converse.specs.Script.{ScriptLine, Does, Drains, NoPolicy, line_seen}
 use Rattle.converse.specs.declared.script.Line.{Line}
-use Rattle.converse.specs.Played.{TakesAll, Acts, ComesTo, WithCause, Point, point, Plays, HasPlayed, Begun, PlaysInPart, Reaches, HasRunInPart}
+use Rattle.converse.specs.Played.{TakesAll, Acts, ComesTo, WithCause, Point, point, Plays, HasPlayed, Begun, PlaysInPart, Reaches, HasRun, HasRunInPart}
 use Rattle.converse.proofs.Clauses.{grown_since}
-use Rattle.converse.proofs.Playing.{TakesSoFar, caused_more}
+use Rattle.converse.proofs.Playing.{TakesSoFar, caused_more, has_run}
 
 -- ---- one line
 
@@ -39,13 +39,20 @@ begun_acted T (NoPolicy f) (Some o) printed U h = absurd h
 
 module _ {V : Type 0} (Holds : V → Contents → Type 0) (o : Office V) (first now : ℕ) (T : Trace) where
   -- less is said, and of the trace alone
-  pub reaches_so : (Is : Trace → Type 0) (Was : List ℕ → Trace → Type 0) (before after : Option (List ℕ)) → ((printed : List ℕ) (U : Trace) → Was printed U → Is U)
+  reaches_so : (Is : Trace → Type 0) (Was : List ℕ → Trace → Type 0) (before after : Option (List ℕ)) → ((printed : List ℕ) (U : Trace) → Was printed U → Is U)
       → ComesTo Holds o before after (WithCause first now T Was) → Reaches Holds o first now T Is
   reaches_so Is Was before after f h = record { trace = h.trace; stands = h.stands; is = f h.printed h.trace h.is.0; caused = h.is.1 }
 
   -- what is said of a line is said of what it is
-  pub reaches_line : (line said : ScriptLine) → line ≡ said → Reaches Holds o first now T (Begun T said) → Reaches Holds o first now T (Begun T line)
+  reaches_line : (line said : ScriptLine) → line ≡ said → Reaches Holds o first now T (Begun T said) → Reaches Holds o first now T (Begun T line)
   reaches_line line said e h = subst (λ (l : ScriptLine). Reaches Holds o first now T (Begun T l)) (sym e) h
+
+-- the same over every trace
+pub reaches_by : {V : Type 0} {Holds : V → Contents → Type 0} {old new : Office V} {IsClean : Type 0} {first now : ℕ} {before after : Option (List ℕ)}
+    (Is : Trace → Trace → Type 0) (Was : Trace → List ℕ → Trace → Type 0)
+    → ((T : Trace) (printed : List ℕ) (U : Trace) → Was T printed U → Is T U) → ((T : Trace) → StandsFor Holds old T → IsClean → ComesTo Holds new before after (WithCause first now T (Was T)))
+    → (T : Trace) → StandsFor Holds old T → IsClean → Reaches Holds new first now T (Is T)
+reaches_by {V} {Holds} {old} {new} {IsClean} {first} {now} {before} {after} Is Was f h T st clean = reaches_so Holds new first now T (Is T) (Was T) before after (f T) (h T st clean)
 
 -- ---- lines
 
@@ -80,13 +87,18 @@ stopped_at Holds mid new P lines i x lt is a b c ab bc before during known s r =
 }
 
 -- all lines were played
-pub played_whole : (T : Trace) (lines : List ScriptLine) (printed : List ℕ) (U : Trace) → HasPlayed T lines printed U → PlaysInPart (point T []) lines U
+played_whole : (T : Trace) (lines : List ScriptLine) (printed : List ℕ) (U : Trace) → HasPlayed T lines printed U → PlaysInPart (point T []) lines U
 played_whole T lines printed U (known, h) = part_all (point T []) (point U known) lines printed h
+
+pub played_in_part : {V : Type 0} {Holds : V → Contents → Type 0} {old new : Office V} {IsClean : Type 0} {first now : ℕ} {before after : Option (List ℕ)} (lines : List ScriptLine)
+    → ((T : Trace) → StandsFor Holds old T → IsClean → ComesTo Holds new before after (WithCause first now T (HasPlayed T lines)))
+    → (T : Trace) → StandsFor Holds old T → IsClean → Reaches Holds new first now T (PlaysInPart (point T []) lines)
+played_in_part lines h = reaches_by (λ T. PlaysInPart (point T []) lines) (λ T. HasPlayed T lines) (λ T. played_whole T lines) h
 
 -- ---- a whole script
 
 -- what the store keeps
-pub has_run_in_part : {V : Type 0} (Holds : V → Contents → Type 0) (o : Office V) (v : V) (T : Trace) (first opened now : ℕ) → first ≤ opened → (lines : List ScriptLine) → v ≡ vault_of o
+has_run_in_part : {V : Type 0} (Holds : V → Contents → Type 0) (o : Office V) (v : V) (T : Trace) (first opened now : ℕ) → first ≤ opened → (lines : List ScriptLine) → v ≡ vault_of o
     → Reaches Holds o opened now T (PlaysInPart (point T []) lines) → HasRunInPart Holds v first now T lines
 has_run_in_part Holds o v T first opened now le lines e h = record {
   trace = h.trace;
@@ -94,11 +106,40 @@ has_run_in_part Holds o v T first opened now le lines e h = record {
   runs = record { plays = h.is; caused = λ lt. grown_since first opened now le (h.caused lt) };
 }
 
+-- A script was run over an office that was opened over a store, and its vault was given back: what the run was, and what it was in part.
+module _ {V : Type 0} (Holds : V → Contents → Type 0) (faults : V → ℕ) (IsClean : V → Type 0) {opened new : Office V} {v : V} {first : ℕ} {Kept : Trace → Type 0} (start : Trace → Trace)
+    (is : v ≡ vault_of new) (later : first ≤ faults (vault_of opened)) (back : IsClean (vault_of new) → IsClean (vault_of opened))
+    (begins : (T : Trace) → Kept T → IsClean (vault_of opened) → StandsFor Holds opened (start T)) where
+  pub has_run_over : {before after : Option (List ℕ)} {said lines : List ScriptLine} → said ≡ lines
+      → ((T : Trace) → StandsFor Holds opened T → IsClean (vault_of new) → ComesTo Holds new before after (WithCause (faults (vault_of opened)) (faults (vault_of new)) T (HasPlayed T said)))
+      → (T : Trace) → Kept T → IsClean v → HasRun Holds v first (faults v) before after (start T) lines
+  has_run_over {before} {after} {said} {lines} same plays T kept clean =
+      let clean2 = subst IsClean is clean in
+      subst (λ n. HasRun Holds v first n before after (start T) lines) (sym (ap faults is))
+      (has_run Holds new v (start T) first (faults (vault_of opened)) (faults (vault_of new)) later before after said lines is same (plays (start T) (begins T kept (back clean2)) clean2))
+
+  pub has_run_in_part_over : {said lines : List ScriptLine} → said ≡ lines
+      → ((T : Trace) → StandsFor Holds opened T → IsClean (vault_of new) → Reaches Holds new (faults (vault_of opened)) (faults (vault_of new)) T (PlaysInPart (point T []) said))
+      → (T : Trace) → Kept T → IsClean v → HasRunInPart Holds v first (faults v) (start T) lines
+  has_run_in_part_over {said} {lines} same plays T kept clean =
+      let clean2 = subst IsClean is clean in
+      let h = plays (start T) (begins T kept (back clean2)) clean2 in
+      subst (λ n. HasRunInPart Holds v first n (start T) lines) (sym (ap faults is))
+      (has_run_in_part Holds new v (start T) first (faults (vault_of opened)) (faults (vault_of new)) later lines is
+      (subst (λ (ls : List ScriptLine). Reaches Holds new (faults (vault_of opened)) (faults (vault_of new)) (start T) (PlaysInPart (point (start T) []) ls)) same h))
+
 -- what is shown whatever a call answered, is so at its faults
-pub at_faults : {A E V : Type 0} (r : Result A E) (Holds : V → Contents → Type 0) (old new : Office V) (IsClean : Type 0) (first now : ℕ) (Is : Trace → Trace → Type 0)
+pub at_faults : {A E V : Type 0} (r : Result A E) {Holds : V → Contents → Type 0} {old new : Office V} {IsClean : Type 0} {first now : ℕ} (Is : Trace → Trace → Type 0)
     → ((T : Trace) → StandsFor Holds old T → IsClean → Reaches Holds new first now T (Is T)) → OnErr r ((T : Trace) → StandsFor Holds old T → IsClean → Reaches Holds new first now T (Is T))
-at_faults (Ok x) Holds old new IsClean first now Is h = tt
-at_faults (Err e) Holds old new IsClean first now Is h = h
+at_faults (Ok x) Is h = tt
+at_faults (Err e) Is h = h
+
+-- a line was broken off, which is what is said of another
+pub line_broken : {A E V : Type 0} (r : Result A E) {Holds : V → Contents → Type 0} {old new : Office V} {IsClean : Type 0} {first now : ℕ} {line said : ScriptLine} → line ≡ said
+    → ((T : Trace) → StandsFor Holds old T → IsClean → Reaches Holds new first now T (Begun T said))
+    → OnErr r ((T : Trace) → StandsFor Holds old T → IsClean → Reaches Holds new first now T (Begun T line))
+line_broken r {Holds} {old} {new} {IsClean} {first} {now} {line} {said} is h =
+    at_faults r (λ T. Begun T line) (λ T st clean. reaches_line Holds new first now T line said is (h T st clean))
 
 -- what holds in any case holds if a call came to its end
 pub on_ok : {A E P : Type 0} (r : Result A E) → P → OnOk r P

@@ -1,5 +1,6 @@
 -- What it says of a conversation that octets of what is owed were taken.
-use Rattle.std.proofs.Common.{◌≡◌, ℕ, zero, suc, ◌+◌, ◌<◌, ◌≤◌, Bool, true, false, not, ◌&&◌, ◌||◌, List, [], ◌∷◌, ◌++◌, length, take, drop, refl, sym, ◌∙◌, ap, arith, slice_get, Some, None, Option, ◌==◌, length-append, append-nil, subst, eq-eqb, ne_eqb, eqb, nat_lt, ltb-true, ltb-false, le-ltb, ◌⊎◌, inl, inr, ⊎_elim, is_some}
+use Rattle.std.proofs.Common.{◌≡◌, ℕ, zero, suc, ◌+◌, ◌<◌, ◌≤◌, Bool, true, false, not, ◌&&◌, ◌||◌, List, [], ◌∷◌, ◌++◌, length, take, drop, refl, sym, ◌∙◌, ap, arith, slice_get}
+use Rattle.std.proofs.Common.{Some, None, Option, ◌==◌, length-append, append-nil, subst, eq-eqb, ne_eqb, eqb, nat_lt, ltb-true, ltb-false, le-ltb, ◌⊎◌, inl, inr, ⊎_elim, is_some}
 use Rattle.std.proofs.lemmas.List.{take-take, length-take, length-take-le}
 use Rattle.std.specs.Bool.{if◌then◌else◌}
 use Rattle.popline.specs.Cutting.{Cut, cut}

@@ -1,5 +1,6 @@
 -- A text that a sink takes piece by piece.
-use Rattle.std.proofs.Common.{◌≡◌, ℕ, ◌<◌, ◌≤◌, ◌+◌, ◌⊎◌, inl, inr, ⊎_elim, true, List, [], length, take, drop, zero, suc, refl, sym, subst, arith, length-drop, take-add, take-append-drop, take_all, Result, Ok, Err, IfErr, IsErrAnd}
+use Rattle.std.proofs.Common.{◌≡◌, ℕ, ◌<◌, ◌≤◌, ◌+◌, ◌⊎◌, inl, inr, ⊎_elim, true, List, [], length, take, drop, zero, suc, refl, sym, subst, arith, length-drop, take-add}
+use Rattle.std.proofs.Common.{take-append-drop, take_all, Result, Ok, Err, IfErr, IsErrAnd}
 use Rattle.converse.specs.Streams.{Writing, Writes, WritesPart, writes_failed}
 use Rattle.converse.proofs.Clauses.{grown_still}
 use Rattle.converse.proofs.Streaming.{writes_then, writes_kept, writes_failed_then}

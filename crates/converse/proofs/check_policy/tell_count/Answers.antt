@@ -24,7 +24,8 @@ pub returns-in_err-write_text-clause-part : goal.returns-in_err-write_text-claus
 returns-in_err-write_text-clause-part g c = inr (
   _,
   c.in_ok-read_octets.ensures.ok,
-  subst (λ (text : List ℕ). WritesPart (g.W.Sink.seen c.args.out.now) (g.W.Sink.seen c.write_text.new.out) text) (counted_line _ _ _ _ c.as_bytes.ensures.value c.in_ok-line.ensures c.len-count.ensures.value) c.in_err-write_text.ensures.part,
+  subst (λ (text : List ℕ). WritesPart (g.W.Sink.seen c.args.out.now) (g.W.Sink.seen c.write_text.new.out) text)
+      (counted_line _ _ _ _ c.as_bytes.ensures.value c.in_ok-line.ensures c.len-count.ensures.value) c.in_err-write_text.ensures.part,
 )
 
 pub returns-in_err-write_text-clause-cause : goal.returns-in_err-write_text-clause-cause
@@ -41,14 +42,16 @@ pub returns-clause-part : goal.returns-clause-part
 returns-clause-part g c = inr (
   _,
   c.in_ok-read_octets.ensures.ok,
-  subst (λ (text : List ℕ). WritesPart (g.W.Sink.seen c.args.out.now) (g.W.Sink.seen c.write_text.new.out) text) (counted_line _ _ _ _ c.as_bytes.ensures.value c.in_ok-line.ensures c.len-count.ensures.value) c.in_ok-write_text.ensures.part,
+  subst (λ (text : List ℕ). WritesPart (g.W.Sink.seen c.args.out.now) (g.W.Sink.seen c.write_text.new.out) text)
+      (counted_line _ _ _ _ c.as_bytes.ensures.value c.in_ok-line.ensures c.len-count.ensures.value) c.in_ok-write_text.ensures.part,
 )
 
 pub returns-clause-ok : goal.returns-clause-ok
 returns-clause-ok g c = (
   _,
   c.in_ok-read_octets.ensures.ok,
-  subst (λ (text : List ℕ). Writes (g.W.Sink.seen c.args.out.now) (g.W.Sink.seen c.write_text.new.out) text) (counted_line _ _ _ _ c.as_bytes.ensures.value c.in_ok-line.ensures c.len-count.ensures.value) c.in_ok-write_text.ensures.ok,
+  subst (λ (text : List ℕ). Writes (g.W.Sink.seen c.args.out.now) (g.W.Sink.seen c.write_text.new.out) text)
+      (counted_line _ _ _ _ c.as_bytes.ensures.value c.in_ok-line.ensures c.len-count.ensures.value) c.in_ok-write_text.ensures.ok,
 )
 
 pub returns-clause-flushed : goal.returns-clause-flushed

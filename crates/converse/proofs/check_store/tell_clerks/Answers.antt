@@ -19,7 +19,8 @@ loop-name-preserved g c =
       held = λ d h k. t.held d (s.held d h (t.clean k)) k;
       read = counts_on _ _ _ s.read t.counted;
       so = λ d h k. (
-        told_more (clerk_line d.clerks) c.args.clerks.now c.loop-name.name-index _ (Some c.args.text.now.items) (Some c.loop-name.text.items) (Some c.tell_clerk.new.text.items) c.loop-name-test.true c.name-item.is
+        told_more (clerk_line d.clerks) c.args.clerks.now c.loop-name.name-index _ (Some c.args.text.now.items) (Some c.loop-name.text.items)
+            (Some c.tell_clerk.new.text.items) c.loop-name-test.true c.name-item.is
             (s.so d h (t.clean k)).0 (t.told d (s.held d h (t.clean k)) k),
         all_more (λ name. is_some (credential_in name d.clerks) ≡ true) c.args.clerks.now c.loop-name.name-index _ c.loop-name-test.true c.name-item.is
             (s.so d h (t.clean k)).1 (t.known d (s.held d h (t.clean k)) k),

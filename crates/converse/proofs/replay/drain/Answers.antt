@@ -7,7 +7,7 @@ use Rattle.office.specs.Trace.{rest}
 use Rattle.converse.proofs.Clauses.{found_empty, nothing_lent}
 use Rattle.converse.specs.Played.{lent_at, Begun, TakesAll}
 use Rattle.converse.specs.Script.{Drains}
-use Rattle.converse.proofs.Stopping.{begun_taken, reaches_so}
+use Rattle.converse.proofs.Stopping.{begun_taken, reaches_by}
 use Rattle.converse.proofs.Playing.{caused_none, owed_whole, drains_all, appends_three}
 use Rattle.converse.proofs.Streaming.{some_lent}
 use Rattle.converse.proofs.replay.drain.Goals as goal
@@ -48,6 +48,5 @@ returns-in-Ok-writeln-clause-drained g c =
 
 pub returns-in-Err-clause-broken : goal.returns-in-Err-clause-broken
 returns-in-Err-clause-broken g c =
-    let n = c.args.number in
-    let o = outcome_seen c.in_ok-outcome.outcome in λ T st clean.
-    reaches_so g.V.Vault.holds _ _ _ T (Begun T (Drains n)) (TakesAll T n o) _ _ (begun_taken T n o) (c.in_ok-outcome.ensures.taken T st clean)
+    let o = outcome_seen c.in_ok-outcome.outcome in
+    reaches_by (λ T. Begun T (Drains c.args.number)) (λ T. TakesAll T c.args.number o) (λ T. begun_taken T c.args.number o) c.in_ok-outcome.ensures.taken

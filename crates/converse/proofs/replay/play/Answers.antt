@@ -11,7 +11,10 @@ loop-line-preserved g c =
     let x = c.play_line in record {
       played = λ T st clean.
           (let s = c.loop-line.invariant.played T st (x.ensures.clean clean) in
-          played_more g.V.Vault.holds c.loop-line.office x.new.office (point T []) c.args.lines.now c.loop-line.line-index c.line-item.result c.loop-line-test.true c.line-item.is (g.V.Vault.faults (vault_of c.args.office.now)) (g.V.Vault.faults (vault_of c.loop-line.office)) (g.V.Vault.faults (vault_of x.new.office)) c.loop-line.invariant.counted x.ensures.counted _ _ _ _ _ s
+          played_more g.V.Vault.holds c.loop-line.office x.new.office
+          (point T []) c.args.lines.now c.loop-line.line-index c.line-item.result c.loop-line-test.true c.line-item.is
+          (g.V.Vault.faults (vault_of c.args.office.now)) (g.V.Vault.faults (vault_of c.loop-line.office))
+          (g.V.Vault.faults (vault_of x.new.office)) c.loop-line.invariant.counted x.ensures.counted _ _ _ _ _ s
           (c.in_ok-play_line.ensures.played s.trace s.stands clean));
       counted = omega (arith, c.loop-line.invariant.counted, x.ensures.counted);
       clean = λ clean. c.loop-line.invariant.clean (x.ensures.clean clean);
@@ -34,8 +37,12 @@ returns-clause-played g c = λ T st clean.
 
 pub returns-in_err-play_line-clause-broken : goal.returns-in_err-play_line-clause-broken
 returns-in_err-play_line-clause-broken g c =
+    let n = g.V.Vault.faults in
     let x = c.play_line in
-    at_faults _ g.V.Vault.holds c.args.office.now x.new.office (g.V.Vault.is_clean (vault_of x.new.office)) (g.V.Vault.faults (vault_of c.args.office.now)) (g.V.Vault.faults (vault_of x.new.office)) (λ T. PlaysInPart (point T []) (map line_seen c.args.lines.now)) (λ T st clean.
+    let mid = c.loop-line.office in
+    at_faults _ (λ T. PlaysInPart (point T []) (map line_seen c.args.lines.now))
+    (λ T st clean.
     (let s = c.loop-line.invariant.played T st (x.ensures.clean clean) in
-    stopped_at g.V.Vault.holds c.loop-line.office x.new.office (point T []) c.args.lines.now c.loop-line.line-index c.line-item.result c.loop-line-test.true c.line-item.is (g.V.Vault.faults (vault_of c.args.office.now)) (g.V.Vault.faults (vault_of c.loop-line.office)) (g.V.Vault.faults (vault_of x.new.office)) c.loop-line.invariant.counted x.ensures.counted _ _ _ s
+    stopped_at g.V.Vault.holds mid x.new.office (point T []) c.args.lines.now c.loop-line.line-index c.line-item.result c.loop-line-test.true c.line-item.is
+    (n (vault_of c.args.office.now)) (n (vault_of mid)) (n (vault_of x.new.office)) c.loop-line.invariant.counted x.ensures.counted _ _ _ s
     (c.in_err-play_line.ensures.broken s.trace s.stands clean)))

@@ -5,14 +5,15 @@ use Rattle.office.specs.Stands.{vault_of}
 use Rattle.converse.specs.Played.{Acts, Begun, ComesTo, WithCause, PlaysLine, point, told_text, still_known}
 use Rattle.converse.specs.Script.{line_seen}
 use Rattle.converse.proofs.Playing.{by_told, comes_kept, line_none, line_some}
-use Rattle.converse.proofs.Stopping.{at_faults, at_ok, begun_acted, on_ok, reaches_so}
+use Rattle.converse.proofs.Stopping.{at_faults, at_ok, begun_acted, on_ok, reaches_by}
 use Rattle.converse.proofs.replay.play_line.Goals as goal
 
 pub returns-in-None-clause-played : goal.returns-in-None-clause-played
 returns-in-None-clause-played g c = on_ok c.flush.result (λ T st clean.
     comes_kept g.V.Vault.holds c.act.new.office (g.W.Write.contents c.args.out.now) (g.W.Write.contents c.act.new.out) (g.W.Write.contents c.flush.new.out) _ c.flush.ensures.kept
     (line_none g.V.Vault.holds c.act.new.office T (g.V.Vault.faults (vault_of c.args.office.now)) (g.V.Vault.faults (vault_of c.act.new.office)) (line_seen c.args.line.now) _ _ c.args.known.now.items
-    (by_told g.V.Vault.holds c.act.new.office T (g.V.Vault.faults (vault_of c.args.office.now)) (g.V.Vault.faults (vault_of c.act.new.office)) (line_seen c.args.line.now) _ _ _ _ c.in-None.is (c.in_ok-outcome.ensures.acted T st clean))))
+    (by_told g.V.Vault.holds c.act.new.office T (g.V.Vault.faults (vault_of c.args.office.now)) (g.V.Vault.faults (vault_of c.act.new.office))
+    (line_seen c.args.line.now) _ _ _ _ c.in-None.is (c.in_ok-outcome.ensures.acted T st clean))))
 
 pub returns-in-Some-clause-played : goal.returns-in-Some-clause-played
 returns-in-Some-clause-played g c =
@@ -37,18 +38,16 @@ returns-in-Some-clause-played g c =
 
 pub returns-in-Some-clause-broken : goal.returns-in-Some-clause-broken
 returns-in-Some-clause-broken g c =
-    let line = line_seen c.args.line.now in
-    let o = outcome_seen c.in-Some.outcome in
-    at_faults _ g.V.Vault.holds c.args.office.now c.act.new.office (g.V.Vault.is_clean (vault_of c.act.new.office)) (g.V.Vault.faults (vault_of c.args.office.now)) (g.V.Vault.faults (vault_of c.act.new.office)) (λ T. Begun T line) (λ T st clean.
-    reaches_so g.V.Vault.holds c.act.new.office (g.V.Vault.faults (vault_of c.args.office.now)) (g.V.Vault.faults (vault_of c.act.new.office)) T (Begun T line) (Acts T line (Some o)) _ _ (begun_acted T line (Some o))
-    (by_told g.V.Vault.holds c.act.new.office T (g.V.Vault.faults (vault_of c.args.office.now)) (g.V.Vault.faults (vault_of c.act.new.office)) line _ _ _ _ c.in-Some.is (c.in_ok-outcome.ensures.acted T st clean)))
+    let said = line_seen c.args.line.now in
+    let o = Some (outcome_seen c.in-Some.outcome) in
+    at_faults _ (λ T. Begun T said) (reaches_by (λ T. Begun T said) (λ T. Acts T said o) (λ T. begun_acted T said o)
+    (λ T st clean. by_told _ _ T (g.V.Vault.faults (vault_of c.args.office.now)) (g.V.Vault.faults (vault_of c.act.new.office)) said _ _ _ _ c.in-Some.is (c.in_ok-outcome.ensures.acted T st clean)))
 
 pub returns-in-None-clause-broken : goal.returns-in-None-clause-broken
 returns-in-None-clause-broken g c =
     let line = line_seen c.args.line.now in
-    at_faults _ g.V.Vault.holds c.args.office.now c.act.new.office (g.V.Vault.is_clean (vault_of c.act.new.office)) (g.V.Vault.faults (vault_of c.args.office.now)) (g.V.Vault.faults (vault_of c.act.new.office)) (λ T. Begun T line) (λ T st clean.
-    reaches_so g.V.Vault.holds c.act.new.office (g.V.Vault.faults (vault_of c.args.office.now)) (g.V.Vault.faults (vault_of c.act.new.office)) T (Begun T line) (Acts T line None) _ _ (begun_acted T line None)
-    (by_told g.V.Vault.holds c.act.new.office T (g.V.Vault.faults (vault_of c.args.office.now)) (g.V.Vault.faults (vault_of c.act.new.office)) line _ _ _ _ c.in-None.is (c.in_ok-outcome.ensures.acted T st clean)))
+    at_faults _ (λ T. Begun T line) (reaches_by (λ T. Begun T line) (λ T. Acts T line None) (λ T. begun_acted T line None)
+    (λ T st clean. by_told _ _ T (g.V.Vault.faults (vault_of c.args.office.now)) (g.V.Vault.faults (vault_of c.act.new.office)) line _ _ _ _ c.in-None.is (c.in_ok-outcome.ensures.acted T st clean)))
 
 pub returns-in-None-clause-flushed : goal.returns-in-None-clause-flushed
 returns-in-None-clause-flushed g c = c.flush.ensures.flushed

@@ -21,6 +21,7 @@ returns-clause-taken g c =
           refl,
           ap (λ xs. taken_text n xs c.args.count) (owed_whole g.V.Vault.holds c.args.office.now T st n lent (c.owed.ensures.lent T st) c.owed.ensures.count),
         ),
-        caused_one (g.V.Vault.faults (vault_of c.args.office.now)) (g.V.Vault.faults (vault_of c.step-outcome.new.self)) T e (outcome_seen c.step-outcome.result) (c.step-outcome.ensures.cause T st clean),
+        caused_one (g.V.Vault.faults (vault_of c.args.office.now)) (g.V.Vault.faults (vault_of c.step-outcome.new.self)) T e
+            (outcome_seen c.step-outcome.result) (c.step-outcome.ensures.cause T st clean),
       );
     }

@@ -10,12 +10,19 @@ use Rattle.converse.specs.Played.{lent_at, Begun}
 use Rattle.converse.specs.Script.{Drains}
 use Rattle.converse.proofs.Playing.{TakesSoFar, by_owed, caused_none, caused_one, caused_more, owed_whole, takes_none, takes_lent}
 use Rattle.converse.proofs.Streaming.{some_lent}
-use Rattle.converse.proofs.Stopping.{begun_taking, reaches_so}
+use Rattle.converse.proofs.Stopping.{begun_taking, reaches_by}
 use Rattle.converse.proofs.replay.take_all.Goals as goal
 
 pub loop-init : goal.loop-init
 loop-init g c = record {
-  taken = λ T st clean. record { printed = []; trace = T; appends = Appends-nil _; stands = st; is = (takes_none T c.args.number, caused_none (g.V.Vault.faults (vault_of c.args.office.now)) (g.V.Vault.faults (vault_of c.args.office.now)) T) };
+  taken = λ T st clean. record {
+    printed = [];
+    trace = T;
+    appends = Appends-nil _;
+    stands = st;
+    is =
+        (takes_none T c.args.number, caused_none (g.V.Vault.faults (vault_of c.args.office.now)) (g.V.Vault.faults (vault_of c.args.office.now)) T);
+  };
   counted = omega (arith);
   clean = λ clean. clean;
 }
@@ -38,7 +45,8 @@ loop-preserved g c =
               takes_lent T n (outcome_seen c.loop.outcome) (outcome_seen x.result) s.printed s.trace lent whole s.is.0
                   (some_lent c.is_empty.result lent c.if-is_empty.false c.is_empty.ensures)
                   (by_owed g.V.Vault.holds c.loop.office s.trace s.stands e (outcome_seen x.result) (x.ensures.outcome s.trace s.stands clean)),
-              caused_more (g.V.Vault.faults (vault_of c.args.office.now)) (g.V.Vault.faults (vault_of c.loop.office)) (g.V.Vault.faults (vault_of x.new.self)) T s.trace (followed_by s.trace e x.result) c.loop.invariant.counted x.ensures.counted s.is.1
+              caused_more (g.V.Vault.faults (vault_of c.args.office.now)) (g.V.Vault.faults (vault_of c.loop.office))
+                  (g.V.Vault.faults (vault_of x.new.self)) T s.trace (followed_by s.trace e x.result) c.loop.invariant.counted x.ensures.counted s.is.1
                   (caused_one (g.V.Vault.faults (vault_of c.loop.office)) (g.V.Vault.faults (vault_of x.new.self)) s.trace e (outcome_seen x.result) (x.ensures.cause s.trace s.stands clean)),
             );
           });
@@ -56,17 +64,18 @@ returns-then-is_empty-clause-taken g c =
       trace = s.trace;
       appends = s.appends;
       stands = s.stands;
-      is = ((s.is.0.0, s.is.0.1, nothing_lent (rest s.trace n) lent (c.owed-owed.ensures.lent s.trace s.stands) (found_empty c.is_empty.result lent c.if-is_empty.true c.is_empty.ensures), s.is.0.2), s.is.1);
+      is = (
+        (s.is.0.0, s.is.0.1, nothing_lent (rest s.trace n) lent (c.owed-owed.ensures.lent s.trace s.stands) (found_empty c.is_empty.result lent c.if-is_empty.true c.is_empty.ensures), s.is.0.2),
+        s.is.1,
+      );
     })
 
 pub returns-in_default-clause-broken : goal.returns-in_default-clause-broken
 returns-in_default-clause-broken g c =
     let n = c.args.number in
-    let o = outcome_seen c.loop.outcome in λ T st clean.
-    reaches_so g.V.Vault.holds c.loop.office (g.V.Vault.faults (vault_of c.args.office.now)) (g.V.Vault.faults (vault_of c.loop.office)) T (Begun T (Drains n)) (TakesSoFar T n o) _ _ (begun_taking T n o) (c.loop.invariant.taken T st clean)
+    let o = outcome_seen c.loop.outcome in
+    reaches_by (λ T. Begun T (Drains n)) (λ T. TakesSoFar T n o) (λ T. begun_taking T n o) c.loop.invariant.taken
 
 pub returns-clause-broken : goal.returns-clause-broken
 returns-clause-broken g c =
-    let n = c.args.number in
-    let o = outcome_seen c.loop.outcome in λ T st clean.
-    reaches_so g.V.Vault.holds c.loop.office (g.V.Vault.faults (vault_of c.args.office.now)) (g.V.Vault.faults (vault_of c.loop.office)) T (Begun T (Drains n)) (TakesSoFar T n o) _ _ (begun_taking T n o) (c.loop.invariant.taken T st clean)
+    reaches_by (λ T. Begun T (Drains c.args.number)) (λ T. TakesSoFar T c.args.number (outcome_seen c.loop.outcome)) (λ T. begun_taking T _ _) c.loop.invariant.taken

@@ -1,9 +1,8 @@
-use Rattle.std.proofs.Common.{◌∙◌, List, ℕ, ap, inr, subst}
+use Rattle.std.proofs.Common.{inr}
 use Rattle.converse.specs.Causes.{IsPolicyEnd}
 use Rattle.converse.specs.PolicyFile.{IsFaultOf}
-use Rattle.converse.specs.Reviewed.{status_of}
-use Rattle.converse.specs.Streams.{Writes, WritesPart, writes_failed}
-use Rattle.converse.proofs.Policies.{ended_unwritten, ended_writing}
+use Rattle.converse.specs.Streams.{writes_failed}
+use Rattle.converse.proofs.Policies.{ended_unwritten, ended_writing, stored_part, stored_whole}
 use Rattle.converse.proofs.TextWriting.{handed_as}
 use Rattle.converse.proofs.review_policy.tell_stored.Goals as goal
 
@@ -14,33 +13,24 @@ returns-in_err-policy-clause-cause g c =
     handed_as c.from_residual.result _ (IsPolicyEnd Is written) c.from_residual.ensures.1 (ended_unwritten Is Is written (λ e is. is) _ c.in_err-policy.ensures.cause)
 
 pub returns-in_err-write_text-clause-part : goal.returns-in_err-write_text-clause-part
-returns-in_err-write_text-clause-part g c = inr (
-  c.in_ok-policy.policy,
-  c.in_ok-policy.ensures.ok,
-  subst (λ (text : List ℕ). WritesPart (g.W.Sink.seen c.args.out.now) (g.W.Sink.seen c.write_text.new.out) text) (c.deref.ensures.value ∙ c.in_ok-review.ensures.text) c.in_err-write_text.ensures.part,
-)
+returns-in_err-write_text-clause-part g c =
+    inr (stored_part c.args.choice.now c.in_ok-policy.ensures.ok c.deref.ensures.value c.args.before.now c.args.kept.now c.in_ok-review.ensures.text c.in_err-write_text.ensures.part)
 
 pub returns-in_err-write_text-clause-cause : goal.returns-in_err-write_text-clause-cause
 returns-in_err-write_text-clause-cause g c =
-    let written = writes_failed (g.W.Sink.seen c.args.out.now) (g.W.Sink.seen c.write_text.new.out) in
-    let Is = IsFaultOf c.args.text.now in
-    handed_as c.from_residual-in_err-write_text.result _ (IsPolicyEnd Is written) c.from_residual-in_err-write_text.ensures.1
-    (ended_writing Is written _ c.in_err-write_text.ensures.cause.0 c.in_err-write_text.ensures.cause.1)
+    let failed = writes_failed (g.W.Sink.seen c.args.out.now) (g.W.Sink.seen c.write_text.new.out) in
+    let Faults = IsFaultOf c.args.text.now in
+    let cause = c.in_err-write_text.ensures.cause in
+    handed_as c.from_residual-in_err-write_text.result _ (IsPolicyEnd Faults failed) c.from_residual-in_err-write_text.ensures.1 (ended_writing Faults failed _ cause.0 cause.1)
 
 pub returns-clause-ok : goal.returns-clause-ok
-returns-clause-ok g c = (
-  c.in_ok-policy.policy,
-  c.in_ok-policy.ensures.ok,
-  ap status_of c.in_ok-review.ensures.differ,
-  subst (λ (text : List ℕ). Writes (g.W.Sink.seen c.args.out.now) (g.W.Sink.seen c.write_text.new.out) text) (c.deref.ensures.value ∙ c.in_ok-review.ensures.text) c.in_ok-write_text.ensures.ok,
-)
+returns-clause-ok g c =
+    stored_whole c.args.choice.now c.in_ok-policy.ensures.ok
+    c.deref.ensures.value c.args.before.now c.args.kept.now c.in_ok-review.ensures.text c.in_ok-review.ensures.differ c.in_ok-write_text.ensures.ok
 
 pub returns-clause-part : goal.returns-clause-part
-returns-clause-part g c = inr (
-  c.in_ok-policy.policy,
-  c.in_ok-policy.ensures.ok,
-  subst (λ (text : List ℕ). WritesPart (g.W.Sink.seen c.args.out.now) (g.W.Sink.seen c.write_text.new.out) text) (c.deref.ensures.value ∙ c.in_ok-review.ensures.text) c.in_ok-write_text.ensures.part,
-)
+returns-clause-part g c =
+    inr (stored_part c.args.choice.now c.in_ok-policy.ensures.ok c.deref.ensures.value c.args.before.now c.args.kept.now c.in_ok-review.ensures.text c.in_ok-write_text.ensures.part)
 
 pub returns-clause-flushed : goal.returns-clause-flushed
 returns-clause-flushed g c = λ one. c.in_ok-write_text.ensures.flushed

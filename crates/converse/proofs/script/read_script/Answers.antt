@@ -27,27 +27,3 @@ returns-in_err-read_into-clause-fault c = λ m is.
     let told = c.in_err-read_into.ensures.fault m (same_fault _ _ _ c.from_residual.ensures.1 is) in
     fault_told n m left _ _ (map line_seen c.loop-rest.lines.items) _ c.cut_at.ensures told.1
     (subst (λ k. asks_then (Ok (map line_seen c.loop-rest.lines.items)) (rest_asks k (Some left)) ≡ script_of c.args.text.now) (sym number) asks)
-
-pub loop-rest-init : goal.loop-rest-init
-loop-rest-init c = search rules
-
-pub returns-in_err-read_into-clause-ok : goal.returns-in_err-read_into-clause-ok
-returns-in_err-read_into-clause-ok c = search rules
-
-pub returns-in_err-read_into-clause-from_one : goal.returns-in_err-read_into-clause-from_one
-returns-in_err-read_into-clause-from_one c = search rules
-
-pub returns-in_err-read_into-clause-within : goal.returns-in_err-read_into-clause-within
-returns-in_err-read_into-clause-within c = search rules
-
-pub returns-clause-ok : goal.returns-clause-ok
-returns-clause-ok c = search rules
-
-pub returns-clause-fault : goal.returns-clause-fault
-returns-clause-fault c = search rules
-
-pub returns-clause-from_one : goal.returns-clause-from_one
-returns-clause-from_one c = search rules
-
-pub returns-clause-within : goal.returns-clause-within
-returns-clause-within c = search rules

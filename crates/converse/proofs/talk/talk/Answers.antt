@@ -1,18 +1,15 @@
-use Rattle.std.proofs.Common.{◌≡◌, ◌≤◌, arith, ◌∷◌, [], Err, sym, subst}
+use Rattle.std.proofs.Common.{◌≡◌, ◌≤◌, arith, [], Err, refl, sym, subst, eq-eqb}
 use Rattle.std.specs.Io.KnownBytes.{IsAtEnd}
 use Rattle.vault.specs.Calls.{has_grown}
-use Rattle.office.specs.Events as event
 use Rattle.office.specs.Log.{next_number}
 use Rattle.office.specs.Trace.{acts}
 use Rattle.office.specs.Seen.{outcome_seen}
-use Rattle.office.specs.Outcomes.{event_tag_of}
 use Rattle.office.specs.Stands.{vault_of, lent_by}
-use Rattle.converse.specs.Talked.{trace_of, Extends, StandsSo, ComesOut}
-use Rattle.converse.specs.Conversing.{GoesOn, Refuses}
-use Rattle.converse.proofs.Playing.{caused_next}
-use Rattle.converse.proofs.Clauses.{refused_as, one_gone, refused_out, comes_out}
+use Rattle.converse.specs.Talked.{Extends, StandsSo, ComesOut}
+use Rattle.converse.specs.Conversing.{GoesOn}
+use Rattle.converse.proofs.Clauses.{refused_as, refused_out, comes_out}
 use Rattle.converse.proofs.Streaming.{reads_none, writes_none, failed_none, handed_on, flushed_unread}
-use Rattle.converse.proofs.SoFar.{so_by}
+use Rattle.converse.proofs.SoFar.{so_by, so_stepped}
 use Rattle.converse.proofs.talk.talk.Goals as goal
 
 pub returns-in_err-c-clause-talked : goal.returns-in_err-c-clause-talked
@@ -25,9 +22,7 @@ returns-in_err-c-clause-talked g c =
       [],
       reads_none _,
       writes_none _,
-      λ T st clean. so_by g.V.Vault.holds g.V.Vault.faults g.V.Vault.is_clean c.connect.new.office T (next_number T.log)
-          (λ L. Refuses T f L)
-          (λ L. ComesOut AtEnd grown T (next_number T.log) [] [] c.from_residual.result L)
+      λ T st clean. so_by (λ L. ComesOut AtEnd grown T (next_number T.log) [] [] c.from_residual.result L)
           (λ L h. subst (λ r. ComesOut AtEnd grown T (next_number T.log) [] [] r L) (sym e) (refused_out AtEnd grown T (next_number T.log) f L h))
           (c.in_err-c.ensures.began T st clean),
     )
@@ -50,20 +45,23 @@ returns-clause-talked g c =
           let k = c.in_ok-c.ensures.began T st (c.converse-talked.ensures.clean clean2) in
           let same : n ≡ next_number T.log = k.so.0 in
           let w : StandsSo g.V.Vault.holds g.V.Vault.faults first c.connect.new.office T n (GoesOn T.base n (acts T) [] []) =
-          record { log = k.log; stands = k.stands; own = subst (λ m. Extends m T.log k.log) (sym same) k.own; caused = k.caused; so = subst (λ m. GoesOn T.base m (acts T) [] [] k.log) (sym same) k.so.1 } in
-          let h = d.4 first T c.in_ok-c.ensures.counted clean2 w in
-          let o = outcome_seen c.step.result in
+          record {
+            log = k.log;
+            stands = k.stands;
+            own = subst (λ m. Extends m T.log k.log) (sym same) k.own;
+            caused = k.caused;
+            so =
+                subst (λ m. GoesOn T.base m (acts T) [] [] k.log) (sym same) k.so.1;
+          } in
           let up = c.in_ok-c.ensures.counted in
           let up2 = c.converse-talked.ensures.counted in
           let longer : first ≤ during = omega (arith, up, up2) in
-          let out = comes_out AtEnd first during now c.step.ensures.counted T n d.0 d.1 r h.log (lent_by c.converse-talked.new.office) o (c.step.ensures.outcome (trace_of T.base h.log) h.stands clean) h.so in
-          record {
-            log = (event.Gone n, event_tag_of o) ∷ h.log;
-            stands = c.step.ensures.stands (trace_of T.base h.log) h.stands clean;
-            own = subst (λ m. Extends m T.log ((event.Gone n, event_tag_of o) ∷ h.log)) same (one_gone n T.log h.log (event_tag_of o) h.own);
-            caused = caused_next first during now T h.log (event.Gone n) o longer c.step.ensures.counted h.caused (c.step.ensures.cause (trace_of T.base h.log) h.stands clean);
-            so = subst (λ m. ComesOut AtEnd (has_grown first now) T m d.0 d.1 r ((event.Gone n, event_tag_of o) ∷ h.log)) same out;
-          }),
+          let s = c.step.ensures in
+          let h = d.4 first T up clean2 w in
+          subst (λ m. StandsSo g.V.Vault.holds g.V.Vault.faults first c.step.new.self T m (ComesOut AtEnd (has_grown first now) T m d.0 d.1 r)) same
+          (so_stepped g.V.Vault.is_clean (ComesOut AtEnd (has_grown first now) T n d.0 d.1 r)
+          (record { stands = s.stands; outcome = s.outcome; cause = s.cause; counted = s.counted }) (eq-eqb n n refl) longer clean h
+          (λ L at told cause so. comes_out AtEnd first during now s.counted T n d.0 d.1 r L (lent_by c.converse-talked.new.office) (outcome_seen c.step.result) told so))),
     )
 
 pub returns-in_err-c-clause-failed : goal.returns-in_err-c-clause-failed

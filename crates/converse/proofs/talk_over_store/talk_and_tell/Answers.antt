@@ -30,6 +30,7 @@ returns-in-Err-clause-talked g c =
       wrote = d.3;
       flushed = λ well. absurd (omega (arith, well, c.tell_fault.ensures.status));
       well = λ well T stands clean. absurd (omega (arith, well, c.tell_fault.ensures.status));
-      ill = λ _ T stands clean. has_broken g.V.Vault.holds g.V.Vault.faults first c.talk.new.office T d.0 d.1 (IsAtEnd (g.R.Source.seen c.talk.new.reader).left) c.in-Err.fault c.in-Err.ensures.failed (d.4 T stands clean);
+      ill = λ _ T stands clean. has_broken g.V.Vault.holds g.V.Vault.faults first c.talk.new.office T d.0 d.1
+          (IsAtEnd (g.R.Source.seen c.talk.new.reader).left) c.in-Err.fault c.in-Err.ensures.failed (d.4 T stands clean);
       clean = search rules;
     }

@@ -7,15 +7,15 @@ use Rattle.vault.specs.Calls.{has_grown}
 use Rattle.vault.specs.Changes.{Contents}
 use Rattle.sqlvault.specs.Clerks.{clerk_names}
 use Rattle.sqlvault.specs.Stands.{Holds}
-use Rattle.converse.specs.Causes.{IsExportEnd, IsRefused, IsRefusedOf}
+use Rattle.converse.specs.Causes.{IsExportEnd, IsRefusedOf}
 use Rattle.converse.specs.Checked.{store_text, AreKnown}
 use Rattle.converse.specs.Streams.{Writes, WritesPart, writes_failed}
 use Rattle.converse.specs.Texts.{against, differing}
-use Rattle.converse.proofs.ExportLemmas.{reports_fault}
+use Rattle.converse.proofs.ExportLemmas.{checks_ill, reports_fault}
 use Rattle.converse.proofs.Exporting.{counts_on, look_refused, refused_since}
 use Rattle.converse.proofs.Refusals.{clerks_known, refused_all}
 use Rattle.jobs.specs.Checks.{held_against}
-use Rattle.jobs.proofs.CheckLemmas.{exports_still}
+use Rattle.jobs.proofs.CheckLemmas.{Differ, Refuses, exports_still}
 use Rattle.jobs.proofs.checking.check_all.Goals as goal
 
 abbrev names_or : List (List ℕ) → Result (List (List ℕ)) VaultFault → List (List ℕ)
@@ -68,65 +68,46 @@ returns-clause-still g c = record {
 pub returns-in-Err-clause-checks : goal.returns-in-Err-clause-checks
 returns-in-Err-clause-checks g c =
     let one = c.tell_fault.ensures.status in
-    record {
-      told = λ well. absurd (omega (arith, one, well));
-      flushed = λ well. absurd (omega (arith, one, well));
-      intact = λ well. absurd (omega (arith, one, well));
-      known = λ well. absurd (omega (arith, one, well));
-      part = inl refl;
-    }
+    checks_ill _ _ _ _ _ _ _ _ _ _ (λ well. omega (arith, one, well)) (inl refl)
 
 pub returns-clause-checks : goal.returns-clause-checks
 returns-clause-checks g c =
-    let one = c.tell_fault-in-Err-clerk_names.ensures.status in
-    record {
-      told = λ well. absurd (omega (arith, one, well));
-      flushed = λ well. absurd (omega (arith, one, well));
-      intact = λ well. absurd (omega (arith, one, well));
-      known = λ well. absurd (omega (arith, one, well));
-      part = inl refl;
-    }
+    let status = c.tell_fault-in-Err-clerk_names.ensures.status in
+    checks_ill _ _ _ _ _ _ _ _ _ _ (λ well. omega (arith, status, well)) (inl refl)
 
 pub returns-in-Ok-clerk_names-clause-reports : goal.returns-in-Ok-clerk_names-clause-reports
 returns-in-Ok-clerk_names-clause-reports g c =
     let t = c.check_store.ensures in
-    let n = c.in-Ok-clerk_names.ensures in
-    let rs = against c.in-Ok.texts in
-    let f0 = c.args.vault.now.faults in
-    let f2 = c.clerk_names.new.self.faults in
-    let f3 = c.check_store.new.vault.faults in
-    let Text : Option (List Receipt) → (names : List (List ℕ)) → Contents → Type 0 = λ r names d. Writes (g.W.Sink.seen c.args.out.now) (g.W.Sink.seen c.check_store.new.out) (store_text c.args.file.now d names r) in
-    let D : Type 0 = (d : Contents) → Holds (state g.S.Store c.clerk_names.new.self.conn) d → HasCleanDisk (state g.S.Store c.check_store.new.vault.conn) → (differing rs d ≡ [] → ⊥) × Text rs c.as_slice.result.now d in
-    let E : Type 0 = (d : Contents) → Holds (state g.S.Store c.args.vault.now.conn) d → HasCleanDisk (state g.S.Store c.check_store.new.vault.conn)
-    → (differing (held_against c.args.compared d) d ≡ [] → ⊥) × Text (held_against c.args.compared d) (clerk_names d.clerks) d in
-    let P : VaultFault → Type 0 = λ e. (d : Contents) → Holds (state g.S.Store c.clerk_names.new.self.conn) d → HasCleanDisk (state g.S.Store c.check_store.new.vault.conn)
-    → IsRefusedOf (AreKnown c.as_slice.result.now d) (has_grown f2 f3) e in
-    let Q : VaultFault → Type 0 = λ e. (d : Contents) → Holds (state g.S.Store c.args.vault.now.conn) d → HasCleanDisk (state g.S.Store c.check_store.new.vault.conn)
-    → IsRefused true (has_grown f0 f3) e in
-    let written = writes_failed (g.W.Sink.seen c.args.out.now) (g.W.Sink.seen c.check_store.new.out) in
+    let names = c.in-Ok-clerk_names.ensures in
+    let texts = against c.in-Ok.texts in
+    let First : Contents → Type 0 = Holds (state g.S.Store c.args.vault.now.conn) in
+    let Mid : Contents → Type 0 = Holds (state g.S.Store c.clerk_names.new.self.conn) in
+    let Clean : Type 0 = HasCleanDisk (state g.S.Store c.check_store.new.vault.conn) in
+    let old = g.W.Sink.seen c.args.out.now in
+    let new = g.W.Sink.seen c.check_store.new.out in
+    let D : Type 0 = Differ Mid Clean c.args.file.now old new (λ d. texts) (λ d. c.as_slice.result.now) in
+    let E : Type 0 = Differ First Clean c.args.file.now old new (held_against c.args.compared) (λ d. clerk_names d.clerks) in
+    let P : VaultFault → Type 0 = λ e. (d : Contents) → Mid d → Clean → IsRefusedOf (AreKnown c.as_slice.result.now d) (has_grown c.clerk_names.new.self.faults c.check_store.new.vault.faults) e in
+    let Q : VaultFault → Type 0 = Refuses First Clean (has_grown c.args.vault.now.faults c.check_store.new.vault.faults) in
+    let at = λ (d : Contents) (h : First d) (k : Clean). names.done d (c.in-Ok.ensures.held d h (names.looks.clean (t.still.clean k))) (t.still.clean k) in
+    let are : (d : Contents) → First d → Clean → c.as_slice.result.now ≡ clerk_names d.clerks = λ d h k. c.as_slice.ensures.value ∙ sym (ap (names_or []) (at d h k).answer) in
     record {
       bound = t.reports.bound;
       silent = t.reports.silent;
       why = λ one. let told = t.reports.why one in (
         told.0,
-        exports_still D E false written P Q (λ w d h clean.
-            let k2 = t.still.clean clean in
-            let k1 = n.looks.clean k2 in
-            let found = n.done d (c.in-Ok.ensures.held d h k1) k2 in
-            let same : c.as_slice.result.now ≡ clerk_names d.clerks = c.as_slice.ensures.value ∙ sym (ap (names_or []) found.answer) in
-            let is = c.in-Ok.ensures.told d h k1 in
-            let it = w d found.held clean in (
+        exports_still D E false (writes_failed old new) P Q
+            (λ w d h k.
+            (let is = c.in-Ok.ensures.told d h (names.looks.clean (t.still.clean k)) in
+            let it = w d (at d h k).held k in (
               subst (λ (r : Option (List Receipt)). differing r d ≡ [] → ⊥) is it.0,
-              subst (λ (r : Option (List Receipt)). Text r (clerk_names d.clerks) d) is (subst (λ (names : List (List ℕ)). Text rs names d) same it.1),
-            ))
-            (λ e w d h clean.
-            let k2 = t.still.clean clean in
-            let k1 = n.looks.clean k2 in
-            let found = n.done d (c.in-Ok.ensures.held d h k1) k2 in
-            let same : c.as_slice.result.now ≡ clerk_names d.clerks = c.as_slice.ensures.value ∙ sym (ap (names_or []) found.answer) in
-            let known : AreKnown c.as_slice.result.now d = subst (λ (names : List (List ℕ)). AreKnown names d) (sym same) (clerks_known d.clerks) in
-            refused_all (AreKnown c.as_slice.result.now d) known f0 f2 f3
-            (counts_on _ _ _ c.in-Ok.ensures.counted n.counted.kept) e (w d found.held clean))
+              subst (λ (r : Option (List Receipt)). Writes old new (store_text c.args.file.now d (clerk_names d.clerks) r)) is
+                  (subst (λ (ns : List (List ℕ)). Writes old new (store_text c.args.file.now d ns texts)) (are d h k) it.1),
+            )))
+            (λ e w d h k.
+            (let known : AreKnown c.as_slice.result.now d = subst (λ (ns : List (List ℕ)). AreKnown ns d) (sym (are d h k)) (clerks_known d.clerks) in
+            refused_all (AreKnown c.as_slice.result.now d) known c.args.vault.now.faults c.clerk_names.new.self.faults c.check_store.new.vault.faults
+            (counts_on _ _ _ c.in-Ok.ensures.counted names.counted.kept) e (w d (at d h k).held k)))
             told.0 told.1,
         told.2,
       );
@@ -134,32 +115,26 @@ returns-in-Ok-clerk_names-clause-reports g c =
 
 pub returns-in-Err-clause-reports : goal.returns-in-Err-clause-reports
 returns-in-Err-clause-reports g c =
-    let f0 = c.args.vault.now.faults in
-    let f1 = c.texts_of.new.vault.faults in
-    let E : Type 0 = (d : Contents) → Holds (state g.S.Store c.args.vault.now.conn) d → HasCleanDisk (state g.S.Store c.texts_of.new.vault.conn)
-    → (differing (held_against c.args.compared d) d ≡ [] → ⊥)
-    × Writes (g.W.Sink.seen c.args.out.now) (g.W.Sink.seen c.args.out.now) (store_text c.args.file.now d (clerk_names d.clerks) (held_against c.args.compared d)) in
-    let Q : VaultFault → Type 0 = λ e. (d : Contents) → Holds (state g.S.Store c.args.vault.now.conn) d → HasCleanDisk (state g.S.Store c.texts_of.new.vault.conn)
-    → IsRefused true (has_grown f0 f1) e in
-    let written = writes_failed (g.W.Sink.seen c.args.out.now) (g.W.Sink.seen c.args.out.now) in
-    reports_fault _ _ _ _ _ c.from.result c.tell_fault.ensures.status (subst (IsExportEnd E false written Q) (sym c.from.ensures) c.in-Err.ensures.cause) c.tell_fault.ensures.line
+    let out = g.W.Sink.seen c.args.out.now in
+    let Old : Contents → Type 0 = Holds (state g.S.Store c.args.vault.now.conn) in
+    let Clean : Type 0 = HasCleanDisk (state g.S.Store c.texts_of.new.vault.conn) in
+    let Ends = IsExportEnd (Differ Old Clean c.args.file.now out out (held_against c.args.compared) (λ d. clerk_names d.clerks)) false (writes_failed out out)
+    (Refuses Old Clean (has_grown c.args.vault.now.faults c.texts_of.new.vault.faults)) in
+    reports_fault _ _ _ _ _ c.from.result c.tell_fault.ensures.status (subst Ends (sym c.from.ensures) c.in-Err.ensures.cause) c.tell_fault.ensures.line
 
 pub returns-clause-reports : goal.returns-clause-reports
 returns-clause-reports g c =
     let f0 = c.args.vault.now.faults in
     let f1 = c.texts_of.new.vault.faults in
     let f2 = c.clerk_names.new.self.faults in
-    let E : Type 0 = (d : Contents) → Holds (state g.S.Store c.args.vault.now.conn) d → HasCleanDisk (state g.S.Store c.clerk_names.new.self.conn)
-    → (differing (held_against c.args.compared d) d ≡ [] → ⊥)
-    × Writes (g.W.Sink.seen c.args.out.now) (g.W.Sink.seen c.args.out.now) (store_text c.args.file.now d (clerk_names d.clerks) (held_against c.args.compared d)) in
-    let Q : VaultFault → Type 0 = λ e. (d : Contents) → Holds (state g.S.Store c.args.vault.now.conn) d → HasCleanDisk (state g.S.Store c.clerk_names.new.self.conn)
-    → IsRefused true (has_grown f0 f2) e in
-    let written = writes_failed (g.W.Sink.seen c.args.out.now) (g.W.Sink.seen c.args.out.now) in
+    let seen = g.W.Sink.seen c.args.out.now in
+    let First : Contents → Type 0 = Holds (state g.S.Store c.args.vault.now.conn) in
+    let Clean : Type 0 = HasCleanDisk (state g.S.Store c.clerk_names.new.self.conn) in
+    let Ends = IsExportEnd (Differ First Clean c.args.file.now seen seen (held_against c.args.compared) (λ d. clerk_names d.clerks)) false
+    (writes_failed seen seen) (Refuses First Clean (has_grown f0 f2)) in
+    let n = c.in-Err-clerk_names in
     reports_fault _ _ _ _ _ c.from-in-Err-clerk_names.result c.tell_fault-in-Err-clerk_names.ensures.status
-    (subst (IsExportEnd E false written Q) (sym c.from-in-Err-clerk_names.ensures) (λ d h clean.
-    let k1 = c.in-Err-clerk_names.ensures.looks.clean clean in
-    refused_since true f0 f1 f2 c.in-Ok.ensures.counted c.in-Err-clerk_names.fault
-    (look_refused true (has_grown f1 f2) (clerk_names d.clerks) c.in-Err-clerk_names.fault
-    (c.in-Err-clerk_names.ensures.done d (c.in-Ok.ensures.held d h k1) clean).answer
-    (λ e. c.in-Err-clerk_names.ensures.counted.cause (ap Err e)))))
+    (subst Ends (sym c.from-in-Err-clerk_names.ensures) (λ d h k.
+    refused_since true f0 f1 f2 c.in-Ok.ensures.counted n.fault
+    (look_refused true (has_grown f1 f2) (clerk_names d.clerks) n.fault (n.ensures.done d (c.in-Ok.ensures.held d h (n.ensures.looks.clean k)) k).answer (λ e. n.ensures.counted.cause (ap Err e)))))
     c.tell_fault-in-Err-clerk_names.ensures.line
