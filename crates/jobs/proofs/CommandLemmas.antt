@@ -47,7 +47,8 @@ module _ {V : Type 0} (Holds : V → Contents → Type 0) (new : V) (script befo
 
 -- ---- a conversation
 
-module _ {V : Type 0} (Holds : V → Contents → Type 0) (new : V) (old now : Reading) (before after : Writing) (status first last : ℕ) (T opened : Trace) (octets written : List ℕ) (read : Reads old now octets) (wrote : Writes before after written) where
+module _ {V : Type 0} (Holds : V → Contents → Type 0) (new : V) (old now : Reading) (before after : Writing) (status first last : ℕ)
+    (T opened : Trace) (octets written : List ℕ) (read : Reads old now octets) (wrote : Writes before after written) where
   abbrev Conversed : Type 0
   Conversed = (U : Trace) × HasConversed old now before after status first last T opened U × Keeps (Holds new) U
 

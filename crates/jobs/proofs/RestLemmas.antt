@@ -89,7 +89,8 @@ new_by image first now finds opened adopts unmade =
 
 -- of the file at a path
 module _ {D : Type 0} {g : Ghosts D} (image : Image) where
-  pub held_in : (r : Result (Opened (FileStore D g)) VaultFault) → OpensIn image r → IfOk r (λ vault. (c : Contents) → HasCleanDisk (file_state vault.conn) → Rests image c → Holds (file_state vault.conn) c)
+  pub held_in : (r : Result (Opened (FileStore D g)) VaultFault) → OpensIn image r
+      → IfOk r (λ vault. (c : Contents) → HasCleanDisk (file_state vault.conn) → Rests image c → Holds (file_state vault.conn) c)
   held_in (Ok vault) opens = λ c clean rests. let it = opens clean in held_by image it.first vault.conn c it.found it.opened it.adopted rests
   held_in (Err fault) opens = tt
 
@@ -141,7 +142,8 @@ module _ {D : Type 0} {g : Ghosts D} where
   pub rests_closed : (conn : Held (FileStore D g)) (files : Files D) (c : Contents) → IsLive (file_state conn) → IsCopied conn files → Holds (file_state conn) c → Rests (image_of g files) c
   rests_closed conn files c live copied h = rests_in (image_of g files) (file_state conn) c live copied.was_open h copied.seen.both
 
-  pub rests_left : (conn : Held (FileStore D g)) (files : Files D) (c : Contents) (image : Image) → IsLive (file_state conn) → IsCopied conn files → Holds (file_state conn) c → outcomes g files.log files.db image → Rests image c
+  pub rests_left : (conn : Held (FileStore D g)) (files : Files D) (c : Contents) (image : Image) → IsLive (file_state conn) → IsCopied conn files
+      → Holds (file_state conn) c → outcomes g files.log files.db image → Rests image c
   rests_left conn files c image live copied h may = rests_in image (file_state conn) c live copied.was_open h (copied.left image may).both
 
   -- what rested in the files that a store was closed to is held again

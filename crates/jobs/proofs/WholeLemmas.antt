@@ -43,11 +43,13 @@ module _ {S : Type 0} (g : Ghosts S) (stopped : State) (first : Held S) (r : Res
       go (Err refused) told = tt
 
   pub refused_whole : LeavesLast stopped → IsLive stopped → IsLive (state g first) → IsTold
-      → IfErr r (λ refused. (c : Contents) → HasCleanDisk (state g refused.1) → FindsWhole stopped (state g first) → IsTrue stopped.is_open → Holds stopped c → (refused.0 ≡ fault.Store) ⊎ (refused.0 ≡ fault.NoMemory))
+      → IfErr r (λ refused. (c : Contents) → HasCleanDisk (state g refused.1) → FindsWhole stopped (state g first) → IsTrue stopped.is_open
+      → Holds stopped c → (refused.0 ≡ fault.Store) ⊎ (refused.0 ≡ fault.NoMemory))
   refused_whole law live_then live told = go r told
     where
       go : (r : Result (Opened S) (VaultFault × Held S)) → (HasCleanDisk (state g (conn_of r)) → IsKnown (state g first) → Adopts (state g first) (state g (conn_of r)) (judged_in r))
-          → IfErr r (λ refused. (c : Contents) → HasCleanDisk (state g refused.1) → FindsWhole stopped (state g first) → IsTrue stopped.is_open → Holds stopped c → (refused.0 ≡ fault.Store) ⊎ (refused.0 ≡ fault.NoMemory))
+          → IfErr r (λ refused. (c : Contents) → HasCleanDisk (state g refused.1) → FindsWhole stopped (state g first) → IsTrue stopped.is_open
+          → Holds stopped c → (refused.0 ≡ fault.Store) ⊎ (refused.0 ≡ fault.NoMemory))
       go (Ok vault) told = tt
       go (Err refused) told = λ c clean f up h. refused_between g stopped first (Err refused) law told c clean (finds_left stopped (state g first) c law live_then live f up h) up h
 
@@ -66,10 +68,12 @@ found_old : (first : State) (old stopped : State) → LeavesLast old → Opens f
 found_old first old stopped law opened live s may =
     opened.clean ∙ database_once first.committed old.committed (live opened.is_open).1 s.listed (law first.committed.trees s.was_open may) ∙ sym (s.older.settled s.was_open)
 
-pub same_carried : {S T : Type 0} (gs : Ghosts S) (g : Ghosts T) (stopped : State) (first : Held T) (r : Result (Opened T) (VaultFault × Held T)) → ((old : Held S) → LeavesLast (state gs old)) → IsLive (state g first)
+pub same_carried : {S T : Type 0} (gs : Ghosts S) (g : Ghosts T) (stopped : State) (first : Held T) (r : Result (Opened T) (VaultFault × Held T))
+    → ((old : Held S) → LeavesLast (state gs old)) → IsLive (state g first)
     → (HasCleanDisk (state g (conn_of r)) → IsKnown (state g first) → Adopts (state g first) (state g (conn_of r)) (judged_in r))
     → (HasCleanDisk (state g (conn_of r)) → HasOlder (state g first) → (state g first).in_transaction ≡ false → CarriesOver (state g first) (state g (conn_of r)) (judged_in r))
-    → IfOk r (λ vault. (old : Held S) (c : Contents) → HasCleanDisk (state g vault.conn) → StopsCarrying (state gs old) stopped → FindsWhole stopped (state g first) → KeepsOlder (state gs old) c → Holds (state g vault.conn) c)
+    → IfOk r (λ vault. (old : Held S) (c : Contents) → HasCleanDisk (state g vault.conn) → StopsCarrying (state gs old) stopped
+    → FindsWhole stopped (state g first) → KeepsOlder (state gs old) c → Holds (state g vault.conn) c)
 same_carried gs g stopped first (Err refused) law live adopts carries = tt
 same_carried gs g stopped first (Ok vault) law live adopts carries = λ old c clean s f k.
     let was = state gs old in
