@@ -14,7 +14,7 @@ use Rattle.converse.specs.declared.talk.TalkFault.{TalkFault}
 use Rattle.converse.specs.declared.talk.TalkFault.TheVariants as fault
 use Rattle.converse.specs.Streams.{Reading, Writing, Reads, Writes}
 use Rattle.converse.specs.Talked.{trace_of, is_own, StandsSo}
-use Rattle.converse.specs.Conversing.{GoesOn, Waits, Midway, IsPaid, IsOver, IsDone, IsCut, memory_by}
+use Rattle.converse.specs.Conversing.{GoesOn, Waits, Midway, IsPaid, IsDone, IsCut, memory_by}
 use Rattle.converse.proofs.Clauses.{hears, one_more, taking, takes, waits_now, open_by, shut_by, none_written, some_written, not_ok}
 use Rattle.converse.proofs.Ends.{midway_broken}
 use Rattle.converse.proofs.Playing.{caused_next}
@@ -48,9 +48,6 @@ module _ {V : Type 0} (faults : V → ℕ) where
 
   abbrev pub OwesNone : Office V → ℕ → Claim
   OwesNone o c before T octets written L = IsPaid before (faults (vault_of o)) T.base c (acts T) octets written L
-
-  abbrev pub HasEnded : Office V → ℕ → Claim
-  HasEnded o c before T octets written L = IsOver before (faults (vault_of o)) T.base c (acts T) octets written L
 
   abbrev pub IsThrough : Type 0 → Office V → ℕ → Claim
   IsThrough AtEnd o c before T octets written L = IsDone AtEnd before (faults (vault_of o)) T.base c (acts T) octets written L

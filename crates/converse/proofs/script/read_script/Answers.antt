@@ -1,4 +1,4 @@
-use Rattle.std.proofs.Common.{rules, ◌≡◌, ◌+◌, Ok, Some, map, subst, sym, arith, ap}
+use Rattle.std.proofs.Common.{◌≡◌, ◌+◌, Ok, Some, map, subst, sym, arith, ap}
 use Rattle.std.specs.Prelude.{option_copied}
 use Rattle.converse.specs.Script.{line_seen, asks_then, script_of, cut_at}
 use Rattle.converse.proofs.Reading.{is_lf, rest_asks, left_less, more_asked, fault_told, same_fault}
