@@ -180,7 +180,7 @@ impl<'a, V: Vault> LoggedVault<'a, V> {
 
     /// The vault inside.
     pub fn into_vault(self) -> V
-        ensures { result ≡ self.vault }
+        ensures { result ≡ self.entry.vault }
     {
         let LoggedVault {
             vault,

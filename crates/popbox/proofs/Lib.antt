@@ -1,1 +1,1 @@
-mod Serving
+mod Keeping
