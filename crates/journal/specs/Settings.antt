@@ -30,17 +30,17 @@ flags_text s =
     ++ codes " log-message-ids=" ++ yes_or_no s.message_ids
     ++ codes " log-reads=" ++ yes_or_no s.reads
 
--- whether the administration lists the clerks
-abbrev pub clerks_text : Settings → List ℕ
-clerks_text s = codes " list-clerks=" ++ yes_or_no s.lists_clerks
-
 -- the administration's site, if it has one
 abbrev pub site_text : Option (List ℕ) → List ℕ
 site_text None = codes " admin-site=no"
 site_text (Some name) = codes " admin-site=" ++ name
 
+-- whether the administration lists the clerks, and its site
+abbrev pub admin_text : Settings → List ℕ
+admin_text s = codes " list-clerks=" ++ yes_or_no s.lists_clerks ++ site_text s.admin_site
+
 -- all of them
 abbrev pub settings_text : Settings → List ℕ
 settings_text s =
     codes " proved=" ++ yes_or_no s.is_proved ++ codes " removals=" ++ when_text s.removals
-    ++ seconds_text s ++ flags_text s ++ clerks_text s ++ site_text s.admin_site
+    ++ seconds_text s ++ flags_text s ++ admin_text s

@@ -1,7 +1,7 @@
 //! Whether the server is proved and its options in force, as the line of its start tells them.
 ghost use Rattle.std.specs.Prelude.{◌≡◌, IfOk, Some, string_bytes};
 ghost use Rattle.journal.specs.Settings.{yes_or_no, when_text, seconds_text, flags_text};
-ghost use Rattle.journal.specs.Settings.{clerks_text, site_text, settings_text};
+ghost use Rattle.journal.specs.Settings.{admin_text, site_text, settings_text};
 
 use creds::HostName;
 use session::Removals;
@@ -72,15 +72,6 @@ fn flags_text(alloc: Global, settings: &Settings) -> Result<String, AllocError>
     Ok(text)
 }
 
-/// Whether the administration lists the clerks.
-fn clerks_text(alloc: Global, settings: &Settings) -> Result<String, AllocError>
-    ensures { IfOk result (λ text. string_bytes text ≡ clerks_text settings.now) }
-{
-    let listed = yes_or_no(settings.lists_clerks);
-    let text = format!(in alloc; " list-clerks={listed}")?;
-    Ok(text)
-}
-
 /// The administration's site, if it has one.
 fn site_text(alloc: Global, site: Option<HostName>) -> Result<String, AllocError>
     ensures { IfOk result (λ text. string_bytes text ≡ site_text site) }
@@ -99,6 +90,16 @@ fn named_text(alloc: Global, name: HostName) -> Result<String, AllocError>
     Ok(text)
 }
 
+/// Whether the administration lists the clerks, and its site.
+fn admin_text(alloc: Global, settings: &Settings) -> Result<String, AllocError>
+    ensures { IfOk result (λ text. string_bytes text ≡ admin_text settings.now) }
+{
+    let listed = yes_or_no(settings.lists_clerks);
+    let site = site_text(alloc, settings.admin_site)?;
+    let text = format!(in alloc; " list-clerks={listed}{site}")?;
+    Ok(text)
+}
+
 /// All of them, as values of a line. Its error is want of memory.
 pub fn settings_text(alloc: Global, settings: &Settings) -> Result<String, AllocError>
     ensures { IfOk result (λ text. string_bytes text ≡ settings_text settings.now) }
@@ -107,10 +108,7 @@ pub fn settings_text(alloc: Global, settings: &Settings) -> Result<String, Alloc
     let removals = when_word(settings.removals);
     let seconds = seconds_text(alloc, settings)?;
     let flags = flags_text(alloc, settings)?;
-    let clerks = clerks_text(alloc, settings)?;
-    let site = site_text(alloc, settings.admin_site)?;
-    let text = format!(in alloc;
-        " proved={proved} removals={removals}{seconds}{flags}{clerks}{site}"
-    )?;
+    let admin = admin_text(alloc, settings)?;
+    let text = format!(in alloc; " proved={proved} removals={removals}{seconds}{flags}{admin}")?;
     Ok(text)
 }
