@@ -1,19 +1,23 @@
 -- What `popbox serve` leaves in a store that kept a trace.
-use Rattle.std.specs.Prelude.{◌≡◌, ◌≤◌, ℕ, ◌++◌, ◌∷◌}
+use Rattle.std.specs.Prelude.{ℕ, ◌++◌}
 use Rattle.office.specs.History.{Done}
-use Rattle.office.specs.Events.{Event, EventTag, Tagged, Log, Trace, given}
+use Rattle.office.specs.Events.{Tagged, Limits, Log, Trace, given}
 use Rattle.office.specs.Events as event
 use Rattle.office.specs.Taken.{trace_of}
 use Rattle.serving.specs.Given.{AreNewlyAdmitted}
 use Rattle.popbox.specs.declared.options.ServeOptions.{ServeOptions}
 
--- a trace with the opening of an office, by the options of the server
+-- the limits that the options of a server name
+abbrev pub limits_by : ServeOptions → Limits
+limits_by options = record {
+  idle = options.idle;
+  removals = options.removals;
+  access = record { lists_clerks = options.list_clerks };
+}
+
+-- a trace with the opening of the server's office
 abbrev pub opened_by : ServeOptions → (boot : ℕ) → Trace → Trace
-opened_by options boot T = given T (event.Start options.host boot (record {
-    idle = options.idle;
-    removals = options.removals;
-    access = record { lists_clerks = options.list_clerks };
-  })) (Tagged Done)
+opened_by options boot T = given T (event.Start options.host.now boot (limits_by options)) (Tagged Done)
 
 -- It leaves the trace as it was, if no office was opened. Otherwise the office was given these
 -- events after its opening, each with a tag that it may have.

@@ -1,8 +1,10 @@
 //! `popbox serve`: clients over the network.
+ghost use Rattle.std.specs.Prelude.{◌≡◌, IfSome};
+ghost use Rattle.vault.specs.Changes.{Contents};
 ghost use Rattle.office.specs.Events.{Trace};
 ghost use Rattle.office.specs.Stands.{Keeps, StandsFor, vault_of};
 ghost use Rattle.serving.specs.Running.{WasServed};
-ghost use Rattle.popbox.specs.Served.{IsServed};
+ghost use Rattle.popbox.specs.Served.{IsServed, limits_by};
 
 use crate::options::ServeOptions;
 use crate::version::{IS_PROVED, SLOW};
@@ -31,6 +33,17 @@ pub fn note_store(rt: &HostRuntime, options: &ServeOptions<'_>) {
     note_opening(&journal, rt, options.store);
 }
 
+/// The office's limits by the options; `None` if idle connections are to end sooner or later than
+/// an office can.
+fn limits_of(options: &ServeOptions<'_>) -> Option<Limits>
+    ensures { IfSome result (λ limits. limits ≡ limits_by options.now) }
+{
+    let limits = Limits::new(options.idle)?.with_removals(options.removals);
+    Some(limits.with_access(AdminAccess {
+        lists_clerks: options.list_clerks,
+    }))
+}
+
 /// Serves clients at an address, over a vault, until so many turns are over, or its store is lost.
 /// `before` is the file that stood at the store's path before it was opened. Gives the vault back.
 pub fn serve_over<V: Vault, E: Write>(
@@ -46,7 +59,7 @@ pub fn serve_over<V: Vault, E: Write>(
         × IsServed options.now boot T U × Keeps (V.holds result.1) U }
     ensures clean { V.is_clean result.1 → V.is_clean vault }
 {
-    let Some(limits) = Limits::new(options.idle) else {
+    let Some(limits) = limits_of(options) else {
         return (Ok(2), vault);
     };
     let Ok(path) = String::from_str(rt.alloc(), options.store) else {
@@ -61,10 +74,6 @@ pub fn serve_over<V: Vault, E: Write>(
     let mut vault = LoggedVault::new(Recent::new(rt.alloc(), vault), journal, message_ids);
     let totals = totals_of(&mut vault, &journal);
     let watch = StoreWatch::new(rt, path.as_str(), before);
-    let limits = limits.with_removals(options.removals);
-    let limits = limits.with_access(AdminAccess {
-        lists_clerks: options.list_clerks,
-    });
     match Office::open(rt.alloc(), vault, options.host, boot, limits) {
         Err((fault, vault)) => (Err(Fault::from(fault)), vault.into_vault().into_vault()),
         Ok(office) => {
@@ -85,7 +94,11 @@ pub fn serve_over<V: Vault, E: Write>(
 }
 
 /// What a store holds, maildrop by maildrop, if there is a log that has it.
-fn totals_of<V: Vault>(vault: &mut V, journal: &Journal<'_>) -> Option<Vec<Total>> {
+fn totals_of<V: Vault>(vault: &mut V, journal: &Journal<'_>) -> Option<Vec<Total>>
+    ensures held { (c : Contents) → V.holds vault.old c → V.is_clean vault.new
+        → V.holds vault.new c }
+    ensures clean { V.is_clean vault.new → V.is_clean vault.old }
+{
     if !journal.is_on() {
         return None;
     }
