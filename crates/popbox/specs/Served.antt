@@ -17,7 +17,8 @@ limits_by options = record {
 
 -- a trace with the opening of the server's office
 abbrev pub opened_by : ServeOptions → (boot : ℕ) → Trace → Trace
-opened_by options boot T = given T (event.Start options.host.now boot (limits_by options)) (Tagged Done)
+opened_by options boot T =
+    given T (event.Start options.host.now boot (limits_by options)) (Tagged Done)
 
 -- It leaves the trace as it was, if no office was opened. Otherwise the office was given these
 -- events after its opening, each with a tag that it may have.

@@ -19,28 +19,33 @@ returns-in-Err-clause-served g c = λ T k clean.
     (let fresh = c.new-vault.ensures.vault ∙ c.new.ensures in
     let back = c.into_vault-in-Err.ensures ∙ ap (λ x. x.vault) c.into_vault.ensures in
     let clean_err = subst g.V.Vault.is_clean back clean in
-    let clean_old = c.in-Err.ensures.clean clean_err in
-    (T, NotOpened, keeps_so (g.V.Vault.holds c.args.vault) _ T
-    (λ b h. subst (λ v. g.V.Vault.holds v b) (sym back)
-        (c.in-Err.ensures.kept b
-        (c.totals_of-totals.ensures.held b
-        (subst (λ r. HoldsFitting (g.V.Vault.holds r.vault) r.kept r.totals b) (sym fresh) (fits_none (g.V.Vault.holds c.args.vault) b h)) clean_old)
-        clean_err).inside) k))
+    let clean_old = c.in-Err.ensures.clean clean_err in (
+      T,
+      NotOpened,
+      keeps_so (g.V.Vault.holds c.args.vault) _ T
+          (λ b h. subst (λ v. g.V.Vault.holds v b) (sym back)
+          (c.in-Err.ensures.kept b
+          (c.totals_of-totals.ensures.held b
+          (subst (λ r. HoldsFitting (g.V.Vault.holds r.vault) r.kept r.totals b) (sym fresh) (fits_none (g.V.Vault.holds c.args.vault) b h)) clean_old)
+          clean_err).inside) k,
+    ))
 
 pub returns-clause-served : goal.returns-clause-served
 returns-clause-served g c = λ T k clean.
     (let fresh = c.new-vault.ensures.vault ∙ c.new.ensures in
     let back = c.into_vault-in-Ok-open-3.ensures
-        ∙ ap (λ x. x.vault) (c.into_vault-in-Ok-open-2.ensures ∙ ap (λ x. x.vault) c.into_vault-in-Ok-open.ensures) in
+    ∙ ap (λ x. x.vault) (c.into_vault-in-Ok-open-2.ensures ∙ ap (λ x. x.vault) c.into_vault-in-Ok-open.ensures) in
     let clean_served = subst g.V.Vault.is_clean back clean in
     let clean_open = c.serve-served.ensures.clean clean_served in
     let clean_old = c.in-Ok-open.ensures.clean clean_open in
     let stands = rw c.in-Some.ensures at (c.in-Ok-open.ensures.opened T
-        (keeps_so (g.V.Vault.holds c.args.vault) _ T
-        (λ b h. c.totals_of-totals.ensures.held b
-            (subst (λ r. HoldsFitting (g.V.Vault.holds r.vault) r.kept r.totals b) (sym fresh) (fits_none (g.V.Vault.holds c.args.vault) b h)) clean_old) k)
-        clean_open) in
+    (keeps_so (g.V.Vault.holds c.args.vault) _ T
+    (λ b h. c.totals_of-totals.ensures.held b
+    (subst (λ r. HoldsFitting (g.V.Vault.holds r.vault) r.kept r.totals b) (sym fresh) (fits_none (g.V.Vault.holds c.args.vault) b h)) clean_old) k)
+    clean_open) in
     let opened = opened_by c.args.options.now c.args.boot T in
-    let w = c.serve-served.ensures.served opened stands clean_served in
-    (trace_of T.base (w.given ++ opened.log), Opened w.given w.admitted,
-    keeps_so _ _ (trace_of T.base (w.given ++ opened.log)) (λ b h. subst (λ v. g.V.Vault.holds v b) (sym back) h.inside) w.stands.keeps))
+    let w = c.serve-served.ensures.served opened stands clean_served in (
+      trace_of T.base (w.given ++ opened.log),
+      Opened w.given w.admitted,
+      keeps_so _ _ (trace_of T.base (w.given ++ opened.log)) (λ b h. subst (λ v. g.V.Vault.holds v b) (sym back) h.inside) w.stands.keeps,
+    ))
