@@ -80,8 +80,10 @@ fn the_first_maintenance_copies_the_log(rt: HostRuntime) -> Result<(), Fail> {
 
 #[test]
 fn maintenance_leaves_a_short_log(rt: HostRuntime) -> Result<(), Fail> {
+    let mut copied = filled(rt.alloc())?;
+    copied.maintain()?;
     let octets = octets_in(maintained(rt.alloc(), OCTETS)?);
-    assert!(rt; octets < 2 * OCTETS);
+    assert!(rt; octets == octets_in(copied));
     Ok(())
 }
 
