@@ -5,7 +5,7 @@ ghost use Rattle.sqlite.specs.Files.{file_state};
 ghost use Rattle.sqlite.specs.State.{HasCleanDisk};
 ghost use Rattle.vault.specs.Changes.{Contents};
 ghost use Rattle.vault.specs.Plain.{no_contents};
-ghost use Rattle.sqlvault.specs.Adopts.{IsAdoptFault};
+ghost use Rattle.sqlvault.specs.Adopts.{IsAdoptFault, OpensIn};
 ghost use Rattle.sqlvault.specs.Stands.{Holds};
 ghost use Rattle.jobs.specs.Resting.{Rests, IsUnmade};
 
@@ -39,6 +39,7 @@ pub fn open<S: Careful>(
         → Rests (image_at S.Start) c → Holds (file_state vault.conn) c) }
     ensures new { IfOk result (λ vault. HasCleanDisk (file_state vault.conn)
         → IsUnmade (image_at S.Start) → Holds (file_state vault.conn) no_contents) }
+    ensures opened { OpensIn (image_at S.Start) result }
     ensures kinds { IfErr result IsAdoptFault }
     ensures uncounted { IfOk result (λ vault. vault.faults ≡ 0) }
 {

@@ -6,7 +6,7 @@ ghost use Rattle.sqlite.specs.Files.{file_state, image_of};
 ghost use Rattle.sqlite.specs.State.{HasCleanDisk};
 ghost use Rattle.office.specs.Events.{Trace};
 ghost use Rattle.office.specs.Stands.{Keeps};
-ghost use Rattle.sqlvault.specs.Adopts.{IsAdoptFault};
+ghost use Rattle.sqlvault.specs.Adopts.{IsAdoptFault, IsRefusedIn};
 ghost use Rattle.jobs.specs.Resting.{Rests, IsUnmade};
 ghost use Rattle.sqlvault.specs.Stands.{Holds};
 ghost use Rattle.jobs.specs.Jobs.{Leaves};
@@ -62,6 +62,7 @@ pub fn open_do_close<S: Careful, J: Job + Drop>(
         (λ files. J.tells job → AreClean ⟦<FileFrom<S> as Disk>⟧ files.log files.db
         → IsUnmade (image_at S.Start) → Leaves (λ T U n m. J.does job T U n m ended.0) unused 0
         (image_of ⟦<FileFrom<S> as Disk>⟧ files))) }
+    ensures refused { IfErr result (IsRefusedIn ⟦<FileFrom<S> as Disk>⟧ (image_at S.Start)) }
     ensures kinds { IfErr result IsAdoptFault }
 {
     match open(rt, path, start) {

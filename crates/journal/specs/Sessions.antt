@@ -143,6 +143,25 @@ left_by account.QuitBeforeLogin clients = clients
 left_by account.Nothing clients = clients
 left_by (account.Ended cause) clients = clients
 
+-- of a client of whom nothing was heard
+abbrev pub unheard : Heard
+unheard =
+    record {
+      name = None;
+      is_in = false;
+      marked = 0;
+      counts = no_counts;
+      has_quit = false;
+      sending = None;
+    }
+
+-- the numbers of a client's link, and of its connection
+abbrev pub link_of : Client → ℕ
+link_of client = client.link.number
+
+abbrev pub number_of : Client → Option ℕ
+number_of client = client.number
+
 -- what is kept of a client's session
 abbrev pub heard_of : Client → Heard
 heard_of client = client.heard

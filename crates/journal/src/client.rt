@@ -1,5 +1,6 @@
 //! The mail programs' connections, as the log has them.
-ghost use Rattle.std.specs.Prelude.{◌≡◌, ◌≢◌, ◌⊎◌, ◌<◌, ◌==◌, [], Some, None, IfOk, IfSome, map};
+ghost use Rattle.std.specs.Prelude.{◌≡◌, ◌≢◌, ◌⊎◌, ◌<◌, ◌==◌, [], ◌∷◌, ◌++◌, Some, None, map};
+ghost use Rattle.std.specs.Prelude.{IfOk, IfSome};
 ghost use Rattle.std.specs.Prelude.{◌+◌, true, false};
 ghost use Rattle.std.specs.Prelude.{find, position, length, string_bytes, vec_len};
 ghost use Rattle.journal.specs.Lines.{cause_text as cause_words};
@@ -9,6 +10,7 @@ ghost use Rattle.journal.specs.Sessions.{client_text, held_text, holder_of, who_
 ghost use Rattle.journal.specs.Sessions.{loss_text, loss_of, lost_of};
 ghost use Rattle.journal.specs.Sessions.{waited_text, behind_account, session_of, who_in};
 ghost use Rattle.journal.specs.Sessions.{is_new, gets_told, is_told_of};
+ghost use Rattle.journal.specs.Sessions.{link_of, number_of, unheard};
 ghost use Rattle.journal.specs.declared.client.Client.{Client as AClient};
 
 use super::account_text::{cause_text, has_line, line_of};
@@ -305,7 +307,14 @@ impl Clients {
         link: Link,
         ip: Option<IpAddr>,
         address: String,
-    ) -> Result<(), AllocError> {
+    ) -> Result<(), AllocError>
+        ensures links { IfOk result (λ _. map link_of self.new.clients.items
+            ≡ map link_of self.old.clients.items ++ link.number ∷ []) }
+        ensures numbers { IfOk result (λ _. map number_of self.new.clients.items
+            ≡ map number_of self.old.clients.items ++ None ∷ []) }
+        ensures heard { IfOk result (λ _. map heard_of self.new.clients.items
+            ≡ map heard_of self.old.clients.items ++ unheard ∷ []) }
+    {
         let alloc = *address.allocator();
         self.clients.push(Client {
             link,

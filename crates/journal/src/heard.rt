@@ -1,7 +1,7 @@
 //! What the log heard of a connection's session.
 ghost use Rattle.std.specs.Prelude.{◌≡◌, Some, IfOk, string_bytes};
 ghost use Rattle.journal.specs.Sessions.{heard_after, judged_so, left, is_in, session_text};
-ghost use Rattle.journal.specs.Sessions.{behind_name, counted_after, cut_text};
+ghost use Rattle.journal.specs.Sessions.{behind_name, counted_after, cut_text, unheard};
 ghost use Rattle.journal.specs.Sessions.{sending_after as still_sent};
 ghost use Rattle.journal.specs.Counts.{counts_text};
 
@@ -45,7 +45,9 @@ fn sending_after(account: &Account, sending: Option<Uid>) -> Option<Uid>
 
 impl Heard {
     /// Nothing was heard yet.
-    pub fn nothing() -> Heard {
+    pub fn nothing() -> Heard
+        ensures { result ≡ unheard }
+    {
         Heard {
             name: None,
             is_in: false,

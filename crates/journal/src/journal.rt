@@ -1,4 +1,6 @@
 //! Where the lines of a log go.
+ghost use Rattle.std.specs.Prelude.{◌≡◌, [], false};
+
 use super::account_text::refusal_text;
 use super::administrators::Administrators;
 use super::client::Clients;
@@ -47,7 +49,10 @@ pub struct Journal<'a> {
 impl<'a> Journal<'a> {
     /// A journal that writes its lines, or drops them. It counts those that it lost. A RETR has no
     /// line.
-    pub fn new(rt: &'a HostRuntime, is_on: bool, shared: &'a Shared) -> Journal<'a> {
+    pub fn new(rt: &'a HostRuntime, is_on: bool, shared: &'a Shared) -> Journal<'a>
+        ensures on { result.is_on ≡ is_on }
+        ensures reads { result.reads ≡ false }
+    {
         Journal {
             rt,
             is_on,
@@ -57,7 +62,10 @@ impl<'a> Journal<'a> {
     }
 
     /// The same journal, which writes a line for each RETR too, or doesn't.
-    pub fn with_reads(self, reads: bool) -> Journal<'a> {
+    pub fn with_reads(self, reads: bool) -> Journal<'a>
+        ensures on { result.is_on ≡ self.exit.is_on }
+        ensures reads { result.reads ≡ reads }
+    {
         Journal {
             rt: self.rt,
             is_on: self.is_on,
@@ -67,7 +75,9 @@ impl<'a> Journal<'a> {
     }
 
     /// Whether lines are written.
-    pub fn is_on(&self) -> bool {
+    pub fn is_on(&self) -> bool
+        ensures { result ≡ self.now.is_on }
+    {
         self.is_on
     }
 
@@ -260,7 +270,10 @@ impl<'a> Journal<'a> {
 impl Listener for Journal<'_> {
     ghost heard = { λ _ _. ⊥ };
 
-    fn follow<W: Wire>(&mut self, wire: &W, port: Port, link: Link, event: LinkEvent) {
+    fn on_link<W: Wire>(&mut self, wire: &W, port: Port, link: Link, event: LinkEvent)
+        ensures on { self.new.is_on ≡ self.old.is_on }
+        ensures reads { self.new.reads ≡ self.old.reads }
+    {
         if !self.is_on {
             return;
         }
@@ -270,7 +283,10 @@ impl Listener for Journal<'_> {
         }
     }
 
-    fn open(&mut self, link: Link, connection: u64) {
+    fn on_open(&mut self, link: Link, connection: u64)
+        ensures on { self.new.is_on ≡ self.old.is_on }
+        ensures reads { self.new.reads ≡ self.old.reads }
+    {
         if !self.is_on {
             return;
         }
@@ -281,7 +297,10 @@ impl Listener for Journal<'_> {
         self.note_some(text);
     }
 
-    fn hear(&mut self, connection: u64, account: &Account) {
+    fn on_account(&mut self, connection: u64, account: &Account)
+        ensures on { self.new.is_on ≡ self.old.is_on }
+        ensures reads { self.new.reads ≡ self.old.reads }
+    {
         if !self.is_on || matches!(account, Account::Nothing) {
             return;
         }
@@ -295,7 +314,10 @@ impl Listener for Journal<'_> {
         self.note_some(text);
     }
 
-    fn asked(&mut self, link: Link, asked: &AdminRequest<'_>) {
+    fn on_request(&mut self, link: Link, asked: &AdminRequest<'_>)
+        ensures on { self.new.is_on ≡ self.old.is_on }
+        ensures reads { self.new.reads ≡ self.old.reads }
+    {
         if self.is_on
             && let Ok(mut administrators) = self.shared.administrators.try_borrow_mut()
         {
@@ -346,7 +368,9 @@ const MOST_TOLD: usize = 256;
 
 impl Told {
     /// No line was written yet.
-    pub fn new(alloc: Global) -> Told {
+    pub fn new(alloc: Global) -> Told
+        ensures { result.lines.items ≡ [] }
+    {
         Told {
             lines: Vec::new(alloc),
         }

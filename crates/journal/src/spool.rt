@@ -1,4 +1,5 @@
 //! A spool whose files are noted.
+ghost use Rattle.std.specs.Prelude.{◌≡◌, []};
 
 use super::journal::{Journal, Told};
 use super::left::{Folder, Looking};
@@ -17,7 +18,11 @@ pub struct LoggedSpool<'a, S: Spool> {
 
 impl<'a, S: Spool> LoggedSpool<'a, S> {
     /// A spool around this one, which is over a folder.
-    pub fn new(spool: S, journal: Journal<'a>, folder: Folder<'a>) -> LoggedSpool<'a, S> {
+    pub fn new(spool: S, journal: Journal<'a>, folder: Folder<'a>) -> LoggedSpool<'a, S>
+        ensures spool { result.spool ≡ spool }
+        ensures journal { result.journal ≡ journal.exit }
+        ensures told { result.told.lines.items ≡ [] }
+    {
         LoggedSpool {
             spool,
             journal,

@@ -1,5 +1,5 @@
 //! A vault whose deposits, removals and refusals are noted.
-ghost use Rattle.std.specs.Prelude.{◌≡◌};
+ghost use Rattle.std.specs.Prelude.{◌≡◌, []};
 
 use super::journal::{Journal, Told};
 use super::message_ids::message_id;
@@ -160,6 +160,9 @@ impl<'a, V: Vault> LoggedVault<'a, V> {
     /// A vault around this one. `message_ids`: a deposit's line tells the Message-ID.
     pub fn new(vault: V, journal: Journal<'a>, message_ids: bool) -> LoggedVault<'a, V>
         ensures vault { result.vault ≡ vault }
+        ensures journal { result.journal ≡ journal.exit }
+        ensures told { result.told.lines.items ≡ [] }
+        ensures message_ids { result.message_ids ≡ message_ids }
     {
         LoggedVault {
             vault,

@@ -23,7 +23,8 @@ use Rattle.mailsql.specs.Changes as ch
 use Rattle.mailsql.specs.Rows.{Rows, is_carried, rows_in, bodies_at, HoldsBody, AreKeyed, AreKept, IsKept, IsReady, MayLeave, Changes}
 use Rattle.mailsql.proofs.KeptLemmas.{applied_kept, keyed_apart}
 use Rattle.mailsql.proofs.FrameLemmas.{Frame, framed, kept_framed, bodies_alone}
-use Rattle.mailsql.proofs.HeldLemmas.{Holds, both, row_held, text_octets, blob_octets}
+use Rattle.mailsql.proofs.TypedLemmas.{both}
+use Rattle.mailsql.proofs.HeldLemmas.{Holds, row_held, text_octets, blob_octets}
 use Rattle.mailsql.proofs.KeyLemmas.{id_is}
 use Rattle.mailsql.proofs.StateLemmas.{changes_in, commits_in}
 use Rattle.mailsql.proofs.EqualLemmas.{nothing_kept, column_int}

@@ -40,7 +40,7 @@ use Rattle.mailsql.proofs.EqualLemmas.{nothing_kept, kept_map}
 use Rattle.mailsql.proofs.QueryLemmas.{passes, selected, shown_rows}
 use Rattle.mailsql.proofs.WithoutLemmas.{without_shown}
 use Rattle.mailsql.proofs.CascadeLemmas.{cascade, groups_acting, cascades, swept, groups_swept, child_is}
-use Rattle.mailsql.proofs.TypedLemmas.{IsInt}
+use Rattle.mailsql.proofs.TypedLemmas.{number_is}
 use Rattle.mailsql.proofs.HeldLemmas.{members_in}
 use Rattle.mailsql.proofs.KeyLemmas.{members_have_groups}
 use Rattle.mailsql.proofs.ReadLemmas.{Asks, kept, sound, everything_listed}
@@ -153,9 +153,6 @@ clear_groups_does limit s text tally after kept sound h =
     let trees = ap (λ (w : Written). w.trees) (same_value wrote.2) in
     let end : after ≡ record { schema = schema_of carried; trees = next } = now ∙ ap (λ (t : Trees). let d : Database = record { schema = schema_of carried; trees = t } in d) trees in
     (ap (λ (d : Database). rows_in d.trees) end ∙ change, kept_framed db next after end (it.second.same ∙ it.first.same) it.kept)
-  where
-    number_is : (v : _) → IsInt v → v ≡ Int (id_in v)
-    number_is v it = it.1 ∙ ap (λ x. Int (id_in x)) (sym it.1)
 
 module _ (old new : State) (live : IsLive old) where
   pub clear_groups_ok : (count : ℕ) → IsReady old → Executes st.clear_groups_text ([]) old new (Ok count) → Changes (ch.ClearsGroups) old new

@@ -24,7 +24,7 @@ use Rattle.sqlite.specs.Effect.{Database, IsDatabase}
 use Rattle.mailsql.specs.Tables.{schema_of, mail_tree, meta_at, clerks_at, maildrops_at, counts_at, deposits_at, mail_at, rules_at, sheets_at, groups_at, members_at}
 use Rattle.mailsql.specs.Rows.{IsOurs, is_carried, AreKeyed, HoldsOctets, HoldsNumber, HoldsMetaRow, HoldsClerk, HoldsName, HoldsCount, HoldsDeposit, HoldsMessage, HoldsSheet}
 use Rattle.mailsql.specs.Rows.{HoldsRule, HoldsGroup, HoldsMember}
-use Rattle.mailsql.proofs.TypedLemmas.{IsText}
+use Rattle.mailsql.proofs.TypedLemmas.{IsText, both}
 
 abbrev pub IsBlob : Value → Type 0
 IsBlob v = (b : List ℕ) × (v ≡ Blob b)
@@ -120,10 +120,6 @@ behind (v ∷ vs) j = let next : suc j ≡ 0 + 1 + j = omega arith in ap (column
 pub row_held : (schema : Schema) (db : Trees) (t : Table) (row : Row) → are_required t.key 0 t.columns ≡ true → passes Datatype schema db t row ≡ true
     → passes NotNull schema db t row ≡ true → Holds t.key 0 t.columns row
 row_held schema db t row ours typed present = columns_held t.key 0 t.columns (drop 1 row) row (behind row) ours (and_parts _ _ typed).0 present
-
-pub both : {P Q X : Row → Type 0} → ((row : Row) → P row → Q row → X row) → (rows : List Row) → AllByRecursion P rows → AllByRecursion Q rows → AllByRecursion X rows
-both f [] p q = tt
-both f (row ∷ rows) p q = (f row p.0 q.0, both f rows p.1 q.1)
 
 pub text_octets : (row : Row) (at : ℕ) → IsText (column row at) → HoldsOctets row at
 text_octets row at text = (text.0, inl text.1)

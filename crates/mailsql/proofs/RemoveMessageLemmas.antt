@@ -1,5 +1,5 @@
 -- DELETE of a message, with its sheets.
-use Rattle.std.proofs.Common.{◌≡◌, ℕ, ℤ, Bool, true, false, List, [], ◌∷◌, map, filter, Option, None, Ok, refl, sym, ap, ap₂, subst, ◌∙◌}
+use Rattle.std.proofs.Common.{◌≡◌, ℕ, ℤ, Bool, true, false, List, [], ◌∷◌, map, filter, Option, None, Ok, refl, ap, ap₂, subst, ◌∙◌}
 use Rattle.std.specs.Prelude.{◌&&◌, codes}
 use Rattle.std.specs.List.{list_any}
 use Rattle.sqlite_value.specs.declared.value.Value.TheVariants.{Null, Int, Text}
@@ -29,7 +29,7 @@ use Rattle.sqlite_sql.specs.Query.{output, inner, end}
 use Rattle.mailsql.proofs.QueryLemmas.{passes, selected, shown_rows}
 use Rattle.mailsql.proofs.WithoutLemmas.{without_shown}
 use Rattle.mailsql.proofs.KeptLemmas.{keyed_apart}
-use Rattle.mailsql.proofs.TypedLemmas.{IsInt, messages_typed, sheets_typed}
+use Rattle.mailsql.proofs.TypedLemmas.{number_is, messages_typed, sheets_typed}
 use Rattle.mailsql.proofs.EqualLemmas.{column_text, column_int, kept_map}
 use Rattle.mailsql.proofs.FindLemmas.{and_true}
 use Rattle.mailsql.proofs.CascadeLemmas.{cascade, mail_acting, cascades, swept, messages_swept, child_is, row_id}
@@ -90,9 +90,6 @@ remove_message_does key maildrop limit s text tally after kept sound h =
     let trees = ap (λ (w : Written). w.trees) (same_value wrote.2) in
     let end : after ≡ record { schema = schema_of carried; trees = next } = now ∙ ap (λ (t : Trees). let d : Database = record { schema = schema_of carried; trees = t } in d) trees in
     (ap (λ (d : Database). rows_in d.trees) end ∙ change, kept_framed db next after end (it.second.same ∙ it.first.same) it.kept)
-  where
-    number_is : (v : _) → IsInt v → v ≡ Int (id_in v)
-    number_is v it = it.1 ∙ ap (λ x. Int (id_in x)) (sym it.1)
 
 module _ (old new : State) (key : ℤ) (maildrop : Name) (live : IsLive old) where
   pub remove_message_ok : (count : ℕ) → IsReady old → Executes st.remove_message_text (Int key ∷ Text maildrop ∷ []) old new (Ok count) → Changes (RemovesMessage key maildrop) old new

@@ -1,11 +1,12 @@
 -- What the rules of the schema say of the rows.
-use Rattle.std.proofs.Common.{◌≡◌, ℕ, Bool, true, false, List, [], ◌∷◌, refl, sym, subst, true≢false}
+use Rattle.std.proofs.Common.{◌≡◌, ◌∙◌, ℕ, Bool, true, false, List, [], ◌∷◌, refl, sym, ap, subst, true≢false}
 use Rattle.std.proofs.Common.{ℤ}
 use Rattle.std.specs.List.{AllByRecursion}
 use Rattle.sqlite_rules.specs.Lists.{Has}
 use Rattle.sqlite_rules.proofs.ListLemmas.{all_has}
 use Rattle.std.proofs.lemmas.Bool.{and_parts}
 use Rattle.sqlite_value.specs.declared.value.Value.{Value}
+use Rattle.sqlite_rules.specs.Edit.{id_in}
 use Rattle.sqlite_value.specs.declared.value.Value.TheVariants.{Null, Int, Real, Text, Blob}
 use Rattle.sqlite_value.specs.Order.{Row, column}
 use Rattle.sqlite_trees.specs.Tree.{Trees}
@@ -38,7 +39,7 @@ maildrop_typed schema db (i ∷ []) typed present = absurd (true≢false (sym pr
 maildrop_typed schema db (i ∷ v ∷ []) typed present = text_value v _ _ typed present
 maildrop_typed schema db (i ∷ v ∷ w ∷ more) typed present = text_value v _ _ typed present
 
-both : {P Q R : Row → Type 0} → ((row : Row) → P row → Q row → R row) → (rows : List Row) → AllByRecursion P rows → AllByRecursion Q rows → AllByRecursion R rows
+pub both : {P Q R : Row → Type 0} → ((row : Row) → P row → Q row → R row) → (rows : List Row) → AllByRecursion P rows → AllByRecursion Q rows → AllByRecursion R rows
 both f [] p q = tt
 both f (row ∷ rows) p q = (f row p.0 q.0, both f rows p.1 q.1)
 
@@ -49,6 +50,9 @@ maildrops_typed db ours sound =
 
 abbrev pub IsInt : Value → Type 0
 IsInt v = (n : ℤ) × (v ≡ Int n)
+
+pub number_is : (v : Value) → IsInt v → v ≡ Int (id_in v)
+number_is v it = it.1 ∙ ap (λ x. Int (id_in x)) (sym it.1)
 
 is_text : (v : Value) → is_of kind.Text v ≡ true → not (is_null v) ≡ true → IsText v
 is_text Null typed present = absurd (true≢false (sym present))

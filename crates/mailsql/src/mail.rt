@@ -149,7 +149,7 @@ pub fn heads<S: Alter>(
     )
 }
 
-/// Every message, in order of arrival.
+/// Every message, in order of arrival. Only tests call it.
 pub fn all_messages<S: Alter>(
     alloc: Global,
     conn: &mut Connection<S>,

@@ -92,9 +92,6 @@ pub lines_of-ended : (ls : List (List ℕ)) → AreLines ls → lines_of (ended 
 lines_of-ended [] h = refl
 lines_of-ended (l ∷ ls) h = lines_of-line l (ended ls) h.0 ∙ ap (λ rest. l ∷ rest) (lines_of-ended ls h.1)
 
-pub kept_form-ended : (ls : List (List ℕ)) → AreLines ls → kept_form (ended ls) ≡ ended ls
-kept_form-ended ls h = ap ended (lines_of-ended ls h)
-
 pub lines_of-kept_form : (text : List ℕ) → lines_of (kept_form text) ≡ lines_of text
 lines_of-kept_form text = lines_of-ended (lines_of text) (AreLines-lines_of text)
 

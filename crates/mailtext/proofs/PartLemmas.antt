@@ -42,10 +42,10 @@ lines_from-zero : (bs : List ℕ) → lines_from 0 bs ≡ 0
 lines_from-zero [] = refl
 lines_from-zero (b ∷ bs) = refl
 
-some_left : (n : ℕ) → eqb (suc n) 0 ≡ false
+pub some_left : (n : ℕ) → eqb (suc n) 0 ≡ false
 some_left n = ne_eqb (suc n) 0 (omega arith)
 
-one_less : (n : ℕ) → suc n - 1 ≡ n
+pub one_less : (n : ℕ) → suc n - 1 ≡ n
 one_less n = omega arith
 
 lines_from-line : (l rest : List ℕ) (n : ℕ) → Unbroken l → lines_from (suc n) (l ++ (line_end ++ rest)) ≡ length l + 2 + lines_from n rest
@@ -126,22 +126,12 @@ lines_behind_header octets h kept e =
 pub kept_behind_header : (octets : List ℕ) (h : ℕ) → kept_form octets ≡ octets → h ≡ header_len (lines_of octets) → kept_form (drop h octets) ≡ drop h octets
 kept_behind_header octets h kept e = ap ended (lines_behind_header octets h kept e) ∙ sym (behind_header octets h kept e)
 
-pub header_len-le : (octets : List ℕ) → kept_form octets ≡ octets → header_len (lines_of octets) ≤ length octets
-header_len-le octets kept =
-    let ls = lines_of octets in
-    omega (arith, ap length (sym kept ∙ ended-header ls), length-append (ended (top_part ls 0)) (ended (body ls)))
-
 pub length-top_part : (octets : List ℕ) (n h k : ℕ) → kept_form octets ≡ octets → h ≡ header_len (lines_of octets) → k ≡ length (ended (take n (lines_of (drop h octets))))
     → h + k ≡ length (ended (top_part (lines_of octets) n))
 length-top_part octets n h k kept e f =
     let ls = lines_of octets in
     let g = f ∙ ap (λ lines. length (ended (take n lines))) (lines_behind_header octets h kept e) in
     omega (arith, e, g, ap length (ended-top_part ls n), length-append (ended (top_part ls 0)) (ended (take n (body ls))))
-
-pub length-top_part-le : (octets : List ℕ) (n : ℕ) → kept_form octets ≡ octets → length (ended (top_part (lines_of octets) n)) ≤ length octets
-length-top_part-le octets n kept =
-    let ls = lines_of octets in
-    omega (arith, ap length (sym kept ∙ ended-top ls n), length-append (ended (top_part ls n)) (ended (drop n (body ls))))
 
 pub take-top_part : (octets : List ℕ) (n : ℕ) → kept_form octets ≡ octets → take (length (ended (top_part (lines_of octets) n))) octets ≡ ended (top_part (lines_of octets) n)
 take-top_part octets n kept =

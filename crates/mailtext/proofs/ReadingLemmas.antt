@@ -1,6 +1,6 @@
 -- What a client reads of stuffed lines.
 use Rattle.std.proofs.Common.{◌≡◌, ℕ, ◌+◌, ◌-◌, ◌<◌, ◌≤◌, List, [], ◌∷◌, ◌++◌, true, false, map, length, take, drop, get_or, refl, sym, ◌∙◌, ap, arith, append_assoc, append-nil}
-use Rattle.std.proofs.Common.{add_assoc, zero-add, subst, eqb, ⊎_elim, Option, Some, None}
+use Rattle.std.proofs.Common.{add_assoc, subst, eqb, ⊎_elim, Option, Some, None}
 use Rattle.std.proofs.lemmas.List.{length-append, map-append, take_at, drop_more, drop-drop, take-append-drop, length-take, length-drop}
 use Rattle.std.proofs.lemmas.Bool.{cases_Bool, and_right}
 use Rattle.std.specs.Prelude.{codes}
@@ -34,10 +34,6 @@ abbrev joined_read : List (List ℕ) → ℕ → Option (List (List ℕ) × ℕ)
 joined_read ls n None = None
 joined_read ls n (Some (ms, m)) = Some (ls ++ ms, n + m)
 
-joined_read-none : (o : Option (List (List ℕ) × ℕ)) → joined_read [] 0 o ≡ o
-joined_read-none None = refl
-joined_read-none (Some (ms, m)) = ap (λ k. Some (ms, k)) (zero-add m)
-
 joined_read-more : (ls : List (List ℕ)) (l : List ℕ) (n k : ℕ) (o : Option (List (List ℕ) × ℕ)) → joined_read ls n (onto_read l k o) ≡ joined_read (ls ++ l ∷ []) (n + k) o
 joined_read-more ls l n k None = refl
 joined_read-more ls l n k (Some (ms, m)) = simp (append_assoc, add_assoc)
@@ -46,9 +42,6 @@ joined_read-more ls l n k (Some (ms, m)) = simp (append_assoc, add_assoc)
 pub record HasRead (octets front rest : List ℕ) : Type 0 where
   pub lines : (more : List ℕ) → lines_of (front ++ more) ≡ lines_of front ++ lines_of more
   pub read : read_lines (pieces octets) ≡ joined_read (map without_dot (lines_of front)) (length front) (read_lines (pieces rest))
-
-pub HasRead-none : (octets : List ℕ) → HasRead octets [] octets
-HasRead-none octets = record { lines = λ more. refl; read = sym (joined_read-none (read_lines (pieces octets))) }
 
 pub HasRead-more : (octets front p rest : List ℕ) → HasRead octets front (p ++ 10 ∷ rest) → Unbroken p → bytes_eq (without_return p) (codes ".") ≡ false
     → HasRead octets (front ++ (p ++ 10 ∷ [])) rest

@@ -1,6 +1,6 @@
 -- Texts that come in pieces: what is sent of them, and what belongs to TOP's part.
 use Rattle.std.proofs.Common.{◌≡◌, ℕ, zero, suc, ◌+◌, ◌-◌, ◌<◌, ◌≤◌, List, [], ◌∷◌, ◌++◌, Bool, true, false, ◌&&◌, length, take, drop, get_or, set, refl, sym, ◌∙◌, ap, ap₂, arith}
-use Rattle.std.proofs.Common.{append_assoc, append-nil, add-one, eqb, eqb-true, ne_eqb, ⊎_elim}
+use Rattle.std.proofs.Common.{append_assoc, append-nil, add-one, eqb, eqb-true, ⊎_elim}
 use Rattle.std.proofs.lemmas.Bool.{cases_Bool, and_parts}
 use Rattle.std.proofs.lemmas.List.{drop_more, drop_all, drop-drop, take-append-drop, take_at, take_more, take_rest, take-take, drop_at, drop-append-le, length-append, length-drop}
 use Rattle.std.proofs.lemmas.List.{length-take, length-take-le}
@@ -11,6 +11,7 @@ use Rattle.mailtext.specs.Streams.{stuffed_from, front_at, Come, nothing_come, i
 use Rattle.mailtext.specs.declared.top_cut.Place.{Place}
 use Rattle.mailtext.specs.declared.top_cut.Place.TheVariants.{Front, Return, Inside, Body}
 use Rattle.mailtext.proofs.LineLemmas.{Unbroken, AreLines, AreLines-lines_of}
+use Rattle.mailtext.proofs.PartLemmas.{some_left, one_less}
 
 -- ---- what is sent
 
@@ -180,12 +181,6 @@ top_from-done (b ∷ bs) = refl
 pub top_from-over : (come : Come) (bs : List ℕ) → is_over come ≡ true → top_from come bs ≡ []
 top_from-over come [] e = refl
 top_from-over come (b ∷ bs) e = rw e refl
-
-some_left : (n : ℕ) → eqb (suc n) 0 ≡ false
-some_left n = ne_eqb (suc n) 0 (omega arith)
-
-one_less : (n : ℕ) → suc n - 1 ≡ n
-one_less n = omega arith
 
 top_from-body_line : (l rest : List ℕ) (n : ℕ) → Unbroken l → top_from (at Body (suc n)) (l ++ (line_end ++ rest)) ≡ l ++ (line_end ++ top_from (at Body n) rest)
 top_from-body_line [] rest n h = rw (some_left n, one_less n) refl

@@ -1,13 +1,13 @@
 -- The lines of a text written out line by line.
 use Rattle.std.proofs.Common.{◌≡◌, ◌≢◌, ℕ, zero, suc, ◌+◌, ◌<◌, List, [], ◌∷◌, ◌++◌, true, false}
-use Rattle.std.proofs.Common.{map, length, get_or, take, drop, refl, sym, ◌∙◌, ap, arith, append_assoc, subst}
+use Rattle.std.proofs.Common.{length, get_or, take, drop, refl, sym, ◌∙◌, ap, arith, append_assoc, subst}
 use Rattle.std.proofs.Common.{eqb, eqb-true, ⊎_elim, inl, inr}
 use Rattle.std.proofs.lemmas.List.{drop_more, length-append, length-take-le, take-append-drop, take_all, append_cancel_left}
 use Rattle.std.proofs.lemmas.Bool.{cases_Bool}
 use Rattle.std.specs.Prelude.{◌⊎◌, ◌↔◌}
 use Rattle.memchr.specs.Find.{Nowhere, Passes, is_byte}
-use Rattle.mailtext.specs.Text.{line_end, lines_of, ended, kept_form, stuffed_lines, without_dot, without_return}
-use Rattle.mailtext.specs.Written.{written, dotted}
+use Rattle.mailtext.specs.Text.{line_end, lines_of, ended, kept_form, without_return}
+use Rattle.mailtext.specs.Written.{written}
 use Rattle.mailtext.specs.declared.lines.Dots.{Dots}
 use Rattle.mailtext.specs.declared.lines.Dots.TheVariants.{Kept, Doubled, Dropped}
 use Rattle.mailtext.proofs.LineLemmas.{Unbroken, lines_of-piece, lines_of-unended, lines_of-some}
@@ -43,12 +43,6 @@ pub lines_of-whole : (text : List ℕ) → 0 < length text → Nowhere (Passes (
 lines_of-whole text some none = lines_of-unended text (Unbroken-whole text none) some
 
 -- ---- what is written
-
--- a line is written before those of the rest
-pub written-line : (dots : Dots) (text l rest : List ℕ) → lines_of text ≡ l ∷ lines_of rest → written dots text ≡ (dotted dots l ++ line_end) ++ written dots rest
-written-line Kept text l rest e = ap ended e
-written-line Doubled text l rest e = ap stuffed_lines e
-written-line Dropped text l rest e = ap (λ ls. ended (map without_dot ls)) e
 
 -- a text without an octet has none
 pub written-empty : (dots : Dots) (text : List ℕ) → length text ≡ 0 → written dots text ≡ []

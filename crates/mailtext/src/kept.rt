@@ -142,7 +142,7 @@ impl MailText {
     }
 
     /// How many octets it has through its first empty line, or all if no line is empty (RFC 822,
-    /// section 3.1).
+    /// section 3.1). Only tests call it.
     pub fn header_len(&self) -> usize
         ensures { result ≡ header_len (lines_of self.now) }
     {

@@ -15,7 +15,8 @@ use std::ops::Range;
 /// one. They are meant to be a kept form, or a part of one that ends with a line; of any other text
 /// they are the lines of its kept form.
 ///
-/// The room for them all is made first, so that if memory is refused `out` stays as it was.
+/// The room for them all is made first, so that if memory is refused `out` stays as it was. Only
+/// tests and benchmarks call it: the program writes a text piece by piece, with a [`Stuffer`].
 pub fn stuff_into(out: &mut Vec<u8>, lines: &[u8]) -> Result<(), AllocError>
     ensures ok { OnOk result (out.new.items ≡ out.old.items ++ stuffed_lines (lines_of lines.now)) }
     ensures err { OnErr result (out.new.items ≡ out.old.items) }
@@ -28,7 +29,8 @@ pub fn stuff_into(out: &mut Vec<u8>, lines: &[u8]) -> Result<(), AllocError>
 
 /// What a client reads of `octets`, which begin after the first line of a reply of many lines: the
 /// lines before the first ended line that is a dot, each with CRLF and without one dot at its
-/// front, and how many octets were read with the dot's line. `None` if no such line has come.
+/// front, and how many octets were read with the dot's line. `None` if no such line has come. Only
+/// tests and benchmarks call it.
 pub fn unstuff(alloc: Global, octets: &[u8]) -> Result<Option<(Vec<u8>, usize)>, AllocError>
     ensures { IfOk result (λ read. MatchOption read (unstuffed octets.now ≡ None)
         (λ found. unstuffed octets.now ≡ Some (found.0.items, found.1))) }

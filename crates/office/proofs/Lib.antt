@@ -58,6 +58,7 @@ mod AfterLines
 mod LineDone
 mod PieceDone
 mod TakingDone
+mod TakingExits
 mod Alike
 mod Naming
 mod Listed

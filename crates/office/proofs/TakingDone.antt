@@ -34,18 +34,20 @@ use Rattle.office.proofs.Accounts.{line_so, all_taken}
 use Rattle.office.proofs.LineDone.{judges, line_moves}
 
 -- what is known if a connection is lent at least what was taken of it
-pub record IsTaking {V : Type 0} (o : Office V) (T : Trace) (c : Contents) (x n : ℕ) (k : Kept) : Type 0 where
-  pub matches : Matches c (seen T x) k
+pub record IsTaking {V : Type 0} {Holds : V → Contents → Type 0} {o : Office V} {T : Trace} (st : StandsFor Holds o T) (x n : ℕ) (k : Kept) : Type 0 where
+  pub found : get nat_cmp o.connections x ≡ Some k
+  pub matches : Matches st.keeps.contents (seen T x) k
   pub fits : n ≤ length k.output.ready
   pub goes : ignored T (lent_by o) (Took x n) ≡ None
   pub reads_none : may_show T (Took x n) Failed ≡ false → reads_text k.output.source ≡ false
 
 pub taking_at : {V : Type 0} {Holds : V → Contents → Type 0} (o : Office V) (T : Trace) (st : StandsFor Holds o T) (x n : ℕ) (k : Kept) → get nat_cmp o.connections x ≡ Some k
-    → (0 < n) × (n ≤ length (lent_of k.output)) → IsTaking o T st.keeps.contents x n k
+    → (0 < n) × (n ≤ length (lent_of k.output)) → IsTaking st x n k
 taking_at o T st x n k found lends =
     let m = kept_at T x st k found in
     let fits = lent_ready k.output n lends.1 in
     record {
+      found = found;
       matches = m;
       fits = fits;
       goes = took_goes T (lent_by o) x n m.opened lends.0 (subst (λ (e : Option Kept). n ≤ length_of_lent e) (sym found) lends.1);

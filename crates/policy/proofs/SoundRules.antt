@@ -16,7 +16,7 @@ use Rattle.policy.specs.declared.rule.Pattern.{Pattern}
 use Rattle.policy.specs.declared.rule.Pattern.TheVariants.{Any, Is}
 use Rattle.policy.specs.declared.rule.Rule.{Rule}
 use Rattle.policy.specs.declared.read.Subject.{Subject}
-use Rattle.policy.specs.Policy.{Group, Policy, default_rule, are_clerks, are_distinct, are_members, are_sound_groups, has_group, is_sound_group, is_sound_policy, know_groups}
+use Rattle.policy.specs.Policy.{Group, default_rule, are_clerks, are_distinct, are_sound_groups, has_group, is_sound_group}
 use Rattle.policy.specs.Policy.{most_groups, same_group, same_name, is_any, is_pattern, lists_any, is_sound_rule, are_sound_rules, most_rules}
 use Rattle.policy.specs.PolicyText.{clerks_named, clerks_of, name_at, is_sound_subject, has_name, rule_name_of, named, pattern_of, action_of, with_action, with_item, with_items}
 use Rattle.policy.specs.PolicyText.{no_actions, actions_of_items, actions_of}
@@ -148,18 +148,10 @@ are_distinct-group (q ∷ groups) g h n =
 pub list_all-push : {A : Type 0} (p : A → Bool) (xs : List A) (x : A) → list_all p xs ≡ true → p x ≡ true → list_all p (xs ++ x ∷ []) ≡ true
 list_all-push p xs x h s = rw (list_all-append p xs (x ∷ []), h, s) refl
 
--- a sound group, from its parts
-pub is_sound_group-by : (g : Group) → is_name g.name ≡ true → list_all is_name g.members ≡ true → are_members g.members ≡ true → is_sound_group g ≡ true
-is_sound_group-by g n f m = rw (n, f, m) refl
-
 -- sound groups of their own names, and not too many
 pub are_sound_groups-by : (groups : List Group) → list_all is_sound_group groups ≡ true → are_distinct same_group groups ≡ true
     → nat_le (length groups) most_groups ≡ true → are_sound_groups groups ≡ true
 are_sound_groups-by groups s d f = rw (s, d, f) refl
-
--- a sound policy, from its parts
-pub is_sound_policy-by : (p : Policy) → are_sound_groups p.groups ≡ true → are_sound_rules p.rules ≡ true → know_groups p.groups p.rules ≡ true → is_sound_policy p ≡ true
-is_sound_policy-by p g r k = rw (g, r, k) refl
 
 -- sound rules of their own names, and not too many
 pub are_sound-by : (rules : List Rule) → list_all is_sound_rule rules ≡ true → are_distinct same_name rules ≡ true → nat_le (length rules) most_rules ≡ true → are_sound_rules rules ≡ true

@@ -78,7 +78,7 @@ impl<'a> Lane<'a> {
     }
 
     /// How many rules of the policy are about the clerk and the maildrop. It looks at every rule
-    /// of the policy, and takes no memory.
+    /// of the policy, and takes no memory. Only tests call it.
     pub fn places(&self) -> usize
         ensures { result ≡ length (rules_about self.now) }
     {

@@ -117,7 +117,7 @@ impl Policy {
 
     /// The policy of these rules, in this order, without groups. `None` if they aren't sound:
     /// more than 1,000, two of one name, or one that no text without groups could spell. An `Err`
-    /// is want of memory.
+    /// is want of memory. Only tests call it.
     pub fn from_rules(rules: Vec<Rule>) -> Result<Option<Policy>, AllocError>
         ensures { IfOk result (λ policy. policy ≡ policy_of rules.items) }
     {

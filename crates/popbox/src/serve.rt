@@ -3,8 +3,7 @@ ghost use Rattle.std.specs.Prelude.{◌≡◌, IfSome};
 ghost use Rattle.vault.specs.Changes.{Contents};
 ghost use Rattle.office.specs.Events.{Trace};
 ghost use Rattle.office.specs.Stands.{Keeps, StandsFor, vault_of};
-ghost use Rattle.serving.specs.Running.{WasServed};
-ghost use Rattle.popbox.specs.Served.{IsServed, limits_by};
+ghost use Rattle.popbox.specs.Served.{IsServed, WasServedBySome, limits_by};
 
 use crate::options::ServeOptions;
 use crate::version::{IS_PROVED, SLOW};
@@ -183,7 +182,7 @@ fn serve<'a, V: Vault, E: Write>(
 ) -> (Result<u8, Fault>, Office<V>)
     ensures clean { V.is_clean (vault_of result.1) → V.is_clean (vault_of office) }
     ensures served { (T : Trace) → StandsFor V.holds office T → V.is_clean (vault_of result.1)
-        → WasServed V.holds V.faults T office result.1 }
+        → WasServedBySome V.holds V.faults T office result.1 }
 {
     let (wire, port, admin_port) = match listen(rt, at, options.admin_port) {
         Ok(listening) => listening,
@@ -282,7 +281,7 @@ fn serve_turns<'a, V: Vault, W: Wire + Drop>(
 ) -> (Result<u8, Fault>, Office<V>)
     ensures clean { V.is_clean (vault_of result.1) → V.is_clean (vault_of office) }
     ensures served { (T : Trace) → StandsFor V.holds office T → V.is_clean (vault_of result.1)
-        → WasServed V.holds V.faults T office result.1 }
+        → WasServedBySome V.holds V.faults T office result.1 }
 {
     let mut server = Server {
         office,
@@ -311,7 +310,7 @@ fn serve_until<V: Vault, W: Wire, S: Spool, L: Listener>(
         → V.is_clean (vault_of server.old.office) }
     ensures served { (T : Trace) → StandsFor V.holds server.old.office T
         → V.is_clean (vault_of server.new.office)
-        → WasServed V.holds V.faults T server.old.office server.new.office }
+        → WasServedBySome V.holds V.faults T server.old.office server.new.office }
 {
     let mut links = server.begin(rt.alloc(), spool);
     links.set_wait(u64::from(options.wait));

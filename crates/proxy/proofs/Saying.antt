@@ -17,12 +17,12 @@ four_is_six e = omega arith
 t_is_u : ◌≡◌ {A = ℕ} 84 85 → ⊥
 t_is_u e = omega arith
 
-pub nothing_told_v4 : (text : List ℕ) → word text ≡ codes "TCP4" → ((a : Ipv4Addr) → AreEnds IsIpv4Text (rest text) a → ⊥) → (source : Option IpAddr) → Tells text source → ⊥
-nothing_told_v4 text is none None t = apart 0 (codes "TCP4") (codes "UNKNOWN") (word text) is t t_is_u
-nothing_told_v4 text is none (Some (V4 a)) t = none a t.1
-nothing_told_v4 text is none (Some (V6 a)) t = apart 3 (codes "TCP4") (codes "TCP6") (word text) is t.0 four_is_six
+pub no_source_v4 : (text : List ℕ) → word text ≡ codes "TCP4" → ((a : Ipv4Addr) → AreEnds IsIpv4Text (rest text) a → ⊥) → (source : Option IpAddr) → Tells text source → ⊥
+no_source_v4 text is none None t = apart 0 (codes "TCP4") (codes "UNKNOWN") (word text) is t t_is_u
+no_source_v4 text is none (Some (V4 a)) t = none a t.1
+no_source_v4 text is none (Some (V6 a)) t = apart 3 (codes "TCP4") (codes "TCP6") (word text) is t.0 four_is_six
 
-pub nothing_told_v6 : (text : List ℕ) → word text ≡ codes "TCP6" → ((a : Ipv6Addr) → AreEnds IsIpv6Text (rest text) a → ⊥) → (source : Option IpAddr) → Tells text source → ⊥
-nothing_told_v6 text is none None t = apart 0 (codes "TCP6") (codes "UNKNOWN") (word text) is t t_is_u
-nothing_told_v6 text is none (Some (V4 a)) t = apart 3 (codes "TCP6") (codes "TCP4") (word text) is t.0 (λ e. four_is_six (sym e))
-nothing_told_v6 text is none (Some (V6 a)) t = none a t.1
+pub no_source_v6 : (text : List ℕ) → word text ≡ codes "TCP6" → ((a : Ipv6Addr) → AreEnds IsIpv6Text (rest text) a → ⊥) → (source : Option IpAddr) → Tells text source → ⊥
+no_source_v6 text is none None t = apart 0 (codes "TCP6") (codes "UNKNOWN") (word text) is t t_is_u
+no_source_v6 text is none (Some (V4 a)) t = apart 3 (codes "TCP6") (codes "TCP4") (word text) is t.0 (λ e. four_is_six (sym e))
+no_source_v6 text is none (Some (V6 a)) t = none a t.1

@@ -37,16 +37,16 @@ impl ProxyLine {
         if end != b"\r\n".as_slice() {
             return None;
         }
-        let (name, told) = split_word(text);
+        let (name, rest) = split_word(text);
         if name != b"PROXY".as_slice() {
             return None;
         }
-        told_by(told)
+        read_source(rest)
     }
 }
 
-/// What stands after `PROXY` and a space.
-fn told_by(text: &[u8]) -> Option<ProxyLine>
+/// Reads what stands after `PROXY` and a space.
+fn read_source(text: &[u8]) -> Option<ProxyLine>
     ensures { MatchOption result ((source : Option Address) → ¬ (Tells text.now source))
         (λ it. Tells text.now it.source) }
 {

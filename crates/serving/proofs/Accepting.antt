@@ -12,7 +12,7 @@ use Rattle.office.specs.Taken.{trace_of, all_taken_by}
 use Rattle.office.specs.Expected.{IsOutcome, ignored, shown_at, or_ignored}
 use Rattle.office.specs.Outcomes.{Outcome, Reason, event_tag_of}
 use Rattle.serving.specs.Wires.{Told, has_accepted, has_closed, begun_at, opened_by}
-use Rattle.serving.specs.Served.{given_by, Owners, IsServed, AreServed, IsOwnEvent, AreOwnEvents, Adds, IsCommand, Beside}
+use Rattle.serving.specs.Served.{given_by, Owners, IsServed, AreServed, IsOwnEvent, AreOwnEvents, Adds, IsCommand, Elsewhere}
 use Rattle.serving.proofs.Keeping.{stays, of_some, served_closed}
 use Rattle.serving.proofs.Staying.{frame_connect}
 
@@ -217,8 +217,8 @@ events_still owner after more [] i = tt
 events_still owner after more ((e, m) ∷ L) i = (either_still owner after more e i.0, events_still owner after more L i.1)
 
 pub adds_still : (owner after : Owners) → ((k c : ℕ) → owner k ≡ Some c → after k ≡ Some c)
-    → (B : Records) (older L : Log) (beside : Beside) (calls : ℕ) → Adds owner B older L beside calls → Adds after B older L beside calls
-adds_still owner after more B older L beside calls a = record {
+    → (B : Records) (older L : Log) (elsewhere : Elsewhere) (calls : ℕ) → Adds owner B older L elsewhere calls → Adds after B older L elsewhere calls
+adds_still owner after more B older L elsewhere calls a = record {
   events = record { more = a.events.more; is = a.events.is; each = events_still owner after more a.events.more a.events.each; filed = a.events.filed; counted = a.events.counted };
   requests = a.requests;
 }

@@ -1,4 +1,5 @@
 -- Links that come, one after the other, and those that are closed.
+use Rattle.vault.specs.declared.vault.Vault.{Ghosts}
 use Rattle.std.proofs.Common.{◌≡◌, ℕ, zero, suc, ◌+◌, ◌<◌, ◌≤◌, Bool, true, false, not, ◌||◌, List, [], ◌∷◌, ◌++◌, length, take, drop, map, get_or, refl, sym, ◌∙◌, ap, arith, Some}
 use Rattle.std.proofs.Common.{None, ⊎_elim, inl, inr, subst, append_assoc, length-append}
 use Rattle.std.specs.Bool.{if◌then◌else◌}
@@ -6,7 +7,6 @@ use Rattle.std.specs.List.{list_any, filter, filter_map, remove}
 use Rattle.std.proofs.lemmas.Bool.{cases_Bool}
 use Rattle.std.proofs.lemmas.List.{append-nil, map-append}
 use Rattle.std.proofs.lemmas.List.Elements.{All-nil, All-cons, All-append, filter_map-append}
-use Rattle.vault.specs.Changes.{Contents}
 use Rattle.office.specs.History.{Done, Failed, NoMemory}
 use Rattle.office.specs.Events.{EventTag, Tagged, Ignored, Log, Trace}
 use Rattle.office.specs.Events as event
@@ -46,8 +46,8 @@ refusal_so (Tagged NoMemory) r = refl
 joined : {A : Type 0} (a b c d : List A) → a ≡ c → b ≡ d → a ++ b ≡ c ++ d
 joined a b c d p q = cc
 
-module _ {V : Type 0} (Holds : V → Contents → Type 0) (IsClean : V → Type 0) (Faults : V → ℕ) (IsUp : V → Type 0) (MayLeave : V → Contents → Type 0) where
-  pub come_none : (o : Office V) (seats : List Seat) → HaveCome Holds IsClean o o seats seats [] [] []
+module _ {V : Type 0} (vault : Ghosts V) where
+  pub come_none : (o : Office V) (seats : List Seat) → HaveCome vault.holds vault.is_clean o o seats seats [] [] []
   come_none o seats = record {
     no_moments = refl;
     no_waits = refl;
@@ -62,10 +62,10 @@ module _ {V : Type 0} (Holds : V → Contents → Type 0) (IsClean : V → Type 
     caused = All-nil (HasCause [] []);
   }
 
-  pub accepted_full : (o : Office V) (seats : List Seat) → length seats ≡ 128 → AreAccepted Holds IsClean o o seats seats 1 false [] []
+  pub accepted_full : (o : Office V) (seats : List Seat) → length seats ≡ 128 → AreAccepted vault.holds vault.is_clean o o seats seats 1 false [] []
   accepted_full o seats full = record { came = []; come = come_none o seats; enough = λ e. cc; all = λ e. inr full }
 
-  pub accepted_none : (o : Office V) (seats : List Seat) → AreAccepted Holds IsClean o o seats seats 1 false [] (Accepted Pop None ∷ [])
+  pub accepted_none : (o : Office V) (seats : List Seat) → AreAccepted vault.holds vault.is_clean o o seats seats 1 false [] (Accepted Pop None ∷ [])
   accepted_none o seats = record {
     came = [];
     come = record {
@@ -86,7 +86,7 @@ module _ {V : Type 0} (Holds : V → Contents → Type 0) (IsClean : V → Type 
   }
 
   pub accepted_seated : (o o1 : Office V) (seats seats_then : List Seat) (link : Link) (c : ℕ) (m : EventTag) → m ≡ Tagged Done → seats_then ≡ seats ++ record { link = link; connection = c } ∷ []
-      → AreAccepted Holds IsClean o o1 seats seats_then 1 true ((event.Connect, m) ∷ []) (Accepted Pop (Some link) ∷ [])
+      → AreAccepted vault.holds vault.is_clean o o1 seats seats_then 1 true ((event.Connect, m) ∷ []) (Accepted Pop (Some link) ∷ [])
   accepted_seated o o1 seats seats_then link c m e is = record {
     came = Seated (record { link = link; connection = c }) ∷ [];
     come = record {
@@ -106,8 +106,9 @@ module _ {V : Type 0} (Holds : V → Contents → Type 0) (IsClean : V → Type 
     all = λ e. cc;
   }
 
-  pub accepted_unseated : (o o1 : Office V) (seats : List Seat) (link : Link) (m : EventTag) → ((T : Trace) → StandsFor Holds o T → IsClean (vault_of o1) → is_refusal (event.Connect, m) ≡ true)
-      → AreAccepted Holds IsClean o o1 seats seats 1 true ((event.Connect, m) ∷ []) (Accepted Pop (Some link) ∷ Closed Pop link ∷ [])
+  pub accepted_unseated : (o o1 : Office V) (seats : List Seat) (link : Link) (m : EventTag)
+      → ((T : Trace) → StandsFor vault.holds o T → vault.is_clean (vault_of o1) → is_refusal (event.Connect, m) ≡ true)
+      → AreAccepted vault.holds vault.is_clean o o1 seats seats 1 true ((event.Connect, m) ∷ []) (Accepted Pop (Some link) ∷ Closed Pop link ∷ [])
   accepted_unseated o o1 seats link m r = record {
     came = TurnedAway link ∷ [];
     come = record {
@@ -130,8 +131,9 @@ module _ {V : Type 0} (Holds : V → Contents → Type 0) (IsClean : V → Type 
   -- ---- one after the other
 
   come_then : (o o1 o2 : Office V) (seats seats1 seats2 : List Seat) (came1 came2 : List Came) (g1 g2 : Log) (c1 c2 : List Call)
-      → WasGiven Holds IsClean Faults IsUp MayLeave o o1 g1 → WasGiven Holds IsClean Faults IsUp MayLeave o1 o2 g2
-      → HaveCome Holds IsClean o o1 seats seats1 came1 g1 c1 → HaveCome Holds IsClean o1 o2 seats1 seats2 came2 g2 c2 → HaveCome Holds IsClean o o2 seats seats2 (came1 ++ came2) (g2 ++ g1) (c1 ++ c2)
+      → WasGiven vault o o1 g1 → WasGiven vault o1 o2 g2
+      → HaveCome vault.holds vault.is_clean o o1 seats seats1 came1 g1 c1 → HaveCome vault.holds vault.is_clean o1 o2 seats1 seats2 came2 g2 c2
+      → HaveCome vault.holds vault.is_clean o o2 seats seats2 (came1 ++ came2) (g2 ++ g1) (c1 ++ c2)
   come_then o o1 o2 seats seats1 seats2 came1 came2 g1 g2 c1 c2 wa wb a b = record {
     no_moments = none_joined moment_of g2 g1 b.no_moments a.no_moments;
     no_waits = none_joined wait_of c1 c2 a.no_waits b.no_waits;
@@ -153,13 +155,13 @@ module _ {V : Type 0} (Holds : V → Contents → Type 0) (IsClean : V → Type 
     caused = caused_then [] g1 g2 c1 c2 a.caused b.caused;
   }
 
-  pub accepting_none : (o : Office V) (seats : List Seat) → AreAccepted Holds IsClean o o seats seats 0 true [] []
+  pub accepting_none : (o : Office V) (seats : List Seat) → AreAccepted vault.holds vault.is_clean o o seats seats 0 true [] []
   accepting_none o seats = record { came = []; come = come_none o seats; enough = λ e. omega arith; all = λ e. cc }
 
   pub accepted_then : (o o1 o2 : Office V) (seats seats1 seats2 : List Seat) (n : ℕ) (goes : Bool) (g1 g2 : Log) (c1 c2 : List Call)
-      → WasGiven Holds IsClean Faults IsUp MayLeave o o1 g1 → WasGiven Holds IsClean Faults IsUp MayLeave o1 o2 g2
-      → AreAccepted Holds IsClean o o1 seats seats1 n true g1 c1 → AreAccepted Holds IsClean o1 o2 seats1 seats2 1 goes g2 c2
-      → AreAccepted Holds IsClean o o2 seats seats2 (n + 1) goes (g2 ++ g1) (c1 ++ c2)
+      → WasGiven vault o o1 g1 → WasGiven vault o1 o2 g2
+      → AreAccepted vault.holds vault.is_clean o o1 seats seats1 n true g1 c1 → AreAccepted vault.holds vault.is_clean o1 o2 seats1 seats2 1 goes g2 c2
+      → AreAccepted vault.holds vault.is_clean o o2 seats seats2 (n + 1) goes (g2 ++ g1) (c1 ++ c2)
   accepted_then o o1 o2 seats seats1 seats2 n goes g1 g2 c1 c2 wa wb a b = record {
     came = a.came ++ b.came;
     come = come_then o o1 o2 seats seats1 seats2 a.came b.came g1 g2 c1 c2 wa wb a.come b.come;
@@ -172,11 +174,11 @@ module _ {V : Type 0} (Holds : V → Contents → Type 0) (IsClean : V → Type 
   }
 
   pub accepted_ended : (o o1 : Office V) (seats seats1 : List Seat) (n most : ℕ) (g : Log) (c : List Call)
-      → AreAccepted Holds IsClean o o1 seats seats1 n false g c → AreAccepted Holds IsClean o o1 seats seats1 most false g c
+      → AreAccepted vault.holds vault.is_clean o o1 seats seats1 n false g c → AreAccepted vault.holds vault.is_clean o o1 seats seats1 most false g c
   accepted_ended o o1 seats seats1 n most g c a = record { came = a.came; come = a.come; enough = λ e. cc; all = a.all }
 
   pub accepted_all : (o o1 : Office V) (seats seats1 : List Seat) (n most : ℕ) (g : Log) (c : List Call) → most ≤ n
-      → AreAccepted Holds IsClean o o1 seats seats1 n true g c → AreAccepted Holds IsClean o o1 seats seats1 most true g c
+      → AreAccepted vault.holds vault.is_clean o o1 seats seats1 n true g c → AreAccepted vault.holds vault.is_clean o o1 seats seats1 most true g c
   accepted_all o o1 seats seats1 n most g c h a = record { came = a.came; come = a.come; enough = λ e. (let p = a.enough e in omega (arith, p, h)); all = a.all }
 
 -- ---- closing

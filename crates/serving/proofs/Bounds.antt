@@ -32,7 +32,7 @@ use Rattle.adminhttp.specs.Sites.{Site, is_own}
 use Rattle.serving.specs.declared.requests.Exchange.{Exchange}
 use Rattle.serving.specs.declared.links.Links.{Links}
 use Rattle.serving.specs.Requests.{octets_of, HasOneMore, IsGiven, NotYet, NoCommand, GivenOne}
-use Rattle.serving.specs.HttpWorks.{IsShort, AreShort, HaveComeForAdmin, NoMore, IsKept, IsTurnedAway, WantsMemory, ComesTo, HasHeard, IsOver, HasResponse, GaveNothing, GaveItsEnd}
+use Rattle.serving.specs.HttpWorks.{IsShort, AreShort, HaveComeForAdmin, NoMore, IsKept, IsTurnedAway, WantsMemory, ComesTo, HasRead, IsOver, HasResponse, GaveNothing, GaveItsEnd}
 use Rattle.serving.specs.HttpWorks.{GaveAPiece, HasHttpTurn, IsLate, IsServed, HadHttpTurns, NoneHeld, IsHeldOn, IsClosed}
 use Rattle.serving.specs.Seen.{Seen, before_commands}
 use Rattle.serving.specs.Turns.{Accepts, ServesAdmin}
@@ -304,12 +304,12 @@ module _ (site : Site) (now : ℕ) (B : Records) where
   piece_short L g whole items None comes is = let k = given_short L (g ++ L) whole comes.place None comes.is refl in subst (λ l. length l < 1056768) (sym is) k
   piece_short L g whole items (Some r) comes is = tt
 
-  heard_short : (L : Log) (e e_then : Exchange) (g : Log) (c : List Call) → HasHeard site B L e e_then g c → e_then.is_over ≡ false → IsShort e → IsShort e_then
-  heard_short L e e_then _ _ (IsOver over same) live a = subst IsShort (sym same) a
-  heard_short L e e_then _ _ (HasResponse some same) live a = subst IsShort (sym same) a
-  heard_short L e e_then _ _ (GaveNothing none same) live a = subst IsShort (sym same) a
-  heard_short L e e_then _ _ (GaveItsEnd io none fault over) live a = absurd (true≢false (sym over ∙ live))
-  heard_short L e e_then _ _ (GaveAPiece n piece given none goes comes reads link written) live a = piece_short L given (e.read.items ++ piece) e_then.read.items e_then.response comes reads
+  read_short : (L : Log) (e e_then : Exchange) (g : Log) (c : List Call) → HasRead site B L e e_then g c → e_then.is_over ≡ false → IsShort e → IsShort e_then
+  read_short L e e_then _ _ (IsOver over same) live a = subst IsShort (sym same) a
+  read_short L e e_then _ _ (HasResponse some same) live a = subst IsShort (sym same) a
+  read_short L e e_then _ _ (GaveNothing none same) live a = subst IsShort (sym same) a
+  read_short L e e_then _ _ (GaveItsEnd io none fault over) live a = absurd (true≢false (sym over ∙ live))
+  read_short L e e_then _ _ (GaveAPiece n piece given none goes comes reads link written) live a = piece_short L given (e.read.items ++ piece) e_then.read.items e_then.response comes reads
 
   live_before : (x q y : Bool) → y ≡ (x || q) → y ≡ false → x ≡ false
   live_before true q y a e = absurd (true≢false (sym a ∙ e))
@@ -319,7 +319,7 @@ module _ (site : Site) (now : ℕ) (B : Records) where
   turn_short L e e_then _ _ (IsLate late over) live a = absurd (true≢false (sym over ∙ live))
   turn_short L e e_then _ _ (IsServed between given reads writes late heard told) live a =
       let goes = live_before between.is_over _ e_then.is_over told.is.over live in
-      let k = heard_short L e between given reads heard goes a in
+      let k = read_short L e between given reads heard goes a in
       subst (λ r. IfNone r (length e_then.read.items < 1056768)) (sym told.is.response) (subst (λ v. IfNone between.response (length v.items < 1056768)) (sym told.is.read) k)
 
   pub turns_short : (L : Log) (held held_then : List Exchange) (g : Log) (c : List Call) → HadHttpTurns site now B L held held_then g c → All IsShort held → All IsShort held_then

@@ -1,11 +1,11 @@
 -- What the parts of a turn do together.
+use Rattle.vault.specs.declared.vault.Vault.{Ghosts}
 use Rattle.std.proofs.Common.{◌≡◌, ◌||◌, ◌==◌, ℕ, ◌≤◌, Bool, true, false, not, List, [], ◌∷◌, ◌++◌, length, get_or, map, refl, sym, ◌∙◌, ap, arith, Some, Option, ⊎_elim, ◌⊎◌, inl}
 use Rattle.std.proofs.Common.{inr, subst, append_assoc, true≢false}
 use Rattle.std.specs.List.{All, Contains, list_any, filter, filter_map}
 use Rattle.std.proofs.lemmas.List.{append-nil}
 use Rattle.std.proofs.lemmas.List.Elements.{All-nil, All-cons, All-head, All-tail, All-append, All-weaker, filter_map-append, filter_agree}
 use Rattle.vault.specs.Records.{Records}
-use Rattle.vault.specs.Changes.{Contents}
 use Rattle.office.specs.Events.{EventTag, Tagged, Ignored, Log, Trace}
 use Rattle.office.specs.Events as event
 use Rattle.office.specs.Trace.{is_open}
@@ -22,7 +22,7 @@ use Rattle.serving.specs.Works.{openings, is_opening, refusals, is_refusal, HasC
 use Rattle.serving.specs.Ways.{way_by, HadTurn}
 use Rattle.serving.specs.Seen.{Seen}
 use Rattle.serving.specs.Works.{is_shut_seat, link_of_seat, IsLateGone, AreLateGone, has_moved, is_moving}
-use Rattle.serving.specs.Parts.{Part, Asking, Giving, IsQuiet, IsQuietFor, Also, PollsBy, Releases}
+use Rattle.serving.specs.Parts.{Part, Asking, Giving, IsQuiet, IsQuietFor, Also, PollsBy, PollsAfterClosing}
 use Rattle.serving.specs.ClientParts.{is_client_write, IsPassed, AreAccepted, IsNotedSo, WereServed, closing, AreClosed}
 use Rattle.serving.specs.Spools.{FileCall}
 use Rattle.serving.specs.HttpParts.{AskedApart, DidApart}
@@ -30,15 +30,15 @@ use Rattle.serving.specs.HttpWorks.{HasAcceptedForAdmin, HadHttpTurns}
 use Rattle.serving.specs.declared.requests.Exchange.{Exchange}
 use Rattle.serving.specs.Settings.{settings, last_tried}
 use Rattle.serving.specs.SpoolTurns.{IsSpoolTurn, has_dealt, SpoolPart}
-use Rattle.serving.specs.Hearing.{Hearing, WasTold, WithHeard, HeardApart, idle_ends, heard_of_all, late_ends}
+use Rattle.serving.specs.Hearing.{Hearing, HasHeard, WithHeard, HeardApart, idle_ends, heard_of_all, late_ends}
 use Rattle.serving.specs.Turns.{millis_of, HadItsTurn, Works}
 use Rattle.serving.proofs.Staying.{Fewer, deposit_same}
 use Rattle.serving.proofs.Resting.{rests_so, waits_then, not_true, is_left}
 use Rattle.serving.proofs.Arriving.{shut_moved}
-use Rattle.serving.proofs.Hearing.{told_then, turn_heard}
+use Rattle.serving.proofs.Hearing.{hears_then, turn_heard}
 use Rattle.serving.proofs.Turns.{served_so}
 use Rattle.serving.proofs.Offering.{none_offered, offered_left, offered_right, unwritten_turns, unwritten_accepted, unwritten_closings}
-use Rattle.serving.proofs.Freeing.{freed_left, freed_right}
+use Rattle.serving.proofs.Releasing.{released_left, released_right}
 use Rattle.serving.specs.Newcomers.{newcomer, limit, lies_unread, waited_of, AllHaveSeats, IsSettled, CountsFrom, IsComer}
 use Rattle.serving.specs.Late.{HasLived, IsNotedSince, HasEndedLate}
 use Rattle.serving.proofs.Timely.{lived_left, lived_right}
@@ -145,11 +145,11 @@ module _ (cp ca cq cl cr cx : List Call) where
   seen_fifth : (p : Call → Bool) → list_any p cr ≡ true → list_any p (((((cp ++ ca) ++ cq) ++ cl) ++ cr) ++ cx) ≡ true
   seen_fifth p h = any_left p ((((cp ++ ca) ++ cq) ++ cl) ++ cr) cx (any_right p (((cp ++ ca) ++ cq) ++ cl) cr h)
 
-accepted_so : {V : Type 0} (Holds : V → Contents → Type 0) (IsClean : V → Type 0) (Faults : V → ℕ) (IsUp : V → Type 0)
-    (MayLeave : V → Contents → Type 0) (o o1 : Office V) (seats seats1 : List Seat) (goes : Bool) (g : Log) (c all : List Call)
-    → (list_any tells_none c ≡ true → list_any tells_none all ≡ true) → (a : AreAccepted Holds IsClean o o1 seats seats1 64 goes g c) → HasAccepted (length seats1) all ⊎ (most_links ≤ length a.came)
-accepted_so Holds IsClean Faults IsUp MayLeave o o1 seats seats1 true g c all more a = inr (a.enough refl)
-accepted_so Holds IsClean Faults IsUp MayLeave o o1 seats seats1 false g c all more a =
+accepted_so : {V : Type 0} (vault : Ghosts V) (o o1 : Office V) (seats seats1 : List Seat) (goes : Bool) (g : Log) (c all : List Call)
+    → (list_any tells_none c ≡ true → list_any tells_none all ≡ true) → (a : AreAccepted vault.holds vault.is_clean o o1 seats seats1 64 goes g c)
+    → HasAccepted (length seats1) all ⊎ (most_links ≤ length a.came)
+accepted_so vault o o1 seats seats1 true g c all more a = inr (a.enough refl)
+accepted_so vault o o1 seats seats1 false g c all more a =
     ⊎_elim
     (λ (none : none_waited c ≡ true). inl (inl (more none)))
     (λ (full : length seats1 ≡ 128). inl (inr full))
@@ -161,40 +161,41 @@ no_wait links e = rw e refl
 
 -- ---- the turn
 
-module _ {V W S H : Type 0} (Holds : V → Contents → Type 0) (IsClean : V → Type 0) (Faults : V → ℕ) (IsUp : V → Type 0)
-    (MayLeave : V → Contents → Type 0) (Asked : W → List Call → Type 0) (AskedFiles : S → List FileCall → Type 0) (Heard : H → List Hearing → Type 0) where
+module _ {V W S H : Type 0} (vault : Ghosts V) (Asked : W → List Call → Type 0) (AskedFiles : S → List FileCall → Type 0) (Heard : H → List Hearing → Type 0) where
   pub turn_done : (T : Trace) (now : ℕ) (links links_then : Links) (o o1 o2 o3 o4 o5 o6 : Office V) (w w1 w2 w3 w4 w5 w6 : W) (f f1 : S)
-      (l l1 l2 l3 l4 l5 : H) (seats2 : List Seat) (goes : Bool) (held : List Exchange) (more freed polling polled : Bool) (n0 n1 n2 : List Newcomer)
-      → Part Holds IsClean Faults IsUp MayLeave Asked o w o1 w1 (IsPassed (Waited (millis_of links) ∷ []) now)
-      → ((U : Trace) → StandsFor Holds o1 U → WasTold Heard l l1 (idle_ends U links.clients.seats.items))
-      → (acc : Part Holds IsClean Faults IsUp MayLeave Asked o1 w1 o2 w2 (AreAccepted Holds IsClean o1 o2 links.clients.seats.items seats2 64 goes))
+      (l l1 l2 l3 l4 l5 : H) (seats2 : List Seat) (goes : Bool) (held : List Exchange) (more lock_released polling polled : Bool) (n0 n1 n2 : List Newcomer)
+      → Part vault Asked o w o1 w1 (IsPassed (Waited (millis_of links) ∷ []) now)
+      → ((U : Trace) → StandsFor vault.holds o1 U → HasHeard Heard l l1 (idle_ends U links.clients.seats.items))
+      → (acc : Part vault Asked o1 w1 o2 w2 (AreAccepted vault.holds vault.is_clean o1 o2 links.clients.seats.items seats2 64 goes))
       → Asking Asked w2 w3 (AskedApart (HasAcceptedForAdmin now 64 more links.requests.exchanges.items held))
-      → WasTold Heard l1 l2 []
-      → Part Holds IsClean Faults IsUp MayLeave Asked o2 w3 o3 w4
-      (WithHeard Holds IsClean Heard o2 l2 o3 l3 (Also (WereServed Holds IsClean o2 o3 (settings links) now n0 freed polling n1 seats2 seats2) (PollsBy freed polling)))
-      → (freed ≡ true → polling ≡ true) → (polling ≡ true → polled ≡ true)
-      → Part Holds IsClean Faults IsUp MayLeave Asked o3 w4 o4 w5
-      (Also (DidApart Holds IsClean o3 o4 (HeardApart Heard l3 l4 (λ B L. HadHttpTurns links.site now B L held links_then.requests.exchanges.items))) (PollsBy false links_then.requests.poll_now))
+      → HasHeard Heard l1 l2 []
+      → Part vault Asked o2 w3 o3 w4
+      (WithHeard vault.holds vault.is_clean Heard o2 l2 o3 l3
+      (Also (WereServed vault.holds vault.is_clean o2 o3 (settings links) now n0 lock_released polling n1 seats2 seats2) (PollsBy lock_released polling)))
+      → (lock_released ≡ true → polling ≡ true) → (polling ≡ true → polled ≡ true)
+      → Part vault Asked o3 w4 o4 w5
+      (Also (DidApart vault.holds vault.is_clean o3 o4 (HeardApart Heard l3 l4 (λ B L. HadHttpTurns links.site now B L held links_then.requests.exchanges.items)))
+      (PollsBy false links_then.requests.poll_now))
       → ((c : ℕ) → waited_of now (newcomer c n0) ≡ waited_of now (newcomer c links.clients.newcomers.newcomers.items))
       → ((c : ℕ) (n : Newcomer) → newcomer c links.clients.newcomers.newcomers.items ≡ Some n → IsSettled now (Some n) (newcomer c n1))
       → (AllHaveSeats links → All (IsComer now links.clients.newcomers.newcomers.items n1) (filter_map seat_of acc.facts.came))
-      → Giving Holds IsClean Faults IsUp MayLeave o4 o5
-      (λ g. AreLateGone now (limit links (length seats2)) links.clients.newcomers.newcomers.items g × HasEndedLate Holds IsClean o4 o5 now (limit links (length seats2)) n1 n2 seats2 g
-      × WasTold Heard l4 l5 (late_ends now links.clients.newcomers.seconds links.clients.newcomers.newcomers.items g))
-      → ((U : Trace) → StandsFor Holds o5 U → (c : ℕ) → is_open U c ≡ true → newcomer c links_then.clients.newcomers.newcomers.items ≡ newcomer c n2)
-      → ((U : Trace) → StandsFor Holds o5 U
-      → Asking Asked w5 w6 (λ calls. AreClosed U seats2 links_then.clients.seats.items calls × PollsBy polling polled calls × Releases links.clients.wait polled calls))
-      → SpoolPart Holds IsClean Faults IsUp MayLeave AskedFiles o5 f o6 f1
+      → Giving vault o4 o5
+      (λ g. AreLateGone now (limit links (length seats2)) links.clients.newcomers.newcomers.items g × HasEndedLate vault.holds vault.is_clean o4 o5 now (limit links (length seats2)) n1 n2 seats2 g
+      × HasHeard Heard l4 l5 (late_ends now links.clients.newcomers.seconds links.clients.newcomers.newcomers.items g))
+      → ((U : Trace) → StandsFor vault.holds o5 U → (c : ℕ) → is_open U c ≡ true → newcomer c links_then.clients.newcomers.newcomers.items ≡ newcomer c n2)
+      → ((U : Trace) → StandsFor vault.holds o5 U
+      → Asking Asked w5 w6 (λ calls. AreClosed U seats2 links_then.clients.seats.items calls × PollsBy polling polled calls × PollsAfterClosing links.clients.wait polled calls))
+      → SpoolPart vault AskedFiles o5 f o6 f1
       (λ U given calls. IsSpoolTurn (last_tried links) (last_tried links_then) U given calls × (links_then.clients.poll_now ≡ (polled || has_dealt calls)))
-      → StandsFor Holds o T → IsClean (vault_of o6) → Works Holds Faults IsUp MayLeave Asked AskedFiles Heard T now links o w f l o6 links_then w6 f1 l5
-  turn_done T now links links_then o o1 o2 o3 o4 o5 o6 w w1 w2 w3 w4 w5 w6 f f1 l l1 l2 l3 l4 l5 seats2 goes held more freed polling polled n0 n1 n2
-      pass idle acc asked unheard served freeing still reqs waited keeps comers late forgets close spool s k6 =
+      → StandsFor vault.holds o T → vault.is_clean (vault_of o6) → Works vault.holds vault.faults vault.is_up vault.may_leave Asked AskedFiles Heard T now links o w f l o6 links_then w6 f1 l5
+  turn_done T now links links_then o o1 o2 o3 o4 o5 o6 w w1 w2 w3 w4 w5 w6 f f1 l l1 l2 l3 l4 l5 seats2 goes held more lock_released polling polled n0 n1 n2
+      pass idle acc asked unheard served releasing still reqs waited keeps comers late forgets close spool s k6 =
       let B = T.base in
       let L = T.log in
       let seconds = limit links (length seats2) in
       let newcomers = links.clients.newcomers.newcomers.items in
       let millis = millis_of links in
-      let way = way_by (settings links) now newcomers seats2 freed (millis_of links_then == 0) in
+      let way = way_by (settings links) now newcomers seats2 lock_released (millis_of links_then == 0) in
       let gp = pass.given in
       let ga = acc.given in
       let gl = served.given in
@@ -206,11 +207,11 @@ module _ {V W S H : Type 0} (Holds : V → Contents → Type 0) (IsClean : V →
       let G2 : Log = gl ++ G1 in
       let G3 : Log = gr ++ G2 in
       let G4 : Log = gx ++ G3 in
-      let u1 = given_then Holds IsClean Faults IsUp MayLeave o o1 o2 gp ga pass.was_given acc.was_given in
-      let u2 = given_then Holds IsClean Faults IsUp MayLeave o o2 o3 G1 gl u1 served.was_given in
-      let u3 = given_then Holds IsClean Faults IsUp MayLeave o o3 o4 G2 gr u2 reqs.was_given in
-      let ux = given_then Holds IsClean Faults IsUp MayLeave o4 o5 o6 gz gs late.was_given spool.was_given in
-      let u4 = given_then Holds IsClean Faults IsUp MayLeave o o4 o6 G3 gx u3 ux in
+      let u1 = given_then vault o o1 o2 gp ga pass.was_given acc.was_given in
+      let u2 = given_then vault o o2 o3 G1 gl u1 served.was_given in
+      let u3 = given_then vault o o3 o4 G2 gr u2 reqs.was_given in
+      let ux = given_then vault o4 o5 o6 gz gs late.was_given spool.was_given in
+      let u4 = given_then vault o o4 o6 G3 gx u3 ux in
       let k5 = spool.was_given.clean k6 in
       let k4 = late.was_given.clean k5 in
       let k3 = reqs.was_given.clean k4 in
@@ -231,10 +232,10 @@ module _ {V W S H : Type 0} (Holds : V → Contents → Type 0) (IsClean : V →
       let cr = reqs.calls in
       let cx = x.calls in
       let C5 : List Call = ((((cp ++ ca) ++ cq) ++ cl) ++ cr) ++ cx in
-      let filed = spool.facts (trace_of B ((gz ++ G3) ++ L)) (subst (λ l. StandsFor Holds o5 (trace_of B l)) (sym (append_assoc gz G3 L)) s5) k6 in
+      let filed = spool.facts (trace_of B ((gz ++ G3) ++ L)) (subst (λ l. StandsFor vault.holds o5 (trace_of B l)) (sym (append_assoc gz G3 L)) s5) k6 in
       let sleeps_not : polled ≡ true → millis_of links_then ≡ 0 = λ e. no_wait links_then (filed.1 ∙ is_left polled (has_dealt spool.calls) e) in
-      let had = served_so Holds IsClean Faults IsUp MayLeave o2 o3 (way_by (settings links) now n0 seats2 freed polling) way n1 seats2 seats2 gl cl refl refl (λ e. e)
-      (λ i d within. may_same (settings links).slow_guesses now n0 newcomers seats2 freed (get_or seats2 i d).connection (waited (get_or seats2 i d).connection))
+      let had = served_so vault o2 o3 (way_by (settings links) now n0 seats2 lock_released polling) way n1 seats2 seats2 gl cl refl refl (λ e. e)
+      (λ i d within. may_same (settings links).slow_guesses now n0 newcomers seats2 lock_released (get_or seats2 i d).connection (waited (get_or seats2 i d).connection))
       (λ e. ap (λ n. n == 0) (sleeps_not (still e))) served.facts.1.0.turns in
       let unread : All (IsNotedSo n1 B L G4 C5 way.wait way.may seats2) seats2 =
       All-weaker (IsNotedSo n1 B (G1 ++ L) gl cl way.wait way.may seats2) (IsNotedSo n1 B L G4 C5 way.wait way.may seats2)
@@ -290,7 +291,7 @@ module _ {V W S H : Type 0} (Holds : V → Contents → Type 0) (IsClean : V →
         held = held;
         served = gl;
         serves = cl;
-        freed = freed;
+        lock_released = lock_released;
         commands = gr;
         admin_serves = cr;
         late = gz;
@@ -312,11 +313,11 @@ module _ {V W S H : Type 0} (Holds : V → Contents → Type 0) (IsClean : V →
             (asked_then Asked w w3 w4 ((cp ++ ca) ++ cq) cl
             (asked_then Asked w w2 w3 (cp ++ ca) cq (asked_then Asked w w1 w2 cp ca pass.was_asked acc.was_asked) asked.was_asked) served.was_asked) reqs.was_asked) x.was_asked;
         asked_files = spool.was_asked;
-        heard = subst (λ h. WasTold Heard l l5 (idle_heard ++ (h ++ late_heard))) (turn_heard B L gp ga gl gr come.only)
-            (told_then Heard l l1 l5 idle_heard ((links_heard ++ reqs_heard) ++ late_heard) (idle (trace_of B (gp ++ L)) s1)
-            (told_then Heard l1 l2 l5 [] ((links_heard ++ reqs_heard) ++ late_heard) unheard
-            (told_then Heard l2 l4 l5 (links_heard ++ reqs_heard) late_heard
-            (told_then Heard l2 l3 l4 links_heard reqs_heard (served.facts.0.is B (G1 ++ L) s2 k3) (reqs.facts.0.did B (G2 ++ L) s3 k4).0) late.facts.2)));
+        heard = subst (λ h. HasHeard Heard l l5 (idle_heard ++ (h ++ late_heard))) (turn_heard B L gp ga gl gr come.only)
+            (hears_then Heard l l1 l5 idle_heard ((links_heard ++ reqs_heard) ++ late_heard) (idle (trace_of B (gp ++ L)) s1)
+            (hears_then Heard l1 l2 l5 [] ((links_heard ++ reqs_heard) ++ late_heard) unheard
+            (hears_then Heard l2 l4 l5 (links_heard ++ reqs_heard) late_heard
+            (hears_then Heard l2 l3 l4 links_heard reqs_heard (served.facts.0.is B (G1 ++ L) s2 k3) (reqs.facts.0.did B (G2 ++ L) s3 k4).0) late.facts.2)));
         waits = record {
           first = pass.facts.calls_are;
           once = only_first _ ((((cp ++ ca) ++ cq) ++ cl) ++ cr) cx waits_x
@@ -329,7 +330,7 @@ module _ {V W S H : Type 0} (Holds : V → Contents → Type 0) (IsClean : V →
               ∙ (only_last moment_of gr G2 rq.no_moments ∙ (only_last moment_of gl G1 lq.no_moments ∙ (only_last moment_of ga gp come.no_moments ∙ moments_p)));
         };
         accepts = record {
-          enough = accepted_so Holds IsClean Faults IsUp MayLeave o1 o2 links.clients.seats.items seats2 goes ga ca C5 (seen_second cp ca cq cl cr cx tells_none) acc.facts;
+          enough = accepted_so vault o1 o2 links.clients.seats.items seats2 goes ga ca C5 (seen_second cp ca cq cl cr cx tells_none) acc.facts;
           arrived = only_first _ ((((cp ++ ca) ++ cq) ++ cl) ++ cr) cx arrivals_x
               ∙ (seen_first cp ca cq cl cr cx arrival_of asked.facts.0.no_arrivals lq.no_arrivals rq.no_arrivals ∙ (only_last arrival_of cp ca arrivals_p ∙ come.arrived));
           opened =
@@ -357,7 +358,7 @@ module _ {V W S H : Type 0} (Holds : V → Contents → Type 0) (IsClean : V →
               let f = lq.no_refusals in
               omega (arith, e5, e4, e3, e2, e1, a, b, z, d, f, refusals_p));
           seated = come.seated;
-          goes = more;
+          has_more = more;
           admin = asked.facts.1;
         };
         clients = record {
@@ -378,8 +379,8 @@ module _ {V W S H : Type 0} (Holds : V → Contents → Type 0) (IsClean : V →
               All-append R ((((cp ++ ca) ++ cq) ++ cl) ++ cr) cx
               (All-append R (((cp ++ ca) ++ cq) ++ cl) cr (All-append R ((cp ++ ca) ++ cq) cl (All-append R (cp ++ ca) cq of_first of_asked) of_links) of_reqs) of_close);
           ended = λ e. (
-            (served.facts.1.0.freed_by e).0,
-            freed_left B L G3 gx seats2 (freed_left B L G2 gr seats2 (freed_right B L G1 gl seats2 ((served.facts.1.0.freed_by e).1 B (G1 ++ L) s2 k3))),
+            (served.facts.1.0.released_by e).0,
+            released_left B L G3 gx seats2 (released_left B L G2 gr seats2 (released_right B L G1 gl seats2 ((served.facts.1.0.released_by e).1 B (G1 ++ L) s2 k3))),
           );
           caused = All-append (HasCause seats2 C5) gr (gl ++ ga) caused_r (All-append (HasCause seats2 C5) gl ga caused_l caused_a);
         };
@@ -428,9 +429,9 @@ module _ {V W S H : Type 0} (Holds : V → Contents → Type 0) (IsClean : V →
         file = record { deposits = spool.deposits; tries = filed.0 };
         next = record {
           dealt = λ e. no_wait links_then (filed.1 ∙ (ap (λ b. polled || b) e ∙ or_true polled));
-          frees = λ e. sleeps_not (still (freeing e));
-          releases = λ on e. sleeps_not (x.facts.2 on (ap has_moved (x.facts.0.calls_are ∙ ap (map closing) shut_same) ∙ shut_moved after seats2 e));
-          rests = λ m f d. waits_then links_then (filed.1 ∙ rests_so polling freed polled (has_dealt spool.calls) (has_moved cl) (has_moved cx) (has_moved C5) served.facts.1.1 x.facts.1
+          after_release = λ e. sleeps_not (still (releasing e));
+          after_closing = λ on e. sleeps_not (x.facts.2 on (ap has_moved (x.facts.0.calls_are ∙ ap (map closing) shut_same) ∙ shut_moved after seats2 e));
+          rests = λ m f d. waits_then links_then (filed.1 ∙ rests_so polling lock_released polled (has_dealt spool.calls) (has_moved cl) (has_moved cx) (has_moved C5) served.facts.1.1 x.facts.1
               (λ q. seen_fourth cp ca cq cl cr cx is_moving q) (λ q. any_right is_moving ((((cp ++ ca) ++ cq) ++ cl) ++ cr) cx q) m f d)
               (not_true links_then.requests.poll_now (λ e. true≢false (sym (seen_fifth cp ca cq cl cr cx is_moving (reqs.facts.1 e)) ∙ m)));
         };

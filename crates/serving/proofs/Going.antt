@@ -1,4 +1,5 @@
 -- That turns, one after the other, go on from any trace, and what a turn's wait changes.
+use Rattle.vault.specs.declared.vault.Vault.{Ghosts}
 use Rattle.std.proofs.Common.{◌≡◌, ◌≤◌, ◌||◌, ℕ, true, false, List, [], ◌∷◌, ◌++◌, map, sym, ◌∙◌, ap, arith, Some, None, Option, ⊎_elim, subst, append_assoc, length, ◌+◌, length-append}
 use Rattle.std.specs.Bool.{if◌then◌else◌}
 use Rattle.std.specs.List.{list_any}
@@ -50,20 +51,20 @@ pub waited_for : {W : Type 0} (Asked : W → List Call → Type 0) (w w1 : W) (l
     → ((before : List Call) → Asked w before → Asked w1 (before ++ Waited millis ∷ [])) → WasAsked Asked w w1 (Waited (millis_of links) ∷ [])
 waited_for Asked w w1 links millis is called = record { is = λ before k. subst (λ n. Asked w1 (before ++ Waited n ∷ [])) is (called before k) }
 
--- of a wire that waited the same is told
-pub serves_told : {V W S : Type 0} (Holds : V → Contents → Type 0) (Tells : W → ToldOfPorts → Type 0) (TellsFiles : S → List FileAct → Type 0) (T : Trace) (o : Office V) (w w1 : W) (f : S)
-    (seats : List Seat) (held : List Exchange) (site : Site) → ((t : ToldOfPorts) → Tells w t → Tells w1 t)
-    → Serves Holds Tells TellsFiles T o w f seats held site → Serves Holds Tells TellsFiles T o w1 f seats held site
-serves_told Holds Tells TellsFiles T o w w1 f seats held site told s = record {
-  beside = s.beside;
+-- of a wire that waited the same is told, and an office that stands for what it stood for serves as before
+pub serves_on : {V W S : Type 0} (Holds : V → Contents → Type 0) (Tells : W → ToldOfPorts → Type 0) (TellsFiles : S → List FileAct → Type 0) (T : Trace) (o o1 : Office V) (w w1 : W) (f : S)
+    (seats : List Seat) (held : List Exchange) (site : Site) → ((t : ToldOfPorts) → Tells w t → Tells w1 t) → ((U : Trace) → StandsFor Holds o U → StandsFor Holds o1 U)
+    → Serves Holds Tells TellsFiles T o w f seats held site → Serves Holds Tells TellsFiles T o1 w1 f seats held site
+serves_on Holds Tells TellsFiles T o o1 w w1 f seats held site told still s = record {
+  elsewhere = s.elsewhere;
   tells = s.tells;
   is = record {
     log = s.is.log;
     told = s.is.told;
     owner = s.is.owner;
-    stands = s.is.stands;
+    stands = still (trace_of T.base s.is.log) s.is.stands;
     admitted = s.is.admitted;
-    tells = told (record { pop = s.is.told; admin = s.beside.admin }) s.is.tells;
+    tells = told (record { pop = s.is.told; admin = s.elsewhere.admin }) s.is.tells;
     served = s.is.served;
     seated = s.is.seated;
     adds = s.is.adds;
@@ -74,10 +75,9 @@ serves_told Holds Tells TellsFiles T o w w1 f seats held site told s = record {
 }
 
 -- the moment after a wait
-pub passed_by : {V W : Type 0} (Holds : V → Contents → Type 0) (IsClean : V → Type 0) (Faults : V → ℕ) (IsUp : V → Type 0)
-    (MayLeave : V → Contents → Type 0) (Asked : W → List Call → Type 0) (o o1 : Office V) (w w0 w1 : W) (wait : Call) (now : ℕ)
-    → WasAsked Asked w w0 (wait ∷ []) → Part Holds IsClean Faults IsUp MayLeave Asked o w0 o1 w1 (IsPassed [] now) → Part Holds IsClean Faults IsUp MayLeave Asked o w o1 w1 (IsPassed (wait ∷ []) now)
-passed_by Holds IsClean Faults IsUp MayLeave Asked o o1 w w0 w1 wait now waited p = record {
+pub passed_by : {V W : Type 0} (vault : Ghosts V) (Asked : W → List Call → Type 0) (o o1 : Office V) (w w0 w1 : W) (wait : Call) (now : ℕ)
+    → WasAsked Asked w w0 (wait ∷ []) → Part vault Asked o w0 o1 w1 (IsPassed [] now) → Part vault Asked o w o1 w1 (IsPassed (wait ∷ []) now)
+passed_by vault Asked o o1 w w0 w1 wait now waited p = record {
   given = p.given;
   calls = wait ∷ p.calls;
   was_given = p.was_given;
@@ -101,33 +101,14 @@ module _ {V : Type 0} (Holds : V → Contents → Type 0) (Faults : V → ℕ) (
   maintained_clean (Maintained answer idle looks) = looks.clean
   maintained_clean (Deferred busy same) = λ k. subst (λ x. IsClean (vault_of x)) same k
 
--- an office that stands for what it stood for serves as before
-pub serves_still : {V W S : Type 0} (Holds : V → Contents → Type 0) (Tells : W → ToldOfPorts → Type 0) (TellsFiles : S → List FileAct → Type 0) (T : Trace) (o o1 : Office V) (w : W) (f : S)
-    (seats : List Seat) (held : List Exchange) (site : Site) → ((U : Trace) → StandsFor Holds o U → StandsFor Holds o1 U)
-    → Serves Holds Tells TellsFiles T o w f seats held site → Serves Holds Tells TellsFiles T o1 w f seats held site
-serves_still Holds Tells TellsFiles T o o1 w f seats held site still s = record {
-  beside = s.beside;
-  tells = s.tells;
-  is = record {
-    log = s.is.log;
-    told = s.is.told;
-    owner = s.is.owner;
-    stands = still (trace_of T.base s.is.log) s.is.stands;
-    admitted = s.is.admitted;
-    tells = s.is.tells;
-    served = s.is.served;
-    seated = s.is.seated;
-    adds = s.is.adds;
-  };
-  sent = s.sent;
-  requests = s.requests;
-  of_site = s.of_site;
-}
+-- an office that was given nothing
+pub unserved : {V : Type 0} (Holds : V → Contents → Type 0) (Faults : V → ℕ) (T : Trace) (o : Office V) → StandsFor Holds o T → WasServed Holds Faults T o o []
+unserved Holds Faults T o stands = record { stands = stands; admitted = tt; counted = omega arith; failed = λ e. cc }
 
 module _ {V W S H : Type 0} (Holds : V → Contents → Type 0) (IsClean : V → Type 0) (Faults : V → ℕ) (IsUp : V → Type 0)
     (MayLeave : V → Contents → Type 0) (Asked : W → List Call → Type 0) (AskedFiles : S → List FileCall → Type 0) (Heard : H → List Hearing → Type 0) (T : Trace) where
   gone_none : (l : Links) (o : Office V) (w : W) (s : S) (h : H) → StandsFor Holds o T → HasGoneOn Holds IsClean Faults IsUp MayLeave Asked AskedFiles Heard T [] l o w s h l o w s h
-  gone_none l o w s h stands = record { given = []; turns = NoTurn; stands = stands; admitted = tt; counted = omega arith; failed = λ e. cc }
+  gone_none l o w s h stands = record { given = []; turns = NoTurn; served = unserved Holds Faults T o stands }
 
   gone_more : (moments : List ℕ) (l : Links) (o : Office V) (w : W) (s : S) (h : H) (l1 : Links) (o1 : Office V) (w1 : W) (s1 : S) (h1 : H) (now : ℕ)
       (l2 : Links) (o2 : Office V) (w2 : W) (s2 : S) (h2 : H) (o3 : Office V)
@@ -142,18 +123,20 @@ module _ {V W S H : Type 0} (Holds : V → Contents → Type 0) (IsClean : V →
       record {
         given = given_in turn.seen ++ a.given;
         turns = OneMore moments a.given l1 o1 w1 s1 h1 now l2 o2 w2 s2 h2 o3 a.turns turn left kept;
-        stands = subst (λ x. StandsFor Holds o3 (trace_of T.base x)) (sym (append_assoc (given_in turn.seen) a.given T.log))
-            (still (trace_of T.base (given_in turn.seen ++ (a.given ++ T.log))) turn.stands);
-        admitted = newly_then T.base T.log a.given (given_in turn.seen) a.admitted turn.admitted;
-        counted = (let p = a.counted in let q = turn.counted in omega (arith, p, q, more));
-        failed = λ e.
-            ⊎_elim
-            (λ (later : list_any is_failed (given_in turn.seen) ≡ true).
-            grown_more (Faults (vault_of o)) (Faults (vault_of o1)) (Faults (vault_of o2)) (Faults (vault_of o3)) a.counted more (turn.failed later))
-            (λ (first : list_any is_failed a.given ≡ true).
-            (let q = turn.counted in
-            grown_more (Faults (vault_of o)) (Faults (vault_of o)) (Faults (vault_of o1)) (Faults (vault_of o3)) (omega arith) (omega (arith, q, more)) (a.failed first)))
-            (or_cases (list_any is_failed (given_in turn.seen)) (list_any is_failed a.given) (sym (list_any-append is_failed (given_in turn.seen) a.given) ∙ e));
+        served = record {
+          stands = subst (λ x. StandsFor Holds o3 (trace_of T.base x)) (sym (append_assoc (given_in turn.seen) a.given T.log))
+              (still (trace_of T.base (given_in turn.seen ++ (a.given ++ T.log))) turn.stands);
+          admitted = newly_then T.base T.log a.given (given_in turn.seen) a.served.admitted turn.admitted;
+          counted = (let p = a.served.counted in let q = turn.counted in omega (arith, p, q, more));
+          failed = λ e.
+              ⊎_elim
+              (λ (later : list_any is_failed (given_in turn.seen) ≡ true).
+              grown_more (Faults (vault_of o)) (Faults (vault_of o1)) (Faults (vault_of o2)) (Faults (vault_of o3)) a.served.counted more (turn.failed later))
+              (λ (first : list_any is_failed a.given ≡ true).
+              (let q = turn.counted in
+              grown_more (Faults (vault_of o)) (Faults (vault_of o)) (Faults (vault_of o1)) (Faults (vault_of o3)) (omega arith) (omega (arith, q, more)) (a.served.failed first)))
+              (or_cases (list_any is_failed (given_in turn.seen)) (list_any is_failed a.given) (sym (list_any-append is_failed (given_in turn.seen) a.given) ∙ e));
+        };
       }
 
 module _ {V W S H C : Type 0} (Holds : V → Contents → Type 0) (IsClean : V → Type 0) (Faults : V → ℕ) (IsUp : V → Type 0)
@@ -181,7 +164,7 @@ module _ {V W S H C : Type 0} (Holds : V → Contents → Type 0) (IsClean : V �
         (let z2 = maintained_clean Holds Faults IsClean IsUp MayLeave l2 o2 o3 kept z in
         let g = a.each T stands (clean z2) in
         gone_more Holds IsClean Faults IsUp MayLeave Asked AskedFiles Heard T moments l o w s h l1 o1 w1 s1 h1 now l2 o2 w2 s2 h2 o3 g
-        (works (trace_of T.base (g.given ++ T.log)) g.stands z2) left kept (λ U st. still U st z));
+        (works (trace_of T.base (g.given ++ T.log)) g.served.stands z2) left kept (λ U st. still U st z));
   }
 
   pub turned_stopped : (moments : List ℕ) (l1 : Links) (o1 : Office V) (w1 : W) (s1 : S) (h1 : H) (k1 k2 : C)
@@ -195,15 +178,3 @@ module _ {V W S H C : Type 0} (Holds : V → Contents → Type 0) (IsClean : V �
 
 pub one_longer : (moments : List ℕ) (now n : ℕ) → length moments ≡ n → length (moments ++ now ∷ []) ≡ n + 1
 one_longer moments now n e = length-append moments (now ∷ []) ∙ ap (λ k. k + 1) e
-
--- ---- what came of the office alone
-
-pub unserved : {V : Type 0} (Holds : V → Contents → Type 0) (Faults : V → ℕ) (T : Trace) (o : Office V) → StandsFor Holds o T → WasServed Holds Faults T o o
-unserved Holds Faults T o stands = record { given = []; stands = stands; admitted = tt; counted = omega arith; failed = λ e. cc }
-
-pub was_served : {V W S H : Type 0} (Holds : V → Contents → Type 0) (IsClean : V → Type 0) (Faults : V → ℕ) (IsUp : V → Type 0) (MayLeave : V → Contents → Type 0) (Asked : W → List Call → Type 0)
-    (AskedFiles : S → List FileCall → Type 0) (Heard : H → List Hearing → Type 0) (T : Trace) (moments : List ℕ)
-    (l : Links) (o : Office V) (w : W) (s : S) (h : H) (l1 : Links) (o1 : Office V) (w1 : W) (s1 : S) (h1 : H)
-    → HasGoneOn Holds IsClean Faults IsUp MayLeave Asked AskedFiles Heard T moments l o w s h l1 o1 w1 s1 h1 → WasServed Holds Faults T o o1
-was_served Holds IsClean Faults IsUp MayLeave Asked AskedFiles Heard T moments l o w s h l1 o1 w1 s1 h1 g =
-    record { given = g.given; stands = g.stands; admitted = g.admitted; counted = g.counted; failed = g.failed }

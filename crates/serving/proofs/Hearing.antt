@@ -1,10 +1,10 @@
--- What a listener was told of parts of a turn, one after the other, is what is heard of them all.
+-- What a listener heard of parts of a turn, one after the other, is what is heard of them all.
 use Rattle.std.proofs.Common.{◌≡◌, ℕ, suc, ◌+◌, ◌<◌, ◌≤◌, true, false, List, [], ◌∷◌, ◌++◌, length, take, get_or, map, refl, sym, ◌∙◌, ap, arith, subst, append_assoc}
 use Rattle.std.specs.List.{All, filter}
 use Rattle.std.proofs.lemmas.List.{append-nil, map-append}
 use Rattle.std.proofs.lemmas.List.Elements.{All-head, All-tail, filter-append}
+use Rattle.vault.specs.declared.vault.Vault.{Ghosts}
 use Rattle.vault.specs.Records.{Records}
-use Rattle.vault.specs.Changes.{Contents}
 use Rattle.office.specs.Accounts.{account_of}
 use Rattle.office.specs.Answers.{AdminCommand}
 use Rattle.office.specs.Events.{Event, EventTag, Log, Trace}
@@ -18,7 +18,7 @@ use Rattle.serving.specs.declared.newcomers.Newcomer.{Newcomer}
 use Rattle.serving.specs.Works.{is_open_seat, is_shut_seat, AreLateGone}
 use Rattle.serving.specs.Parts.{WasGiven, AreNoMoreLate}
 use Rattle.serving.specs.ClientParts.{IsOpening}
-use Rattle.serving.specs.Hearing.{Hearing, heard_by, heard_of, heard_of_all, late_end, late_ends, idle_end, idle_ends, WasTold, WasHeard}
+use Rattle.serving.specs.Hearing.{Hearing, heard_by, heard_of, heard_of_all, late_end, late_ends, idle_end, idle_ends, HasHeard, HasHeardOf}
 use Rattle.serving.proofs.Seating.{whole_front}
 use Rattle.serving.proofs.Arriving.{take_next}
 use Rattle.serving.proofs.Late.{same_ends}
@@ -77,97 +77,97 @@ idle_joined T xs ys = ap (map idle_end) (filter-append (is_shut_seat T) xs ys) �
 -- ---- one after the other
 
 module _ {H : Type 0} (Heard : H → List Hearing → Type 0) where
-  pub told_none : (l : H) → WasTold Heard l l []
-  told_none l = record { is = λ before k. subst (Heard l) (sym (append-nil before)) k }
+  pub hears_none : (l : H) → HasHeard Heard l l []
+  hears_none l = record { is = λ before k. subst (Heard l) (sym (append-nil before)) k }
 
   -- it heard no account
-  pub told_same : (l l1 : H) → ((h : List Hearing) → Heard l h → Heard l1 h) → WasTold Heard l l1 []
-  told_same l l1 same = record { is = λ before k. subst (Heard l1) (sym (append-nil before)) (same before k) }
+  pub hears_same : (l l1 : H) → ((h : List Hearing) → Heard l h → Heard l1 h) → HasHeard Heard l l1 []
+  hears_same l l1 same = record { is = λ before k. subst (Heard l1) (sym (append-nil before)) (same before k) }
 
   -- and none after it
-  pub told_on : (l l1 l2 : H) (told : List Hearing) → ((h : List Hearing) → Heard l1 h → Heard l2 h) → WasTold Heard l l1 told → WasTold Heard l l2 told
-  told_on l l1 l2 told same a = record { is = λ before k. same (before ++ told) (a.is before k) }
+  pub hears_on : (l l1 l2 : H) (more : List Hearing) → ((h : List Hearing) → Heard l1 h → Heard l2 h) → HasHeard Heard l l1 more → HasHeard Heard l l2 more
+  hears_on l l1 l2 more same a = record { is = λ before k. same (before ++ more) (a.is before k) }
 
-  pub told_then : (l l1 l2 : H) (h1 h2 : List Hearing) → WasTold Heard l l1 h1 → WasTold Heard l1 l2 h2 → WasTold Heard l l2 (h1 ++ h2)
-  told_then l l1 l2 h1 h2 a b = record { is = λ before k. subst (Heard l2) (append_assoc before h1 h2) (b.is (before ++ h1) (a.is before k)) }
+  pub hears_then : (l l1 l2 : H) (h1 h2 : List Hearing) → HasHeard Heard l l1 h1 → HasHeard Heard l1 l2 h2 → HasHeard Heard l l2 (h1 ++ h2)
+  hears_then l l1 l2 h1 h2 a b = record { is = λ before k. subst (Heard l2) (append_assoc before h1 h2) (b.is (before ++ h1) (a.is before k)) }
 
   -- nothing more was heard
-  pub told_still : (l l1 l2 : H) (h : List Hearing) → WasTold Heard l l1 h → WasTold Heard l1 l2 [] → WasTold Heard l l2 h
-  told_still l l1 l2 h a b = subst (WasTold Heard l l2) (append-nil h) (told_then l l1 l2 h [] a b)
+  pub hears_still : (l l1 l2 : H) (h : List Hearing) → HasHeard Heard l l1 h → HasHeard Heard l1 l2 [] → HasHeard Heard l l2 h
+  hears_still l l1 l2 h a b = subst (HasHeard Heard l l2) (append-nil h) (hears_then l l1 l2 h [] a b)
 
   -- the connection of a seat is open after a moment, or was ended by it
-  pub idle_open : (l : H) (T : Trace) (q : Seat) → is_open_seat T q ≡ true → WasTold Heard l l (idle_ends T (q ∷ []))
-  idle_open l T q e = subst (WasTold Heard l l) (sym (ap (map idle_end) (shut_not T q [] e))) (told_none l)
+  pub idle_open : (l : H) (T : Trace) (q : Seat) → is_open_seat T q ≡ true → HasHeard Heard l l (idle_ends T (q ∷ []))
+  idle_open l T q e = subst (HasHeard Heard l l) (sym (ap (map idle_end) (shut_not T q [] e))) (hears_none l)
 
-  pub idle_shut : (l l1 : H) (T : Trace) (q : Seat) → is_open_seat T q ≡ false → ((h : List Hearing) → Heard l h → Heard l1 (h ++ idle_end q ∷ [])) → WasTold Heard l l1 (idle_ends T (q ∷ []))
-  idle_shut l l1 T q e heard = subst (WasTold Heard l l1) (sym (ap (map idle_end) (shut_first T q [] e))) (record { is = heard })
+  pub idle_shut : (l l1 : H) (T : Trace) (q : Seat) → is_open_seat T q ≡ false → ((h : List Hearing) → Heard l h → Heard l1 (h ++ idle_end q ∷ [])) → HasHeard Heard l l1 (idle_ends T (q ∷ []))
+  idle_shut l l1 T q e heard = subst (HasHeard Heard l l1) (sym (ap (map idle_end) (shut_first T q [] e))) (record { is = heard })
 
   pub idle_more : (l l1 l2 : H) (T : Trace) (seats : List Seat) (i : ℕ) (d : Seat) → i < length seats
-      → WasTold Heard l l1 (idle_ends T (take i seats)) → WasTold Heard l1 l2 (idle_ends T (get_or seats i d ∷ []))
-      → WasTold Heard l l2 (idle_ends T (take (i + 1) seats))
+      → HasHeard Heard l l1 (idle_ends T (take i seats)) → HasHeard Heard l1 l2 (idle_ends T (get_or seats i d ∷ []))
+      → HasHeard Heard l l2 (idle_ends T (take (i + 1) seats))
   idle_more l l1 l2 T seats i d within a b =
       let next : suc i ≡ i + 1 = omega arith in
-      subst (λ n. WasTold Heard l l2 (idle_ends T (take n seats))) next
-      (subst (λ v. WasTold Heard l l2 (idle_ends T v)) (sym (take_next seats i d within))
-      (subst (WasTold Heard l l2) (sym (idle_joined T (take i seats) (get_or seats i d ∷ []))) (told_then l l1 l2 (idle_ends T (take i seats)) (idle_ends T (get_or seats i d ∷ [])) a b)))
+      subst (λ n. HasHeard Heard l l2 (idle_ends T (take n seats))) next
+      (subst (λ v. HasHeard Heard l l2 (idle_ends T v)) (sym (take_next seats i d within))
+      (subst (HasHeard Heard l l2) (sym (idle_joined T (take i seats) (get_or seats i d ∷ []))) (hears_then l l1 l2 (idle_ends T (take i seats)) (idle_ends T (get_or seats i d ∷ [])) a b)))
 
-  pub idle_whole : (l l1 : H) (T : Trace) (seats : List Seat) (n : ℕ) → length seats ≤ n → WasTold Heard l l1 (idle_ends T (take n seats)) → WasTold Heard l l1 (idle_ends T seats)
-  idle_whole l l1 T seats n h a = subst (λ v. WasTold Heard l l1 (idle_ends T v)) (whole_front seats n h) a
+  pub idle_whole : (l l1 : H) (T : Trace) (seats : List Seat) (n : ℕ) → length seats ≤ n → HasHeard Heard l l1 (idle_ends T (take n seats)) → HasHeard Heard l l1 (idle_ends T seats)
+  idle_whole l l1 T seats n h a = subst (λ v. HasHeard Heard l l1 (idle_ends T v)) (whole_front seats n h) a
 
   -- clients that are late
-  pub late_told : (now seconds : ℕ) (ns : List Newcomer) (l l1 l2 : H) (g1 g2 : Log) → WasTold Heard l l1 (late_ends now seconds ns g1) → WasTold Heard l1 l2 (late_ends now seconds ns g2)
-      → WasTold Heard l l2 (late_ends now seconds ns (g2 ++ g1))
-  late_told now seconds ns l l1 l2 g1 g2 a b =
-      subst (WasTold Heard l l2) (sym (late_joined now seconds ns g1 g2)) (told_then l l1 l2 (late_ends now seconds ns g1) (late_ends now seconds ns g2) a b)
+  pub hears_late : (now seconds : ℕ) (ns : List Newcomer) (l l1 l2 : H) (g1 g2 : Log) → HasHeard Heard l l1 (late_ends now seconds ns g1) → HasHeard Heard l1 l2 (late_ends now seconds ns g2)
+      → HasHeard Heard l l2 (late_ends now seconds ns (g2 ++ g1))
+  hears_late now seconds ns l l1 l2 g1 g2 a b =
+      subst (HasHeard Heard l l2) (sym (late_joined now seconds ns g1 g2)) (hears_then l l1 l2 (late_ends now seconds ns g1) (late_ends now seconds ns g2) a b)
 
   -- the same by who was noted before
   pub late_heard : (now seconds other other_then : ℕ) (xs ys : List Newcomer) → AreNoMoreLate now seconds xs ys → other_then ≡ other → (l l1 : H) (g : Log) → AreLateGone now seconds ys g
-      → WasTold Heard l l1 (late_ends now other_then ys g) → WasTold Heard l l1 (late_ends now other xs g)
+      → HasHeard Heard l l1 (late_ends now other_then ys g) → HasHeard Heard l l1 (late_ends now other xs g)
   late_heard now seconds other other_then xs ys less is l l1 g gone a =
-      subst (WasTold Heard l l1) (ap (λ n. late_ends now n ys g) is ∙ same_ends now seconds other xs ys less g gone) a
+      subst (HasHeard Heard l l1) (ap (λ n. late_ends now n ys g) is ∙ same_ends now seconds other xs ys less g gone) a
 
   -- of what was done after a log
-  pub apart_then : (l l1 l2 : H) (B : Records) (L g1 g2 : Log) → WasTold Heard l l1 (heard_of_all B L g1)
-      → WasTold Heard l1 l2 (heard_of_all B (g1 ++ L) g2) → WasTold Heard l l2 (heard_of_all B L (g2 ++ g1))
-  apart_then l l1 l2 B L g1 g2 a b = subst (WasTold Heard l l2) (sym (heard_joined B L g1 g2)) (told_then l l1 l2 (heard_of_all B L g1) (heard_of_all B (g1 ++ L) g2) a b)
+  pub apart_then : (l l1 l2 : H) (B : Records) (L g1 g2 : Log) → HasHeard Heard l l1 (heard_of_all B L g1)
+      → HasHeard Heard l1 l2 (heard_of_all B (g1 ++ L) g2) → HasHeard Heard l l2 (heard_of_all B L (g2 ++ g1))
+  apart_then l l1 l2 B L g1 g2 a b = subst (HasHeard Heard l l2) (sym (heard_joined B L g1 g2)) (hears_then l l1 l2 (heard_of_all B L g1) (heard_of_all B (g1 ++ L) g2) a b)
 
   -- after it no event was given
-  pub apart_still : (l l1 : H) (B : Records) (L g1 g2 : Log) → g2 ≡ [] → WasTold Heard l l1 (heard_of_all B L g1) → WasTold Heard l l1 (heard_of_all B L (g2 ++ g1))
-  apart_still l l1 B L g1 g2 none a = subst (λ g. WasTold Heard l l1 (heard_of_all B L (g ++ g1))) (sym none) a
+  pub apart_still : (l l1 : H) (B : Records) (L g1 g2 : Log) → g2 ≡ [] → HasHeard Heard l l1 (heard_of_all B L g1) → HasHeard Heard l l1 (heard_of_all B L (g2 ++ g1))
+  apart_still l l1 B L g1 g2 none a = subst (λ g. HasHeard Heard l l1 (heard_of_all B L (g ++ g1))) (sym none) a
 
   -- before it no event was given
-  pub apart_first : (l l1 : H) (B : Records) (L g1 g2 : Log) → g1 ≡ [] → WasTold Heard l l1 (heard_of_all B (g1 ++ L) g2) → WasTold Heard l l1 (heard_of_all B L (g2 ++ g1))
+  pub apart_first : (l l1 : H) (B : Records) (L g1 g2 : Log) → g1 ≡ [] → HasHeard Heard l l1 (heard_of_all B (g1 ++ L) g2) → HasHeard Heard l l1 (heard_of_all B L (g2 ++ g1))
   apart_first l l1 B L g1 g2 none a =
-      subst (WasTold Heard l l1) (sym (ap (λ g. heard_of_all B L (g2 ++ g)) none ∙ ap (heard_of_all B L) (append-nil g2))) (subst (λ g. WasTold Heard l l1 (heard_of_all B (g ++ L) g2)) none a)
+      subst (HasHeard Heard l l1) (sym (ap (λ g. heard_of_all B L (g2 ++ g)) none ∙ ap (heard_of_all B L) (append-nil g2))) (subst (λ g. HasHeard Heard l l1 (heard_of_all B (g ++ L) g2)) none a)
 
   -- a command
-  pub command_told : (l l1 : H) (B : Records) (L : Log) (command : AdminCommand) (m : EventTag) (told : Account)
-      → told ≡ account_of (trace_of B L) (event.Admin command) m → WasTold Heard l l1 (heard_by command told)
-      → WasTold Heard l l1 (heard_of_all B L ((event.Admin command, m) ∷ []))
-  command_told l l1 B L command m told is a = subst (λ x. WasTold Heard l l1 (heard_by command x)) is a
+  pub hears_command : (l l1 : H) (B : Records) (L : Log) (command : AdminCommand) (m : EventTag) (account : Account)
+      → account ≡ account_of (trace_of B L) (event.Admin command) m → HasHeard Heard l l1 (heard_by command account)
+      → HasHeard Heard l l1 (heard_of_all B L ((event.Admin command, m) ∷ []))
+  hears_command l l1 B L command m account is a = subst (λ x. HasHeard Heard l l1 (heard_by command x)) is a
 
 -- ---- parts of a turn
 
-module _ {V H : Type 0} (Holds : V → Contents → Type 0) (IsClean : V → Type 0) (Heard : H → List Hearing → Type 0) where
-  pub unheard : (o : Office V) (l : H) → WasHeard Holds IsClean Heard o l o l []
-  unheard o l = record { is = λ B L s k. told_none Heard l }
+module _ {V H : Type 0} (vault : Ghosts V) (Heard : H → List Hearing → Type 0) where
+  pub unheard : (o : Office V) (l : H) → HasHeardOf vault.holds vault.is_clean Heard o l o l []
+  unheard o l = record { is = λ B L s k. hears_none Heard l }
 
   -- nothing is heard after it
   pub heard_on : (o o1 : Office V) (l l1 l2 : H) (given : Log) → ((h : List Hearing) → Heard l1 h → Heard l2 h)
-      → WasHeard Holds IsClean Heard o l o1 l1 given → WasHeard Holds IsClean Heard o l o1 l2 given
-  heard_on o o1 l l1 l2 given same a = record { is = λ B L s k. told_on Heard l l1 l2 (heard_of_all B L given) same (a.is B L s k) }
+      → HasHeardOf vault.holds vault.is_clean Heard o l o1 l1 given → HasHeardOf vault.holds vault.is_clean Heard o l o1 l2 given
+  heard_on o o1 l l1 l2 given same a = record { is = λ B L s k. hears_on Heard l l1 l2 (heard_of_all B L given) same (a.is B L s k) }
 
-  pub heard_then : (Faults : V → ℕ) (IsUp : V → Type 0) (MayLeave : V → Contents → Type 0) (o o1 o2 : Office V) (l l1 l2 : H) (g1 g2 : Log)
-      → WasGiven Holds IsClean Faults IsUp MayLeave o o1 g1 → WasGiven Holds IsClean Faults IsUp MayLeave o1 o2 g2
-      → WasHeard Holds IsClean Heard o l o1 l1 g1 → WasHeard Holds IsClean Heard o1 l1 o2 l2 g2 → WasHeard Holds IsClean Heard o l o2 l2 (g2 ++ g1)
-  heard_then Faults IsUp MayLeave o o1 o2 l l1 l2 g1 g2 wa wb a b = record {
+  pub heard_then : (o o1 o2 : Office V) (l l1 l2 : H) (g1 g2 : Log)
+      → WasGiven vault o o1 g1 → WasGiven vault o1 o2 g2
+      → HasHeardOf vault.holds vault.is_clean Heard o l o1 l1 g1 → HasHeardOf vault.holds vault.is_clean Heard o1 l1 o2 l2 g2 → HasHeardOf vault.holds vault.is_clean Heard o l o2 l2 (g2 ++ g1)
+  heard_then o o1 o2 l l1 l2 g1 g2 wa wb a b = record {
     is = λ B L s k. apart_then Heard l l1 l2 B L g1 g2 (a.is B L s (wb.clean k)) (b.is B (g1 ++ L) (wa.stands B L s (wb.clean k)) k);
   }
 
   -- one event of a client's connection
-  pub heard_one : (o o1 : Office V) (l l1 : H) (e : Event) (m : EventTag) (c : ℕ) (told : Account) → ((T : Trace) → heard_of T e m ≡ (c, account_of T e m) ∷ [])
-      → ((T : Trace) → StandsFor Holds o T → IsClean (vault_of o1) → told ≡ account_of T e m) → ((h : List Hearing) → Heard l h → Heard l1 (h ++ (c, told) ∷ []))
-      → WasHeard Holds IsClean Heard o l o1 l1 ((e, m) ∷ [])
-  heard_one o o1 l l1 e m c told is so heard = record {
-    is = λ B L s k. subst (WasTold Heard l l1) (ap (λ (x : Account). (c, x) ∷ []) (so (trace_of B L) s k) ∙ sym (is (trace_of B L))) (record { is = heard });
+  pub heard_one : (o o1 : Office V) (l l1 : H) (e : Event) (m : EventTag) (c : ℕ) (account : Account) → ((T : Trace) → heard_of T e m ≡ (c, account_of T e m) ∷ [])
+      → ((T : Trace) → StandsFor vault.holds o T → vault.is_clean (vault_of o1) → account ≡ account_of T e m) → ((h : List Hearing) → Heard l h → Heard l1 (h ++ (c, account) ∷ []))
+      → HasHeardOf vault.holds vault.is_clean Heard o l o1 l1 ((e, m) ∷ [])
+  heard_one o o1 l l1 e m c account is so heard = record {
+    is = λ B L s k. subst (HasHeard Heard l l1) (ap (λ (x : Account). (c, x) ∷ []) (so (trace_of B L) s k) ∙ sym (is (trace_of B L))) (record { is = heard });
   }

@@ -23,10 +23,10 @@ use Rattle.serving.specs.HttpTurns.{is_late_at}
 use Rattle.serving.specs.Works.{most_at_once}
 use Rattle.serving.proofs.Turns.{not_zero}
 use Rattle.serving.proofs.Working.{any_right}
-use Rattle.serving.specs.HttpWorks.{HaveComeForAdmin, NoMore, IsKept, IsTurnedAway, WantsMemory, HasAcceptedForAdmin, response_of, ComesTo, HasHeard, GaveAPiece, AreWrites}
-use Rattle.serving.specs.HttpWorks.{AreWritesOf, admin_share, told_its_end, took_nothing, is_whole, IsToldOf, HasToldAll, HasTold, HasHttpTurn, IsServed, HadHttpTurns, NoneHeld}
+use Rattle.serving.specs.HttpWorks.{HaveComeForAdmin, NoMore, IsKept, IsTurnedAway, WantsMemory, HasAcceptedForAdmin, response_of, ComesTo, HasRead, GaveAPiece, AreWrites}
+use Rattle.serving.specs.HttpWorks.{AreWritesOf, admin_share, gave_its_end, took_nothing, is_whole, IsWrittenOf, HasWrittenAll, HasWritten, HasHttpTurn, IsServed, HadHttpTurns, NoneHeld}
 use Rattle.serving.specs.HttpWorks.{IsHeldOn, IsClosed}
-use Rattle.serving.specs.HttpParts.{Tells}
+use Rattle.serving.specs.HttpParts.{Writes}
 
 or_true : (b : Bool) → (b || true) ≡ true
 or_true true = refl
@@ -73,15 +73,15 @@ module _ (now : ℕ) where
 -- ---- what is read of a request
 
 module _ (site : Site) (B : Records) (L : Log) (e e2 : Exchange) where
-  pub heard_piece : (n : ℕ) (piece : List ℕ) (g1 g2 : Log) (c1 c2 : List Call) → e.response ≡ None → e2.is_over ≡ false → IfNone e2.response (e2.read.items ≡ e.read.items ++ piece)
+  pub read_more : (n : ℕ) (piece : List ℕ) (g1 g2 : Log) (c1 c2 : List Call) → e.response ≡ None → e2.is_over ≡ false → IfNone e2.response (e2.read.items ≡ e.read.items ++ piece)
       → e2.link ≡ e.link → e2.written ≡ e.written → g1 ≡ [] → c1 ≡ Read Admin e.link most_at_once (Count n) piece ∷ []
-      → (c2 ≡ []) × ComesTo site B (g1 ++ L) (e.read.items ++ piece) g2 (response_of e2) → HasHeard site B L e e2 (g2 ++ g1) (c1 ++ c2)
-  heard_piece n piece g1 g2 c1 c2 none live reads link written none_given one_call q =
+      → (c2 ≡ []) × ComesTo site B (g1 ++ L) (e.read.items ++ piece) g2 (response_of e2) → HasRead site B L e e2 (g2 ++ g1) (c1 ++ c2)
+  read_more n piece g1 g2 c1 c2 none live reads link written none_given one_call q =
       let call = Read Admin e.link most_at_once (Count n) piece in
       let comes = subst (λ g. ComesTo site B (g ++ L) (e.read.items ++ piece) g2 (response_of e2)) none_given q.1 in
       let given_is : g2 ++ g1 ≡ g2 = ap (λ g. g2 ++ g) none_given ∙ append-nil g2 in
       let calls_are : c1 ++ c2 ≡ call ∷ [] = ap (λ c. c ++ c2) one_call ∙ ap (λ c. call ∷ c) q.0 in
-      subst (λ g. HasHeard site B L e e2 g (c1 ++ c2)) (sym given_is) (subst (HasHeard site B L e e2 g2) (sym calls_are) (GaveAPiece n piece g2 none live comes reads link written))
+      subst (λ g. HasRead site B L e e2 g (c1 ++ c2)) (sym given_is) (subst (HasRead site B L e e2 g2) (sym calls_are) (GaveAPiece n piece g2 none live comes reads link written))
 
 -- ---- what is written of a response
 
@@ -137,8 +137,8 @@ over_first x q y a e = a ∙ ap (λ b. b || q) e
 none_joined : (c1 c2 : List Call) → c1 ≡ [] → c2 ≡ [] → c1 ++ c2 ≡ []
 none_joined c1 c2 a b = ap (λ c. c ++ c2) a ∙ b
 
-pub told_then : (e1 e2 e3 : Exchange) (n m k j : ℕ) (c1 c2 : List Call) → IsToldOf e1 e2 n k c1 → IsToldOf e2 e3 m j c2 → IsToldOf e1 e3 (n + m) (k + j) (c1 ++ c2)
-told_then e1 e2 e3 n m k j c1 c2 a b =
+pub response_then : (e1 e2 e3 : Exchange) (n m k j : ℕ) (c1 c2 : List Call) → IsWrittenOf e1 e2 n k c1 → IsWrittenOf e2 e3 m j c2 → IsWrittenOf e1 e3 (n + m) (k + j) (c1 ++ c2)
+response_then e1 e2 e3 n m k j c1 c2 a b =
     let same : e3.response ≡ e1.response = b.response ∙ a.response in
     let grown : e2.written ≤ e3.written = (let p = b.octets_are in omega (arith, p)) in
     let writes2 = subst (λ l. AreWritesOf l e1.response e2.written c2 e3.written) a.link (subst (λ r. AreWritesOf e2.link r e2.written c2 e3.written) a.response b.writes) in
@@ -149,16 +149,16 @@ told_then e1 e2 e3 n m k j c1 c2 a b =
       read = b.read ∙ a.read;
       response = same;
       writes = writes_of_then e1.link e1.response e1.written e2.written e3.written c1 c2 a.writes writes2;
-      idle = λ h. none_joined c1 c2 (a.idle h) (b.idle (over_first e1.is_over (is_whole e2.response e2.written || list_any told_its_end c1) e2.is_over a.over h));
-      over = or_joined e1.is_over (is_whole e2.response e2.written) (list_any told_its_end c1) (is_whole e3.response e3.written) (list_any told_its_end c2) e2.is_over e3.is_over a.over b.over still
-          ∙ ap (λ q. e1.is_over || (is_whole e3.response e3.written || q)) (sym (list_any-append told_its_end c1 c2));
+      idle = λ h. none_joined c1 c2 (a.idle h) (b.idle (over_first e1.is_over (is_whole e2.response e2.written || list_any gave_its_end c1) e2.is_over a.over h));
+      over = or_joined e1.is_over (is_whole e2.response e2.written) (list_any gave_its_end c1) (is_whole e3.response e3.written) (list_any gave_its_end c2) e2.is_over e3.is_over a.over b.over still
+          ∙ ap (λ q. e1.is_over || (is_whole e3.response e3.written || q)) (sym (list_any-append gave_its_end c1 c2));
       times_are = (let p = a.times_are in let q = b.times_are in let s = length-append c1 c2 in omega (arith, p, q, s));
       octets_are = (let p = a.octets_are in let q = b.octets_are in omega (arith, p, q));
     }
 
 -- fewer writes, and fewer octets
-pub told_less : (e1 e2 : Exchange) (n m k j : ℕ) (c : List Call) → m ≤ n → j ≤ k → IsToldOf e1 e2 n k c → IsToldOf e1 e2 m j c
-told_less e1 e2 n m k j c h h2 a = record {
+pub response_less : (e1 e2 : Exchange) (n m k j : ℕ) (c : List Call) → m ≤ n → j ≤ k → IsWrittenOf e1 e2 n k c → IsWrittenOf e1 e2 m j c
+response_less e1 e2 n m k j c h h2 a = record {
   link = a.link;
   read = a.read;
   response = a.response;
@@ -170,42 +170,42 @@ told_less e1 e2 n m k j c h h2 a = record {
 }
 
 -- nothing was written yet, or so much
-abbrev pub ToldSoFar : (e e_then : Exchange) (times octets : ℕ) (calls : List Call) → Type 0
-ToldSoFar e e_then times octets calls = ((e_then ≡ e) × (times ≡ 0) × (octets ≡ 0) × (calls ≡ [])) ⊎ IsToldOf e e_then times octets calls
+abbrev pub WrittenSoFar : (e e_then : Exchange) (times octets : ℕ) (calls : List Call) → Type 0
+WrittenSoFar e e_then times octets calls = ((e_then ≡ e) × (times ≡ 0) × (octets ≡ 0) × (calls ≡ [])) ⊎ IsWrittenOf e e_then times octets calls
 
 -- a count that isn't 0 is a write
 pub written_once : (n : ℕ) → (n == 0) ≡ false → 1 ≤ (if n == 0 then 0 else 1)
 written_once n e = rw e (omega arith)
 
 -- the first, or a further one
-told_next : (e e1 e2 : Exchange) (n m k j : ℕ) (c1 c2 : List Call) → ToldSoFar e e1 n k c1 → IsToldOf e1 e2 m j c2 → IsToldOf e e2 (n + m) (k + j) (c1 ++ c2)
-told_next e e1 e2 n m k j c1 c2 (inl (same, no_times, no_octets, no_calls)) b =
+response_next : (e e1 e2 : Exchange) (n m k j : ℕ) (c1 c2 : List Call) → WrittenSoFar e e1 n k c1 → IsWrittenOf e1 e2 m j c2 → IsWrittenOf e e2 (n + m) (k + j) (c1 ++ c2)
+response_next e e1 e2 n m k j c1 c2 (inl (same, no_times, no_octets, no_calls)) b =
     let times : n + m ≤ m = omega (arith, no_times) in
     let octets : k + j ≤ j = omega (arith, no_octets) in
-    subst (λ x. IsToldOf x e2 (n + m) (k + j) (c1 ++ c2)) same
-    (subst (λ c. IsToldOf e1 e2 (n + m) (k + j) (c ++ c2)) (sym no_calls) (told_less e1 e2 m (n + m) j (k + j) c2 times octets b))
-told_next e e1 e2 n m k j c1 c2 (inr a) b = told_then e e1 e2 n m k j c1 c2 a b
+    subst (λ x. IsWrittenOf x e2 (n + m) (k + j) (c1 ++ c2)) same
+    (subst (λ c. IsWrittenOf e1 e2 (n + m) (k + j) (c ++ c2)) (sym no_calls) (response_less e1 e2 m (n + m) j (k + j) c2 times octets b))
+response_next e e1 e2 n m k j c1 c2 (inr a) b = response_then e e1 e2 n m k j c1 c2 a b
 
-pub told_more : (e e1 e2 : Exchange) (n m k j times octets : ℕ) (c1 c2 : List Call) → times ≤ n + m → octets ≤ k + j → ToldSoFar e e1 n k c1
-    → IsToldOf e1 e2 m j c2 → IsToldOf e e2 times octets (c1 ++ c2)
-told_more e e1 e2 n m k j times octets c1 c2 h h2 a b = told_less e e2 (n + m) times (k + j) octets (c1 ++ c2) h h2 (told_next e e1 e2 n m k j c1 c2 a b)
+pub response_more : (e e1 e2 : Exchange) (n m k j times octets : ℕ) (c1 c2 : List Call) → times ≤ n + m → octets ≤ k + j → WrittenSoFar e e1 n k c1
+    → IsWrittenOf e1 e2 m j c2 → IsWrittenOf e e2 times octets (c1 ++ c2)
+response_more e e1 e2 n m k j times octets c1 c2 h h2 a b = response_less e e2 (n + m) times (k + j) octets (c1 ++ c2) h h2 (response_next e e1 e2 n m k j c1 c2 a b)
 
 -- nothing more can be written for now
-all_told : (e2 : Exchange) (c1 c2 : List Call) → HasToldAll e2 c2 → HasToldAll e2 (c1 ++ c2)
-all_told e2 c1 c2 (inl over) = inl over
-all_told e2 c1 c2 (inr (inl later)) = inr (inl (any_right took_nothing c1 c2 later))
-all_told e2 c1 c2 (inr (inr none)) = inr (inr none)
+all_written : (e2 : Exchange) (c1 c2 : List Call) → HasWrittenAll e2 c2 → HasWrittenAll e2 (c1 ++ c2)
+all_written e2 c1 c2 (inl over) = inl over
+all_written e2 c1 c2 (inr (inl later)) = inr (inl (any_right took_nothing c1 c2 later))
+all_written e2 c1 c2 (inr (inr none)) = inr (inr none)
 
-pub told_ended : (e e1 e2 : Exchange) (n m k j : ℕ) (c1 c2 : List Call) → ToldSoFar e e1 n k c1 → IsToldOf e1 e2 m j c2 → HasToldAll e2 c2 → HasTold e e2 (c1 ++ c2)
-told_ended e e1 e2 n m k j c1 c2 a b ends = record { times = n + m; octets = k + j; is = told_next e e1 e2 n m k j c1 c2 a b; enough = inr (inr (all_told e2 c1 c2 ends)) }
+pub response_ended : (e e1 e2 : Exchange) (n m k j : ℕ) (c1 c2 : List Call) → WrittenSoFar e e1 n k c1 → IsWrittenOf e1 e2 m j c2 → HasWrittenAll e2 c2 → HasWritten e e2 (c1 ++ c2)
+response_ended e e1 e2 n m k j c1 c2 a b ends = record { times = n + m; octets = k + j; is = response_next e e1 e2 n m k j c1 c2 a b; enough = inr (inr (all_written e2 c1 c2 ends)) }
 
 -- the share is written, or as many writes were made as may be
-pub told_share : (e e1 e2 : Exchange) (n m k j : ℕ) (c1 c2 : List Call) → 16384 ≤ k + j → ToldSoFar e e1 n k c1 → IsToldOf e1 e2 m j c2 → HasTold e e2 (c1 ++ c2)
-told_share e e1 e2 n m k j c1 c2 h a b = record { times = n + m; octets = k + j; is = told_next e e1 e2 n m k j c1 c2 a b; enough = inr (inl h) }
+pub response_share : (e e1 e2 : Exchange) (n m k j : ℕ) (c1 c2 : List Call) → 16384 ≤ k + j → WrittenSoFar e e1 n k c1 → IsWrittenOf e1 e2 m j c2 → HasWritten e e2 (c1 ++ c2)
+response_share e e1 e2 n m k j c1 c2 h a b = record { times = n + m; octets = k + j; is = response_next e e1 e2 n m k j c1 c2 a b; enough = inr (inl h) }
 
-pub told_often : (e e2 : Exchange) (n k : ℕ) (c : List Call) → 64 ≤ n → ToldSoFar e e2 n k c → HasTold e e2 c
-told_often e e2 n k c h (inl (same, no_times, no_octets, no_calls)) = absurd (omega (arith, h, no_times))
-told_often e e2 n k c h (inr a) = record { times = n; octets = k; is = a; enough = inl h }
+pub response_often : (e e2 : Exchange) (n k : ℕ) (c : List Call) → 64 ≤ n → WrittenSoFar e e2 n k c → HasWritten e e2 c
+response_often e e2 n k c h (inl (same, no_times, no_octets, no_calls)) = absurd (omega (arith, h, no_times))
+response_often e e2 n k c h (inr a) = record { times = n; octets = k; is = a; enough = inl h }
 
 -- ---- one write, or none
 
@@ -217,8 +217,8 @@ over_none : (r : Option Response) (over : Bool) (w : ℕ) → r ≡ None → ove
 over_none r over w e = subst (λ o. over ≡ (over || (is_whole o w || false))) (sym e) (or_none over)
 
 -- nothing is written on a link that is over, or has no response
-pub told_over : (e : Exchange) → e.is_over ≡ true → Tells e e 0 0 false []
-told_over e over = record {
+pub response_over : (e : Exchange) → e.is_over ≡ true → Writes e e 0 0 false []
+response_over e over = record {
   is = record {
     link = refl;
     read = refl;
@@ -232,8 +232,8 @@ told_over e over = record {
   ends = λ h. inl over;
 }
 
-pub told_no_response : (e : Exchange) → e.response ≡ None → Tells e e 0 0 false []
-told_no_response e none = record {
+pub response_none : (e : Exchange) → e.response ≡ None → Writes e e 0 0 false []
+response_none e none = record {
   is = record {
     link = refl;
     read = refl;
@@ -249,9 +249,9 @@ told_no_response e none = record {
 
 module _ (e e2 : Exchange) (r : Response) where
   -- all is written
-  pub told_whole : e.response ≡ Some r → e2.link ≡ e.link → e2.read ≡ e.read → e2.response ≡ e.response → e2.written ≡ e.written → e2.is_over ≡ true
-      → length (octets_of r) ≤ e.written → Tells e e2 0 0 false []
-  told_whole has link read same written over whole =
+  pub response_whole : e.response ≡ Some r → e2.link ≡ e.link → e2.read ≡ e.read → e2.response ≡ e.response → e2.written ≡ e.written → e2.is_over ≡ true
+      → length (octets_of r) ≤ e.written → Writes e e2 0 0 false []
+  response_whole has link read same written over whole =
       let full : is_whole e2.response e2.written ≡ true = whole_here e2.response r e2.written (same ∙ has)
       ∙ (ap (nat_le (length (octets_of r))) written ∙ le-leb (length (octets_of r)) e.written whole) in
       record {
@@ -269,11 +269,11 @@ module _ (e e2 : Exchange) (r : Response) where
       }
 
   -- the next octets were taken
-  pub told_some : (offered n : ℕ) (octets : List ℕ) → e.response ≡ Some r → e.is_over ≡ false → 0 < n
+  pub response_some : (offered n : ℕ) (octets : List ℕ) → e.response ≡ Some r → e.is_over ≡ false → 0 < n
       → offered ≡ length (take admin_share (drop e.written (octets_of r))) → octets ≡ take n (drop e.written (octets_of r)) → e2.link ≡ e.link
       → e2.read ≡ e.read → e2.response ≡ e.response → e2.written ≡ e.written + n
-      → e2.is_over ≡ nat_le (length (octets_of r)) (e.written + n) → Tells e e2 (if n == 0 then 0 else 1) n (not (n == 0)) (Wrote Admin e.link offered (Count n) octets ∷ [])
-  told_some offered n octets has goes some all is link read same written over =
+      → e2.is_over ≡ nat_le (length (octets_of r)) (e.written + n) → Writes e e2 (if n == 0 then 0 else 1) n (not (n == 0)) (Wrote Admin e.link offered (Count n) octets ∷ [])
+  response_some offered n octets has goes some all is link read same written over =
       let z = not_zero n some in
       let full : is_whole e2.response e2.written ≡ nat_le (length (octets_of r)) (e.written + n) = whole_here e2.response r e2.written (same ∙ has) ∙ ap (nat_le (length (octets_of r))) written in
       record {
@@ -291,10 +291,10 @@ module _ (e e2 : Exchange) (r : Response) where
       }
 
   -- the link's end was told
-  pub told_cut : (offered : ℕ) (io : Io) (octets : List ℕ) → e.response ≡ Some r → e.is_over ≡ false → is_fault io ≡ true
+  pub response_cut : (offered : ℕ) (io : Io) (octets : List ℕ) → e.response ≡ Some r → e.is_over ≡ false → is_fault io ≡ true
       → offered ≡ length (take admin_share (drop e.written (octets_of r))) → e2.link ≡ e.link → e2.read ≡ e.read → e2.response ≡ e.response → e2.written ≡ e.written → e2.is_over ≡ true
-      → Tells e e2 0 0 false (Wrote Admin e.link offered io octets ∷ [])
-  told_cut offered io octets has goes fault all link read same written over = record {
+      → Writes e e2 0 0 false (Wrote Admin e.link offered io octets ∷ [])
+  response_cut offered io octets has goes fault all link read same written over = record {
     is = record {
       link = link;
       read = read;
@@ -310,10 +310,10 @@ module _ (e e2 : Exchange) (r : Response) where
   }
 
 -- the link took nothing for now
-pub told_later : (e : Exchange) (r : Response) (offered : ℕ) → e.response ≡ Some r → e.is_over ≡ false → e.written < length (octets_of r)
+pub response_later : (e : Exchange) (r : Response) (offered : ℕ) → e.response ≡ Some r → e.is_over ≡ false → e.written < length (octets_of r)
     → offered ≡ length (take admin_share (drop e.written (octets_of r)))
-    → Tells e e 0 0 false (Wrote Admin e.link offered Later [] ∷ [])
-told_later e r offered has goes less all =
+    → Writes e e 0 0 false (Wrote Admin e.link offered Later [] ∷ [])
+response_later e r offered has goes less all =
     let part : is_whole e.response e.written ≡ false = whole_here e.response r e.written has ∙ not_le (length (octets_of r)) e.written less in
     record {
       is = record {
@@ -349,7 +349,7 @@ turns_then site now B _ _ _ h2 t2 _ g2 _ c2 (IsClosed L g given e e_then held he
     (IsClosed L g (g2 ++ given) e e_then (held ++ h2) (held_then ++ t2) c (calls ++ c2) turn over later))
 
 pub turn_served : (site : Site) (now : ℕ) (B : Records) (L : Log) (e e1 e2 : Exchange) (g1 g2 : Log) (c1 c2 : List Call) → is_late_at now e ≡ false
-    → HasHeard site B L e e1 g1 c1 → g2 ≡ [] → HasTold e1 e2 c2
+    → HasRead site B L e e1 g1 c1 → g2 ≡ [] → HasWritten e1 e2 c2
     → HasHttpTurn site now B L e e2 (g2 ++ g1) (c1 ++ c2)
 turn_served site now B L e e1 e2 g1 g2 c1 c2 late heard none told =
     let is : g1 ≡ g2 ++ g1 = sym (ap (λ g. g ++ g1) none) in

@@ -15,7 +15,7 @@ use Rattle.serving.specs.Wires.{Told, more_at, over_at, is_fault, is_live, count
 use Rattle.office.specs.Expected.{shown_at}
 use Rattle.serving.specs.Spools.{FileAct, disposal_of, IsFiled}
 use Rattle.serving.specs.Deposits.{named, IsFiledBy, AreFiled}
-use Rattle.serving.specs.Served.{given_by, Owners, IsServed, AreServed, IsOwnEvent, Adds, connects, IsCommand, Beside, AddsEvents}
+use Rattle.serving.specs.Served.{given_by, Owners, IsServed, AreServed, IsOwnEvent, Adds, connects, IsCommand, Elsewhere, AddsEvents}
 use Rattle.office.specs.Answers.{AdminCommand}
 use Rattle.serving.proofs.Requesting.{exchanged_more}
 use Rattle.serving.proofs.Staying.{Fewer, fewer_framed, frame_read, frame_took, frame_gone, gone_so, fewer_tick, deposit_same, fewer_command}
@@ -326,27 +326,27 @@ own_no_command owner (event.Deposit d class id text) i k = k
 own_no_command owner (event.Admin command) i k = i
 own_no_command owner (event.Restart boot) i k = k
 
-pub adds_one : (owner : Owners) (B : Records) (older L : Log) (beside : Beside) (calls : ℕ) (e : Event) (m : EventTag) → IsOwnEvent owner e
-    → ((l : Log) (Before : List FileAct → Type 0) → Before beside.acts → IsFiledBy B l e m Before beside.acts) → ((l : Log) → connects ((e, m) ∷ l) ≡ connects l)
-    → Adds owner B older L beside calls → Adds owner B older ((e, m) ∷ L) beside calls
-adds_one owner B older L beside calls e m i none same a = record {
-  events = events_one owner B older L beside.acts calls e m i none same a.events;
-  requests = exchanged_more beside.admin beside.x B (length older) L e m (own_no_command owner e i) a.requests;
+pub adds_one : (owner : Owners) (B : Records) (older L : Log) (elsewhere : Elsewhere) (calls : ℕ) (e : Event) (m : EventTag) → IsOwnEvent owner e
+    → ((l : Log) (Before : List FileAct → Type 0) → Before elsewhere.acts → IsFiledBy B l e m Before elsewhere.acts) → ((l : Log) → connects ((e, m) ∷ l) ≡ connects l)
+    → Adds owner B older L elsewhere calls → Adds owner B older ((e, m) ∷ L) elsewhere calls
+adds_one owner B older L elsewhere calls e m i none same a = record {
+  events = events_one owner B older L elsewhere.acts calls e m i none same a.events;
+  requests = exchanged_more elsewhere.admin elsewhere.x B (length older) L e m (own_no_command owner e i) a.requests;
 }
 
-pub adds_connect : (owner : Owners) (B : Records) (older L : Log) (beside : Beside) (calls : ℕ) (m : EventTag)
-    → Adds owner B older L beside calls → Adds owner B older ((event.Connect, m) ∷ L) beside (calls + 1)
-adds_connect owner B older L beside calls m a = record {
-  events = events_connect owner B older L beside.acts calls m a.events;
-  requests = exchanged_more beside.admin beside.x B (length older) L event.Connect m (λ k. k) a.requests;
+pub adds_connect : (owner : Owners) (B : Records) (older L : Log) (elsewhere : Elsewhere) (calls : ℕ) (m : EventTag)
+    → Adds owner B older L elsewhere calls → Adds owner B older ((event.Connect, m) ∷ L) elsewhere (calls + 1)
+adds_connect owner B older L elsewhere calls m a = record {
+  events = events_connect owner B older L elsewhere.acts calls m a.events;
+  requests = exchanged_more elsewhere.admin elsewhere.x B (length older) L event.Connect m (λ k. k) a.requests;
 }
 
-pub adds_deposit : (owner : Owners) (B : Records) (older L : Log) (beside : Beside) (acts_then : List FileAct) (calls : ℕ) (d class id text : List ℕ) (t : Tag)
-    → IsFiled (named d class id) text (disposal_of (shown_at B L (history (trace_of B L)) (event.Deposit d class id text) t)) beside.acts acts_then
-    → Adds owner B older L beside calls → Adds owner B older ((event.Deposit d class id text, Tagged t) ∷ L) (record { acts = acts_then; admin = beside.admin; x = beside.x }) calls
-adds_deposit owner B older L beside acts_then calls d class id text t f a = record {
-  events = events_deposit owner B older L beside.acts acts_then calls d class id text t f a.events;
-  requests = exchanged_more beside.admin beside.x B (length older) L (event.Deposit d class id text) (Tagged t) (λ k. k) a.requests;
+pub adds_deposit : (owner : Owners) (B : Records) (older L : Log) (elsewhere : Elsewhere) (acts_then : List FileAct) (calls : ℕ) (d class id text : List ℕ) (t : Tag)
+    → IsFiled (named d class id) text (disposal_of (shown_at B L (history (trace_of B L)) (event.Deposit d class id text) t)) elsewhere.acts acts_then
+    → Adds owner B older L elsewhere calls → Adds owner B older ((event.Deposit d class id text, Tagged t) ∷ L) (record { acts = acts_then; admin = elsewhere.admin; x = elsewhere.x }) calls
+adds_deposit owner B older L elsewhere acts_then calls d class id text t f a = record {
+  events = events_deposit owner B older L elsewhere.acts acts_then calls d class id text t f a.events;
+  requests = exchanged_more elsewhere.admin elsewhere.x B (length older) L (event.Deposit d class id text) (Tagged t) (λ k. k) a.requests;
 }
 
 -- a command was given

@@ -30,7 +30,7 @@ pub mod Late
 pub mod Stopping
 pub mod Noting
 pub mod Going
-pub mod Freeing
+pub mod Releasing
 pub mod Timely
 pub mod Newly
 pub mod Composing

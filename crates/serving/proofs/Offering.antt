@@ -22,7 +22,7 @@ use Rattle.serving.specs.Calls.{Call, Waited, Accepted, Looked, Read, Wrote, Clo
 use Rattle.serving.specs.Requests.{octets_of}
 use Rattle.serving.specs.Works.{WasLent, IsOffered}
 use Rattle.serving.specs.ClientParts.{is_client_write, AreOffered, closing, HasLooked, Unlooked, NothingCame, PieceCame}
-use Rattle.serving.specs.HttpWorks.{HaveComeForAdmin, NoMore, IsKept, IsTurnedAway, WantsMemory, HasAcceptedForAdmin, HasHeard, IsOver, HasResponse, GaveNothing, GaveItsEnd}
+use Rattle.serving.specs.HttpWorks.{HaveComeForAdmin, NoMore, IsKept, IsTurnedAway, WantsMemory, HasAcceptedForAdmin, HasRead, IsOver, HasResponse, GaveNothing, GaveItsEnd}
 use Rattle.serving.specs.HttpWorks.{GaveAPiece, AreWrites, AreWritesOf, HasHttpTurn, IsLate, IsServed, HadHttpTurns, NoneHeld, IsHeldOn, IsClosed}
 use Rattle.serving.specs.declared.guesses.Refusal.{Refusal}
 use Rattle.serving.specs.declared.pace.Pace.{Pace}
@@ -160,17 +160,17 @@ unwritten_response l None w w1 calls a = ap (list_any is_client_write) a.0
 unwritten_response l (Some r) w w1 calls a = unwritten_writes l (octets_of r) w w1 calls a
 
 module _ (site : Site) (now : ℕ) (B : Records) where
-  unwritten_heard : (L : Log) (e e2 : Exchange) (g : Log) (c : List Call) → HasHeard site B L e e2 g c → list_any is_client_write c ≡ false
-  unwritten_heard L e e2 _ _ (IsOver over same) = refl
-  unwritten_heard L e e2 _ _ (HasResponse has same) = refl
-  unwritten_heard L e e2 _ _ (GaveNothing none same) = refl
-  unwritten_heard L e e2 _ _ (GaveItsEnd io none fault over) = refl
-  unwritten_heard L e e2 _ _ (GaveAPiece n piece given none live comes reads link written) = refl
+  unwritten_read : (L : Log) (e e2 : Exchange) (g : Log) (c : List Call) → HasRead site B L e e2 g c → list_any is_client_write c ≡ false
+  unwritten_read L e e2 _ _ (IsOver over same) = refl
+  unwritten_read L e e2 _ _ (HasResponse has same) = refl
+  unwritten_read L e e2 _ _ (GaveNothing none same) = refl
+  unwritten_read L e e2 _ _ (GaveItsEnd io none fault over) = refl
+  unwritten_read L e e2 _ _ (GaveAPiece n piece given none live comes reads link written) = refl
 
   unwritten_turn : (L : Log) (e e2 : Exchange) (g : Log) (c : List Call) → HasHttpTurn site now B L e e2 g c → list_any is_client_write c ≡ false
   unwritten_turn L e e2 _ _ (IsLate late over) = refl
   unwritten_turn L e e2 _ _ (IsServed between given reads writes late heard told) =
-      none_of is_client_write reads writes (unwritten_heard L e between given reads heard) (unwritten_response between.link between.response between.written e2.written writes told.is.writes)
+      none_of is_client_write reads writes (unwritten_read L e between given reads heard) (unwritten_response between.link between.response between.written e2.written writes told.is.writes)
 
   pub unwritten_turns : (L : Log) (held held_then : List Exchange) (g : Log) (c : List Call) → HadHttpTurns site now B L held held_then g c → list_any is_client_write c ≡ false
   unwritten_turns _ _ _ _ _ (NoneHeld L) = refl

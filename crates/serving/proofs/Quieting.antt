@@ -1,8 +1,8 @@
 -- Parts of a turn that leave the clients' links and openings alone.
+use Rattle.vault.specs.declared.vault.Vault.{Ghosts}
 use Rattle.std.proofs.Common.{◌≡◌, ℕ, List, [], ◌∷◌, ◌++◌, refl, Option}
 use Rattle.std.proofs.lemmas.List.Elements.{All-nil, All-cons}
 use Rattle.vault.specs.Records.{Records}
-use Rattle.vault.specs.Changes.{Contents}
 use Rattle.office.specs.Answers.{AdminCommand}
 use Rattle.office.specs.Events.{EventTag, Log}
 use Rattle.office.specs.Events as event
@@ -67,28 +67,28 @@ IsOne call calls = calls ≡ call ∷ []
 
 -- ---- one event
 
-module _ {V : Type 0} (Holds : V → Contents → Type 0) (IsClean : V → Type 0) (Faults : V → ℕ) (IsUp : V → Type 0) (MayLeave : V → Contents → Type 0) where
+module _ {V : Type 0} (vault : Ghosts V) where
   pub gives_none : (o : Office V) (Did : Records → Log → Log → List Call → Type 0) → ((B : Records) (L : Log) → Did B L [] [])
-      → Giving Holds IsClean Faults IsUp MayLeave o o (λ given. DidApart Holds IsClean o o Did given [])
+      → Giving vault o o (λ given. DidApart vault.holds vault.is_clean o o Did given [])
   gives_none o Did did = record {
     given = [];
-    was_given = given_none Holds IsClean Faults IsUp MayLeave o;
+    was_given = given_none vault o;
     facts = record { quiet = quiet_none; caused = All-nil (HasCause [] []); did = λ B L s k. did B L };
   }
 
   -- the same, of an office that stands for the log
-  pub gives_none_standing : (o : Office V) (Did : Records → Log → Log → List Call → Type 0) → ((B : Records) (L : Log) → StandsFor Holds o (trace_of B L) → Did B L [] [])
-      → Giving Holds IsClean Faults IsUp MayLeave o o (λ given. DidApart Holds IsClean o o Did given [])
+  pub gives_none_standing : (o : Office V) (Did : Records → Log → Log → List Call → Type 0) → ((B : Records) (L : Log) → StandsFor vault.holds o (trace_of B L) → Did B L [] [])
+      → Giving vault o o (λ given. DidApart vault.holds vault.is_clean o o Did given [])
   gives_none_standing o Did did = record {
     given = [];
-    was_given = given_none Holds IsClean Faults IsUp MayLeave o;
+    was_given = given_none vault o;
     facts = record { quiet = quiet_none; caused = All-nil (HasCause [] []); did = λ B L s k. did B L s };
   }
 
   pub gives_command : (o o1 : Office V) (command : AdminCommand) (m : EventTag) (Did : Records → Log → Log → List Call → Type 0)
-      → WasGiven Holds IsClean Faults IsUp MayLeave o o1 ((event.Admin command, m) ∷ [])
-      → ((B : Records) (L : Log) → StandsFor Holds o (trace_of B L) → IsClean (vault_of o1) → Did B L ((event.Admin command, m) ∷ []) [])
-      → Giving Holds IsClean Faults IsUp MayLeave o o1 (λ given. DidApart Holds IsClean o o1 Did given [])
+      → WasGiven vault o o1 ((event.Admin command, m) ∷ [])
+      → ((B : Records) (L : Log) → StandsFor vault.holds o (trace_of B L) → vault.is_clean (vault_of o1) → Did B L ((event.Admin command, m) ∷ []) [])
+      → Giving vault o o1 (λ given. DidApart vault.holds vault.is_clean o o1 Did given [])
   gives_command o o1 command m Did is did = record {
     given = (event.Admin command, m) ∷ [];
     was_given = is;
@@ -101,29 +101,29 @@ module _ {V : Type 0} (Holds : V → Contents → Type 0) (IsClean : V → Type 
 
 -- ---- parts
 
-module _ {V W : Type 0} (Holds : V → Contents → Type 0) (IsClean : V → Type 0) (Faults : V → ℕ) (IsUp : V → Type 0) (MayLeave : V → Contents → Type 0) (Asked : W → List Call → Type 0) where
+module _ {V W : Type 0} (vault : Ghosts V) (Asked : W → List Call → Type 0) where
   pub did_none : (o : Office V) (w : W) (Did : Records → Log → Log → List Call → Type 0) → ((B : Records) (L : Log) → Did B L [] [])
-      → Part Holds IsClean Faults IsUp MayLeave Asked o w o w (DidApart Holds IsClean o o Did)
+      → Part vault Asked o w o w (DidApart vault.holds vault.is_clean o o Did)
   did_none o w Did did = record {
     given = [];
     calls = [];
-    was_given = given_none Holds IsClean Faults IsUp MayLeave o;
+    was_given = given_none vault o;
     was_asked = asked_none Asked w;
     facts = record { quiet = quiet_none; caused = All-nil (HasCause [] []); did = λ B L s k. did B L };
   }
 
   pub did_asked : (o : Office V) (w w1 : W) (F : List Call → Type 0) (Did : Records → Log → Log → List Call → Type 0) → ((B : Records) (L : Log) (c : List Call) → F c → Did B L [] c)
-      → Asking Asked w w1 (AskedApart F) → Part Holds IsClean Faults IsUp MayLeave Asked o w o w1 (DidApart Holds IsClean o o Did)
+      → Asking Asked w w1 (AskedApart F) → Part vault Asked o w o w1 (DidApart vault.holds vault.is_clean o o Did)
   did_asked o w w1 F Did did a = record {
     given = [];
     calls = a.calls;
-    was_given = given_none Holds IsClean Faults IsUp MayLeave o;
+    was_given = given_none vault o;
     was_asked = a.was_asked;
     facts = record { quiet = a.facts.0; caused = All-nil (HasCause [] a.calls); did = λ B L s k. did B L a.calls a.facts.1 };
   }
 
-  pub did_given : (o o1 : Office V) (w : W) (Did : Records → Log → Log → List Call → Type 0) → Giving Holds IsClean Faults IsUp MayLeave o o1 (λ given. DidApart Holds IsClean o o1 Did given [])
-      → Part Holds IsClean Faults IsUp MayLeave Asked o w o1 w (DidApart Holds IsClean o o1 (λ B L given calls. (calls ≡ []) × Did B L given []))
+  pub did_given : (o o1 : Office V) (w : W) (Did : Records → Log → Log → List Call → Type 0) → Giving vault o o1 (λ given. DidApart vault.holds vault.is_clean o o1 Did given [])
+      → Part vault Asked o w o1 w (DidApart vault.holds vault.is_clean o o1 (λ B L given calls. (calls ≡ []) × Did B L given []))
   did_given o o1 w Did a = record {
     given = a.given;
     calls = [];
@@ -134,22 +134,23 @@ module _ {V W : Type 0} (Holds : V → Contents → Type 0) (IsClean : V → Typ
 
   -- of which this holds besides
   pub also_asked : (o : Office V) (w w1 : W) (F M : List Call → Type 0)
-      → Asking Asked w w1 (AskedApart (λ c. F c × M c)) → Part Holds IsClean Faults IsUp MayLeave Asked o w o w1 (Also (DidApart Holds IsClean o o (NoEvent F)) M)
+      → Asking Asked w w1 (AskedApart (λ c. F c × M c)) → Part vault Asked o w o w1 (Also (DidApart vault.holds vault.is_clean o o (NoEvent F)) M)
   also_asked o w w1 F M a = record {
     given = [];
     calls = a.calls;
-    was_given = given_none Holds IsClean Faults IsUp MayLeave o;
+    was_given = given_none vault o;
     was_asked = a.was_asked;
     facts = (record { quiet = a.facts.0; caused = All-nil (HasCause [] a.calls); did = λ B L s k. (refl, a.facts.1.0) }, a.facts.1.1);
   }
 
   pub also_then : (o o1 o2 : Office V) (w w1 w2 : W) (D E F : Records → Log → Log → List Call → Type 0) (M N K : List Call → Type 0)
       → ((B : Records) (L g1 g2 : Log) (c1 c2 : List Call) → D B L g1 c1 → E B (g1 ++ L) g2 c2 → F B L (g2 ++ g1) (c1 ++ c2)) → ((c1 c2 : List Call) → M c1 → N c2 → K (c1 ++ c2))
-      → Part Holds IsClean Faults IsUp MayLeave Asked o w o1 w1 (Also (DidApart Holds IsClean o o1 D) M)
-      → Part Holds IsClean Faults IsUp MayLeave Asked o1 w1 o2 w2 (Also (DidApart Holds IsClean o1 o2 E) N)
-      → Part Holds IsClean Faults IsUp MayLeave Asked o w o2 w2 (Also (DidApart Holds IsClean o o2 F) K)
+      → Part vault Asked o w o1 w1 (Also (DidApart vault.holds vault.is_clean o o1 D) M)
+      → Part vault Asked o1 w1 o2 w2 (Also (DidApart vault.holds vault.is_clean o1 o2 E) N)
+      → Part vault Asked o w o2 w2 (Also (DidApart vault.holds vault.is_clean o o2 F) K)
   also_then o o1 o2 w w1 w2 D E F M N K join more a b =
-      part_then Holds IsClean Faults IsUp MayLeave Asked o o1 o2 w w1 w2 (Also (DidApart Holds IsClean o o1 D) M) (Also (DidApart Holds IsClean o1 o2 E) N) (Also (DidApart Holds IsClean o o2 F) K)
+      part_then vault Asked o o1 o2 w w1 w2 (Also (DidApart vault.holds vault.is_clean o o1 D) M)
+      (Also (DidApart vault.holds vault.is_clean o1 o2 E) N) (Also (DidApart vault.holds vault.is_clean o o2 F) K)
       (λ g1 g2 c1 c2 wa wb p q. (
         record {
           quiet = quiet_then g1 g2 c1 c2 p.0.quiet q.0.quiet;
@@ -162,8 +163,8 @@ module _ {V W : Type 0} (Holds : V → Contents → Type 0) (IsClean : V → Typ
 
   pub also_so : (o o1 : Office V) (w w1 : W) (D E : Records → Log → Log → List Call → Type 0) (M N : List Call → Type 0) → ((B : Records) (L g : Log) (c : List Call) → D B L g c → E B L g c)
       → ((c : List Call) → M c → N c)
-      → Part Holds IsClean Faults IsUp MayLeave Asked o w o1 w1 (Also (DidApart Holds IsClean o o1 D) M)
-      → Part Holds IsClean Faults IsUp MayLeave Asked o w o1 w1 (Also (DidApart Holds IsClean o o1 E) N)
+      → Part vault Asked o w o1 w1 (Also (DidApart vault.holds vault.is_clean o o1 D) M)
+      → Part vault Asked o w o1 w1 (Also (DidApart vault.holds vault.is_clean o o1 E) N)
   also_so o o1 w w1 D E M N so more a = record {
     given = a.given;
     calls = a.calls;
@@ -173,15 +174,15 @@ module _ {V W : Type 0} (Holds : V → Contents → Type 0) (IsClean : V → Typ
   }
 
   pub also_from : (o o1 : Office V) (w w1 : W) (D : Records → Log → Log → List Call → Type 0) (M : List Call → Type 0) → ((c : List Call) → M c)
-      → Part Holds IsClean Faults IsUp MayLeave Asked o w o1 w1 (DidApart Holds IsClean o o1 D) → Part Holds IsClean Faults IsUp MayLeave Asked o w o1 w1 (Also (DidApart Holds IsClean o o1 D) M)
+      → Part vault Asked o w o1 w1 (DidApart vault.holds vault.is_clean o o1 D) → Part vault Asked o w o1 w1 (Also (DidApart vault.holds vault.is_clean o o1 D) M)
   also_from o o1 w w1 D M more a = record { given = a.given; calls = a.calls; was_given = a.was_given; was_asked = a.was_asked; facts = (a.facts, more a.calls) }
 
   pub did_then : (o o1 o2 : Office V) (w w1 w2 : W) (D E F : Records → Log → Log → List Call → Type 0)
       → ((B : Records) (L g1 g2 : Log) (c1 c2 : List Call) → D B L g1 c1 → E B (g1 ++ L) g2 c2 → F B L (g2 ++ g1) (c1 ++ c2))
-      → Part Holds IsClean Faults IsUp MayLeave Asked o w o1 w1 (DidApart Holds IsClean o o1 D) → Part Holds IsClean Faults IsUp MayLeave Asked o1 w1 o2 w2 (DidApart Holds IsClean o1 o2 E)
-      → Part Holds IsClean Faults IsUp MayLeave Asked o w o2 w2 (DidApart Holds IsClean o o2 F)
+      → Part vault Asked o w o1 w1 (DidApart vault.holds vault.is_clean o o1 D) → Part vault Asked o1 w1 o2 w2 (DidApart vault.holds vault.is_clean o1 o2 E)
+      → Part vault Asked o w o2 w2 (DidApart vault.holds vault.is_clean o o2 F)
   did_then o o1 o2 w w1 w2 D E F join a b =
-      part_then Holds IsClean Faults IsUp MayLeave Asked o o1 o2 w w1 w2 (DidApart Holds IsClean o o1 D) (DidApart Holds IsClean o1 o2 E) (DidApart Holds IsClean o o2 F)
+      part_then vault Asked o o1 o2 w w1 w2 (DidApart vault.holds vault.is_clean o o1 D) (DidApart vault.holds vault.is_clean o1 o2 E) (DidApart vault.holds vault.is_clean o o2 F)
       (λ g1 g2 c1 c2 wa wb p q. record {
         quiet = quiet_then g1 g2 c1 c2 p.quiet q.quiet;
         caused = caused_then [] g1 g2 c1 c2 p.caused q.caused;
@@ -191,7 +192,7 @@ module _ {V W : Type 0} (Holds : V → Contents → Type 0) (IsClean : V → Typ
 
   -- of the same part something else holds
   pub did_so : (o o1 : Office V) (w w1 : W) (D E : Records → Log → Log → List Call → Type 0) → ((B : Records) (L g : Log) (c : List Call) → D B L g c → E B L g c)
-      → Part Holds IsClean Faults IsUp MayLeave Asked o w o1 w1 (DidApart Holds IsClean o o1 D) → Part Holds IsClean Faults IsUp MayLeave Asked o w o1 w1 (DidApart Holds IsClean o o1 E)
+      → Part vault Asked o w o1 w1 (DidApart vault.holds vault.is_clean o o1 D) → Part vault Asked o w o1 w1 (DidApart vault.holds vault.is_clean o o1 E)
   did_so o o1 w w1 D E so a = record {
     given = a.given;
     calls = a.calls;

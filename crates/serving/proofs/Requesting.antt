@@ -37,8 +37,8 @@ use Rattle.serving.specs.declared.wire.Io.TheVariants.{Count}
 use Rattle.serving.specs.Wires.{Told, ToldOfPorts, more_at, over_at, is_live, has_read, has_written, has_closed, has_accepted, begun_at}
 use Rattle.serving.specs.Served.{IsCommand}
 use Rattle.serving.specs.HttpWorks.{ComesTo}
-use Rattle.serving.specs.Requests.{IsAnswer, IsResponse, ToRefusal, ToFault, ForMemory, ToCommand, Exchanges, IsExchange, AreExchanged, octets_of, IsKept, IsHeld, put_at, IsToldBy}
-use Rattle.serving.specs.Requests.{IsGiven, NotYet, NoCommand, GivenOne, HasAsked, Asks, AsksMore, IsAnswering, IsAsked, AreOthersHeld, AreKeptBeside, AreHeld, Precedes}
+use Rattle.serving.specs.Requests.{IsAnswer, IsResponse, ToRefusal, ToFault, ForMemory, ToCommand, Exchanges, IsExchange, AreExchanged, octets_of, IsKept, IsHeld, put_at, IsResponseTo}
+use Rattle.serving.specs.Requests.{IsGiven, NotYet, NoCommand, GivenOne, HasAsked, Asks, AsksMore, IsAnswering, IsAsked, AreOthersHeld, AreKeptAmong, AreHeld, Precedes}
 
 -- ---- one value more
 
@@ -52,7 +52,7 @@ put_other n a f k h = let q = ne_eqb k n h in rw q refl
 
 -- the response tells the answer that the history gives
 answer_of : (B : Records) (L : Log) (command : AdminCommand) (t : Tag) (response : List ℕ)
-    → IsToldBy (shown_at B L (history (trace_of B L)) (event.Admin command) t) response → IsAnswer B L command t response
+    → IsResponseTo (shown_at B L (history (trace_of B L)) (event.Admin command) t) response → IsAnswer B L command t response
 answer_of B L command Done response h = h
 answer_of B L command Failed response h = h
 answer_of B L command NoMemory response h = h
@@ -70,7 +70,7 @@ as_opened site L read access asked same is = subst (λ a. IsRequest site a read 
 pub asked_one : {V : Type 0} (Holds : V → Contents → Type 0) (site : Site) (B : Records) (L : Log) (read : List ℕ) (office : Office V) (lent : ℕ → ℕ)
     (command : AdminCommand) (o : Outcome) (response : List ℕ)
     → IsOutcome (trace_of B L) lent (event.Admin command) o → StandsFor Holds office (trace_of B ((event.Admin command, event_tag_of o) ∷ L))
-    → IsAdmitted (trace_of B L) (event.Admin command) (event_tag_of o) → IsRequest site (access_in L) read (Ok command) → IsToldBy o response
+    → IsAdmitted (trace_of B L) (event.Admin command) (event_tag_of o) → IsRequest site (access_in L) read (Ok command) → IsResponseTo o response
     → HasAsked Holds site B L read office (Some response)
 asked_one Holds site B L read office lent command o response h s a q r =
     let m : event_tag_of o ≡ Tagged h.tag = ap event_tag_of h.is ∙ command_mark B L (history (trace_of B L)) command h.tag in
@@ -79,19 +79,19 @@ asked_one Holds site B L read office lent command o response h s a q r =
       place = Some (length L);
       stands = subst (λ x. StandsFor Holds office (trace_of B ((event.Admin command, x) ∷ L))) m s;
       admitted = λ before. (subst (IsAdmitted (trace_of B L) (event.Admin command)) m a, before);
-      given = GivenOne command h.tag response q (answer_of B L command h.tag response (subst (λ x. IsToldBy x response) h.is r));
+      given = GivenOne command h.tag response q (answer_of B L command h.tag response (subst (λ x. IsResponseTo x response) h.is r));
     }
 
 -- the octets that ask for it come to this response
 pub comes_to : (site : Site) (B : Records) (L : Log) (read : List ℕ) (lent : ℕ → ℕ) (command : AdminCommand) (o : Outcome) (response : List ℕ)
-    → IsOutcome (trace_of B L) lent (event.Admin command) o → IsRequest site (access_in L) read (Ok command) → IsToldBy o response
+    → IsOutcome (trace_of B L) lent (event.Admin command) o → IsRequest site (access_in L) read (Ok command) → IsResponseTo o response
     → ComesTo site B L read ((event.Admin command, event_tag_of o) ∷ []) (Some response)
 comes_to site B L read lent command o response h q r =
     let m : event_tag_of o ≡ Tagged h.tag = ap event_tag_of h.is ∙ command_mark B L (history (trace_of B L)) command h.tag in
     record {
       place = Some (length L);
       is = subst (λ x. IsGiven site B L read ((event.Admin command, x) ∷ L) (Some (length L)) (Some response)) (sym m)
-          (GivenOne command h.tag response q (answer_of B L command h.tag response (subst (λ x. IsToldBy x response) h.is r)));
+          (GivenOne command h.tag response q (answer_of B L command h.tag response (subst (λ x. IsResponseTo x response) h.is r)));
     }
 
 pub asked_none : {V : Type 0} (Holds : V → Contents → Type 0) (site : Site) (B : Records) (L : Log) (read : List ℕ) (office : Office V) (r : Option (List ℕ))
@@ -387,10 +387,10 @@ others_same told told2 x x2 n n2 others e same h = λ k d within ne.
 module _ {V W : Type 0} (Holds : V → Contents → Type 0) (Tells : W → ToldOfPorts → Type 0) (site : Site) (B : Records) (start : ℕ) (L : Log)
     (pop : Told) (others : List Exchange) (e e2 : Exchange) where
   -- a piece was read
-  pub heard : (office office2 : Office V) (wire wire2 : W) (count : ℕ) (piece : List ℕ) (s : IsAsked Holds Tells site B start L pop office wire (AreKeptBeside others e))
+  pub heard : (office office2 : Office V) (wire wire2 : W) (count : ℕ) (piece : List ℕ) (s : IsAsked Holds Tells site B start L pop office wire (AreKeptAmong others e))
       → HasAsked Holds site B s.log (e.read.items ++ piece) office2 (option_map octets_of e2.response) → e.response ≡ None → e.is_over ≡ false
       → e2.link ≡ e.link → e2.written ≡ e.written → e2.is_over ≡ e.is_over → IfNone e2.response (e2.read.items ≡ e.read.items ++ piece)
-      → Tells wire2 (record { pop = pop; admin = has_read s.is.told e.link.number (Count count) piece }) → IsAsked Holds Tells site B start L pop office2 wire2 (AreKeptBeside others e2)
+      → Tells wire2 (record { pop = pop; admin = has_read s.is.told e.link.number (Count count) piece }) → IsAsked Holds Tells site B start L pop office2 wire2 (AreKeptAmong others e2)
   heard office office2 wire wire2 count piece s asked none goes same_link same_written same_over reads tells =
       let h : HasAsked Holds s.x.site B s.log (e.read.items ++ piece) office2 (option_map octets_of e2.response) =
       subst (λ (x : Site). HasAsked Holds x B s.log (e.read.items ++ piece) office2 (option_map octets_of e2.response)) (sym s.of_site) asked in
@@ -435,11 +435,11 @@ module _ {V W : Type 0} (Holds : V → Contents → Type 0) (Tells : W → ToldO
 
 module _ {W : Type 0} (Tells : W → ToldOfPorts → Type 0) (B : Records) (start : ℕ) (pop : Told) (others : List Exchange) (e e2 : Exchange) where
   -- nothing was read, or written: a link took nothing, or is over
-  pub waited : (x : Exchanges) (M : Log) (wire wire2 : W) (s : IsAnswering Tells x B start M pop wire (AreKeptBeside others e)) (told2 : Told)
+  pub waited : (x : Exchanges) (M : Log) (wire wire2 : W) (s : IsAnswering Tells x B start M pop wire (AreKeptAmong others e)) (told2 : Told)
       → Tells wire2 (record { pop = pop; admin = told2 }) → told2.accepted ≡ s.told.accepted → ((k : ℕ) → told2.read k ≡ s.told.read k) → ((k : ℕ) → told2.written k ≡ s.told.written k)
       → ((k : ℕ) → (k ≡ e.link.number → ⊥) → told2.over k ≡ s.told.over k) → told2.strayed ≡ false
       → e2.link ≡ e.link → e2.read ≡ e.read → e2.response ≡ e.response → e2.written ≡ e.written → (e2.is_over ≡ false → told2.over e.link.number ≡ false)
-      → IsAnswering Tells x B start M pop wire2 (AreKeptBeside others e2)
+      → IsAnswering Tells x B start M pop wire2 (AreKeptAmong others e2)
   waited x M wire wire2 s told2 tells same_count same_read same_written apart straight same_link same_items same_response same_at live =
       let told = s.told in
       let n = e.link.number in
@@ -466,11 +466,11 @@ module _ {W : Type 0} (Tells : W → ToldOfPorts → Type 0) (B : Records) (star
       }
 
   -- so many octets of a response were written
-  pub wrote : (x : Exchanges) (M : Log) (wire wire2 : W) (s : IsAnswering Tells x B start M pop wire (AreKeptBeside others e)) (count : ℕ) (more : List ℕ) (response : Response)
+  pub wrote : (x : Exchanges) (M : Log) (wire wire2 : W) (s : IsAnswering Tells x B start M pop wire (AreKeptAmong others e)) (count : ℕ) (more : List ℕ) (response : Response)
       → Tells wire2 (record { pop = pop; admin = has_written s.told e.link.number (Count count) more }) → e.response ≡ Some response → e.is_over ≡ false
       → more ≡ take count (drop e.written (octets_of response))
       → e2.link ≡ e.link → e2.response ≡ e.response → e2.written ≡ e.written + count
-      → IsAnswering Tells x B start M pop wire2 (AreKeptBeside others e2)
+      → IsAnswering Tells x B start M pop wire2 (AreKeptAmong others e2)
   wrote x M wire wire2 s count more response tells has goes is same_link same_response at =
       let told = s.told in
       let n = e.link.number in
@@ -504,7 +504,7 @@ module _ {W : Type 0} (Tells : W → ToldOfPorts → Type 0) (B : Records) (star
 -- ---- all links
 
 -- a link is served by itself
-pub one_held : (told : Told) (x : Exchanges) (xs : List Exchange) (i : ℕ) (d : Exchange) → i < length xs → AreHeld told x xs → AreKeptBeside xs (get_or xs i d) told x
+pub one_held : (told : Told) (x : Exchanges) (xs : List Exchange) (i : ℕ) (d : Exchange) → i < length xs → AreHeld told x xs → AreKeptAmong xs (get_or xs i d) told x
 one_held told x xs i d within a = (a.each i d within, λ k c here ne. a.each k c here)
 
 ascending : (xs : List Exchange) (i j : ℕ) (d : Exchange) → i < length xs → j < length xs → AllPairs Precedes xs → (i ≡ j → ⊥)
@@ -519,7 +519,7 @@ ascending xs i j d wi wj a ne same =
 
 module _ (told : Told) (x : Exchanges) (xs : List Exchange) (i : ℕ) (e : Exchange) where
   -- it stays in its place
-  pub held_again : (d : Exchange) → i < length xs → AllPairs Precedes xs → e.link ≡ (get_or xs i d).link → AreKeptBeside xs e told x → AreHeld told x (set xs i e)
+  pub held_again : (d : Exchange) → i < length xs → AllPairs Precedes xs → e.link ≡ (get_or xs i d).link → AreKeptAmong xs e told x → AreHeld told x (set xs i e)
   held_again d within ascend same a =
       let number : e.link.number ≡ (get_or xs i d).link.number = ap (λ k. k.number) same in
       let at : (k : ℕ) (c : Exchange) → k < length xs → (get_or (set xs i e) k c).link.number ≡ (get_or xs k c).link.number = λ k c here.

@@ -11,12 +11,12 @@ use Rattle.serving.specs.declared.requests.Response.{Response}
 use Rattle.serving.specs.declared.requests.Exchange.{Exchange}
 use Rattle.serving.specs.declared.links.Links.{Links}
 use Rattle.serving.specs.Requests.{octets_of}
-use Rattle.serving.specs.HttpWorks.{AreWrites, AreWritesOf, IsToldOf}
+use Rattle.serving.specs.HttpWorks.{AreWrites, AreWritesOf, IsWrittenOf}
 use Rattle.serving.specs.Turns.{millis_of}
-use Rattle.serving.proofs.HttpWorking.{ToldSoFar}
+use Rattle.serving.proofs.HttpWorking.{WrittenSoFar}
 use Rattle.serving.specs.Calls.{Call, Waited, Accepted, Looked, Read, Wrote, Closed}
 use Rattle.serving.specs.Works.{is_moving, has_moved, is_taking_of, octets_taken, share_by}
-use Rattle.serving.specs.Parts.{PollsBy, Releases}
+use Rattle.serving.specs.Parts.{PollsBy, PollsAfterClosing}
 use Rattle.serving.proofs.Working.{or_true, any_left, any_right}
 
 pub is_left : (a b : Bool) → a ≡ true → (a || b) ≡ true
@@ -57,7 +57,7 @@ polled_behind p q r c1 c2 h b e = polled_then p p q c1 c2 (polled_same p c1) b (
 
 -- ---- if logins wait for locks
 
-pub releases_then : (wait : ℕ) (p q : Bool) (c1 c2 : List Call) → (p ≡ true → q ≡ true) → Releases wait p c1 → Releases wait q c2 → Releases wait q (c1 ++ c2)
+pub releases_then : (wait : ℕ) (p q : Bool) (c1 c2 : List Call) → (p ≡ true → q ≡ true) → PollsAfterClosing wait p c1 → PollsAfterClosing wait q c2 → PollsAfterClosing wait q (c1 ++ c2)
 releases_then wait p q c1 c2 still a b = λ on e.
     ⊎_elim
     (λ (x : has_moved c1 ≡ true). still (a on x))
@@ -171,15 +171,15 @@ some_octets zero h = absurd (true≢false h)
 some_octets (suc n) h = omega arith
 
 -- a response that was written on
-pub told_moved : (e e1 : Exchange) (times octets : ℕ) (calls : List Call) → (octets == 0) ≡ false → IsToldOf e e1 times octets calls → has_moved calls ≡ true
-told_moved e e1 times octets calls some a =
+pub written_moved : (e e1 : Exchange) (times octets : ℕ) (calls : List Call) → (octets == 0) ≡ false → IsWrittenOf e e1 times octets calls → has_moved calls ≡ true
+written_moved e e1 times octets calls some a =
     let more : 0 < octets = some_octets octets some in
     let grown = a.octets_are in
     response_moved e.link e.response e.written e1.written calls a.writes (omega (arith, more, grown))
 
 -- while it is written
-abbrev pub TellsSoFar : (e e1 : Exchange) (times octets : ℕ) (calls : List Call) → Type 0
-TellsSoFar e e1 times octets calls = ToldSoFar e e1 times octets calls × (0 < times → has_moved calls ≡ true)
+abbrev pub WritesSoFar : (e e1 : Exchange) (times octets : ℕ) (calls : List Call) → Type 0
+WritesSoFar e e1 times octets calls = WrittenSoFar e e1 times octets calls × (0 < times → has_moved calls ≡ true)
 
 -- a link of the administration has more, or one before it does
 pub admin_polled : (p q : Bool) (calls : List Call) → PollsBy false q calls → PollsBy p (p || q) calls
@@ -195,12 +195,12 @@ pub waits_then : (links : Links) → links.clients.poll_now ≡ false → links.
 waits_then links a b = rw a (rw b refl)
 
 -- it doesn't wait for one of these
-pub rests_so : (pl freed polled dealt ml mx m : Bool) → (pl ≡ true → (freed || ml) ≡ true) → (polled ≡ true → (pl || mx) ≡ true) → (ml ≡ true → m ≡ true) → (mx ≡ true → m ≡ true)
-    → m ≡ false → freed ≡ false → dealt ≡ false → (polled || dealt) ≡ false
-rests_so pl freed polled dealt ml mx m hl hx tl tx none_m none_f none_d =
+pub rests_so : (pl lock_released polled dealt ml mx m : Bool) → (pl ≡ true → (lock_released || ml) ≡ true) → (polled ≡ true → (pl || mx) ≡ true) → (ml ≡ true → m ≡ true) → (mx ≡ true → m ≡ true)
+    → m ≡ false → lock_released ≡ false → dealt ≡ false → (polled || dealt) ≡ false
+rests_so pl lock_released polled dealt ml mx m hl hx tl tx none_m none_f none_d =
     not_true (polled || dealt) (λ e.
     (let moved : m ≡ true → m ≡ true = λ q. q in
     true≢false (sym (either polled dealt m
-    (λ x. either pl mx m (λ y. either freed ml m (λ z. absurd (true≢false (sym z ∙ none_f))) tl (hl y)) tx (hx x))
+    (λ x. either pl mx m (λ y. either lock_released ml m (λ z. absurd (true≢false (sym z ∙ none_f))) tl (hl y)) tx (hx x))
     (λ x. absurd (true≢false (sym x ∙ none_d)))
     e) ∙ none_m)))

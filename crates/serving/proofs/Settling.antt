@@ -319,9 +319,9 @@ touched_next now b ns ms ms2 seats cur i d same h is before c =
 
 -- ---- which logins may be kept back
 
-pub may_more : (slow : Bool) (now : ℕ) (ns : List Newcomer) (seats : List Seat) (freed freed2 : Bool) (c : ℕ) → (freed ≡ true → freed2 ≡ true)
-    → may_by slow now ns seats freed c ≡ true → may_by slow now ns seats freed2 c ≡ true
-may_more slow now ns seats true freed2 c more h = ap (λ b. b || (slow && (nat_lt (waited_of now (newcomer c ns)) most_paced || is_shared seats c))) (more refl)
+pub may_more : (slow : Bool) (now : ℕ) (ns : List Newcomer) (seats : List Seat) (lock_released released2 : Bool) (c : ℕ) → (lock_released ≡ true → released2 ≡ true)
+    → may_by slow now ns seats lock_released c ≡ true → may_by slow now ns seats released2 c ≡ true
+may_more slow now ns seats true released2 c more h = ap (λ b. b || (slow && (nat_lt (waited_of now (newcomer c ns)) most_paced || is_shared seats c))) (more refl)
 may_more slow now ns seats false true c more h = refl
 may_more slow now ns seats false false c more h = h
 
@@ -336,15 +336,15 @@ paced_shared true less false shared e h = e
 paced_shared false less less2 shared e h = cc
 
 -- of the connection of a seat, behind those before it
-pub may_then : (slow slow2 freed freed2 : Bool) (now : ℕ) (ns ms : List Newcomer) (seats : List Seat) (i : ℕ) (d : Seat) → slow2 ≡ slow
-    → (freed ≡ true → freed2 ≡ true) → i < length seats → AreTouched ns ms (take i seats)
-    → (freed || (slow2 && nat_lt (waited_of now (newcomer (get_or seats i d).connection ms)) most_paced)) ≡ true → may_by slow now ns seats freed2 (get_or seats i d).connection ≡ true
-may_then slow slow2 freed freed2 now ns ms seats i d same more h touched k =
+pub may_then : (slow slow2 lock_released released2 : Bool) (now : ℕ) (ns ms : List Newcomer) (seats : List Seat) (i : ℕ) (d : Seat) → slow2 ≡ slow
+    → (lock_released ≡ true → released2 ≡ true) → i < length seats → AreTouched ns ms (take i seats)
+    → (lock_released || (slow2 && nat_lt (waited_of now (newcomer (get_or seats i d).connection ms)) most_paced)) ≡ true → may_by slow now ns seats released2 (get_or seats i d).connection ≡ true
+may_then slow slow2 lock_released released2 now ns ms seats i d same more h touched k =
     let c = (get_or seats i d).connection in
     let less = nat_lt (waited_of now (newcomer c ns)) most_paced in
     let less2 = nat_lt (waited_of now (newcomer c ms)) most_paced in
     ⊎_elim
-    (λ (f : freed ≡ true). ap (λ b. b || (slow && (less || is_shared seats c))) (more f))
+    (λ (f : lock_released ≡ true). ap (λ b. b || (slow && (less || is_shared seats c))) (more f))
     (λ (p2 : (slow2 && less2) ≡ true).
     (let p : (slow && less2) ≡ true = subst (λ b. (b && less2) ≡ true) same p2 in
     let by_pace : (slow && (less || is_shared seats c)) ≡ true =
@@ -352,12 +352,12 @@ may_then slow slow2 freed freed2 now ns ms seats i d same more h touched k =
     (λ (e : newcomer c ms ≡ newcomer c ns). paced_more slow less (is_shared seats c) (subst (λ n. (slow && nat_lt (waited_of now n) most_paced) ≡ true) e p))
     (λ (a : list_any (λ s. s.connection == c) (take i seats) ≡ true). paced_shared slow less2 less (is_shared seats c) (shared_so seats i d h a) p)
     (touched c) in
-    ap (λ b. freed2 || b) by_pace ∙ or_true freed2))
-    (or_cases freed (slow2 && less2) k)
+    ap (λ b. released2 || b) by_pace ∙ or_true released2))
+    (or_cases lock_released (slow2 && less2) k)
 
-pub may_same : (slow : Bool) (now : ℕ) (ns ms : List Newcomer) (seats : List Seat) (freed : Bool) (c : ℕ)
-    → waited_of now (newcomer c ns) ≡ waited_of now (newcomer c ms) → may_by slow now ns seats freed c ≡ true → may_by slow now ms seats freed c ≡ true
-may_same slow now ns ms seats freed c e h = subst (λ n. (freed || (slow && (nat_lt n most_paced || is_shared seats c))) ≡ true) e h
+pub may_same : (slow : Bool) (now : ℕ) (ns ms : List Newcomer) (seats : List Seat) (lock_released : Bool) (c : ℕ)
+    → waited_of now (newcomer c ns) ≡ waited_of now (newcomer c ms) → may_by slow now ns seats lock_released c ≡ true → may_by slow now ms seats lock_released c ≡ true
+may_same slow now ns ms seats lock_released c e h = subst (λ n. (lock_released || (slow && (nat_lt n most_paced || is_shared seats c))) ≡ true) e h
 
 -- whoever comes has waited for nothing
 pub waited_same : (now : ℕ) (ns ms : List Newcomer) → AreNotedNow now ns ms

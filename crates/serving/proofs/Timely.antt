@@ -1,10 +1,10 @@
 -- Clients that took too long for their login are ended, and nobody is forgotten early.
+use Rattle.vault.specs.declared.vault.Vault.{Ghosts}
 use Rattle.std.proofs.Common.{◌≡◌, ℕ, ◌+◌, ◌<◌, ◌≤◌, ◌==◌, ◌&&◌, not, Bool, true, false, List, [], ◌∷◌, ◌++◌, length, take, get_or, refl, sym, ◌∙◌, ap, Some, None, Option, ⊎_elim}
 use Rattle.std.proofs.Common.{◌⊎◌, inl, inr, subst, true≢false, append_assoc, eqb-true}
 use Rattle.std.proofs.lemmas.Bool.{cases_Bool}
 use Rattle.std.proofs.lemmas.List.Elements.{All-nil, All-cons, All-head, All-append, All-weaker, All-more}
 use Rattle.vault.specs.Records.{Records}
-use Rattle.vault.specs.Changes.{Contents}
 use Rattle.office.specs.Events.{Log, Trace}
 use Rattle.office.specs.Trace.{history, is_open}
 use Rattle.office.specs.Sessions.{live}
@@ -89,23 +89,23 @@ found_noted true connection now xs ys is c n h = ap (newcomer c) is ∙ found_fi
 
 -- ---- one client
 
-module _ {V : Type 0} (Holds : V → Contents → Type 0) (IsClean : V → Type 0) (Faults : V → ℕ) (IsUp : V → Type 0) (MayLeave : V → Contents → Type 0) (now seconds : ℕ) where
-  pub late_none : (o : Office V) (xs : List Newcomer) → HasEndedLate Holds IsClean o o now seconds xs xs [] []
+module _ {V : Type 0} (vault : Ghosts V) (now seconds : ℕ) where
+  pub late_none : (o : Office V) (xs : List Newcomer) → HasEndedLate vault.holds vault.is_clean o o now seconds xs xs [] []
   late_none o xs = record {
     gone = All-nil (IsLateGone now seconds xs);
     each = λ B L s k. All-nil (IsEndedInTime now seconds xs B L [] (trace_of B L));
     noted = λ B L s k c. inl refl;
   }
 
-  pub late_off : (o : Office V) (xs : List Newcomer) (seats : List Seat) → (seconds == 0) ≡ true → HasEndedLate Holds IsClean o o now seconds xs xs seats []
+  pub late_off : (o : Office V) (xs : List Newcomer) (seats : List Seat) → (seconds == 0) ≡ true → HasEndedLate vault.holds vault.is_clean o o now seconds xs xs seats []
   late_off o xs seats off = record {
     gone = All-nil (IsLateGone now seconds xs);
     each = λ B L s k. λ i d within. λ late here. absurd (never_late now seconds xs (get_or seats i d).connection off late);
     noted = λ B L s k c. inl refl;
   }
 
-  pub late_lived : (o : Office V) (xs ys : List Newcomer) (q : Seat) → ys ≡ others q.connection xs → ((T : Trace) → StandsFor Holds o T → live (history T) q.connection ≡ true)
-      → HasEndedLate Holds IsClean o o now seconds xs ys (q ∷ []) []
+  pub late_lived : (o : Office V) (xs ys : List Newcomer) (q : Seat) → ys ≡ others q.connection xs → ((T : Trace) → StandsFor vault.holds o T → live (history T) q.connection ≡ true)
+      → HasEndedLate vault.holds vault.is_clean o o now seconds xs ys (q ∷ []) []
   late_lived o xs ys q is lives = record {
     gone = All-nil (IsLateGone now seconds xs);
     each = λ B L s k.
@@ -118,7 +118,7 @@ module _ {V : Type 0} (Holds : V → Contents → Type 0) (IsClean : V → Type 
         (cases_Bool (c == q.connection));
   }
 
-  pub late_prompt : (o : Office V) (xs : List Newcomer) (q : Seat) → is_late now seconds xs q.connection ≡ false → HasEndedLate Holds IsClean o o now seconds xs xs (q ∷ []) []
+  pub late_prompt : (o : Office V) (xs : List Newcomer) (q : Seat) → is_late now seconds xs q.connection ≡ false → HasEndedLate vault.holds vault.is_clean o o now seconds xs xs (q ∷ []) []
   late_prompt o xs q h = record {
     gone = All-nil (IsLateGone now seconds xs);
     each = λ B L s k.
@@ -127,7 +127,7 @@ module _ {V : Type 0} (Holds : V → Contents → Type 0) (IsClean : V → Type 
   }
 
   -- a login of it lies unread
-  pub late_unread : (o : Office V) (xs : List Newcomer) (q : Seat) → lies_unread (newcomer q.connection xs) ≡ true → HasEndedLate Holds IsClean o o now seconds xs xs (q ∷ []) []
+  pub late_unread : (o : Office V) (xs : List Newcomer) (q : Seat) → lies_unread (newcomer q.connection xs) ≡ true → HasEndedLate vault.holds vault.is_clean o o now seconds xs xs (q ∷ []) []
   late_unread o xs q h = record {
     gone = All-nil (IsLateGone now seconds xs);
     each = λ B L s k.
@@ -136,7 +136,7 @@ module _ {V : Type 0} (Holds : V → Contents → Type 0) (IsClean : V → Type 
   }
 
   pub late_shut : (o o1 : Office V) (xs : List Newcomer) (q : Seat) (g : Log) → AreLateGone now seconds xs g
-      → IsShutBy Holds IsClean o o1 q.connection g → HasEndedLate Holds IsClean o o1 now seconds xs xs (q ∷ []) g
+      → IsShutBy vault.holds vault.is_clean o o1 q.connection g → HasEndedLate vault.holds vault.is_clean o o1 now seconds xs xs (q ∷ []) g
   late_shut o o1 xs q g gone shut = record {
     gone = gone;
     each = λ B L s k.
@@ -148,12 +148,12 @@ module _ {V : Type 0} (Holds : V → Contents → Type 0) (IsClean : V → Type 
   -- ---- one after the other
 
   pub late_more : (o o1 o2 : Office V) (xs ys zs : List Newcomer) (seats cur : List Seat) (i : ℕ) (d : Seat) (g1 g2 : Log) → cur ≡ seats → i < length cur → AreNoMoreLate now seconds xs ys
-      → WasGiven Holds IsClean Faults IsUp MayLeave o o1 g1 → WasGiven Holds IsClean Faults IsUp MayLeave o1 o2 g2
-      → HasEndedLate Holds IsClean o o1 now seconds xs ys (take i seats) g1 → HasEndedLate Holds IsClean o1 o2 now seconds ys zs (get_or cur i d ∷ []) g2
-      → HasEndedLate Holds IsClean o o2 now seconds xs zs (take (i + 1) seats) (g2 ++ g1)
+      → WasGiven vault o o1 g1 → WasGiven vault o1 o2 g2
+      → HasEndedLate vault.holds vault.is_clean o o1 now seconds xs ys (take i seats) g1 → HasEndedLate vault.holds vault.is_clean o1 o2 now seconds ys zs (get_or cur i d ∷ []) g2
+      → HasEndedLate vault.holds vault.is_clean o o2 now seconds xs zs (take (i + 1) seats) (g2 ++ g1)
   late_more o o1 o2 xs ys zs seats cur i d g1 g2 is within less wa wb a at_cur =
       let h : i < length seats = subst (λ v. i < length v) is within in
-      let b = subst (λ v. HasEndedLate Holds IsClean o1 o2 now seconds ys zs (get_or v i d ∷ []) g2) is at_cur in
+      let b = subst (λ v. HasEndedLate vault.holds vault.is_clean o1 o2 now seconds ys zs (get_or v i d ∷ []) g2) is at_cur in
       record {
         gone = All-append (IsLateGone now seconds xs) g2 g1 (All-weaker (IsLateGone now seconds ys) (IsLateGone now seconds xs) (late_gone_one now seconds xs ys less) g2 b.gone) a.gone;
         each = λ B L s k.
@@ -187,30 +187,30 @@ module _ {V : Type 0} (Holds : V → Contents → Type 0) (IsClean : V → Type 
 
   pub late_step : (o o1 o2 : Office V) (xs ys zs : List Newcomer) (seats cur : List Seat) (i : ℕ) (d : Seat) (M N K : Log → Type 0) → cur ≡ seats → i < length cur → AreNoMoreLate now seconds xs ys
       → ((g1 g2 : Log) → AreLateGone now seconds ys g2 → M g1 → N g2 → K (g2 ++ g1))
-      → Giving Holds IsClean Faults IsUp MayLeave o o1 (λ g. HasEndedLate Holds IsClean o o1 now seconds xs ys (take i seats) g × M g)
-      → Giving Holds IsClean Faults IsUp MayLeave o1 o2 (λ g. ((e : Seat) → HasEndedLate Holds IsClean o1 o2 now seconds ys zs (get_or cur i e ∷ []) g) × N g)
-      → Giving Holds IsClean Faults IsUp MayLeave o o2 (λ g. HasEndedLate Holds IsClean o o2 now seconds xs zs (take (i + 1) seats) g × K g)
+      → Giving vault o o1 (λ g. HasEndedLate vault.holds vault.is_clean o o1 now seconds xs ys (take i seats) g × M g)
+      → Giving vault o1 o2 (λ g. ((e : Seat) → HasEndedLate vault.holds vault.is_clean o1 o2 now seconds ys zs (get_or cur i e ∷ []) g) × N g)
+      → Giving vault o o2 (λ g. HasEndedLate vault.holds vault.is_clean o o2 now seconds xs zs (take (i + 1) seats) g × K g)
   late_step o o1 o2 xs ys zs seats cur i d M N K is within less join a b = record {
     given = b.given ++ a.given;
-    was_given = given_then Holds IsClean Faults IsUp MayLeave o o1 o2 a.given b.given a.was_given b.was_given;
+    was_given = given_then vault o o1 o2 a.given b.given a.was_given b.was_given;
     facts = (late_more o o1 o2 xs ys zs seats cur i d a.given b.given is within less a.was_given b.was_given a.facts.0 (b.facts.0 d), join a.given b.given (b.facts.0 d).gone a.facts.1 b.facts.1);
   }
 
   pub late_whole : (o o1 : Office V) (xs ys : List Newcomer) (seats cur : List Seat) (n : ℕ) (M : Log → Type 0) → cur ≡ seats → length cur ≤ n
-      → Giving Holds IsClean Faults IsUp MayLeave o o1 (λ g. HasEndedLate Holds IsClean o o1 now seconds xs ys (take n seats) g × M g)
-      → Giving Holds IsClean Faults IsUp MayLeave o o1 (λ g. HasEndedLate Holds IsClean o o1 now seconds xs ys seats g × M g)
+      → Giving vault o o1 (λ g. HasEndedLate vault.holds vault.is_clean o o1 now seconds xs ys (take n seats) g × M g)
+      → Giving vault o o1 (λ g. HasEndedLate vault.holds vault.is_clean o o1 now seconds xs ys seats g × M g)
   late_whole o o1 xs ys seats cur n M is h a =
       let k : length seats ≤ n = subst (λ v. length v ≤ n) is h in
-      subst (λ v. Giving Holds IsClean Faults IsUp MayLeave o o1 (λ g. HasEndedLate Holds IsClean o o1 now seconds xs ys v g × M g)) (whole_front seats n k) a
+      subst (λ v. Giving vault o o1 (λ g. HasEndedLate vault.holds vault.is_clean o o1 now seconds xs ys v g × M g)) (whole_front seats n k) a
 
 -- who went was late before, and what else is known of it by that
-pub late_both : {V : Type 0} (Holds : V → Contents → Type 0) (IsClean : V → Type 0) (Faults : V → ℕ) (IsUp : V → Type 0) (MayLeave : V → Contents → Type 0) (now seconds seconds0 : ℕ)
+pub late_both : {V : Type 0} (vault : Ghosts V) (now seconds seconds0 : ℕ)
     (xs ys zs : List Newcomer) (seats : List Seat) (o o1 : Office V) (M K : Log → Type 0) → seconds ≡ seconds0 → AreNoMoreLate now seconds0 xs ys
     → ((g : Log) → AreLateGone now seconds0 ys g → M g → K g)
-    → Giving Holds IsClean Faults IsUp MayLeave o o1 (λ g. HasEndedLate Holds IsClean o o1 now seconds ys zs seats g × M g)
-    → Giving Holds IsClean Faults IsUp MayLeave o o1 (λ g. AreLateGone now seconds0 xs g × HasEndedLate Holds IsClean o o1 now seconds0 ys zs seats g × K g)
-late_both Holds IsClean Faults IsUp MayLeave now seconds seconds0 xs ys zs seats o o1 M K is less more a =
-    let b = subst (λ n. Giving Holds IsClean Faults IsUp MayLeave o o1 (λ g. HasEndedLate Holds IsClean o o1 now n ys zs seats g × M g)) is a in
+    → Giving vault o o1 (λ g. HasEndedLate vault.holds vault.is_clean o o1 now seconds ys zs seats g × M g)
+    → Giving vault o o1 (λ g. AreLateGone now seconds0 xs g × HasEndedLate vault.holds vault.is_clean o o1 now seconds0 ys zs seats g × K g)
+late_both vault now seconds seconds0 xs ys zs seats o o1 M K is less more a =
+    let b = subst (λ n. Giving vault o o1 (λ g. HasEndedLate vault.holds vault.is_clean o o1 now n ys zs seats g × M g)) is a in
     record {
       given = b.given;
       was_given = b.was_given;

@@ -1,6 +1,6 @@
 -- One file of a spool is tried.
+use Rattle.vault.specs.declared.vault.Vault.{Ghosts}
 use Rattle.std.proofs.Common.{◌≡◌, ◌||◌, ℕ, Bool, true, false, List, [], ◌∷◌, ◌++◌, Option, Some, None, append_assoc, refl, sym, ◌∙◌, ap, subst}
-use Rattle.vault.specs.Changes.{Contents}
 use Rattle.office.specs.Events.{Tagged, Trace}
 use Rattle.office.specs.Trace.{history}
 use Rattle.office.specs.Expected.{IsOutcome, shown_at}
@@ -34,19 +34,19 @@ trying_so T lent n text read o d is_done same fate h =
     (subst (λ x. IsTrying n T ((e, Tagged h.tag) ∷ []) (Read n (Some x) ∷ disposing n is_done d)) same
     (subst (λ x. IsTrying n T ((e, Tagged h.tag) ∷ []) (Read n (Some text) ∷ disposing n is_done x)) (sym disposal_is) (WasTried text h.tag is_done)))
 
-module _ {V S : Type 0} (Holds : V → Contents → Type 0) (IsClean : V → Type 0) (Faults : V → ℕ) (IsUp : V → Type 0) (MayLeave : V → Contents → Type 0) (Asked : S → List FileCall → Type 0) where
+module _ {V S : Type 0} (vault : Ghosts V) (Asked : S → List FileCall → Type 0) where
   two_calls : (s s1 s2 : S) (call : FileCall) (calls : List FileCall) → ((before : List FileCall) → Asked s before → Asked s1 (before ++ call ∷ []))
       → ((before : List FileCall) → Asked s1 before → Asked s2 (before ++ calls)) → (before : List FileCall) → Asked s before → Asked s2 (before ++ call ∷ calls)
   two_calls s s1 s2 call calls a b before k = subst (Asked s2) (append_assoc before (call ∷ []) calls) (b (before ++ call ∷ []) (a before k))
 
   pub tries_none : (o : Office V) (s s1 : S) (last : Option FileName) → ((before : List FileCall) → Asked s before → Asked s1 (before ++ Next last None ∷ []))
       → (b : Bool)
-      → SpoolPart Holds IsClean Faults IsUp MayLeave Asked o s o s1 (λ T given calls. IsSpoolTurn last last T given calls × (b ≡ (b || has_dealt calls)))
+      → SpoolPart vault Asked o s o s1 (λ T given calls. IsSpoolTurn last last T given calls × (b ≡ (b || has_dealt calls)))
   tries_none o s s1 last is b = record {
     given = [];
     calls = Next last None ∷ [];
     was_given =
-        given_none Holds IsClean Faults IsUp MayLeave o;
+        given_none vault o;
     was_asked = is;
     deposits = tt;
     facts = λ T st k. (NoFileThere T, none_more b);
@@ -54,8 +54,8 @@ module _ {V S : Type 0} (Holds : V → Contents → Type 0) (IsClean : V → Typ
 
   pub tries_one : (o o1 : Office V) (s s1 s2 : S) (last : Option FileName) (name : FileName) (b dealt : Bool)
       → ((before : List FileCall) → Asked s before → Asked s1 (before ++ Next last (Some name) ∷ []))
-      → SpoolPart Holds IsClean Faults IsUp MayLeave Asked o s1 o1 s2 (λ T given calls. IsTrying name T given calls × (dealt ≡ has_dealt calls))
-      → SpoolPart Holds IsClean Faults IsUp MayLeave Asked o s o1 s2 (λ T given calls. IsSpoolTurn last (Some name) T given calls × ((b || dealt) ≡ (b || has_dealt calls)))
+      → SpoolPart vault Asked o s1 o1 s2 (λ T given calls. IsTrying name T given calls × (dealt ≡ has_dealt calls))
+      → SpoolPart vault Asked o s o1 s2 (λ T given calls. IsSpoolTurn last (Some name) T given calls × ((b || dealt) ≡ (b || has_dealt calls)))
   tries_one o o1 s s1 s2 last name b dealt is a = record {
     given = a.given;
     calls = Next last (Some name) ∷ a.calls;
@@ -67,12 +67,12 @@ module _ {V S : Type 0} (Holds : V → Contents → Type 0) (IsClean : V → Typ
 
   pub tries_unread : (o : Office V) (s s1 : S) (name : FileName)
       → ((before : List FileCall) → Asked s before → Asked s1 (before ++ Read name None ∷ []))
-      → SpoolPart Holds IsClean Faults IsUp MayLeave Asked o s o s1 (λ T given calls. IsTrying name T given calls × (false ≡ has_dealt calls))
+      → SpoolPart vault Asked o s o s1 (λ T given calls. IsTrying name T given calls × (false ≡ has_dealt calls))
   tries_unread o s s1 name is = record {
     given = [];
     calls = Read name None ∷ [];
     was_given =
-        given_none Holds IsClean Faults IsUp MayLeave o;
+        given_none vault o;
     was_asked = is;
     deposits = tt;
     facts = λ T st k. (CouldNotRead, refl);
@@ -81,11 +81,11 @@ module _ {V S : Type 0} (Holds : V → Contents → Type 0) (IsClean : V → Typ
   -- a file was read and deposited, and these further calls were made
   pub tries_read : (o o1 : Office V) (s s1 s2 : S) (lent : ℕ → ℕ) (name : FileName) (text read : List ℕ) (out : Outcome) (d : Disposal) (is_done dealt : Bool)
       → dealt ≡ has_dealt (disposing name is_done d) → text ≡ read → d ≡ disposal_of out
-      → WasGiven Holds IsClean Faults IsUp MayLeave o o1 ((deposit_of name text, event_tag_of out) ∷ [])
-      → ((T : Trace) → StandsFor Holds o T → IsClean (vault_of o1) → IsOutcome T lent (deposit_of name text) out)
+      → WasGiven vault o o1 ((deposit_of name text, event_tag_of out) ∷ [])
+      → ((T : Trace) → StandsFor vault.holds o T → vault.is_clean (vault_of o1) → IsOutcome T lent (deposit_of name text) out)
       → ((before : List FileCall) → Asked s before → Asked s1 (before ++ Read name (Some read) ∷ []))
       → ((before : List FileCall) → Asked s1 before → Asked s2 (before ++ disposing name is_done d))
-      → SpoolPart Holds IsClean Faults IsUp MayLeave Asked o s o1 s2 (λ T given calls. IsTrying name T given calls × (dealt ≡ has_dealt calls))
+      → SpoolPart vault Asked o s o1 s2 (λ T given calls. IsTrying name T given calls × (dealt ≡ has_dealt calls))
   tries_read o o1 s s1 s2 lent name text read out d is_done dealt is_dealt same fate given outcome a b = record {
     given = (deposit_of name text, event_tag_of out) ∷ [];
     calls = Read name (Some read) ∷ disposing name is_done d;

@@ -46,7 +46,7 @@ turn now octets ticked gone taken = record {
   served = (event.Took 2 16384, taken) ∷ (event.Gone 1, gone) ∷ [];
   serves = Read Pop ended.link 4096 End [] ∷ Wrote Pop owed.link 16384 (Count 16384) octets
       ∷ Read Pop silent.link 4096 Later [] ∷ [];
-  freed = false;
+  lock_released = false;
   commands = [];
   admin_serves = [];
   late = [];

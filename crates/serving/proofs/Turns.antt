@@ -1,4 +1,5 @@
 -- What each part of a turn does, and what they do together.
+use Rattle.vault.specs.declared.vault.Vault.{Ghosts}
 use Rattle.std.proofs.Common.{◌≡◌, ℕ, zero, suc, ◌+◌, ◌<◌, ◌≤◌, Bool, true, false, not, min, ◌&&◌, ◌||◌, ◌==◌, List, [], ◌∷◌, ◌++◌, length, take, get_or, refl, sym, ◌∙◌, ap, arith}
 use Rattle.std.proofs.Common.{Option, ⊎_elim, ◌⊎◌, inl, inr, subst, true≢false, append_assoc, eq-eqb, eqb-true}
 use Rattle.std.specs.Bool.{if◌then◌else◌}
@@ -7,7 +8,6 @@ use Rattle.std.proofs.lemmas.Bool.{cases_Bool}
 use Rattle.std.proofs.lemmas.List.{append-nil, length-take}
 use Rattle.std.proofs.lemmas.List.Elements.{All-nil, All-cons, All-head, All-weaker, All-more, Contains-append_right}
 use Rattle.vault.specs.Records.{Records}
-use Rattle.vault.specs.Changes.{Contents}
 use Rattle.office.specs.Events.{EventTag, Log, Trace}
 use Rattle.office.specs.Events as event
 use Rattle.office.specs.Trace.{history, is_open, rest, rest_if, untaken, most_lent}
@@ -26,7 +26,7 @@ use Rattle.serving.specs.Parts.{Also, WasGiven, Part, IsQuietFor}
 use Rattle.serving.specs.Works.{IsOffered, is_read_of, is_later_of, is_taking_of, most_writes, octets_taken, had_its_turn, refusals, HasCause, WasAsked, IsReadByLine, IsHeldBack}
 use Rattle.serving.specs.Works.{reads_by_line, most_at_once, IsKeptBack, StaysUnread, LiesUnread}
 use Rattle.serving.specs.Ways.{Way, HadTurn}
-use Rattle.serving.specs.ClientParts.{is_client_write, AreOffered, OwesNothing, IsWritten, IsWrittenOut, IsNotReady, IsUnread, IsHeard, IsReadOnce, NotReady, WasRead, HasLooked}
+use Rattle.serving.specs.ClientParts.{is_client_write, AreOffered, OwesNothing, IsWritten, IsWrittenOut, IsNotReady, IsUnread, IsReadPiece, IsReadOnce, NotReady, WasRead, HasLooked}
 use Rattle.serving.specs.ClientParts.{Unlooked, NothingCame, PieceCame, HadTurns, IsNotedSo}
 use Rattle.serving.specs.declared.guesses.Refusal.{Refusal}
 use Rattle.creds.specs.declared.login_name.LoginName.{LoginName}
@@ -81,13 +81,13 @@ line_more wait wait2 may true same more h = refl
 line_more wait wait2 true false same more h = let k : false ≡ true = more refl in cc
 line_more wait wait2 false false same more h = ap (λ n. not (n == 0)) same ∙ h
 
-module _ {V : Type 0} (Holds : V → Contents → Type 0) (IsClean : V → Type 0) (Faults : V → ℕ) (IsUp : V → Type 0) (MayLeave : V → Contents → Type 0) where
+module _ {V : Type 0} (vault : Ghosts V) where
   -- all that was lent was offered
   abbrev pub OffersAll : (o : Office V) (seat : Seat) (offered : ℕ) → Type 0
-  OffersAll o seat offered = (B : Records) (L : Log) → StandsFor Holds o (trace_of B L) → offered ≡ min (length (rest (trace_of B L) seat.connection)) most_lent
+  OffersAll o seat offered = (B : Records) (L : Log) → StandsFor vault.holds o (trace_of B L) → offered ≡ min (length (rest (trace_of B L) seat.connection)) most_lent
 
   pub wrote_some : (o o1 : Office V) (seat : Seat) (offered n : ℕ) (octets : List ℕ) (m : EventTag) → 0 < n → OffersAll o seat offered
-      → IsWritten Holds IsClean o o1 seat (if n == 0 then 0 else 1) n (not (n == 0)) ((event.Took seat.connection n, m) ∷ []) (Wrote Pop seat.link offered (Count n) octets ∷ [])
+      → IsWritten vault.holds vault.is_clean o o1 seat (if n == 0 then 0 else 1) n (not (n == 0)) ((event.Took seat.connection n, m) ∷ []) (Wrote Pop seat.link offered (Count n) octets ∷ [])
   wrote_some o o1 seat offered n octets m some all =
       let z = not_zero n some in
       let q = same_number seat.link.number in
@@ -100,12 +100,12 @@ module _ {V : Type 0} (Holds : V → Contents → Type 0) (IsClean : V → Type 
         };
         taken = rw (z, q) (omega arith);
         octets_are = rw q (omega arith);
-        offered = lent_once Holds IsClean o o1 seat offered (Count n) octets ((event.Took seat.connection n, m) ∷ []) all;
+        offered = lent_once vault.holds vault.is_clean o o1 seat offered (Count n) octets ((event.Took seat.connection n, m) ∷ []) all;
         ends = λ e. (let k : not (n == 0) ≡ true = ap not z in absurd (true≢false (sym k ∙ e)));
       }
 
   pub wrote_later : (o : Office V) (seat : Seat) (offered : ℕ) (octets : List ℕ) → OffersAll o seat offered
-      → IsWritten Holds IsClean o o seat 0 0 false [] (Wrote Pop seat.link offered Later octets ∷ [])
+      → IsWritten vault.holds vault.is_clean o o seat 0 0 false [] (Wrote Pop seat.link offered Later octets ∷ [])
   wrote_later o seat offered octets all = record {
     of_seat = record {
       quiet = record { no_moments = refl; no_openings = refl; no_refusals = refl; no_waits = refl; no_arrivals = refl; no_closings = refl };
@@ -114,13 +114,13 @@ module _ {V : Type 0} (Holds : V → Contents → Type 0) (IsClean : V → Type 
     };
     taken = omega arith;
     octets_are = omega arith;
-    offered = lent_once Holds IsClean o o seat offered Later octets [] all;
+    offered = lent_once vault.holds vault.is_clean o o seat offered Later octets [] all;
     ends = λ e. inl (or_none (seat.link.number == seat.link.number) (same_number seat.link.number));
   }
 
   pub wrote_cut : (o o1 : Office V) (seat : Seat) (offered : ℕ) (io : Io) (octets : List ℕ) (m : EventTag) → is_fault io ≡ true
-      → OffersAll o seat offered → OwesNothing Holds IsClean o o1 seat.connection ((event.Gone seat.connection, m) ∷ [])
-      → IsWritten Holds IsClean o o1 seat 0 0 false ((event.Gone seat.connection, m) ∷ []) (Wrote Pop seat.link offered io octets ∷ [])
+      → OffersAll o seat offered → OwesNothing vault.holds vault.is_clean o o1 seat.connection ((event.Gone seat.connection, m) ∷ [])
+      → IsWritten vault.holds vault.is_clean o o1 seat 0 0 false ((event.Gone seat.connection, m) ∷ []) (Wrote Pop seat.link offered io octets ∷ [])
   wrote_cut o o1 seat offered io octets m fault all owes = record {
     of_seat = record {
       quiet = record { no_moments = refl; no_openings = refl; no_refusals = refl; no_waits = refl; no_arrivals = refl; no_closings = refl };
@@ -131,16 +131,16 @@ module _ {V : Type 0} (Holds : V → Contents → Type 0) (IsClean : V → Type 
     };
     taken = omega arith;
     octets_are = omega arith;
-    offered = lent_once Holds IsClean o o1 seat offered io octets ((event.Gone seat.connection, m) ∷ []) all;
+    offered = lent_once vault.holds vault.is_clean o o1 seat offered io octets ((event.Gone seat.connection, m) ∷ []) all;
     ends = λ e. inr owes;
   }
 
-  pub wrote_none : (o : Office V) (seat : Seat) → OwesNothing Holds IsClean o o seat.connection [] → IsWritten Holds IsClean o o seat 0 0 false [] []
+  pub wrote_none : (o : Office V) (seat : Seat) → OwesNothing vault.holds vault.is_clean o o seat.connection [] → IsWritten vault.holds vault.is_clean o o seat 0 0 false [] []
   wrote_none o seat owes = record { of_seat = of_none (seat ∷ []); taken = omega arith; octets_are = omega arith; offered = λ B L s k. All-nil (IsOffered B L [] (seat ∷ [])); ends = λ e. inr owes }
 
   -- one read
   module _ (o : Office V) (seat : Seat) (room : ℕ) where
-    pub read_some : (io : Io) (octets piece : List ℕ) (m : EventTag) → IsReadOnce Holds o seat room ((event.Bytes seat.connection piece, m) ∷ []) (Read Pop seat.link room io octets ∷ [])
+    pub read_some : (io : Io) (octets piece : List ℕ) (m : EventTag) → IsReadOnce vault.holds o seat room ((event.Bytes seat.connection piece, m) ∷ []) (Read Pop seat.link room io octets ∷ [])
     read_some io octets piece m = WasRead io octets ((event.Bytes seat.connection piece, m) ∷ []) (record {
       quiet = record { no_moments = refl; no_openings = refl; no_refusals = refl; no_waits = refl; no_arrivals = refl; no_closings = refl };
       apart = refl;
@@ -148,14 +148,14 @@ module _ {V : Type 0} (Holds : V → Contents → Type 0) (IsClean : V → Type 
           (All-nil (HasCause (seat ∷ []) (Read Pop seat.link room io octets ∷ [])));
     })
 
-    pub read_later : (io : Io) (octets : List ℕ) → IsReadOnce Holds o seat room [] (Read Pop seat.link room io octets ∷ [])
+    pub read_later : (io : Io) (octets : List ℕ) → IsReadOnce vault.holds o seat room [] (Read Pop seat.link room io octets ∷ [])
     read_later io octets = WasRead io octets [] (record {
       quiet = record { no_moments = refl; no_openings = refl; no_refusals = refl; no_waits = refl; no_arrivals = refl; no_closings = refl };
       apart = refl;
       caused = All-nil (HasCause (seat ∷ []) (Read Pop seat.link room io octets ∷ []));
     })
 
-    pub read_cut : (io : Io) (octets : List ℕ) (m : EventTag) → is_fault io ≡ true → IsReadOnce Holds o seat room ((event.Gone seat.connection, m) ∷ []) (Read Pop seat.link room io octets ∷ [])
+    pub read_cut : (io : Io) (octets : List ℕ) (m : EventTag) → is_fault io ≡ true → IsReadOnce vault.holds o seat room ((event.Gone seat.connection, m) ∷ []) (Read Pop seat.link room io octets ∷ [])
     read_cut io octets m fault = WasRead io octets ((event.Gone seat.connection, m) ∷ []) (record {
       quiet = record { no_moments = refl; no_openings = refl; no_refusals = refl; no_waits = refl; no_arrivals = refl; no_closings = refl };
       apart = refl;
@@ -165,13 +165,13 @@ module _ {V : Type 0} (Holds : V → Contents → Type 0) (IsClean : V → Type 
     })
 
   module _ (wait : ℕ) (by_line may is_noted : Bool) where
-    pub heard_none : (o : Office V) (seat : Seat) → (is_noted ≡ true → ⊥) → IsNotReady Holds o seat.connection → IsHeard Holds o seat wait by_line may is_noted [] []
-    heard_none o seat calm idle = record { of_seat = of_none (seat ∷ []); heard = inr (inr (refl, inl idle)); noted = λ e. absurd (calm e); unwritten = refl }
+    pub read_none : (o : Office V) (seat : Seat) → (is_noted ≡ true → ⊥) → IsNotReady vault.holds o seat.connection → IsReadPiece vault.holds o seat wait by_line may is_noted [] []
+    read_none o seat calm idle = record { of_seat = of_none (seat ∷ []); read = inr (inr (refl, inl idle)); noted = λ e. absurd (calm e); unwritten = refl }
 
     -- what was looked at stays unread
-    pub heard_unread : (o : Office V) (seat : Seat) (calls : List Call) → list_any is_client_write calls ≡ false → IsQuietFor (seat ∷ []) [] calls
-        → IsUnread Holds o seat wait may calls → IsHeard Holds o seat wait by_line may is_noted [] calls
-    heard_unread o seat calls none quiet u = record { of_seat = quiet; heard = inr (inr (refl, inr u)); noted = λ e. u; unwritten = none }
+    pub read_unread : (o : Office V) (seat : Seat) (calls : List Call) → list_any is_client_write calls ≡ false → IsQuietFor (seat ∷ []) [] calls
+        → IsUnread vault.holds o seat wait may calls → IsReadPiece vault.holds o seat wait by_line may is_noted [] calls
+    read_unread o seat calls none quiet u = record { of_seat = quiet; read = inr (inr (refl, inr u)); noted = λ e. u; unwritten = none }
 
     -- a read that asked for all
     whole_read : (seat : Seat) (room : ℕ) (io : Io) (octets : List ℕ) → room ≡ most_at_once → list_any (is_read_of seat.link) (Read Pop seat.link room io octets ∷ []) ≡ true
@@ -181,14 +181,14 @@ module _ {V : Type 0} (Holds : V → Contents → Type 0) (IsClean : V → Type 
         rw (n, k) refl
 
     -- what was looked at was read, all or by its line
-    heard_so : (o : Office V) (seat : Seat) (pace : Pace) (refusals : List Refusal) (room : ℕ) (login : Option LoginName) (io : Io) (octets : List ℕ) (looks : List Call)
-        → (room == 0) ≡ false → (pace.by_line ≡ true → by_line ≡ true) → HasLooked Holds o seat pace refusals room login looks
+    read_so : (o : Office V) (seat : Seat) (pace : Pace) (refusals : List Refusal) (room : ℕ) (login : Option LoginName) (io : Io) (octets : List ℕ) (looks : List Call)
+        → (room == 0) ≡ false → (pace.by_line ≡ true → by_line ≡ true) → HasLooked vault.holds o seat pace refusals room login looks
         → (list_any (is_read_of seat.link) (looks ++ Read Pop seat.link room io octets ∷ []) ≡ true) ⊎ IsReadByLine (looks ++ Read Pop seat.link room io octets ∷ []) by_line seat
-    heard_so o seat pace refusals room _ io octets looks some line (Unlooked e) =
+    read_so o seat pace refusals room _ io octets looks some line (Unlooked e) =
         inl (any_right (is_read_of seat.link) [] (Read Pop seat.link 4096 io octets ∷ []) (whole_read seat 4096 io octets refl))
-    heard_so o seat pace refusals room _ io octets looks some line (NothingCame i e) =
+    read_so o seat pace refusals room _ io octets looks some line (NothingCame i e) =
         inl (any_right (is_read_of seat.link) (Looked Pop seat.link i [] ∷ []) (Read Pop seat.link 4096 io octets ∷ []) (whole_read seat 4096 io octets refl))
-    heard_so o seat pace refusals room _ io octets looks some line (PieceCame n piece count login lined lies is brought part) =
+    read_so o seat pace refusals room _ io octets looks some line (PieceCame n piece count login lined lies is brought part) =
         let call = Read Pop seat.link count io octets in
         let look = Looked Pop seat.link (Count n) piece in
         inr (record {
@@ -202,41 +202,42 @@ module _ {V : Type 0} (Holds : V → Contents → Type 0) (IsClean : V → Type 
         })
 
     -- it was looked at first
-    pub heard_behind : (o : Office V) (seat : Seat) (pace : Pace) (refusals : List Refusal) (room : ℕ) (login : Option LoginName) (given : Log) (looks calls : List Call)
-        → IsQuietFor (seat ∷ []) [] looks → HasLooked Holds o seat pace refusals room login looks
-        → (room == 0) ≡ false → (pace.by_line ≡ true → by_line ≡ true) → (is_noted ≡ true → ⊥) → IsReadOnce Holds o seat room given calls
-        → IsHeard Holds o seat wait by_line may is_noted given (looks ++ calls)
-    heard_behind o seat pace refusals room login _ looks _ quiet looked some line calm (NotReady idle) = record {
+    pub read_behind : (o : Office V) (seat : Seat) (pace : Pace) (refusals : List Refusal) (room : ℕ) (login : Option LoginName) (given : Log) (looks calls : List Call)
+        → IsQuietFor (seat ∷ []) [] looks → HasLooked vault.holds o seat pace refusals room login looks
+        → (room == 0) ≡ false → (pace.by_line ≡ true → by_line ≡ true) → (is_noted ≡ true → ⊥) → IsReadOnce vault.holds o seat room given calls
+        → IsReadPiece vault.holds o seat wait by_line may is_noted given (looks ++ calls)
+    read_behind o seat pace refusals room login _ looks _ quiet looked some line calm (NotReady idle) = record {
       of_seat = of_then (seat ∷ []) [] [] looks [] quiet (of_none (seat ∷ []));
-      heard = inr (inr (refl, inl idle));
+      read = inr (inr (refl, inl idle));
       noted = λ e. absurd (calm e);
-      unwritten = none_of is_client_write looks [] (unwritten_look Holds o seat pace refusals room login looks looked) refl;
+      unwritten = none_of is_client_write looks [] (unwritten_look vault.holds o seat pace refusals room login looks looked) refl;
     }
-    heard_behind o seat pace refusals room login _ looks _ quiet looked some line calm (WasRead io octets given q) =
+    read_behind o seat pace refusals room login _ looks _ quiet looked some line calm (WasRead io octets given q) =
         let call = Read Pop seat.link room io octets in
         record {
           of_seat = subst (λ g. IsQuietFor (seat ∷ []) g (looks ++ call ∷ [])) (append-nil given)
               (of_then (seat ∷ []) [] given looks (call ∷ []) quiet q);
-          heard = ⊎_elim
+          read = ⊎_elim
               (λ (all : list_any (is_read_of seat.link) (looks ++ call ∷ []) ≡ true). inl all)
               (λ (u : IsReadByLine (looks ++ call ∷ []) by_line seat). inr (inl u))
-              (heard_so o seat pace refusals room login io octets looks some line looked);
+              (read_so o seat pace refusals room login io octets looks some line looked);
           noted = λ e. absurd (calm e);
-          unwritten = none_of is_client_write looks (call ∷ []) (unwritten_look Holds o seat pace refusals room login looks looked) refl;
+          unwritten = none_of is_client_write looks (call ∷ []) (unwritten_look vault.holds o seat pace refusals room login looks looked) refl;
         }
 
   -- ---- a link
 
-  pub written_none : (o : Office V) (seat : Seat) → IsWritten Holds IsClean o o seat 0 0 true [] []
+  pub written_none : (o : Office V) (seat : Seat) → IsWritten vault.holds vault.is_clean o o seat 0 0 true [] []
   written_none o seat = record { of_seat = of_none (seat ∷ []); taken = omega arith; octets_are = omega arith; offered = λ B L s k. All-nil (IsOffered B L [] (seat ∷ [])); ends = λ e. cc }
 
-  owes_then : (o o1 o2 : Office V) (c : ℕ) (g1 g2 : Log) → WasGiven Holds IsClean Faults IsUp MayLeave o o1 g1
-      → WasGiven Holds IsClean Faults IsUp MayLeave o1 o2 g2 → OwesNothing Holds IsClean o1 o2 c g2 → OwesNothing Holds IsClean o o2 c (g2 ++ g1)
+  owes_then : (o o1 o2 : Office V) (c : ℕ) (g1 g2 : Log) → WasGiven vault o o1 g1
+      → WasGiven vault o1 o2 g2 → OwesNothing vault.holds vault.is_clean o1 o2 c g2 → OwesNothing vault.holds vault.is_clean o o2 c (g2 ++ g1)
   owes_then o o1 o2 c g1 g2 a b owes = λ B L s k. subst (λ l. rest (trace_of B l) c ≡ []) (sym (append_assoc g2 g1 L)) (owes B (g1 ++ L) (a.stands B L s (b.clean k)) k)
 
   pub written_then : (o o1 o2 : Office V) (seat : Seat) (n1 n2 k1 k2 : ℕ) (goes : Bool) (g1 g2 : Log) (c1 c2 : List Call)
-      → WasGiven Holds IsClean Faults IsUp MayLeave o o1 g1 → WasGiven Holds IsClean Faults IsUp MayLeave o1 o2 g2
-      → IsWritten Holds IsClean o o1 seat n1 k1 true g1 c1 → IsWritten Holds IsClean o1 o2 seat n2 k2 goes g2 c2 → IsWritten Holds IsClean o o2 seat (n1 + n2) (k1 + k2) goes (g2 ++ g1) (c1 ++ c2)
+      → WasGiven vault o o1 g1 → WasGiven vault o1 o2 g2
+      → IsWritten vault.holds vault.is_clean o o1 seat n1 k1 true g1 c1 → IsWritten vault.holds vault.is_clean o1 o2 seat n2 k2 goes g2 c2
+      → IsWritten vault.holds vault.is_clean o o2 seat (n1 + n2) (k1 + k2) goes (g2 ++ g1) (c1 ++ c2)
   written_then o o1 o2 seat n1 n2 k1 k2 goes g1 g2 c1 c2 wa wb a b = record {
     of_seat = of_then (seat ∷ []) g1 g2 c1 c2 a.of_seat b.of_seat;
     taken = (let k = count_joined (is_taking_of seat.link) c1 c2 in let p = a.taken in let q = b.taken in omega (arith, k, p, q));
@@ -245,13 +246,13 @@ module _ {V : Type 0} (Holds : V → Contents → Type 0) (IsClean : V → Type 
     ends = λ e.
         ⊎_elim
         (λ (later : list_any (is_later_of seat.link) c2 ≡ true). inl (any_right (is_later_of seat.link) c1 c2 later))
-        (λ (owes : OwesNothing Holds IsClean o1 o2 seat.connection g2). inr (owes_then o o1 o2 seat.connection g1 g2 wa wb owes))
+        (λ (owes : OwesNothing vault.holds vault.is_clean o1 o2 seat.connection g2). inr (owes_then o o1 o2 seat.connection g1 g2 wa wb owes))
         (b.ends e);
   }
 
   -- fewer writes, and fewer octets
   pub written_less : (o o1 : Office V) (seat : Seat) (n n2 k k2 : ℕ) (goes : Bool) (g : Log) (c : List Call) → n2 ≤ n → k2 ≤ k
-      → IsWritten Holds IsClean o o1 seat n k goes g c → IsWritten Holds IsClean o o1 seat n2 k2 goes g c
+      → IsWritten vault.holds vault.is_clean o o1 seat n k goes g c → IsWritten vault.holds vault.is_clean o o1 seat n2 k2 goes g c
   written_less o o1 seat n n2 k k2 goes g c h h2 a = record {
     of_seat = a.of_seat;
     taken = (let p = a.taken in omega (arith, p, h));
@@ -261,21 +262,22 @@ module _ {V : Type 0} (Holds : V → Contents → Type 0) (IsClean : V → Type 
   }
 
   -- it ended early
-  pub written_ended : (o o1 : Office V) (seat : Seat) (n k share : ℕ) (g : Log) (c : List Call) → IsWritten Holds IsClean o o1 seat n k false g c → IsWrittenOut Holds IsClean o o1 seat share false g c
+  pub written_ended : (o o1 : Office V) (seat : Seat) (n k share : ℕ) (g : Log) (c : List Call)
+      → IsWritten vault.holds vault.is_clean o o1 seat n k false g c → IsWrittenOut vault.holds vault.is_clean o o1 seat share false g c
   written_ended o o1 seat n k share g c a = record { of_seat = a.of_seat; offered = a.offered; goes_on = λ e. cc; ends = a.ends }
 
   -- the share is written
   pub written_share : (o o1 : Office V) (seat : Seat) (n k share : ℕ) (goes : Bool) (g : Log) (c : List Call) → share ≤ k
-      → IsWritten Holds IsClean o o1 seat n k goes g c → IsWrittenOut Holds IsClean o o1 seat share true g c
+      → IsWritten vault.holds vault.is_clean o o1 seat n k goes g c → IsWrittenOut vault.holds vault.is_clean o o1 seat share true g c
   written_share o o1 seat n k share goes g c h a = record { of_seat = a.of_seat; offered = a.offered; goes_on = λ e. inr (let p = a.octets_are in omega (arith, p, h)); ends = λ e. cc }
 
   pub written_all : (o o1 : Office V) (seat : Seat) (n k share : ℕ) (goes : Bool) (g : Log) (c : List Call) → most_writes ≤ n
-      → IsWritten Holds IsClean o o1 seat n k goes g c → IsWrittenOut Holds IsClean o o1 seat share true g c
+      → IsWritten vault.holds vault.is_clean o o1 seat n k goes g c → IsWrittenOut vault.holds vault.is_clean o o1 seat share true g c
   written_all o o1 seat n k share goes g c h a = record { of_seat = a.of_seat; offered = a.offered; goes_on = λ e. inl (let p = a.taken in omega (arith, p, h)); ends = λ e. cc }
 
   -- a link that was written its share had its turn
   turn_written : (o o1 : Office V) (way : Way) (seat : Seat) (g : Log) (c : List Call) → way.poll_now ≡ true
-      → IsWrittenOut Holds IsClean o o1 seat way.share true g c → had_its_turn way.share way.poll_now seat.link c ≡ true
+      → IsWrittenOut vault.holds vault.is_clean o o1 seat way.share true g c → had_its_turn way.share way.poll_now seat.link c ≡ true
   turn_written o o1 way seat g c e a =
       ⊎_elim
       (λ (full : most_writes ≤ length (filter (is_taking_of seat.link) c)). turn_full way.share way.poll_now seat.link c e full)
@@ -283,8 +285,8 @@ module _ {V : Type 0} (Holds : V → Contents → Type 0) (IsClean : V → Type 
       (a.goes_on refl)
 
   pub served_written : (o o1 : Office V) (way : Way) (noted : List Newcomer) (seat : Seat) (g : Log) (c : List Call) → way.poll_now ≡ true
-      → (lies_unread (newcomer seat.connection noted) ≡ true → ⊥) → IsWrittenOut Holds IsClean o o1 seat way.share true g c
-      → HadTurns Holds IsClean o o1 way noted (seat ∷ []) (seat ∷ []) g c
+      → (lies_unread (newcomer seat.connection noted) ≡ true → ⊥) → IsWrittenOut vault.holds vault.is_clean o o1 seat way.share true g c
+      → HadTurns vault.holds vault.is_clean o o1 way noted (seat ∷ []) (seat ∷ []) g c
   served_written o o1 way noted seat g c e calm a = record {
     of_seats = a.of_seat;
     offered = a.offered;
@@ -294,23 +296,23 @@ module _ {V : Type 0} (Holds : V → Contents → Type 0) (IsClean : V → Type 
         All-cons (IsNotedSo noted B L g c way.wait way.may (seat ∷ [])) seat [] (λ h. absurd (calm h)) (All-nil (IsNotedSo noted B L g c way.wait way.may (seat ∷ [])));
   }
 
-  served_unless : (o o1 o2 : Office V) (way : Way) (seat : Seat) (g1 : Log) (c1 c2 : List Call) → WasGiven Holds IsClean Faults IsUp MayLeave o o1 g1 → (IsClean (vault_of o2) → IsClean (vault_of o1))
-      → IsWrittenOut Holds IsClean o o1 seat way.share false g1 c1 → IsNotReady Holds o1 seat.connection
-      → (B : Records) (L : Log) → StandsFor Holds o (trace_of B L) → IsClean (vault_of o2) → is_open (trace_of B (g1 ++ L)) seat.connection ≡ true
+  served_unless : (o o1 o2 : Office V) (way : Way) (seat : Seat) (g1 : Log) (c1 c2 : List Call) → WasGiven vault o o1 g1 → (vault.is_clean (vault_of o2) → vault.is_clean (vault_of o1))
+      → IsWrittenOut vault.holds vault.is_clean o o1 seat way.share false g1 c1 → IsNotReady vault.holds o1 seat.connection
+      → (B : Records) (L : Log) → StandsFor vault.holds o (trace_of B L) → vault.is_clean (vault_of o2) → is_open (trace_of B (g1 ++ L)) seat.connection ≡ true
       → had_its_turn way.share way.poll_now seat.link (c1 ++ c2) ≡ true
   served_unless o o1 o2 way seat g1 c1 c2 wa clean a idle B L s k here =
       ⊎_elim
       (λ (later : list_any (is_later_of seat.link) c1 ≡ true). turn_left way.share way.poll_now seat.link c1 c2 (turn_later way.share way.poll_now seat.link c1 later))
-      (λ (owes : OwesNothing Holds IsClean o o1 seat.connection g1).
+      (λ (owes : OwesNothing vault.holds vault.is_clean o o1 seat.connection g1).
       (let T = trace_of B (g1 ++ L) in
       absurd (shut_by (is_open T seat.connection) (untaken T.log (history T) seat.connection) (owes B L s (clean k)) (idle B (g1 ++ L) (wa.stands B L s (clean k))) here)))
       (a.ends refl)
 
   pub served_one : (o o1 o2 : Office V) (way : Way) (noted : List Newcomer) (seat : Seat) (g1 g2 : Log) (c1 c2 : List Call)
-      → WasGiven Holds IsClean Faults IsUp MayLeave o o1 g1 → WasGiven Holds IsClean Faults IsUp MayLeave o1 o2 g2
-      → IsWrittenOut Holds IsClean o o1 seat way.share false g1 c1
-      → IsHeard Holds o1 seat way.wait way.by_line (way.may seat.connection) (lies_unread (newcomer seat.connection noted)) g2 c2
-      → HadTurns Holds IsClean o o2 way noted (seat ∷ []) (seat ∷ []) (g2 ++ g1) (c1 ++ c2)
+      → WasGiven vault o o1 g1 → WasGiven vault o1 o2 g2
+      → IsWrittenOut vault.holds vault.is_clean o o1 seat way.share false g1 c1
+      → IsReadPiece vault.holds o1 seat way.wait way.by_line (way.may seat.connection) (lies_unread (newcomer seat.connection noted)) g2 c2
+      → HadTurns vault.holds vault.is_clean o o2 way noted (seat ∷ []) (seat ∷ []) (g2 ++ g1) (c1 ++ c2)
   served_one o o1 o2 way noted seat g1 g2 c1 c2 wa wb a b = record {
     of_seats = of_then (seat ∷ []) g1 g2 c1 c2 a.of_seat b.of_seat;
     offered = λ B L s k. offered_then B L g1 g2 (seat ∷ []) c1 c2 (a.offered B L s (wb.clean k)) (none_offered B (g1 ++ L) g2 (seat ∷ []) c2 b.unwritten);
@@ -318,11 +320,11 @@ module _ {V : Type 0} (Holds : V → Contents → Type 0) (IsClean : V → Type 
         All-cons (IsNotedSo noted B L (g2 ++ g1) (c1 ++ c2) way.wait way.may (seat ∷ [])) seat []
         (λ h. record { seat = seat; among = first_seat seat; is = refl; unread = unread_at B L s k (b.noted h) })
         (All-nil (IsNotedSo noted B L (g2 ++ g1) (c1 ++ c2) way.wait way.may (seat ∷ [])));
-    turns = λ B L s k. All-cons (HadTurn way B L (g2 ++ g1) (trace_of B ((g2 ++ g1) ++ L)) (c1 ++ c2)) seat [] (by B L s k b.heard)
+    turns = λ B L s k. All-cons (HadTurn way B L (g2 ++ g1) (trace_of B ((g2 ++ g1) ++ L)) (c1 ++ c2)) seat [] (by B L s k b.read)
         (All-nil (HadTurn way B L (g2 ++ g1) (trace_of B ((g2 ++ g1) ++ L)) (c1 ++ c2)));
   } where
-    unread_at : (B : Records) (L : Log) → StandsFor Holds o (trace_of B L) → IsClean (vault_of o2)
-        → IsUnread Holds o1 seat way.wait (way.may seat.connection) c2 → StaysUnread B L (g2 ++ g1) (c1 ++ c2) way.wait (way.may seat.connection) seat
+    unread_at : (B : Records) (L : Log) → StandsFor vault.holds o (trace_of B L) → vault.is_clean (vault_of o2)
+        → IsUnread vault.holds o1 seat way.wait (way.may seat.connection) c2 → StaysUnread B L (g2 ++ g1) (c1 ++ c2) way.wait (way.may seat.connection) seat
     unread_at B L s k u = record {
       piece = u.piece;
       io = u.io;
@@ -333,9 +335,9 @@ module _ {V : Type 0} (Holds : V → Contents → Type 0) (IsClean : V → Type 
       kept = u.kept B (g1 ++ L) (wa.stands B L s (wb.clean k));
     }
 
-    by : (B : Records) (L : Log) → StandsFor Holds o (trace_of B L) → IsClean (vault_of o2)
+    by : (B : Records) (L : Log) → StandsFor vault.holds o (trace_of B L) → vault.is_clean (vault_of o2)
         → (list_any (is_read_of seat.link) c2 ≡ true)
-        ⊎ (IsReadByLine c2 way.by_line seat ⊎ ((g2 ≡ []) × (IsNotReady Holds o1 seat.connection ⊎ IsUnread Holds o1 seat way.wait (way.may seat.connection) c2)))
+        ⊎ (IsReadByLine c2 way.by_line seat ⊎ ((g2 ≡ []) × (IsNotReady vault.holds o1 seat.connection ⊎ IsUnread vault.holds o1 seat way.wait (way.may seat.connection) c2)))
         → HadTurn way B L (g2 ++ g1) (trace_of B ((g2 ++ g1) ++ L)) (c1 ++ c2) seat
     by B L s k (inl r) here = inl (turn_right way.share way.poll_now seat.link c1 c2 (turn_read way.share way.poll_now seat.link c2 r))
     by B L s k (inr (inl u)) here = inr (inl (line_right way.by_line seat c1 c2 u))
@@ -345,9 +347,9 @@ module _ {V : Type 0} (Holds : V → Contents → Type 0) (IsClean : V → Type 
 
   -- more is done for the same link
   pub served_then : (o o1 o2 : Office V) (way : Way) (noted : List Newcomer) (seat : Seat) (g1 g2 : Log) (c1 c2 : List Call)
-      → WasGiven Holds IsClean Faults IsUp MayLeave o o1 g1 → WasGiven Holds IsClean Faults IsUp MayLeave o1 o2 g2
-      → HadTurns Holds IsClean o o1 way noted (seat ∷ []) (seat ∷ []) g1 c1 → IsQuietFor (seat ∷ []) g2 c2
-      → AreOffered Holds IsClean o1 o2 (seat ∷ []) g2 c2 → HadTurns Holds IsClean o o2 way noted (seat ∷ []) (seat ∷ []) (g2 ++ g1) (c1 ++ c2)
+      → WasGiven vault o o1 g1 → WasGiven vault o1 o2 g2
+      → HadTurns vault.holds vault.is_clean o o1 way noted (seat ∷ []) (seat ∷ []) g1 c1 → IsQuietFor (seat ∷ []) g2 c2
+      → AreOffered vault.holds vault.is_clean o1 o2 (seat ∷ []) g2 c2 → HadTurns vault.holds vault.is_clean o o2 way noted (seat ∷ []) (seat ∷ []) (g2 ++ g1) (c1 ++ c2)
   served_then o o1 o2 way noted seat g1 g2 c1 c2 wa wb a b all = record {
     of_seats = of_then (seat ∷ []) g1 g2 c1 c2 a.of_seats b;
     offered = λ B L s k. offered_then B L g1 g2 (seat ∷ []) c1 c2 (a.offered B L s (wb.clean k)) (all B (g1 ++ L) (wa.stands B L s (wb.clean k)) k);
@@ -366,7 +368,7 @@ module _ {V : Type 0} (Holds : V → Contents → Type 0) (IsClean : V → Type 
   pub served_so : (o o1 : Office V) (way way2 : Way) (noted : List Newcomer) (seats these : List Seat) (g : Log) (c : List Call)
       → way2.share ≡ way.share → way2.wait ≡ way.wait → (way.by_line ≡ true → way2.by_line ≡ true)
       → All (λ q. way.may q.connection ≡ true → way2.may q.connection ≡ true) these → (way.poll_now ≡ true → way2.poll_now ≡ true)
-      → HadTurns Holds IsClean o o1 way noted seats these g c → HadTurns Holds IsClean o o1 way2 noted seats these g c
+      → HadTurns vault.holds vault.is_clean o o1 way noted seats these g c → HadTurns vault.holds vault.is_clean o o1 way2 noted seats these g c
   served_so o o1 way way2 noted seats these g c share wait lines may still a = record {
     of_seats = a.of_seats;
     offered = a.offered;
@@ -394,7 +396,7 @@ module _ {V : Type 0} (Holds : V → Contents → Type 0) (IsClean : V → Type 
     by B L q more (inr (inr u)) = inr (inr (unread_in B L q (way.may q.connection) (way2.may q.connection) more u))
 
   pub served_among : (o o1 : Office V) (way : Way) (noted : List Newcomer) (seats : List Seat) (seat : Seat) (g : Log) (c : List Call)
-      → Contains seats seat → HadTurns Holds IsClean o o1 way noted (seat ∷ []) (seat ∷ []) g c → HadTurns Holds IsClean o o1 way noted seats (seat ∷ []) g c
+      → Contains seats seat → HadTurns vault.holds vault.is_clean o o1 way noted (seat ∷ []) (seat ∷ []) g c → HadTurns vault.holds vault.is_clean o o1 way noted seats (seat ∷ []) g c
   served_among o o1 way noted seats seat g c has a = record {
     of_seats = of_more (seat ∷ []) seats g c (λ s h. subst (Contains seats) (only_one seat s h) has) a.of_seats;
     offered = λ B L s k. offered_more B L g (seat ∷ []) seats c (λ q h. subst (Contains seats) (only_one seat q h) has) (a.offered B L s k);
@@ -406,13 +408,13 @@ module _ {V : Type 0} (Holds : V → Contents → Type 0) (IsClean : V → Type 
 
   -- by its place
   pub served_at : (o o1 : Office V) (way : Way) (noted : List Newcomer) (xs ys : List Seat) (i : ℕ) (e : Seat) (g : Log) (c : List Call) → ys ≡ xs
-      → i < length xs → HadTurns Holds IsClean o o1 way noted (get_or ys i e ∷ []) (get_or ys i e ∷ []) g c
-      → (d : Seat) → HadTurns Holds IsClean o o1 way noted xs (get_or xs i d ∷ []) g c
+      → i < length xs → HadTurns vault.holds vault.is_clean o o1 way noted (get_or ys i e ∷ []) (get_or ys i e ∷ []) g c
+      → (d : Seat) → HadTurns vault.holds vault.is_clean o o1 way noted xs (get_or xs i d ∷ []) g c
   served_at o o1 way noted xs ys i e g c is h a d =
       let same : get_or ys i e ≡ get_or xs i d = ap (λ zs. get_or zs i e) is ∙ any_default xs i e d h in
-      subst (λ s. HadTurns Holds IsClean o o1 way noted xs (s ∷ []) g c) same (served_among o o1 way noted xs (get_or ys i e) g c (contained xs ys i e is h) a)
+      subst (λ s. HadTurns vault.holds vault.is_clean o o1 way noted xs (s ∷ []) g c) same (served_among o o1 way noted xs (get_or ys i e) g c (contained xs ys i e is h) a)
 
-  pub served_none : (o : Office V) (way : Way) (noted : List Newcomer) (seats : List Seat) → HadTurns Holds IsClean o o way noted seats [] [] []
+  pub served_none : (o : Office V) (way : Way) (noted : List Newcomer) (seats : List Seat) → HadTurns vault.holds vault.is_clean o o way noted seats [] [] []
   served_none o way noted seats = record {
     of_seats = of_none seats;
     offered = λ B L s k. All-nil (IsOffered B L [] seats);
@@ -422,12 +424,12 @@ module _ {V : Type 0} (Holds : V → Contents → Type 0) (IsClean : V → Type 
 
   pub served_more : (o o1 o2 : Office V) (way : Way) (noted noted2 : List Newcomer) (seats now : List Seat) (i : ℕ) (d : Seat) (g1 g2 : Log) (c1 c2 : List Call) → now ≡ seats → i < length now
       → ((c : ℕ) → lies_unread (newcomer c noted2) ≡ true → (lies_unread (newcomer c noted) ≡ true) ⊎ (c ≡ (get_or now i d).connection))
-      → WasGiven Holds IsClean Faults IsUp MayLeave o o1 g1 → WasGiven Holds IsClean Faults IsUp MayLeave o1 o2 g2
-      → HadTurns Holds IsClean o o1 way noted seats (take i seats) g1 c1 → HadTurns Holds IsClean o1 o2 way noted2 now (get_or now i d ∷ []) g2 c2
-      → HadTurns Holds IsClean o o2 way noted2 seats (take (i + 1) seats) (g2 ++ g1) (c1 ++ c2)
+      → WasGiven vault o o1 g1 → WasGiven vault o1 o2 g2
+      → HadTurns vault.holds vault.is_clean o o1 way noted seats (take i seats) g1 c1 → HadTurns vault.holds vault.is_clean o1 o2 way noted2 now (get_or now i d ∷ []) g2 c2
+      → HadTurns vault.holds vault.is_clean o o2 way noted2 seats (take (i + 1) seats) (g2 ++ g1) (c1 ++ c2)
   served_more o o1 o2 way noted noted2 seats now i d g1 g2 c1 c2 is within law wa wb a at_now =
       let h : i < length seats = subst (λ xs. i < length xs) is within in
-      let b = subst (λ xs. HadTurns Holds IsClean o1 o2 way noted2 xs (get_or xs i d ∷ []) g2 c2) is at_now in
+      let b = subst (λ xs. HadTurns vault.holds vault.is_clean o1 o2 way noted2 xs (get_or xs i d ∷ []) g2 c2) is at_now in
       let q = get_or seats i d in
       let apart : (c : ℕ) → lies_unread (newcomer c noted2) ≡ true → (lies_unread (newcomer c noted) ≡ true) ⊎ (c ≡ q.connection) =
       subst (λ xs. (c : ℕ) → lies_unread (newcomer c noted2) ≡ true → (lies_unread (newcomer c noted) ≡ true) ⊎ (c ≡ (get_or xs i d).connection)) is law in
@@ -459,28 +461,27 @@ module _ {V : Type 0} (Holds : V → Contents → Type 0) (IsClean : V → Type 
       }
 
   pub served_whole : (o o1 : Office V) (way : Way) (noted : List Newcomer) (seats now : List Seat) (n : ℕ) (g : Log) (c : List Call) → now ≡ seats
-      → length now ≤ n → HadTurns Holds IsClean o o1 way noted seats (take n seats) g c → HadTurns Holds IsClean o o1 way noted seats seats g c
+      → length now ≤ n → HadTurns vault.holds vault.is_clean o o1 way noted seats (take n seats) g c → HadTurns vault.holds vault.is_clean o o1 way noted seats seats g c
   served_whole o o1 way noted seats now n g c is h a =
       let k : length seats ≤ n = subst (λ xs. length xs ≤ n) is h in
-      subst (λ xs. HadTurns Holds IsClean o o1 way noted seats xs g c) (whole_front seats n k) a
+      subst (λ xs. HadTurns vault.holds vault.is_clean o o1 way noted seats xs g c) (whole_front seats n k) a
 
 -- ---- what was looked at first
 
-module _ {V W H : Type 0} (Holds : V → Contents → Type 0) (IsClean : V → Type 0) (Faults : V → ℕ) (IsUp : V → Type 0)
-    (MayLeave : V → Contents → Type 0) (Asked : W → List Call → Type 0) (Heard : H → List Hearing → Type 0) where
-  pub heard_asked : (o : Office V) (w w1 : W) (l : H) (seat : Seat) (wait : ℕ) (by_line may is_noted : Bool) (N : List Call → Type 0) (calls : List Call)
-      → WasAsked Asked w w1 calls → IsHeard Holds o seat wait by_line may is_noted [] calls → N calls
-      → Part Holds IsClean Faults IsUp MayLeave Asked o w o w1 (WithHeard Holds IsClean Heard o l o l (Also (IsHeard Holds o seat wait by_line may is_noted) N))
-  heard_asked o w w1 l seat wait by_line may is_noted N calls asked a n =
-      record { given = []; calls = calls; was_given = given_none Holds IsClean Faults IsUp MayLeave o; was_asked = asked; facts = (unheard Holds IsClean Heard o l, (a, n)) }
+module _ {V W H : Type 0} (vault : Ghosts V) (Asked : W → List Call → Type 0) (Heard : H → List Hearing → Type 0) where
+  pub read_asked : (o : Office V) (w w1 : W) (l : H) (seat : Seat) (wait : ℕ) (by_line may is_noted : Bool) (N : List Call → Type 0) (calls : List Call)
+      → WasAsked Asked w w1 calls → IsReadPiece vault.holds o seat wait by_line may is_noted [] calls → N calls
+      → Part vault Asked o w o w1 (WithHeard vault.holds vault.is_clean Heard o l o l (Also (IsReadPiece vault.holds o seat wait by_line may is_noted) N))
+  read_asked o w w1 l seat wait by_line may is_noted N calls asked a n =
+      record { given = []; calls = calls; was_given = given_none vault o; was_asked = asked; facts = (unheard vault Heard o l, (a, n)) }
 
-  pub heard_after : (o o1 : Office V) (w w1 w2 : W) (l l1 : H) (seat : Seat) (wait : ℕ) (by_line may is_noted : Bool) (pace : Pace)
+  pub read_after : (o o1 : Office V) (w w1 w2 : W) (l l1 : H) (seat : Seat) (wait : ℕ) (by_line may is_noted : Bool) (pace : Pace)
       (refusals : List Refusal) (room : ℕ) (login : Option LoginName) (M N : List Call → Type 0) (looks : List Call) → ((c : List Call) → M c → N (looks ++ c))
-      → IsQuietFor (seat ∷ []) [] looks → HasLooked Holds o seat pace refusals room login looks → (room == 0) ≡ false
+      → IsQuietFor (seat ∷ []) [] looks → HasLooked vault.holds o seat pace refusals room login looks → (room == 0) ≡ false
       → (pace.by_line ≡ true → by_line ≡ true) → (is_noted ≡ true → ⊥) → WasAsked Asked w w1 looks
-      → Part Holds IsClean Faults IsUp MayLeave Asked o w1 o1 w2 (WithHeard Holds IsClean Heard o l o1 l1 (Also (IsReadOnce Holds o seat room) M))
-      → Part Holds IsClean Faults IsUp MayLeave Asked o w o1 w2 (WithHeard Holds IsClean Heard o l o1 l1 (Also (IsHeard Holds o seat wait by_line may is_noted) N))
-  heard_after o o1 w w1 w2 l l1 seat wait by_line may is_noted pace refusals room login M N looks more quiet looked some line calm asked a = record {
+      → Part vault Asked o w1 o1 w2 (WithHeard vault.holds vault.is_clean Heard o l o1 l1 (Also (IsReadOnce vault.holds o seat room) M))
+      → Part vault Asked o w o1 w2 (WithHeard vault.holds vault.is_clean Heard o l o1 l1 (Also (IsReadPiece vault.holds o seat wait by_line may is_noted) N))
+  read_after o o1 w w1 w2 l l1 seat wait by_line may is_noted pace refusals room login M N looks more quiet looked some line calm asked a = record {
     given = a.given;
     calls = looks ++ a.calls;
     was_given = a.was_given;
@@ -488,7 +489,7 @@ module _ {V W H : Type 0} (Holds : V → Contents → Type 0) (IsClean : V → T
     facts = (
       a.facts.0,
       (
-        heard_behind Holds IsClean Faults IsUp MayLeave wait by_line may is_noted o seat pace refusals room login a.given looks a.calls quiet looked some line calm a.facts.1.0,
+        read_behind vault wait by_line may is_noted o seat pace refusals room login a.given looks a.calls quiet looked some line calm a.facts.1.0,
         more a.calls a.facts.1.1,
       ),
     );
@@ -496,8 +497,8 @@ module _ {V W H : Type 0} (Holds : V → Contents → Type 0) (IsClean : V → T
 
   -- a read that had room for so many octets of a buffer
   pub read_part : (o o1 : Office V) (w w1 : W) (l l1 : H) (seat : Seat) (n : ℕ) (xs : List ℕ) (M : List Call → Type 0)
-      → Part Holds IsClean Faults IsUp MayLeave Asked o w o1 w1 (WithHeard Holds IsClean Heard o l o1 l1 (Also (IsReadOnce Holds o seat (length (take n xs))) M)) → n ≤ length xs
-      → Part Holds IsClean Faults IsUp MayLeave Asked o w o1 w1 (WithHeard Holds IsClean Heard o l o1 l1 (Also (IsReadOnce Holds o seat n) M))
+      → Part vault Asked o w o1 w1 (WithHeard vault.holds vault.is_clean Heard o l o1 l1 (Also (IsReadOnce vault.holds o seat (length (take n xs))) M)) → n ≤ length xs
+      → Part vault Asked o w o1 w1 (WithHeard vault.holds vault.is_clean Heard o l o1 l1 (Also (IsReadOnce vault.holds o seat n) M))
   read_part o o1 w w1 l l1 seat n xs M a h =
       let e : length (take n xs) ≡ n = (let k = length-take n xs in omega (arith, k, h)) in
-      subst (λ m. Part Holds IsClean Faults IsUp MayLeave Asked o w o1 w1 (WithHeard Holds IsClean Heard o l o1 l1 (Also (IsReadOnce Holds o seat m) M))) e a
+      subst (λ m. Part vault Asked o w o1 w1 (WithHeard vault.holds vault.is_clean Heard o l o1 l1 (Also (IsReadOnce vault.holds o seat m) M))) e a

@@ -61,8 +61,8 @@ no_origin None e h = cc
 no_origin (Some n) e h = cc
 
 -- where logins may be kept back
-pub may_so : (slow freed shut less : Bool) (origin : Option ℕ) → shut ≡ freed → (slow ≡ false → origin ≡ None)
-    → (shut ≡ true) ⊎ ((is_some origin ≡ true) × (less ≡ true)) → (freed || (slow && less)) ≡ true
+pub may_so : (slow lock_released shut less : Bool) (origin : Option ℕ) → shut ≡ lock_released → (slow ≡ false → origin ≡ None)
+    → (shut ≡ true) ⊎ ((is_some origin ≡ true) × (less ≡ true)) → (lock_released || (slow && less)) ≡ true
 may_so slow true shut less origin same fast h = refl
 may_so true false shut less origin same fast (inl s) = let k : false ≡ true = sym same ∙ s in cc
 may_so true false shut less origin same fast (inr p) = p.1
@@ -70,8 +70,9 @@ may_so false false shut less origin same fast (inl s) = let k : false ≡ true =
 may_so false false shut less origin same fast (inr p) = absurd (no_origin origin (fast refl) p.0)
 
 -- and where lines are read one at a time
-pub line_so : (slow freed shut : Bool) (wait : ℕ) (origin : Option ℕ) → shut ≡ freed → (slow ≡ false → origin ≡ None) → reads_lines wait shut origin ≡ true → reads_by_line wait (slow || freed) ≡ true
-line_so true freed shut wait origin same fast h = refl
+pub line_so : (slow lock_released shut : Bool) (wait : ℕ) (origin : Option ℕ) → shut ≡ lock_released → (slow ≡ false → origin ≡ None)
+    → reads_lines wait shut origin ≡ true → reads_by_line wait (slow || lock_released) ≡ true
+line_so true lock_released shut wait origin same fast h = refl
 line_so false true shut wait origin same fast h = refl
 line_so false false true wait origin same fast h = cc
 line_so false false false wait origin same fast h =

@@ -1,4 +1,5 @@
 -- That parts of a turn, one after the other, do what they do all together.
+use Rattle.vault.specs.declared.vault.Vault.{Ghosts}
 use Rattle.std.proofs.Common.{◌≡◌, ℕ, ◌+◌, ◌<◌, ◌≤◌, Bool, true, false, not, ◌&&◌, ◌||◌, ◌==◌, List, [], ◌∷◌, ◌++◌, length, min, refl, sym, ◌∙◌, ap, arith, Some, Option, ⊎_elim}
 use Rattle.std.proofs.Common.{◌⊎◌, inl, inr, subst, true≢false, append_assoc, length-append, le-leb, leb-true, nat_le, nat_lt, eqb-true}
 use Rattle.std.specs.Bool.{if◌then◌else◌}
@@ -9,7 +10,6 @@ use Rattle.std.proofs.lemmas.List.Elements.{All-nil, All-head, All-tail, All-app
 use Rattle.std.proofs.lemmas.List.Folds.{list_any-append}
 use Rattle.vault.specs.Records.{Records}
 use Rattle.vault.specs.Calls.{greatest_count, has_grown}
-use Rattle.vault.specs.Changes.{Contents}
 use Rattle.office.specs.History.{Tag, Done, NoMemory}
 use Rattle.office.specs.Replying.{is_empty}
 use Rattle.office.specs.Events.{Event, EventTag, Tagged, Ignored, Log, Trace}
@@ -71,43 +71,52 @@ failed_one e m outcome.NoMemory a b is h f = let k : list_any is_failed ((e, Tag
 failed_one e m (outcome.Ignored r) a b is h f = let k : list_any is_failed ((e, Ignored) ∷ []) ≡ true = subst (λ x. list_any is_failed ((e, x) ∷ []) ≡ true) is f in cc
 failed_one e m (outcome.Answered x) a b is h f = let k : list_any is_failed ((e, Tagged Done) ∷ []) ≡ true = subst (λ y. list_any is_failed ((e, y) ∷ []) ≡ true) is f in cc
 
-module _ {V : Type 0} (Holds : V → Contents → Type 0) (IsClean : V → Type 0) (Faults : V → ℕ) (IsUp : V → Type 0) (MayLeave : V → Contents → Type 0) where
-  pub given_none : (o : Office V) → WasGiven Holds IsClean Faults IsUp MayLeave o o []
-  given_none o = record { clean = λ k. k; stands = λ B L s k. s; admitted = λ B L s k. tt; counted = omega arith; failed = λ B L s k e. cc; outlasts = outlasts_none Holds IsClean IsUp MayLeave o }
+module _ {V : Type 0} (vault : Ghosts V) where
+  pub given_none : (o : Office V) → WasGiven vault o o []
+  given_none o = record {
+    clean = λ k. k;
+    stands = λ B L s k. s;
+    admitted = λ B L s k. tt;
+    counted = omega arith;
+    failed = λ B L s k e. cc;
+    outlasts =
+        outlasts_none vault.holds vault.is_clean vault.is_up vault.may_leave o;
+  }
 
-  pub given_then : (o o1 o2 : Office V) (g1 g2 : Log) → WasGiven Holds IsClean Faults IsUp MayLeave o o1 g1
-      → WasGiven Holds IsClean Faults IsUp MayLeave o1 o2 g2 → WasGiven Holds IsClean Faults IsUp MayLeave o o2 (g2 ++ g1)
+  pub given_then : (o o1 o2 : Office V) (g1 g2 : Log) → WasGiven vault o o1 g1
+      → WasGiven vault o1 o2 g2 → WasGiven vault o o2 (g2 ++ g1)
   given_then o o1 o2 g1 g2 a b = record {
     clean = λ k. a.clean (b.clean k);
-    stands = λ B L s k. subst (λ l. StandsFor Holds o2 (trace_of B l)) (sym (append_assoc g2 g1 L)) (b.stands B (g1 ++ L) (a.stands B L s (b.clean k)) k);
+    stands = λ B L s k. subst (λ l. StandsFor vault.holds o2 (trace_of B l)) (sym (append_assoc g2 g1 L)) (b.stands B (g1 ++ L) (a.stands B L s (b.clean k)) k);
     admitted = λ B L s k. newly_then B L g1 g2 (a.admitted B L s (b.clean k)) (b.admitted B (g1 ++ L) (a.stands B L s (b.clean k)) k);
     counted = (let p = a.counted in let q = b.counted in omega (arith, p, q));
     failed = λ B L s k e.
         ⊎_elim
         (λ (later : list_any is_failed g2 ≡ true).
-        grown_more (Faults (vault_of o)) (Faults (vault_of o1)) (Faults (vault_of o2)) (Faults (vault_of o2)) a.counted (omega arith) (b.failed B (g1 ++ L) (a.stands B L s (b.clean k)) k later))
+        grown_more (vault.faults (vault_of o)) (vault.faults (vault_of o1)) (vault.faults (vault_of o2)) (vault.faults (vault_of o2)) a.counted
+        (omega arith) (b.failed B (g1 ++ L) (a.stands B L s (b.clean k)) k later))
         (λ (first : list_any is_failed g1 ≡ true).
-        grown_more (Faults (vault_of o)) (Faults (vault_of o)) (Faults (vault_of o1)) (Faults (vault_of o2)) (omega arith) b.counted (a.failed B L s (b.clean k) first))
+        grown_more (vault.faults (vault_of o)) (vault.faults (vault_of o)) (vault.faults (vault_of o1)) (vault.faults (vault_of o2)) (omega arith) b.counted (a.failed B L s (b.clean k) first))
         (or_cases (list_any is_failed g2) (list_any is_failed g1) (sym (list_any-append is_failed g2 g1) ∙ e));
-    outlasts = outlasts_then Holds IsClean IsUp MayLeave o o1 o2 g1 g2 b.clean a.stands a.outlasts b.outlasts;
+    outlasts = outlasts_then vault.holds vault.is_clean vault.is_up vault.may_leave o o1 o2 g1 g2 b.clean a.stands a.outlasts b.outlasts;
   }
 
   -- one event
-  pub given_one : (o o1 : Office V) (e : Event) (out : Outcome) → (IsClean (vault_of o1) → IsClean (vault_of o))
-      → ((T : Trace) → StandsFor Holds o T → IsClean (vault_of o1) → StandsFor Holds o1 (trace_of T.base ((e, event_tag_of out) ∷ T.log)))
-      → ((T : Trace) → StandsFor Holds o T → IsClean (vault_of o1) → IsAdmitted T e (event_tag_of out))
-      → Faults (vault_of o) ≤ Faults (vault_of o1)
-      → ((T : Trace) → StandsFor Holds o T → IsClean (vault_of o1) → HasItsCause (Faults (vault_of o)) (Faults (vault_of o1)) out)
-      → ((T : Trace) → StandsFor Holds o T → IsClean (vault_of o1) → StaysUpUnless (IsUp (vault_of o)) (IsUp (vault_of o1)) out)
-      → ((T : Trace) → StandsFor Holds o T → IsClean (vault_of o1) → IsUp (vault_of o) → StopLeaves (MayLeave (vault_of o1)) T e out)
-      → WasGiven Holds IsClean Faults IsUp MayLeave o o1 ((e, event_tag_of out) ∷ [])
+  pub given_one : (o o1 : Office V) (e : Event) (out : Outcome) → (vault.is_clean (vault_of o1) → vault.is_clean (vault_of o))
+      → ((T : Trace) → StandsFor vault.holds o T → vault.is_clean (vault_of o1) → StandsFor vault.holds o1 (trace_of T.base ((e, event_tag_of out) ∷ T.log)))
+      → ((T : Trace) → StandsFor vault.holds o T → vault.is_clean (vault_of o1) → IsAdmitted T e (event_tag_of out))
+      → vault.faults (vault_of o) ≤ vault.faults (vault_of o1)
+      → ((T : Trace) → StandsFor vault.holds o T → vault.is_clean (vault_of o1) → HasItsCause (vault.faults (vault_of o)) (vault.faults (vault_of o1)) out)
+      → ((T : Trace) → StandsFor vault.holds o T → vault.is_clean (vault_of o1) → StaysUpUnless (vault.is_up (vault_of o)) (vault.is_up (vault_of o1)) out)
+      → ((T : Trace) → StandsFor vault.holds o T → vault.is_clean (vault_of o1) → vault.is_up (vault_of o) → StopLeaves (vault.may_leave (vault_of o1)) T e out)
+      → WasGiven vault o o1 ((e, event_tag_of out) ∷ [])
   given_one o o1 e out clean stands admitted counted cause up stop = record {
     clean = clean;
     stands = λ B L s k. stands (trace_of B L) s k;
     admitted = λ B L s k. (admitted (trace_of B L) s k, tt);
     counted = counted;
-    failed = λ B L s k f. failed_one e (event_tag_of out) out (Faults (vault_of o)) (Faults (vault_of o1)) refl (cause (trace_of B L) s k) f;
-    outlasts = outlasts_one Holds IsClean IsUp MayLeave o o1 e out up stop;
+    failed = λ B L s k f. failed_one e (event_tag_of out) out (vault.faults (vault_of o)) (vault.faults (vault_of o1)) refl (cause (trace_of B L) s k) f;
+    outlasts = outlasts_one vault.holds vault.is_clean vault.is_up vault.may_leave o o1 e out up stop;
   }
 
 module _ {W : Type 0} (Asked : W → List Call → Type 0) where
@@ -128,33 +137,33 @@ module _ {W : Type 0} (Asked : W → List Call → Type 0) where
     facts = join a.calls b.calls a.facts b.facts;
   }
 
-module _ {V W : Type 0} (Holds : V → Contents → Type 0) (IsClean : V → Type 0) (Faults : V → ℕ) (IsUp : V → Type 0) (MayLeave : V → Contents → Type 0) (Asked : W → List Call → Type 0) where
+module _ {V W : Type 0} (vault : Ghosts V) (Asked : W → List Call → Type 0) where
   pub part_then : (o o1 o2 : Office V) (w w1 w2 : W) (F G H : Log → List Call → Type 0)
-      → ((g1 g2 : Log) (c1 c2 : List Call) → WasGiven Holds IsClean Faults IsUp MayLeave o o1 g1 → WasGiven Holds IsClean Faults IsUp MayLeave o1 o2 g2 → F g1 c1 → G g2 c2 → H (g2 ++ g1) (c1 ++ c2))
-      → Part Holds IsClean Faults IsUp MayLeave Asked o w o1 w1 F → Part Holds IsClean Faults IsUp MayLeave Asked o1 w1 o2 w2 G → Part Holds IsClean Faults IsUp MayLeave Asked o w o2 w2 H
+      → ((g1 g2 : Log) (c1 c2 : List Call) → WasGiven vault o o1 g1 → WasGiven vault o1 o2 g2 → F g1 c1 → G g2 c2 → H (g2 ++ g1) (c1 ++ c2))
+      → Part vault Asked o w o1 w1 F → Part vault Asked o1 w1 o2 w2 G → Part vault Asked o w o2 w2 H
   part_then o o1 o2 w w1 w2 F G H join a b = record {
     given = b.given ++ a.given;
     calls = a.calls ++ b.calls;
-    was_given = given_then Holds IsClean Faults IsUp MayLeave o o1 o2 a.given b.given a.was_given b.was_given;
+    was_given = given_then vault o o1 o2 a.given b.given a.was_given b.was_given;
     was_asked = asked_then Asked w w1 w2 a.calls b.calls a.was_asked b.was_asked;
     facts = join a.given b.given a.calls b.calls a.was_given b.was_given a.facts b.facts;
   }
 
   -- the same part, of which something else holds
-  pub part_so : (o o1 : Office V) (w w1 : W) (F G : Log → List Call → Type 0) → ((g : Log) (c : List Call) → WasGiven Holds IsClean Faults IsUp MayLeave o o1 g → F g c → G g c)
-      → Part Holds IsClean Faults IsUp MayLeave Asked o w o1 w1 F → Part Holds IsClean Faults IsUp MayLeave Asked o w o1 w1 G
+  pub part_so : (o o1 : Office V) (w w1 : W) (F G : Log → List Call → Type 0) → ((g : Log) (c : List Call) → WasGiven vault o o1 g → F g c → G g c)
+      → Part vault Asked o w o1 w1 F → Part vault Asked o w o1 w1 G
   part_so o o1 w w1 F G so a = record { given = a.given; calls = a.calls; was_given = a.was_given; was_asked = a.was_asked; facts = so a.given a.calls a.was_given a.facts }
 
   -- nothing was done
-  pub part_none : (o : Office V) (w : W) (F : Log → List Call → Type 0) → F [] [] → Part Holds IsClean Faults IsUp MayLeave Asked o w o w F
-  part_none o w F f = record { given = []; calls = []; was_given = given_none Holds IsClean Faults IsUp MayLeave o; was_asked = asked_none Asked w; facts = f }
+  pub part_none : (o : Office V) (w : W) (F : Log → List Call → Type 0) → F [] [] → Part vault Asked o w o w F
+  part_none o w F f = record { given = []; calls = []; was_given = given_none vault o; was_asked = asked_none Asked w; facts = f }
 
   -- a part that asks the wire alone, or gives events to the office alone
-  pub part_asking : (o : Office V) (w w1 : W) (F : List Call → Type 0) → Asking Asked w w1 F → Part Holds IsClean Faults IsUp MayLeave Asked o w o w1 (λ given calls. (given ≡ []) × F calls)
-  part_asking o w w1 F a = record { given = []; calls = a.calls; was_given = given_none Holds IsClean Faults IsUp MayLeave o; was_asked = a.was_asked; facts = (refl, a.facts) }
+  pub part_asking : (o : Office V) (w w1 : W) (F : List Call → Type 0) → Asking Asked w w1 F → Part vault Asked o w o w1 (λ given calls. (given ≡ []) × F calls)
+  part_asking o w w1 F a = record { given = []; calls = a.calls; was_given = given_none vault o; was_asked = a.was_asked; facts = (refl, a.facts) }
 
-  pub part_giving : (o o1 : Office V) (w : W) (F : Log → Type 0) → Giving Holds IsClean Faults IsUp MayLeave o o1 F
-      → Part Holds IsClean Faults IsUp MayLeave Asked o w o1 w (λ given calls. (calls ≡ []) × F given)
+  pub part_giving : (o o1 : Office V) (w : W) (F : Log → Type 0) → Giving vault o o1 F
+      → Part vault Asked o w o1 w (λ given calls. (calls ≡ []) × F given)
   part_giving o o1 w F a = record { given = a.given; calls = []; was_given = a.was_given; was_asked = asked_none Asked w; facts = (refl, a.facts) }
 
 -- ---- what is seen of calls and events, one after the other

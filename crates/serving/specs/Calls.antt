@@ -86,7 +86,7 @@ abbrev pub is_taking_of : Link → Call → Bool
 is_taking_of link (Wrote Pop l offered (Count n) octets) = l.number == link.number
 is_taking_of link _ = false
 
--- a read from it or a write on it told its end, or that it is broken
+-- a read from it or a write on it gave its end, or that it is broken
 abbrev pub is_cut_of : Link → Call → Bool
 is_cut_of link (Read Pop l room io octets) = l.number == link.number && is_fault io
 is_cut_of link (Wrote Pop l offered io octets) = l.number == link.number && is_fault io

@@ -30,7 +30,7 @@ use Rattle.serving.specs.Works.{waits, arrivals, closings, is_admin, is_read_of,
 use Rattle.serving.specs.Works.{is_taking_of, octets_taken, most_writes, share_by, moments}
 use Rattle.serving.specs.Works.{openings, refusals, AreCaused, IsKeptBack, reads_by_line}
 use Rattle.serving.specs.Works.{IsReadByLine, LiesUnread, Came, seat_of, unseated_of, link_of}
-use Rattle.serving.specs.Works.{HasAccepted, HasFreed, is_open_seat}
+use Rattle.serving.specs.Works.{HasAccepted, HasReleasedLock, is_open_seat}
 use Rattle.serving.specs.Ways.{Way, way_by, HadTurn}
 use Rattle.serving.specs.Works.{is_shut_seat, IsOffered}
 use Rattle.serving.specs.Parts.{IsQuietFor}
@@ -60,7 +60,7 @@ IsNotedSo noted B older given calls wait may seats s =
     lies_unread (newcomer s.connection noted) ≡ true
     → LiesUnread B older given calls wait (may s.connection) seats s.connection
 
--- the moment was told, and these calls were made
+-- the moment was given, and these calls were made
 pub record IsPassed (asked : List Call) (now : ℕ) (given : Log) (calls : List Call) : Type 0 where
   pub event_tag : EventTag
   pub given_is : given ≡ (event.Tick now, event_tag) ∷ []
@@ -160,23 +160,23 @@ pub data IsReadOnce {V : Type 0} (Holds : V → Contents → Type 0) (office : O
       → IsQuietFor (seat ∷ []) given (Read Pop seat.link room io octets ∷ [])
       → IsReadOnce Holds office seat room given (Read Pop seat.link room io octets ∷ [])
 
--- A link was read from, where its connection waits for octets and nothing is kept back. Where its
--- login is noted as lying unread, it does.
-pub record IsHeard {V : Type 0} (Holds : V → Contents → Type 0) (office : Office V) (seat : Seat)
+-- A link was read from, if its connection waits for octets and nothing is kept back. If its login
+-- is noted as lying unread, it does.
+pub record IsReadPiece {V : Type 0} (Holds : V → Contents → Type 0) (office : Office V) (seat : Seat)
     (wait : ℕ) (by_line may is_noted : Bool) (given : Log) (calls : List Call) : Type 0 where
   pub of_seat : IsQuietFor (seat ∷ []) given calls
-  pub heard : (list_any (is_read_of seat.link) calls ≡ true)
+  pub read : (list_any (is_read_of seat.link) calls ≡ true)
       ⊎ (IsReadByLine calls by_line seat ⊎ ((given ≡ [])
       × (IsNotReady Holds office seat.connection ⊎ IsUnread Holds office seat wait may calls)))
   pub noted : is_noted ≡ true → IsUnread Holds office seat wait may calls
   pub unwritten : list_any is_client_write calls ≡ false
 
--- logins may be kept back: behind refusals, where guesses are slow, or behind a session that ended
+-- logins may be kept back: after refusals, if guesses are slow, or after a session that ended
 -- in this turn
 abbrev pub may_keep : Clients → Bool
 may_keep links = links.guesses.are_slow || links.lock_released
 
--- that of a connection may: behind refusals only while it has lain unread for less than 15 seconds
+-- that of a connection may: after refusals only while it has lain unread for less than 15 seconds
 abbrev pub may_at : (now : ℕ) → Clients → (c : ℕ) → Bool
 may_at now links c = links.lock_released || (links.guesses.are_slow
     && nat_lt (waited_of now (newcomer c links.newcomers.newcomers.items)) most_paced)
@@ -205,23 +205,23 @@ pub record HadTurns {V : Type 0} (Holds : V → Contents → Type 0) (IsClean : 
 
 -- logins are kept back after sessions that ended, if they wait for a lock, and after nothing
 -- else
-abbrev pub IsFreedBy : {V : Type 0} (Holds : V → Contents → Type 0) (IsClean : V → Type 0)
-    (office office_then : Office V) (wait : ℕ) (freed : Bool) (seats : List Seat) (given : Log)
+abbrev pub IsReleasedBy : {V : Type 0} (Holds : V → Contents → Type 0) (IsClean : V → Type 0)
+    (office office_then : Office V) (wait : ℕ) (lock_released : Bool) (seats : List Seat) (given : Log)
     → Type 0
-IsFreedBy Holds IsClean office office_then wait freed seats given =
-    freed ≡ true → ((wait == 0) ≡ false) × ((B : Records) (L : Log)
+IsReleasedBy Holds IsClean office office_then wait lock_released seats given =
+    lock_released ≡ true → ((wait == 0) ≡ false) × ((B : Records) (L : Log)
     → StandsFor Holds office (trace_of B L) → IsClean (vault_of office_then)
-    → HasFreed B L given seats)
+    → HasReleasedLock B L given seats)
 
 -- the links of these seats had their turns, by these settings, and what was kept back after a
 -- session that ended was so for that
 pub record WereServed {V : Type 0} (Holds : V → Contents → Type 0) (IsClean : V → Type 0)
     (office office_then : Office V) (set : Settings) (now : ℕ) (newcomers : List Newcomer)
-    (freed poll_now : Bool) (noted : List Newcomer) (seats these : List Seat) (given : Log) (calls : List Call)
+    (lock_released poll_now : Bool) (noted : List Newcomer) (seats these : List Seat) (given : Log) (calls : List Call)
     : Type 0 where
   pub turns : HadTurns Holds IsClean office office_then
-      (way_by set now newcomers seats freed poll_now) noted seats these given calls
-  pub freed_by : IsFreedBy Holds IsClean office office_then set.wait freed seats given
+      (way_by set now newcomers seats lock_released poll_now) noted seats these given calls
+  pub released_by : IsReleasedBy Holds IsClean office office_then set.wait lock_released seats given
 
 abbrev pub closing : Seat → Call
 closing s = Closed Pop s.link

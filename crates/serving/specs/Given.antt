@@ -10,7 +10,7 @@ use Rattle.office.specs.Taken.{trace_of, IsAdmitted}
 use Rattle.serving.specs.Newcomers.{is_late}
 use Rattle.serving.specs.declared.newcomers.Newcomer.{Newcomer}
 
--- each moment that it was told
+-- each moment that it was given
 abbrev pub moment_of : Event × EventTag → Option ℕ
 moment_of (event.Tick now, m) = Some now
 moment_of _ = None

@@ -30,8 +30,8 @@ Hearing = ℕ × Account
 
 -- of a command with this account: how it ended a session
 abbrev pub heard_by : AdminCommand → Account → List Hearing
-heard_by (EndSession c) told = (c, told) ∷ []
-heard_by _ told = []
+heard_by (EndSession c) account = (c, account) ∷ []
+heard_by _ account = []
 
 -- of an event: its account, if it is a client's or ends a session
 abbrev pub heard_of : Trace → Event → EventTag → List Hearing
@@ -47,7 +47,7 @@ heard_of_all B older [] = []
 heard_of_all B older ((e, m) ∷ given) =
     heard_of_all B older given ++ heard_of (trace_of B (given ++ older)) e m
 
--- ---- of connections that the office was told to end, or that a moment ended
+-- ---- of connections that end because they are late, or that a moment ended
 
 -- why a client that is late is ended: its login seconds are over, or only those of a full house
 abbrev pub why_late : (now login_seconds : ℕ) → List Newcomer → (c : ℕ) → End
@@ -82,28 +82,28 @@ hearings T now links t = idle_ends (trace_of T.base (t.tick ++ T.log)) links.cli
     ++ (heard_of_all T.base (t.tick ++ T.log) (t.commands ++ (t.served ++ t.connects))
     ++ late_ends now (settings links).login_seconds (noted_by links) t.late)
 
--- ---- what a listener was told, and nothing else
+-- ---- what a listener heard, and nothing else
 
 -- just this
-pub record WasTold {H : Type 0} (Heard : H → List Hearing → Type 0) (listener listener_then : H)
+pub record HasHeard {H : Type 0} (Heard : H → List Hearing → Type 0) (listener listener_then : H)
     (more : List Hearing) : Type 0 where
   pub is : (before : List Hearing) → Heard listener before → Heard listener_then (before ++ more)
 
 -- what is heard of these events, after any log for which the office stands
-pub record WasHeard {V H : Type 0} (Holds : V → Contents → Type 0) (IsClean : V → Type 0)
+pub record HasHeardOf {V H : Type 0} (Holds : V → Contents → Type 0) (IsClean : V → Type 0)
     (Heard : H → List Hearing → Type 0) (office : Office V) (listener : H)
     (office_then : Office V) (listener_then : H) (given : Log) : Type 0 where
   pub is : (B : Records) (L : Log) → StandsFor Holds office (trace_of B L)
       → IsClean (vault_of office_then)
-      → WasTold Heard listener listener_then (heard_of_all B L given)
+      → HasHeard Heard listener listener_then (heard_of_all B L given)
 
--- of a part of a turn: it was told what is heard of its events, and of these this holds
+-- of a part of a turn: just what is heard of its events was heard, and of these this holds
 abbrev pub WithHeard : {V H : Type 0} (Holds : V → Contents → Type 0) (IsClean : V → Type 0)
     (Heard : H → List Hearing → Type 0) (office : Office V) (listener : H)
     (office_then : Office V) (listener_then : H) (Facts : Log → List Call → Type 0)
     → Log → List Call → Type 0
 WithHeard Holds IsClean Heard office listener office_then listener_then Facts given calls =
-    WasHeard Holds IsClean Heard office listener office_then listener_then given
+    HasHeardOf Holds IsClean Heard office listener office_then listener_then given
     × Facts given calls
 
 -- the same of what was done after a log
@@ -111,4 +111,4 @@ abbrev pub HeardApart : {H : Type 0} (Heard : H → List Hearing → Type 0)
     (listener listener_then : H) (Did : Records → Log → Log → List Call → Type 0)
     → Records → Log → Log → List Call → Type 0
 HeardApart Heard listener listener_then Did B L given calls =
-    WasTold Heard listener listener_then (heard_of_all B L given) × Did B L given calls
+    HasHeard Heard listener listener_then (heard_of_all B L given) × Did B L given calls

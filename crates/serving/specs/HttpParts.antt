@@ -15,11 +15,11 @@ use Rattle.serving.specs.declared.server.Server.{Server}
 use Rattle.serving.specs.declared.wire.Wire as the_wire
 use Rattle.serving.specs.declared.listener.Listener as the_listener
 use Rattle.serving.specs.declared.requests.Exchange.{Exchange}
-use Rattle.serving.specs.Parts.{Part, Also, Asking, Giving, IsQuiet}
+use Rattle.serving.specs.Parts.{Part, Also, Asking, Asks, Giving, IsQuiet}
 use Rattle.serving.specs.Works.{AreCaused}
 use Rattle.serving.specs.Hearing.{HeardApart}
 use Rattle.serving.specs.HttpTurns.{GoesOnAt}
-use Rattle.serving.specs.HttpWorks.{ComesTo, IsToldOf, HasToldAll, HadHttpTurns}
+use Rattle.serving.specs.HttpWorks.{ComesTo, IsWrittenOf, HasWrittenAll, HadHttpTurns}
 
 -- This was done after any log for which the office stands, and the clients' links and openings
 -- were left alone.
@@ -46,7 +46,7 @@ abbrev pub DoesApart : {V W L : Type 0} (vault : Ghosts V) (wire : the_wire.Ghos
     (listener : the_listener.Ghosts L) (old new : Server V W L)
     (Did : Records → Log → Log → List Call → Type 0) → Type 0
 DoesApart vault wire listener old new Did =
-    Part vault.holds vault.is_clean vault.faults vault.is_up vault.may_leave wire.asked old.office old.wire new.office new.wire
+    Part vault wire.asked old.office old.wire new.office new.wire
     (DidApart vault.holds vault.is_clean old.office new.office
     (HeardApart listener.heard old.listener new.listener Did))
 
@@ -55,23 +55,26 @@ abbrev pub ServesApart : {V W L : Type 0} (vault : Ghosts V) (wire : the_wire.Gh
     (listener : the_listener.Ghosts L) (old new : Server V W L) (Facts : List Call → Type 0)
     (Did : Records → Log → Log → List Call → Type 0) → Type 0
 ServesApart vault wire listener old new Facts Did =
-    Part vault.holds vault.is_clean vault.faults vault.is_up vault.may_leave wire.asked old.office old.wire new.office new.wire
+    Part vault wire.asked old.office old.wire new.office new.wire
     (Also (DidApart vault.holds vault.is_clean old.office new.office
     (HeardApart listener.heard old.listener new.listener Did)) Facts)
 
 -- One that asks the wire nothing.
-abbrev pub GivesApart : {V : Type 0} (Holds : V → Contents → Type 0) (IsClean : V → Type 0)
-    (Faults : V → ℕ)
-    (IsUp : V → Type 0) (MayLeave : V → Contents → Type 0) (office office_then : Office V)
+abbrev pub GivesApart : {V : Type 0} (vault : Ghosts V) (office office_then : Office V)
     (Did : Records → Log → Log → List Call → Type 0) → Type 0
-GivesApart Holds IsClean Faults IsUp MayLeave office office_then Did =
-    Giving Holds IsClean Faults IsUp MayLeave office office_then
-    (λ given. DidApart Holds IsClean office office_then Did given [])
+GivesApart vault office office_then Did =
+    Giving vault office office_then
+    (λ given. DidApart vault.holds vault.is_clean office office_then Did given [])
 
--- One that gives the office nothing.
-abbrev pub AsksApart : {W : Type 0} (Asked : W → List Call → Type 0) (wire wire_then : W)
+-- One that gives the office nothing: of the wire alone, and of a server.
+abbrev pub AskingApart : {W : Type 0} (Asked : W → List Call → Type 0) (wire wire_then : W)
     (Facts : List Call → Type 0) → Type 0
-AsksApart Asked wire wire_then Facts = Asking Asked wire wire_then (AskedApart Facts)
+AskingApart Asked wire wire_then Facts = Asking Asked wire wire_then (AskedApart Facts)
+
+abbrev pub AsksApart : {V W L : Type 0} (wire : the_wire.Ghosts W)
+    (listener : the_listener.Ghosts L) (old new : Server V W L) (Facts : List Call → Type 0)
+    → Type 0
+AsksApart wire listener old new Facts = Asks wire listener old new (AskedApart Facts)
 
 -- the link at a place had its turn, and whether it is held on
 abbrev pub HadTurnAt : Site → (now place : ℕ) (stays : Bool) (held held_then : List Exchange)
@@ -82,10 +85,10 @@ HadTurnAt site now place stays held held_then B L given calls =
 
 -- What follows of a response was written once or more, and if that doesn't go on nothing more
 -- can be written for now.
-pub record Tells (e e_then : Exchange) (times octets : ℕ) (has_more : Bool) (calls : List Call)
+pub record Writes (e e_then : Exchange) (times octets : ℕ) (has_more : Bool) (calls : List Call)
     : Type 0 where
-  pub is : IsToldOf e e_then times octets calls
-  pub ends : has_more ≡ false → HasToldAll e_then calls
+  pub is : IsWrittenOf e e_then times octets calls
+  pub ends : has_more ≡ false → HasWrittenAll e_then calls
 
 -- the exchange is still that of its link, which was accepted when it was
 pub record KeepsLink (e e_then : Exchange) : Type 0 where

@@ -1,5 +1,5 @@
 -- What a turn does for the links of the administration: each that was open as the turn began, or
--- that came in it, has its turn, and is closed exactly for a cause.
+-- that came in it, has its turn, and is closed only for a cause.
 use Rattle.std.specs.Prelude.{◌≡◌, ◌⊎◌, ◌≤◌, ℕ, Bool, true, false, ◌+◌, ◌||◌, suc, nat_le}
 use Rattle.std.specs.Prelude.{if◌then◌else◌, List, [], ◌∷◌, ◌++◌, length, take, drop, Option, Some}
 use Rattle.std.specs.Prelude.{None, option_map, is_some, IfNone}
@@ -39,14 +39,14 @@ pub data HaveComeForAdmin (now : ℕ) : (held held_then : List Exchange) → (ca
       → HaveComeForAdmin now held held_then (suc came)
       (Accepted Admin (Some link) ∷ Closed Admin link ∷ calls)
 
--- They came until none waited, or, if it goes on, so many or more had come.
-pub record HasAcceptedForAdmin (now most : ℕ) (goes : Bool) (held held_then : List Exchange)
+-- They came until the wire gave none; or so many or more had come, and more may come.
+pub record HasAcceptedForAdmin (now most : ℕ) (has_more : Bool) (held held_then : List Exchange)
     (calls : List Call) : Type 0 where
   pub came : ℕ
   pub arrivals : List Call
   pub come : HaveComeForAdmin now held held_then came arrivals
-  pub calls_are : calls ≡ arrivals ++ (if goes then [] else Accepted Admin None ∷ [])
-  pub enough : goes ≡ true → most ≤ came
+  pub calls_are : calls ≡ arrivals ++ (if has_more then [] else Accepted Admin None ∷ [])
+  pub enough : has_more ≡ true → most ≤ came
 
 -- ---- what is read of a request
 
@@ -61,25 +61,26 @@ pub record ComesTo (site : Site) (B : Records) (L : Log) (read : List ℕ) (give
   pub is : IsGiven site B L read (given ++ L) place response
 
 -- A link was read from once, as many octets as are asked for at once, unless its response is there,
--- or it is over: it gave its end, or nothing for now, or a piece.
-pub data HasHeard (site : Site) (B : Records) (L : Log) (e e_then : Exchange) : Log
+-- or it is over. The read gave its end, or nothing for now, or a piece.
+pub data HasRead (site : Site) (B : Records) (L : Log) (e e_then : Exchange) : Log
     → List Call → Type 0 where
-  IsOver : e.is_over ≡ true → e_then ≡ e → HasHeard site B L e e_then [] []
-  HasResponse : is_some e.response ≡ true → e_then ≡ e → HasHeard site B L e e_then [] []
+  IsOver : e.is_over ≡ true → e_then ≡ e → HasRead site B L e e_then [] []
+  HasResponse : is_some e.response ≡ true → e_then ≡ e → HasRead site B L e e_then [] []
   GaveNothing : e.response ≡ None → e_then ≡ e
-      → HasHeard site B L e e_then [] (Read Admin e.link most_at_once Later [] ∷ [])
+      → HasRead site B L e e_then [] (Read Admin e.link most_at_once Later [] ∷ [])
   GaveItsEnd : (io : Io) → e.response ≡ None → is_fault io ≡ true → e_then.is_over ≡ true
-      → HasHeard site B L e e_then [] (Read Admin e.link most_at_once io [] ∷ [])
+      → HasRead site B L e e_then [] (Read Admin e.link most_at_once io [] ∷ [])
   GaveAPiece : (n : ℕ) (piece : List ℕ) (given : Log) → e.response ≡ None → e_then.is_over ≡ false
       → ComesTo site B L (e.read.items ++ piece) given (response_of e_then)
       → IfNone e_then.response (e_then.read.items ≡ e.read.items ++ piece)
       → e_then.link ≡ e.link → e_then.written ≡ e.written
-      → HasHeard site B L e e_then given (Read Admin e.link most_at_once (Count n) piece
+      → HasRead site B L e e_then given (Read Admin e.link most_at_once (Count n) piece
       ∷ [])
 
 -- ---- what is written of a response
 
--- how many octets of it are offered at once, and are written in one turn
+-- how many octets of it are offered at each write at most; once so many or more were written in a
+-- turn, no more is
 abbrev pub admin_share : ℕ
 admin_share = 16384
 
@@ -109,10 +110,10 @@ abbrev pub took_nothing : Call → Bool
 took_nothing (Wrote port link offered Later octets) = true
 took_nothing _ = false
 
--- a write told the link's end, or that it is broken
-abbrev pub told_its_end : Call → Bool
-told_its_end (Wrote port link offered io octets) = is_fault io
-told_its_end _ = false
+-- a write gave the link's end, or that it is broken
+abbrev pub gave_its_end : Call → Bool
+gave_its_end (Wrote port link offered io octets) = is_fault io
+gave_its_end _ = false
 
 -- all octets of the response are written
 abbrev pub is_whole : Option Response → (written : ℕ) → Bool
@@ -120,31 +121,31 @@ is_whole None written = false
 is_whole (Some response) written = nat_le (length (octets_of response)) written
 
 -- What follows of a response was written, so many octets or more by so many writes or more.
-pub record IsToldOf (e e_then : Exchange) (times octets : ℕ) (calls : List Call) : Type 0 where
+pub record IsWrittenOf (e e_then : Exchange) (times octets : ℕ) (calls : List Call) : Type 0 where
   pub link : e_then.link ≡ e.link
   pub read : e_then.read ≡ e.read
   pub response : e_then.response ≡ e.response
   pub writes : AreWritesOf e.link e.response e.written calls e_then.written
   -- nothing is written on a link that is over
   pub idle : e.is_over ≡ true → calls ≡ []
-  -- it is over from now on exactly if its response is whole, or a write told its end
+  -- it is over from now on exactly if its response is whole, or a write gave its end
   pub over : e_then.is_over ≡
-      (e.is_over || (is_whole e_then.response e_then.written || list_any told_its_end calls))
+      (e.is_over || (is_whole e_then.response e_then.written || list_any gave_its_end calls))
   pub times_are : times ≤ length calls
   pub octets_are : e.written + octets ≤ e_then.written
 
 -- nothing more can be written for now: the link is over, or took nothing for now, or there is no
 -- response
-abbrev pub HasToldAll : (e_then : Exchange) → List Call → Type 0
-HasToldAll e_then calls =
+abbrev pub HasWrittenAll : (e_then : Exchange) → List Call → Type 0
+HasWrittenAll e_then calls =
     (e_then.is_over ≡ true) ⊎ ((list_any took_nothing calls ≡ true) ⊎ (e_then.response ≡ None))
 
 -- Its share was written, or as often as it may be, or nothing more can be written for now.
-pub record HasTold (e e_then : Exchange) (calls : List Call) : Type 0 where
+pub record HasWritten (e e_then : Exchange) (calls : List Call) : Type 0 where
   pub times : ℕ
   pub octets : ℕ
-  pub is : IsToldOf e e_then times octets calls
-  pub enough : (most_writes ≤ times) ⊎ ((admin_share ≤ octets) ⊎ HasToldAll e_then calls)
+  pub is : IsWrittenOf e e_then times octets calls
+  pub enough : (most_writes ≤ times) ⊎ ((admin_share ≤ octets) ⊎ HasWrittenAll e_then calls)
 
 -- ---- a link's turn
 
@@ -154,8 +155,8 @@ pub data HasHttpTurn (site : Site) (now : ℕ) (B : Records) (L : Log) (e e_then
     : Log → List Call → Type 0 where
   IsLate : is_late_at now e ≡ true → e_then.is_over ≡ true → HasHttpTurn site now B L e e_then [] []
   IsServed : (between : Exchange) (given : Log) (reads writes : List Call)
-      → is_late_at now e ≡ false → HasHeard site B L e between given reads
-      → HasTold between e_then writes
+      → is_late_at now e ≡ false → HasRead site B L e between given reads
+      → HasWritten between e_then writes
       → HasHttpTurn site now B L e e_then given (reads ++ writes)
 
 -- Each link that is held has its turn, one after the other: those that are over by then are closed,

@@ -21,9 +21,9 @@ is_shared seats c = nat_le 2 (length (filter (λ s. s.connection == c) seats))
 
 -- Logins of a connection may be kept back: after a session ended in this turn; or if guesses are
 -- slow, while one has lain unread for less than 15 seconds, by who was noted as the turn began.
-abbrev pub may_by : (slow : Bool) (now : ℕ) → List Newcomer → List Seat → (freed : Bool) → (c : ℕ)
+abbrev pub may_by : (slow : Bool) (now : ℕ) → List Newcomer → List Seat → (lock_released : Bool) → (c : ℕ)
     → Bool
-may_by slow now newcomers seats freed c = freed || (slow
+may_by slow now newcomers seats lock_released c = lock_released || (slow
     && (nat_lt (waited_of now (newcomer c newcomers)) most_paced || is_shared seats c))
 
 -- with this piece a connection's next line is a login that waits for its maildrop's lock, or any

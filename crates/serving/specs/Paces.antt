@@ -31,8 +31,8 @@ keeps pace refusals (Some name) = pace.is_shut
     || (nat_lt pace.waited most_paced && is_paced pace.now pace.origin name refusals)
 
 -- a session ended, if logins wait
-abbrev pub has_freed : (wait : ℕ) → (was_logged_in is_logged_in : Bool) → Bool
-has_freed wait was_logged_in is_logged_in = not (wait == 0) && (was_logged_in && not is_logged_in)
+abbrev pub releases_lock : (wait : ℕ) → (was_logged_in is_logged_in : Bool) → Bool
+releases_lock wait was_logged_in is_logged_in = not (wait == 0) && (was_logged_in && not is_logged_in)
 
 -- a piece stays unread: its next line is a login that waits for its lock, or is kept back
 abbrev pub is_held : Trace → (connection : ℕ) → (piece : List ℕ) → Pace → List Refusal → Bool

@@ -1,7 +1,7 @@
 -- What a part of a turn does, and what it keeps, in one word each. `Does`: the events that it gave,
 -- the calls that it made, and what the listener heard of them. `KeepsServing`: that the server still
 -- serves. `Keeps`: what every part leaves as it was; with the seats it is `KeepsSeats`. Then what one kind of part does to what serving holds
--- between turns: it notes refused logins (`NotesGuesses`), serves a client (`Frees`), ends late
+-- between turns: it notes refused logins (`NotesGuesses`), serves a client (`ReleasesLock`), ends late
 -- clients (`Ends`, `IsEnded`), closes links (`Closes`, `ClosesSeat`), or gives seats to those that
 -- came (`AreNoted`). Two parts compose: `part_then` of proofs/Working, `keeps_then` of
 -- proofs/Composing, and the others there.
@@ -28,11 +28,11 @@ use Rattle.serving.specs.declared.newcomers.Newcomer.{Newcomer}
 use Rattle.serving.specs.Guesses.{ArePacing}
 use Rattle.serving.specs.Settings.{settings_of}
 use Rattle.serving.specs.Newcomers.{newcomer, others, AreSeatedAt, AreNotedNow, IsNewlyNoted}
-use Rattle.serving.specs.Paces.{has_freed}
+use Rattle.serving.specs.Paces.{releases_lock}
 use Rattle.serving.specs.Works.{is_late, AreLateGone, waits, arrivals, closings, is_admin}
 use Rattle.serving.specs.Works.{has_moved, moments, openings, refusals, is_failed, AreNewlyAdmitted}
 use Rattle.serving.specs.Works.{AreCaused, WasAsked}
-use Rattle.serving.specs.Hearing.{WithHeard}
+use Rattle.serving.specs.Hearing.{Hearing, WithHeard}
 use Rattle.serving.specs.Served.{Precedes, StillServes}
 use Rattle.serving.specs.Late.{IsShutBy}
 use Rattle.serving.specs.Stopping.{Outlasts}
@@ -45,8 +45,8 @@ PollsBy polled polled_then calls =
     polled_then ≡ true → (polled || has_moved calls) ≡ true
 
 -- it doesn't wait if these calls moved something, if logins wait for locks
-abbrev pub Releases : (wait : ℕ) (poll_now : Bool) → List Call → Type 0
-Releases wait poll_now calls = (wait == 0) ≡ false → has_moved calls ≡ true → poll_now ≡ true
+abbrev pub PollsAfterClosing : (wait : ℕ) (poll_now : Bool) → List Call → Type 0
+PollsAfterClosing wait poll_now calls = (wait == 0) ≡ false → has_moved calls ≡ true → poll_now ≡ true
 
 -- of the calls of a part this holds too
 abbrev pub Also : (Log → List Call → Type 0) → (List Call → Type 0) → Log → List Call
@@ -59,25 +59,23 @@ AreNoMoreLate now seconds newcomers newcomers_then = (c : ℕ)
     → is_late now seconds newcomers_then c ≡ true
     → (other : ℕ) → is_late now other newcomers c ≡ is_late now other newcomers_then c
 
-pub record WasGiven {V : Type 0} (Holds : V → Contents → Type 0) (IsClean : V → Type 0) (Faults : V → ℕ)
-    (IsUp : V → Type 0) (MayLeave : V → Contents → Type 0) (office office_then : Office V) (given : Log) : Type 0 where
-  pub clean : IsClean (vault_of office_then) → IsClean (vault_of office)
-  pub stands : (B : Records) (L : Log) → StandsFor Holds office (trace_of B L) → IsClean (vault_of office_then) → StandsFor Holds office_then (trace_of B (given ++ L))
-  pub admitted : (B : Records) (L : Log) → StandsFor Holds office (trace_of B L) → IsClean (vault_of office_then) → AreNewlyAdmitted B L given
+pub record WasGiven {V : Type 0} (vault : Ghosts V) (office office_then : Office V) (given : Log) : Type 0 where
+  pub clean : vault.is_clean (vault_of office_then) → vault.is_clean (vault_of office)
+  pub stands : (B : Records) (L : Log) → StandsFor vault.holds office (trace_of B L) → vault.is_clean (vault_of office_then) → StandsFor vault.holds office_then (trace_of B (given ++ L))
+  pub admitted : (B : Records) (L : Log) → StandsFor vault.holds office (trace_of B L) → vault.is_clean (vault_of office_then) → AreNewlyAdmitted B L given
   -- the count of faults never falls, and an event failed only if it grew
-  pub counted : Faults (vault_of office) ≤ Faults (vault_of office_then)
-  pub failed : (B : Records) (L : Log) → StandsFor Holds office (trace_of B L) → IsClean (vault_of office_then) → list_any is_failed given ≡ true
-      → has_grown (Faults (vault_of office)) (Faults (vault_of office_then)) ≡ true
+  pub counted : vault.faults (vault_of office) ≤ vault.faults (vault_of office_then)
+  pub failed : (B : Records) (L : Log) → StandsFor vault.holds office (trace_of B L) → vault.is_clean (vault_of office_then) → list_any is_failed given ≡ true
+      → has_grown (vault.faults (vault_of office)) (vault.faults (vault_of office_then)) ≡ true
   -- whether the store's device is up, and what a stop leaves
-  pub outlasts : Outlasts Holds IsClean IsUp MayLeave office office_then given
+  pub outlasts : Outlasts vault.holds vault.is_clean vault.is_up vault.may_leave office office_then given
 
 -- a part of a turn, of whose events and calls this holds
-pub record Part {V W : Type 0} (Holds : V → Contents → Type 0) (IsClean : V → Type 0) (Faults : V → ℕ)
-    (IsUp : V → Type 0) (MayLeave : V → Contents → Type 0) (Asked : W → List Call → Type 0)
+pub record Part {V W : Type 0} (vault : Ghosts V) (Asked : W → List Call → Type 0)
     (office : Office V) (wire : W) (office_then : Office V) (wire_then : W) (Facts : Log → List Call → Type 0) : Type 0 where
   pub given : Log
   pub calls : List Call
-  pub was_given : WasGiven Holds IsClean Faults IsUp MayLeave office office_then given
+  pub was_given : WasGiven vault office office_then given
   pub was_asked : WasAsked Asked wire wire_then calls
   pub facts : Facts given calls
 
@@ -88,10 +86,9 @@ pub record Asking {W : Type 0} (Asked : W → List Call → Type 0) (wire wire_t
   pub facts : Facts calls
 
 -- a part that gives events to the office alone
-pub record Giving {V : Type 0} (Holds : V → Contents → Type 0) (IsClean : V → Type 0) (Faults : V → ℕ)
-    (IsUp : V → Type 0) (MayLeave : V → Contents → Type 0) (office office_then : Office V) (Facts : Log → Type 0) : Type 0 where
+pub record Giving {V : Type 0} (vault : Ghosts V) (office office_then : Office V) (Facts : Log → Type 0) : Type 0 where
   pub given : Log
-  pub was_given : WasGiven Holds IsClean Faults IsUp MayLeave office office_then given
+  pub was_given : WasGiven vault office office_then given
   pub facts : Facts given
 
 -- no wait, no link that comes, none that is closed, no tick and no opening
@@ -115,7 +112,7 @@ abbrev pub Does : {V W L : Type 0} (vault : Ghosts V) (wire : the_wire.Ghosts W)
     (listener : the_listener.Ghosts L) (old new : Server V W L) (Facts : Log → List Call → Type 0)
     → Type 0
 Does vault wire listener old new Facts =
-    Part vault.holds vault.is_clean vault.faults vault.is_up vault.may_leave wire.asked old.office old.wire new.office new.wire
+    Part vault wire.asked old.office old.wire new.office new.wire
     (WithHeard vault.holds vault.is_clean listener.heard old.office old.listener
     new.office new.listener Facts)
 
@@ -123,7 +120,14 @@ Does vault wire listener old new Facts =
 pub record Gives {V W L : Type 0} (vault : Ghosts V) (old new : Server V W L)
     (Facts : Log → Type 0) : Type 0 where
   pub wire : new.wire ≡ old.wire
-  pub part : Giving vault.holds vault.is_clean vault.faults vault.is_up vault.may_leave old.office new.office Facts
+  pub part : Giving vault old.office new.office Facts
+
+-- One that asks the wire, and gives the office nothing. The listener hears no account of it.
+pub record Asks {V W L : Type 0} (wire : the_wire.Ghosts W) (listener : the_listener.Ghosts L)
+    (old new : Server V W L) (Facts : List Call → Type 0) : Type 0 where
+  pub office : new.office ≡ old.office
+  pub unheard : (h : List Hearing) → listener.heard old.listener h → listener.heard new.listener h
+  pub part : Asking wire.asked old.wire new.wire Facts
 
 -- A server still serves these seats, if the store is clean.
 abbrev pub KeepsServing : {V W L : Type 0} (vault : Ghosts V) (wire : the_wire.Ghosts W)
@@ -164,12 +168,12 @@ module _ (links links_then : Clients) where
   pub record NotesGuesses : Type 0 where
     pub keeps : KeepsSeats
     pub newcomers : links_then.newcomers ≡ links.newcomers
-    pub freed : links_then.lock_released ≡ links.lock_released
+    pub lock_released : links_then.lock_released ≡ links.lock_released
     pub poll_now : links_then.poll_now ≡ links.poll_now
 
   -- Logins are kept back after a session ended: still, if they were before; only if they wait for
   -- locks; and then the next turn doesn't wait.
-  pub record FreesMore : Type 0 where
+  pub record ReleasesMore : Type 0 where
     pub still : links.lock_released ≡ true → links_then.lock_released ≡ true
     pub waits : links_then.lock_released ≡ true
         → (links.lock_released ≡ true) ⊎ ((links.wait == 0) ≡ false)
@@ -212,9 +216,9 @@ module _ (links links_then : Clients) where
         → newcomer c links_then.newcomers.newcomers.items ≡ Some n
 
 -- A connection was served, whose session may have ended: then logins are kept back, if they wait.
-pub record Frees {V : Type 0} (Holds : V → Contents → Type 0) (office office_then : Office V)
+pub record ReleasesLock {V : Type 0} (Holds : V → Contents → Type 0) (office office_then : Office V)
     (links links_then : Clients) (c : ℕ) : Type 0 where
-  pub more : FreesMore links links_then
+  pub more : ReleasesMore links links_then
   pub is : (T U : Trace) → StandsFor Holds office T → StandsFor Holds office_then U
       → links_then.lock_released ≡ (links.lock_released
-      || has_freed links.wait (live (history T) c) (live (history U) c))
+      || releases_lock links.wait (live (history T) c) (live (history U) c))

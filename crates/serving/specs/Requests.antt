@@ -153,14 +153,14 @@ pub record IsAsked {V W : Type 0} (Holds : V → Contents → Type 0) (Tells : W
   pub is : IsAnswering Tells x B start log pop wire AreKept
 
 -- one link is held, and the others are
-abbrev pub AreKeptBeside : (others : List Exchange) → Exchange → Told → Exchanges → Type 0
-AreKeptBeside others e told x = IsHeld told x e × AreOthersHeld told x e.link.number others
+abbrev pub AreKeptAmong : (others : List Exchange) → Exchange → Told → Exchanges → Type 0
+AreKeptAmong others e told x = IsHeld told x e × AreOthersHeld told x e.link.number others
 
 -- they still do while octets are written on one link, and while links are accepted
 abbrev pub StillAnswers : {W : Type 0} (Tells : W → ToldOfPorts → Type 0) (wire : W) (e : Exchange) (wire_then : W) (e_then : Exchange) → Type 0
 StillAnswers Tells wire e wire_then e_then =
-    (x : Exchanges) (B : Records) (start : ℕ) (L : Log) (pop : Told) (others : List Exchange) → IsAnswering Tells x B start L pop wire (AreKeptBeside others e)
-    → IsAnswering Tells x B start L pop wire_then (AreKeptBeside others e_then)
+    (x : Exchanges) (B : Records) (start : ℕ) (L : Log) (pop : Told) (others : List Exchange) → IsAnswering Tells x B start L pop wire (AreKeptAmong others e)
+    → IsAnswering Tells x B start L pop wire_then (AreKeptAmong others e_then)
 
 abbrev pub AllStillAnswer : {W : Type 0} (Tells : W → ToldOfPorts → Type 0) (wire : W) (held : List Exchange) (wire_then : W) (held_then : List Exchange) → Type 0
 AllStillAnswer Tells wire held wire_then held_then =
@@ -171,8 +171,8 @@ AllStillAnswer Tells wire held wire_then held_then =
 abbrev pub StillAsked : {V W : Type 0} (Holds : V → Contents → Type 0) (IsClean : V → Type 0) (Tells : W → ToldOfPorts → Type 0)
     (site : Site) (office : Office V) (wire : W) (e : Exchange) (office_then : Office V) (wire_then : W) (e_then : Exchange) → Type 0
 StillAsked Holds IsClean Tells site office wire e office_then wire_then e_then =
-    (B : Records) (start : ℕ) (L : Log) (pop : Told) (others : List Exchange) → IsAsked Holds Tells site B start L pop office wire (AreKeptBeside others e)
-    → IsClean (vault_of office_then) → IsAsked Holds Tells site B start L pop office_then wire_then (AreKeptBeside others e_then)
+    (B : Records) (start : ℕ) (L : Log) (pop : Told) (others : List Exchange) → IsAsked Holds Tells site B start L pop office wire (AreKeptAmong others e)
+    → IsClean (vault_of office_then) → IsAsked Holds Tells site B start L pop office_then wire_then (AreKeptAmong others e_then)
 
 abbrev pub AllStillAsked : {V W : Type 0} (Holds : V → Contents → Type 0) (IsClean : V → Type 0) (Tells : W → ToldOfPorts → Type 0)
     (site : Site) (office : Office V) (wire : W) (held : List Exchange) (office_then : Office V) (wire_then : W) (held_then : List Exchange) → Type 0
@@ -187,10 +187,10 @@ put_at number value f k = if k == number then value else f k
 -- ---- one request
 
 -- the response that tells an outcome
-abbrev pub IsToldBy : Outcome → (response : List ℕ) → Type 0
-IsToldBy (outcome.Answered answer) response = (response ≡ answer_response answer) ⊎ (response ≡ refusal_response OutOfMemory)
-IsToldBy outcome.NoMemory response = response ≡ refusal_response OutOfMemory
-IsToldBy _ response = response ≡ refusal_response StoreFailed
+abbrev pub IsResponseTo : Outcome → (response : List ℕ) → Type 0
+IsResponseTo (outcome.Answered answer) response = (response ≡ answer_response answer) ⊎ (response ≡ refusal_response OutOfMemory)
+IsResponseTo outcome.NoMemory response = response ≡ refusal_response OutOfMemory
+IsResponseTo _ response = response ≡ refusal_response StoreFailed
 
 -- what comes of a request whose octets were read, after a log: which log, which place the command's event has, and which response
 pub data IsGiven (site : Site) (B : Records) (L : Log) (read : List ℕ) : Log → (place : Option ℕ) → (response : Option (List ℕ)) → Type 0 where

@@ -33,8 +33,9 @@ pub record LeavesAsFound (now : ℕ) (links links_then : Links) : Type 0 where
   pub few : AreFew links → AreFew links_then
   pub ongoing : AllGoOn now links_then
 
--- After a turn: if the next one waits, the store was asked to do what it has put off, which only
--- looks; otherwise nothing was done.
+-- After a turn: if the next one waits, the store did nothing but look, whatever it answered; else
+-- nothing was done. That the store was asked to do what it has put off is seen in no value: the
+-- tests of `maintenance.rt` (turn_tests) count the calls.
 pub data Maintains {V : Type 0} (Holds : V → Contents → Type 0) (Faults : V → ℕ)
     (IsClean IsUp : V → Type 0) (MayLeave : V → Contents → Type 0) (links : Links)
     (office office_then : Office V) : Type 0 where
@@ -66,7 +67,19 @@ pub data AreTurns {V W S H : Type 0} (Holds : V → Contents → Type 0) (IsClea
       → AreTurns Holds IsClean Faults IsUp MayLeave Asked AskedFiles Heard T links office wire spool listener
       (moments ++ now ∷ []) (given_in turn.seen ++ given) links2 office3 wire2 spool2 listener2
 
--- So an office went on since a trace: it stands for that trace with the events of the turns.
+-- What came of an office that was given these events since a trace: it stands for that trace with
+-- them.
+pub record WasServed {V : Type 0} (Holds : V → Contents → Type 0) (Faults : V → ℕ) (T : Trace)
+    (office office_then : Office V) (given : Log) : Type 0 where
+  pub stands : StandsFor Holds office_then (trace_of T.base (given ++ T.log))
+  -- each event has a tag that it may have
+  pub admitted : AreNewlyAdmitted T.base T.log given
+  -- the store's count of faults never falls, and an event failed only if it grew
+  pub counted : Faults (vault_of office) ≤ Faults (vault_of office_then)
+  pub failed : list_any is_failed given ≡ true
+      → has_grown (Faults (vault_of office)) (Faults (vault_of office_then)) ≡ true
+
+-- So an office went on since a trace, turn by turn, by the events of the turns.
 pub record HasGoneOn {V W S H : Type 0} (Holds : V → Contents → Type 0) (IsClean : V → Type 0)
     (Faults : V → ℕ) (IsUp : V → Type 0) (MayLeave : V → Contents → Type 0)
     (Asked : W → List Call → Type 0) (AskedFiles : S → List FileCall → Type 0)
@@ -77,24 +90,7 @@ pub record HasGoneOn {V W S H : Type 0} (Holds : V → Contents → Type 0) (IsC
   pub given : Log
   pub turns : AreTurns Holds IsClean Faults IsUp MayLeave Asked AskedFiles Heard T links office wire spool listener
       moments given links_then office_then wire_then spool_then listener_then
-  pub stands : StandsFor Holds office_then (trace_of T.base (given ++ T.log))
-  -- each event has a tag that it may have
-  pub admitted : AreNewlyAdmitted T.base T.log given
-  -- the store's count of faults never falls, and an event failed only if it grew
-  pub counted : Faults (vault_of office) ≤ Faults (vault_of office_then)
-  pub failed : list_any is_failed given ≡ true
-      → has_grown (Faults (vault_of office)) (Faults (vault_of office_then)) ≡ true
-
--- What came of an office that was served since a trace, whatever came on its links: it stands for
--- that trace with the events that it was given; the rest as above.
-pub record WasServed {V : Type 0} (Holds : V → Contents → Type 0) (Faults : V → ℕ) (T : Trace)
-    (office office_then : Office V) : Type 0 where
-  pub given : Log
-  pub stands : StandsFor Holds office_then (trace_of T.base (given ++ T.log))
-  pub admitted : AreNewlyAdmitted T.base T.log given
-  pub counted : Faults (vault_of office) ≤ Faults (vault_of office_then)
-  pub failed : list_any is_failed given ≡ true
-      → has_grown (Faults (vault_of office)) (Faults (vault_of office_then)) ≡ true
+  pub served : WasServed Holds Faults T office office_then given
 
 -- what a clock answered: these moments, and after them none, if it stopped
 abbrev pub answers : (stopped : Bool) → (moments : List ℕ) → List (Option ℕ)

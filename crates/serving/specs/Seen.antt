@@ -29,7 +29,7 @@ pub record Seen : Type 0 where
   -- 4. as clients' links are served, and whether a client's session ended meanwhile
   pub served : Log
   pub serves : List Call
-  pub freed : Bool
+  pub lock_released : Bool
   -- 5. as the administration's links are served, as late clients are ended, and as links are closed
   pub commands : Log
   pub admin_serves : List Call
@@ -61,4 +61,4 @@ trace_after T t = trace_of T.base (given_in t ++ T.log)
 -- of which connections logins may be kept back in it
 abbrev pub may_keep : (now : ℕ) → Links → Seen → (c : ℕ) → Bool
 may_keep now links t c = may_by (settings links).slow_guesses now
-    links.clients.newcomers.newcomers.items t.seats t.freed c
+    links.clients.newcomers.newcomers.items t.seats t.lock_released c

@@ -94,16 +94,16 @@ pub record AddsEvents (owner : Owners) (B : Records) (older L : Log) (acts : Lis
   pub filed : AreFiled B older more acts
   pub counted : connects more ≡ calls
 
--- What is told beside the clients' links: what happened to the spool's files; and of the administration's links, with their exchanges.
-pub record Beside : Type 0 where
+-- What is told elsewhere than on the clients' links: what happened to the spool's files; and of the administration's links, with their exchanges.
+pub record Elsewhere : Type 0 where
   pub acts : List FileAct
   pub admin : Told
   pub x : Exchanges
 
 -- a log is an older one and such events, and each command of these is a request's, which is answered so
-pub record Adds (owner : Owners) (B : Records) (older L : Log) (beside : Beside) (calls : ℕ) : Type 0 where
-  pub events : AddsEvents owner B older L beside.acts calls
-  pub requests : AreExchanged beside.admin beside.x B (length older) L
+pub record Adds (owner : Owners) (B : Records) (older L : Log) (elsewhere : Elsewhere) (calls : ℕ) : Type 0 where
+  pub events : AddsEvents owner B older L elsewhere.acts calls
+  pub requests : AreExchanged elsewhere.admin elsewhere.x B (length older) L
 
 -- ---- seats
 
@@ -135,31 +135,31 @@ pub record AreSeated (owner : Owners) (T : Trace) (seats these : List Seat) : Ty
 
 -- An office serves a wire's links and a spool's files, since the trace T, and the connections of these seats are open. What is said of them all is
 -- said of some log, what the wire tells, and owners.
-pub record IsServing {V W : Type 0} (Holds : V → Contents → Type 0) (Tells : W → ToldOfPorts → Type 0) (T : Trace) (beside : Beside) (office : Office V) (wire : W) (seats these : List Seat) : Type 0 where
+pub record IsServing {V W : Type 0} (Holds : V → Contents → Type 0) (Tells : W → ToldOfPorts → Type 0) (T : Trace) (elsewhere : Elsewhere) (office : Office V) (wire : W) (seats these : List Seat) : Type 0 where
   pub log : Log
   pub told : Told
   pub owner : Owners
   pub stands : StandsFor Holds office (trace_of T.base log)
   pub admitted : AreAdmittedBy T.base log
-  pub tells : Tells wire (record { pop = told; admin = beside.admin })
+  pub tells : Tells wire (record { pop = told; admin = elsewhere.admin })
   pub served : AreServed told owner T.base log
   pub seated : AreSeated owner (trace_of T.base log) seats these
   -- as many openings were asked for as links came
-  pub adds : Adds owner T.base T.log log beside told.accepted
+  pub adds : Adds owner T.base T.log log elsewhere told.accepted
 
 -- it still does, if the store is clean
 abbrev pub StillServes : {V W : Type 0} (Holds : V → Contents → Type 0) (IsClean : V → Type 0) (Tells : W → ToldOfPorts → Type 0)
     (office : Office V) (wire : W) (seats these : List Seat) (office_then : Office V) (wire_then : W) (seats_then these_then : List Seat) → Type 0
 StillServes Holds IsClean Tells office wire seats these office_then wire_then seats_then these_then =
-    (T : Trace) (beside : Beside) → IsServing Holds Tells T beside office wire seats these → IsClean (vault_of office_then)
-    → IsServing Holds Tells T beside office_then wire_then seats_then these_then
+    (T : Trace) (elsewhere : Elsewhere) → IsServing Holds Tells T elsewhere office wire seats these → IsClean (vault_of office_then)
+    → IsServing Holds Tells T elsewhere office_then wire_then seats_then these_then
 
 -- Between turns each seat's connection is open; what the spool tells is filed; each connection was sent exactly what the history sends it; and
 -- each link of the administration that is open is held with its exchange, all of this site.
 pub record Serves {V W S : Type 0} (Holds : V → Contents → Type 0) (Tells : W → ToldOfPorts → Type 0) (TellsFiles : S → List FileAct → Type 0) (T : Trace) (office : Office V) (wire : W) (spool : S) (seats : List Seat) (held : List Exchange) (site : Site) : Type 0 where
-  pub beside : Beside
-  pub tells : TellsFiles spool beside.acts
-  pub is : IsServing Holds Tells T beside office wire seats seats
+  pub elsewhere : Elsewhere
+  pub tells : TellsFiles spool elsewhere.acts
+  pub is : IsServing Holds Tells T elsewhere office wire seats seats
   pub sent : (c : ℕ) → IsSentExactly (trace_of T.base is.log) c
-  pub requests : AreHeld beside.admin beside.x held
-  pub of_site : beside.x.site ≡ site
+  pub requests : AreHeld elsewhere.admin elsewhere.x held
+  pub of_site : elsewhere.x.site ≡ site

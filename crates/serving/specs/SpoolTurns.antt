@@ -1,7 +1,7 @@
 -- That a turn tries one file of its spool: the next one after that which was tried last.
 use Rattle.std.specs.Prelude.{◌≡◌, ℕ, Bool, false, List, [], ◌∷◌, ◌++◌, Option, Some, None}
 use Rattle.std.specs.List.{list_any}
-use Rattle.vault.specs.Changes.{Contents}
+use Rattle.vault.specs.declared.vault.Vault.{Ghosts}
 use Rattle.office.specs.History.{Tag}
 use Rattle.office.specs.Events.{Event, Tagged, Log, Trace}
 use Rattle.office.specs.Events as event
@@ -10,6 +10,8 @@ use Rattle.office.specs.Expected.{shown_at}
 use Rattle.office.specs.Stands.{StandsFor, vault_of}
 use Rattle.office.specs.declared.office.Office.{Office}
 use Rattle.serving.specs.declared.file_name.FileName.{FileName}
+use Rattle.serving.specs.declared.server.Server.{Server}
+use Rattle.serving.specs.declared.spool.Spool as the_spool
 use Rattle.serving.specs.declared.links.Clients.{Clients}
 use Rattle.serving.specs.Settings.{settings_of}
 use Rattle.serving.specs.declared.files.Disposal.{Disposal}
@@ -51,15 +53,21 @@ abbrev pub has_dealt : List FileCall → Bool
 has_dealt calls = list_any is_dealt calls
 
 -- a part of a turn that gives deposits to the office and asks the spool
-pub record SpoolPart {V S : Type 0} (Holds : V → Contents → Type 0) (IsClean : V → Type 0) (Faults : V → ℕ)
-    (IsUp : V → Type 0) (MayLeave : V → Contents → Type 0) (Asked : S → List FileCall → Type 0)
+pub record SpoolPart {V S : Type 0} (vault : Ghosts V) (Asked : S → List FileCall → Type 0)
     (office : Office V) (spool : S) (office_then : Office V) (spool_then : S) (Facts : Trace → Log → List FileCall → Type 0) : Type 0 where
   pub given : Log
   pub calls : List FileCall
-  pub was_given : WasGiven Holds IsClean Faults IsUp MayLeave office office_then given
+  pub was_given : WasGiven vault office office_then given
   pub was_asked : (before : List FileCall) → Asked spool before → Asked spool_then (before ++ calls)
   pub deposits : AreDeposits given
-  pub facts : (T : Trace) → StandsFor Holds office T → IsClean (vault_of office_then) → Facts T given calls
+  pub facts : (T : Trace) → StandsFor vault.holds office T → vault.is_clean (vault_of office_then) → Facts T given calls
+
+-- one of a server, which asks the wire nothing, and of which nothing is heard
+pub record Tries {V W L S : Type 0} (vault : Ghosts V) (spools : the_spool.Ghosts S) (old : Server V W L) (spool : S) (new : Server V W L) (spool_then : S)
+    (Facts : Trace → Log → List FileCall → Type 0) : Type 0 where
+  pub wire : new.wire ≡ old.wire
+  pub listener : new.listener ≡ old.listener
+  pub part : SpoolPart vault spools.asked old.office spool new.office spool_then Facts
 
 -- it keeps how the loop was set, the seats, who hasn't logged in, and whose logins were refused
 pub record KeepsClients (links links_then : Clients) : Type 0 where

@@ -16,7 +16,7 @@ use Rattle.serving.specs.Calls.{Call, Waited, waits, arrivals, closings, is_admi
 use Rattle.serving.specs.Calls.{WasAsked}
 use Rattle.serving.specs.Given.{moments, openings, refusals, is_failed, AreNewlyAdmitted}
 use Rattle.serving.specs.Given.{AreDeposits, AreLateGone}
-use Rattle.serving.specs.Hearing.{Hearing, WasTold, hearings}
+use Rattle.serving.specs.Hearing.{Hearing, HasHeard, hearings}
 use Rattle.serving.specs.HttpWorks.{HasAcceptedForAdmin, HadHttpTurns}
 use Rattle.serving.specs.KeptBack.{reads_by_line, IsHeldBack}
 use Rattle.serving.specs.Late.{noted_by, LoggedIn, IsInTime, IsNotedSince, IsCountedOn}
@@ -28,7 +28,7 @@ use Rattle.serving.specs.SpoolTurns.{IsSpoolTurn, has_dealt}
 use Rattle.serving.specs.Spools.{FileCall}
 use Rattle.serving.specs.Stopping.{is_answered, StopLeavesAfter}
 use Rattle.serving.specs.Works.{seat_of, unseated_of, link_of, HasAccepted, most_links, share_by}
-use Rattle.serving.specs.Works.{had_its_turn, HasFreed, IsOffered, AreCaused, is_open_seat}
+use Rattle.serving.specs.Works.{had_its_turn, HasReleasedLock, IsOffered, AreCaused, is_open_seat}
 use Rattle.serving.specs.Works.{is_shut_seat, link_of_seat}
 use Rattle.serving.specs.declared.links.Seat.{Seat}
 use Rattle.serving.specs.declared.links.Links.{Links}
@@ -39,49 +39,50 @@ abbrev pub millis_of : Links → ℕ
 millis_of links = if links.clients.poll_now || links.requests.poll_now then 0 else 1000
 
 module _ (T : Trace) (now : ℕ) (links links_then : Links) (t : Seen) where
-  -- 1. It waits once, before all else.
+  -- 1. It waits once, before it does anything else.
   pub record Waits : Type 0 where
     pub first : t.wait ≡ Waited (millis_of links) ∷ []
     pub once : waits (calls_in t) ≡ millis_of links ∷ []
 
-  -- 2. It sends the office a Tick of this moment once, before all else.
+  -- 2. It sends the office a Tick of this moment once, before any other event.
   pub record Ticks : Type 0 where
     pub event_tag : EventTag
     pub first : t.tick ≡ (event.Tick now, event_tag) ∷ []
     pub once : moments (given_in t) ≡ now ∷ []
 
-  -- 3. It accepts clients' links until no more wait, 64 came, or all places are taken. For each it
-  -- asks for an opening; as many are refused as links get no seat, and the others get the next
-  -- seats. It accepts links of the administration until no more wait, or 64 came.
+  -- 3. It accepts clients' links until the wire gives none, 64 came, or all places are taken. For
+  -- each it asks for an opening; as many are refused as links get no seat, and the others get the
+  -- next seats. It accepts links of the administration until the wire gives none, or 64 came.
   pub record Accepts : Type 0 where
     pub enough : HasAccepted (length t.seats) (calls_in t) ⊎ (most_links ≤ length t.came)
     pub arrived : arrivals (calls_in t) ≡ map link_of t.came
     pub opened : openings (given_in t) ≡ length t.came
     pub refused : refusals (given_in t) ≡ length (filter_map unseated_of t.came)
     pub seated : t.seats ≡ links.clients.seats.items ++ filter_map seat_of t.came
-    pub goes : Bool
-    pub admin : HasAcceptedForAdmin now 64 goes links.requests.exchanges.items t.held
+    pub has_more : Bool
+    pub admin : HasAcceptedForAdmin now 64 has_more links.requests.exchanges.items t.held
         t.admin_accepts
 
-  -- A link was read from, or took nothing more for now, or took its share or 64 writes (then the
-  -- next turn doesn't wait); or it is kept back for a cause. So it is if its connection is open as
-  -- the turn ends.
+  -- The wire was asked to read from a link (which may give nothing), or a write on it took no more
+  -- for now, or it took its share or 64 writes (then the next turn doesn't wait); or it is kept
+  -- back for a cause (specs/KeptBack). So it is if its connection is open as the turn ends.
   abbrev pub HadItsTurn : Seat → Type 0
   HadItsTurn s = is_open (trace_after T t) s.connection ≡ true
       → (had_its_turn (share_by (length t.seats)) (millis_of links_then == 0) s.link (calls_in t)
       ≡ true)
       ⊎ IsHeldBack T.base T.log (given_in t) (calls_in t) links.clients.wait
-      (reads_by_line links.clients.wait ((settings links).slow_guesses || t.freed))
+      (reads_by_line links.clients.wait ((settings links).slow_guesses || t.lock_released))
       (may_keep now links t s.connection) s
 
   -- 4. It serves each client's link. Each write is offered all that its connection is owed, or the
-  -- first 16,384 octets of it. If logins wait for locks, they are kept back after a session ended.
-  -- A connection is Gone only if its link broke or ended.
+  -- first 16,384 octets of it. If `lock_released`, logins wait for locks and a session ended, and
+  -- further logins are kept back. A connection is Gone only if its link broke or ended (that it is
+  -- Gone then: `over` of specs/Served).
   pub record ServesClients : Type 0 where
     pub turns : All HadItsTurn t.seats
     pub offered : All (IsOffered T.base T.log (given_in t) t.seats) (calls_in t)
-    pub ended : t.freed ≡ true
-        → ((links.clients.wait == 0) ≡ false) × HasFreed T.base T.log (given_in t) t.seats
+    pub ended : t.lock_released ≡ true
+        → ((links.clients.wait == 0) ≡ false) × HasReleasedLock T.base T.log (given_in t) t.seats
     pub caused : AreCaused t.seats (calls_in t) (t.commands ++ (t.served ++ t.connects))
 
   -- 5. It serves each link of the administration, one after the other, and makes no other call on
@@ -122,17 +123,17 @@ module _ (T : Trace) (now : ℕ) (links links_then : Links) (t : Seen) where
     pub tries : IsSpoolTurn (last_tried links) (last_tried links_then)
         (trace_of T.base (before_deposits t ++ T.log)) t.deposits t.file_calls
 
-  -- The next turn doesn't wait after a file that was removed or renamed; nor, if logins wait for
-  -- locks, after a session that ended, or if a link was closed; nor after a whole share (4). It
-  -- waits a second at most if nothing moved, no session ended and no file was removed or renamed.
-  -- Otherwise it does either.
+  -- The next turn doesn't wait after a file that was removed or renamed; nor if `lock_released`;
+  -- nor, if logins wait for locks, if a link was closed; nor after a whole share (4). It waits a
+  -- second at most if nothing moved, no lock was released and no file was removed or renamed.
+  -- Otherwise either is allowed.
   pub record NextWaits : Type 0 where
     pub dealt : has_dealt t.file_calls ≡ true → millis_of links_then ≡ 0
-    pub frees : t.freed ≡ true → millis_of links_then ≡ 0
-    pub releases : (links.clients.wait == 0) ≡ false
+    pub after_release : t.lock_released ≡ true → millis_of links_then ≡ 0
+    pub after_closing : (links.clients.wait == 0) ≡ false
         → list_any (is_shut_seat (trace_after T t)) t.seats ≡ true → millis_of links_then ≡ 0
-    pub rests : has_moved (calls_in t) ≡ false → t.freed ≡ false → has_dealt t.file_calls ≡ false
-        → millis_of links_then ≡ 1000
+    pub rests : has_moved (calls_in t) ≡ false → t.lock_released ≡ false
+        → has_dealt t.file_calls ≡ false → millis_of links_then ≡ 1000
 
 -- So it is of an office, a wire, a spool and a listener, since each trace: the office stands for
 -- that trace with the turn's events, each of which has a tag that it may have; the store's count of
@@ -160,7 +161,7 @@ pub record Works {V W S H : Type 0} (Holds : V → Contents → Type 0) (Faults 
   pub asked : WasAsked Asked wire wire_then (calls_in seen)
   pub asked_files : (before : List FileCall) → AskedFiles spool before
       → AskedFiles spool_then (before ++ seen.file_calls)
-  pub heard : WasTold Heard listener listener_then (hearings T now links seen)
+  pub heard : HasHeard Heard listener listener_then (hearings T now links seen)
   -- the numbered sentences
   pub waits : Waits T now links links_then seen
   pub ticks : Ticks T now links links_then seen

@@ -23,12 +23,12 @@ pub record Way : Type 0 where
 
 -- these links are served, by these settings, and whether a session ended meanwhile
 abbrev pub way_by : Settings → (now : ℕ) → List Newcomer → (seats : List Seat)
-    → (freed poll_now : Bool) → Way
-way_by set now newcomers seats freed poll_now = record {
+    → (lock_released poll_now : Bool) → Way
+way_by set now newcomers seats lock_released poll_now = record {
   share = share_by (length seats);
   wait = set.wait;
-  by_line = reads_by_line set.wait (set.slow_guesses || freed);
-  may = may_by set.slow_guesses now newcomers seats freed;
+  by_line = reads_by_line set.wait (set.slow_guesses || lock_released);
+  may = may_by set.slow_guesses now newcomers seats lock_released;
   poll_now = poll_now;
 }
 

@@ -45,14 +45,14 @@ abbrev pub link_of : Came → Link
 link_of (Seated s) = s.link
 link_of (TurnedAway link) = link
 
--- how many links are accepted in one turn at most, and how many may be held
+-- how many links are accepted at a port in one turn, and how many connections may be open
 abbrev pub most_links : ℕ
 most_links = 64
 
 abbrev pub places : ℕ
 places = 128
 
--- links are accepted until none waits, or all places are taken
+-- links are accepted until the wire gives none, or all places are taken
 abbrev pub HasAccepted : (places_taken : ℕ) → List Call → Type 0
 HasAccepted taken calls = (none_waited calls ≡ true) ⊎ (taken ≡ places)
 
@@ -103,7 +103,7 @@ pub record HasEnded (B : Records) (older given : Log) (c : ℕ) : Type 0 where
   pub ended : live (history (trace_of B (ending ++ (front ++ older)))) c ≡ false
 
 -- that of one of these seats did
-pub record HasFreed (B : Records) (older given : Log) (seats : List Seat) : Type 0 where
+pub record HasReleasedLock (B : Records) (older given : Log) (seats : List Seat) : Type 0 where
   pub seat : Seat
   pub among : Contains seats seat
   pub session : HasEnded B older given seat.connection
@@ -130,7 +130,7 @@ IsOffered B older given seats _ = ⊤
 
 -- ---- why a connection goes
 
--- Its link told its end or that it is broken; and nothing starts anew.
+-- Its link gave its end or is broken; and nothing starts anew.
 abbrev pub HasCause : List Seat → List Call → Event × EventTag → Type 0
 HasCause seats calls (event.Gone c, m) =
     (s : Seat) × Contains seats s × (s.connection ≡ c) × (is_cut s.link calls ≡ true)

@@ -44,13 +44,13 @@ impl<V: Vault, W: Wire, L: Listener> Server<V, W, L> {
             return false;
         };
         self.listener
-            .follow(&self.wire, Port::Pop, link, LinkEvent::Came);
+            .on_link(&self.wire, Port::Pop, link, LinkEvent::Came);
         let number = opened(self.office.step(Event::Connect));
         match number {
             Some(connection) => {
                 clients.seats.push(Seat { link, connection });
                 let _ = clients.newcomers.note(connection, now);
-                self.listener.open(link, connection);
+                self.listener.on_open(link, connection);
             }
             None => close_link(&mut self.wire, &mut self.listener, Port::Pop, link),
         }

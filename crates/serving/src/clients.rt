@@ -7,63 +7,58 @@ ghost use Rattle.office.specs.Trace.{history};
 ghost use Rattle.office.specs.Sessions.{live};
 ghost use Rattle.office.specs.Stands.{StandsFor};
 ghost use Rattle.serving.specs.Newcomers.{newcomer, lies_unread, AreSettled, Settles};
-ghost use Rattle.serving.specs.Paces.{has_freed};
-ghost use Rattle.serving.specs.Parts.{Does, KeepsServing, KeepsServingOne};
-ghost use Rattle.serving.specs.Parts.{KeepsSeats, FreesMore, Frees};
+ghost use Rattle.serving.specs.Paces.{releases_lock};
+ghost use Rattle.serving.specs.Parts.{Does, KeepsServing, KeepsServingOne, Also, PollsBy};
+ghost use Rattle.serving.specs.Parts.{KeepsSeats, ReleasesMore, ReleasesLock};
 ghost use Rattle.serving.specs.Settings.{settings_of};
-ghost use Rattle.serving.specs.Parts.{Also, PollsBy};
-ghost use Rattle.serving.specs.ClientParts.{IsWritten, IsWrittenOut, IsReadOnce};
-ghost use Rattle.serving.specs.ClientParts.{IsHeard, HadTurns, WereServed};
+ghost use Rattle.serving.specs.ClientParts.{IsWritten, IsWrittenOut, IsReadOnce, IsReadPiece};
+ghost use Rattle.serving.specs.ClientParts.{HadTurns, WereServed, may_keep, may_at, way_at};
 ghost use Rattle.serving.specs.Works.{share_by, reads_by_line};
-ghost use Rattle.serving.specs.ClientParts.{may_keep, may_at, way_at};
 ghost use Rattle.arrayvec.specs.ArrayVec.{array_vec_len};
 
-use crate::links::{Clients, Seat};
+use crate::links::{Clients, MOST_AT_ONCE, MOST_WRITES, Seat};
 use crate::listener::{LinkEvent, Listener};
-use crate::pace::{MOST_AT_ONCE, next_part, note_guess, pace_at};
+use crate::pace::{next_part, note_guess, pace_at};
 use crate::server::Server;
 use crate::wire::{Io, Port, Wire};
 use office::{Event, Office};
 use vault::Vault;
 
-/// How many writes a link has in one turn at most.
-const MOST_WRITES: usize = 64;
-
 /// How many octets are written in one turn on a link that is alone: 64 full writes.
 const SHARE_ALONE: usize = 1_048_576;
 
 /// How many if others are open, so that none of them waits long: one full write.
-const SHARE_BESIDE: usize = 16_384;
+const SHARE_AMONG_OTHERS: usize = 16_384;
 
 /// The share of each link.
-fn share_of(links: &Clients) -> usize
-    ensures { result ≡ share_by (array_vec_len links.now.seats) }
+fn share_of(clients: &Clients) -> usize
+    ensures { result ≡ share_by (array_vec_len clients.now.seats) }
 {
-    if links.seats.len() > 1 {
-        SHARE_BESIDE
+    if clients.seats.len() > 1 {
+        SHARE_AMONG_OTHERS
     } else {
         SHARE_ALONE
     }
 }
 
-/// Notes whether a connection's session ended, for which logins may wait: in this turn no further
-/// login is read, and the next one doesn't wait.
-fn note_freed<V: Vault>(
+/// Notes that a connection's session ended, if logins wait for locks: no further login is read in
+/// this turn, and the next turn doesn't wait.
+fn note_release<V: Vault>(
     office: &Office<V>,
-    links: &mut Clients,
+    clients: &mut Clients,
     connection: u64,
     was_logged_in: bool,
 )
-    ensures keeps { KeepsSeats links.old links.new }
-    ensures newcomers { links.new.newcomers ≡ links.old.newcomers }
-    ensures freed { (T : Trace) → StandsFor V.holds office.now T
-        → links.new.lock_released ≡ (links.old.lock_released
-        || has_freed links.old.wait was_logged_in (live (history T) connection)) }
-    ensures more { FreesMore links.old links.new }
-    ensures poll_now { links.new.poll_now ≡ true
-        → (links.old.poll_now || links.new.lock_released) ≡ true }
+    ensures keeps { KeepsSeats clients.old clients.new }
+    ensures newcomers { clients.new.newcomers ≡ clients.old.newcomers }
+    ensures lock_released { (T : Trace) → StandsFor V.holds office.now T
+        → clients.new.lock_released ≡ (clients.old.lock_released
+        || releases_lock clients.old.wait was_logged_in (live (history T) connection)) }
+    ensures more { ReleasesMore clients.old clients.new }
+    ensures poll_now { clients.new.poll_now ≡ true
+        → (clients.old.poll_now || clients.new.lock_released) ≡ true }
 {
-    if links.wait == 0 {
+    if clients.wait == 0 {
         return;
     }
     if !was_logged_in {
@@ -72,8 +67,8 @@ fn note_freed<V: Vault>(
     if office.is_logged_in(connection) {
         return;
     }
-    links.lock_released = true;
-    links.poll_now = true;
+    clients.lock_released = true;
+    clients.poll_now = true;
 }
 
 impl<V: Vault, W: Wire, L: Listener> Server<V, W, L> {
@@ -93,20 +88,20 @@ impl<V: Vault, W: Wire, L: Listener> Server<V, W, L> {
             Io::Count(count) => {
                 let took = Event::Took(seat.connection, count);
                 let report = self.office.step_with_account(took);
-                self.listener.hear(seat.connection, &report.account);
+                self.listener.on_account(seat.connection, &report.account);
                 count
             }
             Io::Later => 0,
             Io::End | Io::Broken => {
                 let report = self.office.step_with_account(Event::Gone(seat.connection));
-                self.listener.hear(seat.connection, &report.account);
+                self.listener.on_account(seat.connection, &report.account);
                 0
             }
         }
     }
 
-    /// Writes what a connection is owed until the link takes no more, nothing is owed, or its share
-    /// is written. Returns whether the link may take more at once.
+    /// Writes what a connection is owed until the link takes no more, nothing is owed, its share is
+    /// reached, or 64 writes were made. Returns whether the link may take more at once.
     fn write_owed(&mut self, seat: Seat, share: usize) -> bool
         ensures serves { KeepsServingOne V.Vault W.Wire seat self.old self.new }
         ensures works { Does V.Vault W.Wire L.Listener self.old self.new
@@ -126,8 +121,9 @@ impl<V: Vault, W: Wire, L: Listener> Server<V, W, L> {
         true
     }
 
-    /// Reads once from a link whose connection waits for octets, at most as many as a buffer has,
-    /// and ends the connection if the link is broken or at its end. Whether octets came.
+    /// Reads once from a link, at most as many octets as the buffer holds, if its connection is
+    /// ready: open, and owed nothing. Ends the connection if the link is broken or at its end.
+    /// Returns whether octets came.
     fn read_once(&mut self, seat: Seat, buffer: &mut [u8]) -> bool
         requires { length buffer.old ≤ 4096 }
         ensures serves { KeepsServingOne V.Vault W.Wire seat self.old self.new }
@@ -142,33 +138,33 @@ impl<V: Vault, W: Wire, L: Listener> Server<V, W, L> {
         match self.wire.read(Port::Pop, seat.link, buffer) {
             Io::Count(count) => {
                 self.listener
-                    .follow(&self.wire, Port::Pop, seat.link, LinkEvent::WasRead);
+                    .on_link(&self.wire, Port::Pop, seat.link, LinkEvent::WasRead);
                 let piece = Event::Bytes(connection, &buffer[..count]);
                 let report = self.office.step_with_account(piece);
-                self.listener.hear(connection, &report.account);
+                self.listener.on_account(connection, &report.account);
                 true
             }
             Io::Later => false,
             Io::End | Io::Broken => {
                 self.listener
-                    .follow(&self.wire, Port::Pop, seat.link, LinkEvent::Ended);
+                    .on_link(&self.wire, Port::Pop, seat.link, LinkEvent::Ended);
                 let report = self.office.step_with_account(Event::Gone(connection));
-                self.listener.hear(connection, &report.account);
+                self.listener.on_account(connection, &report.account);
                 false
             }
         }
     }
 
-    /// Reads a piece from a link whose connection waits for octets, but no login that is kept back,
-    /// and notes whether one is. Whether octets came. After a line that was read by itself the next
-    /// turn doesn't wait.
+    /// Reads a piece from a link, if its connection is ready, unless its next line is a login that
+    /// is kept back; notes whether it is. Returns whether octets came. After a line that was read
+    /// by itself the next turn doesn't wait.
     fn read_piece(&mut self, clients: &mut Clients, seat: Seat, now: u64) -> bool
         ensures serves { KeepsServingOne V.Vault W.Wire seat self.old self.new }
         ensures keeps { KeepsSeats clients.old clients.new }
-        ensures freed { clients.new.lock_released ≡ clients.old.lock_released }
+        ensures lock_released { clients.new.lock_released ≡ clients.old.lock_released }
         ensures settles { Settles now seat.connection clients.old clients.new }
         ensures works { Does V.Vault W.Wire L.Listener self.old self.new
-            (Also (IsHeard V.holds self.old.office seat clients.old.wait
+            (Also (IsReadPiece V.holds self.old.office seat clients.old.wait
             (reads_by_line clients.old.wait (may_keep clients.old))
             (may_at now clients.old seat.connection)
             (lies_unread (newcomer seat.connection clients.new.newcomers.newcomers.items)))
@@ -185,7 +181,7 @@ impl<V: Vault, W: Wire, L: Listener> Server<V, W, L> {
             .settle(seat.connection, part.count == 0, now);
         if part.count == 0 {
             self.listener
-                .follow(&self.wire, Port::Pop, seat.link, LinkEvent::LiesUnread);
+                .on_link(&self.wire, Port::Pop, seat.link, LinkEvent::LiesUnread);
             return false;
         }
         let before = self.office.refusals(seat.connection);
@@ -205,12 +201,12 @@ impl<V: Vault, W: Wire, L: Listener> Server<V, W, L> {
         true
     }
 
-    /// Writes on a link up to its share, and if all is written reads from it and writes what that
-    /// gave. Whether more can be written at once.
+    /// Writes what the connection is owed until its share is reached. If nothing is owed any more,
+    /// reads once and writes what that gave. Returns whether more can be written at once.
     fn serve_link(&mut self, clients: &mut Clients, seat: Seat, now: u64) -> bool
         ensures serves { KeepsServingOne V.Vault W.Wire seat self.old self.new }
         ensures keeps { KeepsSeats clients.old clients.new }
-        ensures freed { clients.new.lock_released ≡ clients.old.lock_released }
+        ensures lock_released { clients.new.lock_released ≡ clients.old.lock_released }
         ensures settles { Settles now seat.connection clients.old clients.new }
         ensures works { Does V.Vault W.Wire L.Listener self.old self.new
             (Also (HadTurns V.holds V.is_clean self.old.office self.new.office
@@ -233,8 +229,8 @@ impl<V: Vault, W: Wire, L: Listener> Server<V, W, L> {
     fn serve_client(&mut self, clients: &mut Clients, seat: Seat, now: u64)
         ensures serves { KeepsServingOne V.Vault W.Wire seat self.old self.new }
         ensures keeps { KeepsSeats clients.old clients.new }
-        ensures frees { Frees V.holds self.old.office self.new.office clients.old clients.new
-            seat.connection }
+        ensures releases { ReleasesLock V.holds self.old.office self.new.office
+            clients.old clients.new seat.connection }
         ensures settles { Settles now seat.connection clients.old clients.new }
         ensures works { Does V.Vault W.Wire L.Listener self.old self.new
             (Also (HadTurns V.holds V.is_clean self.old.office self.new.office
@@ -245,7 +241,7 @@ impl<V: Vault, W: Wire, L: Listener> Server<V, W, L> {
         let was_logged_in = self.office.is_logged_in(seat.connection);
         let more = self.serve_link(clients, seat, now);
         clients.poll_now |= more;
-        note_freed(&self.office, clients, seat.connection, was_logged_in);
+        note_release(&self.office, clients, seat.connection, was_logged_in);
     }
 
     /// Serves each link, by ascending number of the connections.
@@ -255,7 +251,7 @@ impl<V: Vault, W: Wire, L: Listener> Server<V, W, L> {
         ensures keeps { KeepsSeats clients.old clients.new }
         ensures settled { AreSettled now clients.old.newcomers.newcomers.items
             clients.new.newcomers.newcomers.items }
-        ensures frees { clients.new.lock_released ≡ true → clients.new.poll_now ≡ true }
+        ensures releases { clients.new.lock_released ≡ true → clients.new.poll_now ≡ true }
         ensures works { Does V.Vault W.Wire L.Listener self.old self.new
             (Also (WereServed V.holds V.is_clean self.old.office self.new.office
             (settings_of clients.old) now clients.old.newcomers.newcomers.items

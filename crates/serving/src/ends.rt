@@ -7,13 +7,12 @@ ghost use Rattle.office.specs.Trace.{is_open};
 ghost use Rattle.office.specs.Stands.{StandsFor};
 ghost use Rattle.serving.specs.Calls.{Call, Closed};
 ghost use Rattle.serving.specs.Wires.{ToldOfPorts, at_port, has_closed};
-ghost use Rattle.serving.specs.Served.{StillServes};
-ghost use Rattle.serving.specs.Hearing.{Hearing, WasTold, idle_ends, late_ends};
+ghost use Rattle.serving.specs.Hearing.{Hearing, HasHeard, idle_ends, late_ends};
 ghost use Rattle.serving.specs.Late.{HasEndedLate};
 ghost use Rattle.serving.specs.Newcomers.{newcomer, lies_unread};
-ghost use Rattle.serving.specs.Parts.{KeepsSeats, IsEnded, Ends, Closes, ClosesSeat};
-ghost use Rattle.serving.specs.Parts.{Gives, KeepsServing, KeepsServingOne};
-ghost use Rattle.serving.specs.Parts.{Asking, PollsBy, Releases};
+ghost use Rattle.serving.specs.Parts.{Asks, Gives, KeepsServing, KeepsServingOne, KeepsSeats};
+ghost use Rattle.serving.specs.Parts.{IsEnded, Ends, Closes, ClosesSeat};
+ghost use Rattle.serving.specs.Parts.{PollsBy, PollsAfterClosing};
 ghost use Rattle.serving.specs.ClientParts.{AreClosed, IsClosed};
 ghost use Rattle.serving.specs.declared.links.Seat as declared;
 ghost use Rattle.arrayvec.specs.ArrayVec.{array_vec_len};
@@ -26,38 +25,38 @@ use office::{Account, End, Event, Office};
 use vault::Vault;
 
 /// Tells the listener that the connection of one seat was idle for too long, if it isn't open
-/// after a moment.
-fn tell_idle<V: Vault, L: Listener>(
+/// after the Tick.
+fn report_idle<V: Vault, L: Listener>(
     office: &Office<V>,
     listener: &mut L,
-    links: &Clients,
+    clients: &Clients,
     place: usize,
 )
-    requires { place < array_vec_len links.now.seats }
+    requires { place < array_vec_len clients.now.seats }
     ensures { (T : Trace) (d : declared.Seat) → StandsFor V.holds office.now T
-        → WasTold L.heard listener.old listener.new
-        (idle_ends T (slice_index_or links.now.seats.items place d ∷ [])) }
+        → HasHeard L.heard listener.old listener.new
+        (idle_ends T (slice_index_or clients.now.seats.items place d ∷ [])) }
 {
-    let connection = links.seats[place].connection;
+    let connection = clients.seats[place].connection;
     if !office.ended(connection) {
         return;
     }
-    listener.hear(connection, &Account::Ended(End::Idle));
+    listener.on_account(connection, &Account::Ended(End::Idle));
 }
 
-/// Tells the listener of each connection that a moment ended: between turns that of each seat is
-/// open, so one that isn't open right after the moment was ended by it.
-pub(crate) fn tell_idle_ones<V: Vault, L: Listener>(
+/// Tells the listener of each connection that this turn's Tick ended: between turns every seat's
+/// connection is open, so one that isn't open right after the Tick was ended by it.
+pub(crate) fn report_idle_ones<V: Vault, L: Listener>(
     office: &Office<V>,
     listener: &mut L,
-    links: &Clients,
+    clients: &Clients,
 )
     ensures { (T : Trace) → StandsFor V.holds office.now T
-        → WasTold L.heard listener.old listener.new (idle_ends T links.now.seats.items) }
+        → HasHeard L.heard listener.old listener.new (idle_ends T clients.now.seats.items) }
 {
     let mut place = 0;
-    while place < links.seats.len() {
-        tell_idle(office, listener, links, place);
+    while place < clients.seats.len() {
+        report_idle(office, listener, clients, place);
         place += 1;
     }
 }
@@ -76,72 +75,7 @@ pub(crate) fn close_link<W: Wire, L: Listener>(
     ensures heard { (h : List Hearing) → L.heard listener.old h → L.heard listener.new h }
 {
     wire.close(port, link);
-    listener.follow(wire, port, link, LinkEvent::Closed);
-}
-
-/// Closes the link of one seat if its connection ended, and removes the seat. Returns whether
-/// the seat stays: then the connections of it and of all seats before it are open.
-fn close_seat<V: Vault, W: Wire, L: Listener>(
-    office: &Office<V>,
-    wire: &mut W,
-    listener: &mut L,
-    links: &mut Clients,
-    place: usize,
-) -> bool
-    requires { place < array_vec_len links.old.seats }
-    ensures serves { StillServes V.holds V.is_clean W.tells office.now wire.old
-        links.old.seats.items (take place links.old.seats.items) office.now wire.new
-        links.new.seats.items (take (if result then place + 1 else place) links.new.seats.items) }
-    ensures left { array_vec_len links.new.seats + (if result then 0 else 1)
-        ≡ array_vec_len links.old.seats }
-    ensures closes { ClosesSeat links.old links.new place result }
-    ensures heard { (h : List Hearing) → L.heard listener.old h → L.heard listener.new h }
-    ensures works { (T : Trace) (d : declared.Seat) → StandsFor V.holds office.now T
-        → Asking W.asked wire.old wire.new
-        (λ calls. IsClosed T links.old.seats.items links.new.seats.items place
-        (slice_index_or links.old.seats.items place d) result calls
-        × PollsBy links.old.poll_now links.new.poll_now calls
-        × Releases links.old.wait links.new.poll_now calls) }
-{
-    let seat = links.seats[place];
-    if !office.ended(seat.connection) {
-        return true;
-    }
-    close_link(wire, listener, Port::Pop, seat.link);
-    links.seats.remove(place);
-    let gone = seat.connection;
-    links.newcomers.forget(gone);
-    // A login may have waited for what this connection held.
-    links.poll_now |= links.wait > 0;
-    false
-}
-
-/// Closes each link whose connection ended.
-pub(crate) fn close_links<V: Vault, W: Wire, L: Listener>(
-    office: &Office<V>,
-    wire: &mut W,
-    listener: &mut L,
-    links: &mut Clients,
-)
-    ensures serves { StillServes V.holds V.is_clean W.tells office.now wire.old
-        links.old.seats.items [] office.now wire.new links.new.seats.items links.new.seats.items }
-    ensures closes { Closes links.old links.new }
-    ensures heard { (h : List Hearing) → L.heard listener.old h → L.heard listener.new h }
-    ensures newcomers { (T : Trace) → StandsFor V.holds office.now T → (c : ℕ)
-        → is_open T c ≡ true → newcomer c links.new.newcomers.newcomers.items ≡ newcomer c
-        links.old.newcomers.newcomers.items }
-    ensures works { (T : Trace) → StandsFor V.holds office.now T
-        → Asking W.asked wire.old wire.new
-        (λ calls. AreClosed T links.old.seats.items links.new.seats.items calls
-        × PollsBy links.old.poll_now links.new.poll_now calls
-        × Releases links.old.wait links.new.poll_now calls) }
-{
-    let mut place = 0;
-    while place < links.seats.len() {
-        if close_seat(office, wire, listener, links, place) {
-            place += 1;
-        }
-    }
+    listener.on_link(wire, port, link, LinkEvent::Closed);
 }
 
 impl<V: Vault, W: Wire, L: Listener> Server<V, W, L> {
@@ -151,7 +85,7 @@ impl<V: Vault, W: Wire, L: Listener> Server<V, W, L> {
         ensures serves { KeepsServingOne V.Vault W.Wire seat self.old self.new }
         ensures works { Gives V.Vault self.old self.new (λ given.
             IsEnded V.holds V.is_clean self.old.office self.new.office seat.connection given
-            × WasTold L.heard self.old.listener self.new.listener (late_ends now
+            × HasHeard L.heard self.old.listener self.new.listener (late_ends now
             clients.now.newcomers.seconds clients.now.newcomers.newcomers.items given)) }
     {
         if self.office.ended(seat.connection) {
@@ -159,11 +93,12 @@ impl<V: Vault, W: Wire, L: Listener> Server<V, W, L> {
         }
         let _ = self.office.step(Event::Gone(seat.connection));
         let why = clients.newcomers.why_late(seat.connection, now);
-        self.listener.hear(seat.connection, &Account::Ended(why));
+        self.listener
+            .on_account(seat.connection, &Account::Ended(why));
     }
 
-    /// Ends the connection of one seat, if its client took too long to log in. Whoever has a login
-    /// that lies unread isn't late.
+    /// Ends the connection of one seat, if its client took too long to log in. A client whose login
+    /// lies unread isn't late.
     fn end_late(&mut self, clients: &mut Clients, seat: Seat, now: u64, seconds: u64)
         ensures serves { KeepsServingOne V.Vault W.Wire seat self.old self.new }
         ensures keeps { KeepsSeats clients.old clients.new }
@@ -174,7 +109,7 @@ impl<V: Vault, W: Wire, L: Listener> Server<V, W, L> {
             ((seconds == 0) ≡ false → HasEndedLate V.holds V.is_clean self.old.office
             self.new.office now seconds clients.old.newcomers.newcomers.items
             clients.new.newcomers.newcomers.items (seat ∷ []) given)
-            × WasTold L.heard self.old.listener self.new.listener (late_ends now
+            × HasHeard L.heard self.old.listener self.new.listener (late_ends now
             clients.old.newcomers.seconds clients.old.newcomers.newcomers.items given)) }
     {
         if self.office.is_logged_in(seat.connection) {
@@ -190,8 +125,8 @@ impl<V: Vault, W: Wire, L: Listener> Server<V, W, L> {
         self.end_seat(clients, seat, now);
     }
 
-    /// Ends the connection of each client that took so many seconds or more and hasn't logged in;
-    /// of none if there is no limit, which is 0.
+    /// Ends the connection of each client that hasn't logged in and of whose login seconds so many
+    /// or more are over. 0 means no limit: none is ended.
     pub(crate) fn end_late_ones(&mut self, clients: &mut Clients, now: u64, seconds: u64)
         ensures serves { KeepsServing V.Vault W.Wire self.old self.new
             clients.old.seats.items [] clients.new.seats.items [] }
@@ -202,7 +137,7 @@ impl<V: Vault, W: Wire, L: Listener> Server<V, W, L> {
             HasEndedLate V.holds V.is_clean self.old.office self.new.office now seconds
             clients.old.newcomers.newcomers.items clients.new.newcomers.newcomers.items
             clients.old.seats.items given
-            × WasTold L.heard self.old.listener self.new.listener (late_ends now
+            × HasHeard L.heard self.old.listener self.new.listener (late_ends now
             clients.old.newcomers.seconds clients.old.newcomers.newcomers.items given)) }
     {
         if seconds == 0 {
@@ -213,6 +148,58 @@ impl<V: Vault, W: Wire, L: Listener> Server<V, W, L> {
             let seat = clients.seats[place];
             self.end_late(clients, seat, now, seconds);
             place += 1;
+        }
+    }
+
+    /// Closes the link of one seat if its connection ended, and removes the seat. Returns whether
+    /// the seat stays: then the connections of it and of all seats before it are open.
+    fn close_seat(&mut self, clients: &mut Clients, place: usize) -> bool
+        requires { place < array_vec_len clients.old.seats }
+        ensures serves { KeepsServing V.Vault W.Wire self.old self.new
+            clients.old.seats.items (take place clients.old.seats.items) clients.new.seats.items
+            (take (if result then place + 1 else place) clients.new.seats.items) }
+        ensures left { array_vec_len clients.new.seats + (if result then 0 else 1)
+            ≡ array_vec_len clients.old.seats }
+        ensures closes { ClosesSeat clients.old clients.new place result }
+        ensures works { Asks W.Wire L.Listener self.old self.new (λ calls. (T : Trace)
+            (d : declared.Seat) → StandsFor V.holds self.old.office T
+            → IsClosed T clients.old.seats.items clients.new.seats.items place
+            (slice_index_or clients.old.seats.items place d) result calls
+            × PollsBy clients.old.poll_now clients.new.poll_now calls
+            × PollsAfterClosing clients.old.wait clients.new.poll_now calls) }
+    {
+        let seat = clients.seats[place];
+        if !self.office.ended(seat.connection) {
+            return true;
+        }
+        close_link(&mut self.wire, &mut self.listener, Port::Pop, seat.link);
+        clients.seats.remove(place);
+        let gone = seat.connection;
+        clients.newcomers.forget(gone);
+        // A login may have waited for what this connection held.
+        clients.poll_now |= clients.wait > 0;
+        false
+    }
+
+    /// Closes each link whose connection ended.
+    pub(crate) fn close_links(&mut self, clients: &mut Clients)
+        ensures serves { KeepsServing V.Vault W.Wire self.old self.new
+            clients.old.seats.items [] clients.new.seats.items clients.new.seats.items }
+        ensures closes { Closes clients.old clients.new }
+        ensures newcomers { (T : Trace) → StandsFor V.holds self.old.office T → (c : ℕ)
+            → is_open T c ≡ true → newcomer c clients.new.newcomers.newcomers.items ≡ newcomer c
+            clients.old.newcomers.newcomers.items }
+        ensures works { Asks W.Wire L.Listener self.old self.new (λ calls. (T : Trace)
+            → StandsFor V.holds self.old.office T
+            → AreClosed T clients.old.seats.items clients.new.seats.items calls
+            × PollsBy clients.old.poll_now clients.new.poll_now calls
+            × PollsAfterClosing clients.old.wait clients.new.poll_now calls) }
+    {
+        let mut place = 0;
+        while place < clients.seats.len() {
+            if self.close_seat(clients, place) {
+                place += 1;
+            }
         }
     }
 }

@@ -21,8 +21,15 @@ pub struct Seat {
     pub connection: u64,
 }
 
-/// How many links may be open at once, and how many are accepted in one turn at most.
+/// How many connections may be open at once, and how many links are accepted at each port in one
+/// turn, at most.
 pub const MOST_LINKS: usize = 64;
+
+/// How many octets are read from a link at once: as many as an office takes in one piece.
+pub(crate) const MOST_AT_ONCE: usize = 4096;
+
+/// How many writes a link has in one turn at most.
+pub(crate) const MOST_WRITES: usize = 64;
 
 /// For how many seconds a login may wait at most. It is far below the idle time of any office.
 const MOST_WAIT: u64 = 60;

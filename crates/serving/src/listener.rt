@@ -25,7 +25,7 @@ pub enum LinkEvent {
     LiesUnread,
     /// Octets of it were read.
     WasRead,
-    /// A read gave that it ended, or is broken.
+    /// A read reported that it ended, or is broken.
     Ended,
     /// Octets were written on it.
     WasWritten,
@@ -42,23 +42,24 @@ pub trait Listener {
     /// `heard l h`: l heard these accounts, each of its connection, the newest last.
     ghost heard: { Self → List Hearing → Type 0 };
 
-    /// What became of a link of this wire, which says more of it: of a client's link all but what
-    /// is written, of the administration's all but what comes on it.
-    fn follow<W: Wire>(&mut self, wire: &W, port: Port, link: Link, event: LinkEvent)
-        ensures told { (h : List Hearing) → heard self.old h → heard self.new h };
+    /// Something happened to a link; the wire can say more about it. Of a client's link every event
+    /// but `WasWritten` is told; of one of the administration only `Came`, `WasWritten` and
+    /// `Closed`.
+    fn on_link<W: Wire>(&mut self, wire: &W, port: Port, link: Link, event: LinkEvent)
+        ensures heard { (h : List Hearing) → heard self.old h → heard self.new h };
 
     /// A connection was opened for a client's link.
-    fn open(&mut self, link: Link, connection: u64)
-        ensures told { (h : List Hearing) → heard self.old h → heard self.new h };
+    fn on_open(&mut self, link: Link, connection: u64)
+        ensures heard { (h : List Hearing) → heard self.old h → heard self.new h };
 
-    /// What the office judged in an event of a connection, which in most is nothing.
-    fn hear(&mut self, connection: u64, account: &Account)
-        ensures told { (h : List Hearing) → heard self.old h
+    /// What the office judged in one event of a connection; for most events, nothing.
+    fn on_account(&mut self, connection: u64, account: &Account)
+        ensures heard { (h : List Hearing) → heard self.old h
             → heard self.new (h ++ (connection, account.now) ∷ []) };
 
     /// What was asked over a link of the administration, once its request is whole or refused.
-    fn asked(&mut self, link: Link, asked: &AdminRequest<'_>)
-        ensures told { (h : List Hearing) → heard self.old h → heard self.new h };
+    fn on_request(&mut self, link: Link, request: &AdminRequest<'_>)
+        ensures heard { (h : List Hearing) → heard self.old h → heard self.new h };
 }
 
 /// A listener that keeps nothing.
@@ -68,11 +69,11 @@ pub struct NoListener;
 impl Listener for NoListener {
     ghost heard = { λ _ _. ⊥ };
 
-    fn follow<W: Wire>(&mut self, _wire: &W, _port: Port, _link: Link, _event: LinkEvent) {}
+    fn on_link<W: Wire>(&mut self, _wire: &W, _port: Port, _link: Link, _event: LinkEvent) {}
 
-    fn open(&mut self, _link: Link, _connection: u64) {}
+    fn on_open(&mut self, _link: Link, _connection: u64) {}
 
-    fn hear(&mut self, _connection: u64, _account: &Account) {}
+    fn on_account(&mut self, _connection: u64, _account: &Account) {}
 
-    fn asked(&mut self, _link: Link, _asked: &AdminRequest<'_>) {}
+    fn on_request(&mut self, _link: Link, _request: &AdminRequest<'_>) {}
 }

@@ -33,37 +33,37 @@ impl<L: Listener> NotedListener<L> {
 impl<L: Listener> Listener for NotedListener<L> {
     ghost heard = { λ noted h. h ≡ noted.notes.heard };
 
-    fn follow<W: Wire>(&mut self, wire: &W, port: Port, link: Link, event: LinkEvent)
-        ensures told { (h : List Hearing) → h ≡ self.old.notes.heard → h ≡ self.new.notes.heard }
+    fn on_link<W: Wire>(&mut self, wire: &W, port: Port, link: Link, event: LinkEvent)
+        ensures heard { (h : List Hearing) → h ≡ self.old.notes.heard → h ≡ self.new.notes.heard }
         ensures inside { (h : List Hearing) → L.heard self.old.listener h
             → L.heard self.new.listener h }
     {
-        self.listener.follow(wire, port, link, event);
+        self.listener.on_link(wire, port, link, event);
     }
 
-    fn open(&mut self, link: Link, connection: u64)
-        ensures told { (h : List Hearing) → h ≡ self.old.notes.heard → h ≡ self.new.notes.heard }
+    fn on_open(&mut self, link: Link, connection: u64)
+        ensures heard { (h : List Hearing) → h ≡ self.old.notes.heard → h ≡ self.new.notes.heard }
         ensures inside { (h : List Hearing) → L.heard self.old.listener h
             → L.heard self.new.listener h }
     {
-        self.listener.open(link, connection);
+        self.listener.on_open(link, connection);
     }
 
-    fn hear(&mut self, connection: u64, account: &Account)
-        ensures told { (h : List Hearing) → h ≡ self.old.notes.heard
+    fn on_account(&mut self, connection: u64, account: &Account)
+        ensures heard { (h : List Hearing) → h ≡ self.old.notes.heard
             → h ++ (connection, account.now) ∷ [] ≡ self.new.notes.heard }
         ensures inside { (h : List Hearing) → L.heard self.old.listener h
             → L.heard self.new.listener (h ++ (connection, account.now) ∷ []) }
     {
-        self.listener.hear(connection, account);
+        self.listener.on_account(connection, account);
         self.notes.note(connection, account);
     }
 
-    fn asked(&mut self, link: Link, asked: &AdminRequest<'_>)
-        ensures told { (h : List Hearing) → h ≡ self.old.notes.heard → h ≡ self.new.notes.heard }
+    fn on_request(&mut self, link: Link, request: &AdminRequest<'_>)
+        ensures heard { (h : List Hearing) → h ≡ self.old.notes.heard → h ≡ self.new.notes.heard }
         ensures inside { (h : List Hearing) → L.heard self.old.listener h
             → L.heard self.new.listener h }
     {
-        self.listener.asked(link, asked);
+        self.listener.on_request(link, request);
     }
 }

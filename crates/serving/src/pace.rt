@@ -17,14 +17,11 @@ ghost use Rattle.serving.specs.Parts.{NotesGuesses};
 ghost use Rattle.serving.specs.Paces.{first_line as first_line_of, part_by};
 
 use crate::guesses::{Guesses, MOST_SECONDS, origin_of};
-use crate::links::{Clients, Seat};
+use crate::links::{Clients, MOST_AT_ONCE, Seat};
 use crate::wire::{Io, Port, Wire};
 use creds::LoginName;
 use office::Office;
 use vault::Vault;
-
-/// How many octets are read at once: as many as an office takes in one piece.
-pub(crate) const MOST_AT_ONCE: usize = 4096;
 
 /// How what comes on a client's link is read at a moment.
 #[derive(Clone, Copy, PartialEq, Eq, Debug)]
@@ -91,29 +88,29 @@ fn reads_lines(wait: u64, lock_released: bool, origin: Option<u64>) -> bool
 pub(crate) fn pace_at<V: Vault, W: Wire>(
     office: &Office<V>,
     wire: &W,
-    links: &Clients,
+    clients: &Clients,
     seat: Seat,
     now: u64,
 ) -> Pace
-    ensures fast { links.now.guesses.are_slow ≡ false → result.origin ≡ None }
+    ensures fast { clients.now.guesses.are_slow ≡ false → result.origin ≡ None }
     ensures whose { (T : Trace) → StandsFor V.holds office.now T
-        → IsOriginOf links.now.guesses.are_slow (live (history T) seat.connection)
+        → IsOriginOf clients.now.guesses.are_slow (live (history T) seat.connection)
         (W.address_of wire.now Port.Pop seat.link) result.origin }
-    ensures pace { IsPaceAt links.now seat.connection now result }
+    ensures pace { IsPaceAt clients.now seat.connection now result }
     ensures lines { result.by_line ≡ true
         → reads_lines_by result.wait result.is_shut result.origin ≡ true }
     ensures line { (T : Trace) → StandsFor V.holds office.now T
         → result.by_line ≡ (reads_lines_by result.wait result.is_shut result.origin
         && not (live (history T) seat.connection)) }
 {
-    let origin = origin_at(office, wire, seat, &links.guesses);
+    let origin = origin_at(office, wire, seat, &clients.guesses);
     let is_logged_in = office.is_logged_in(seat.connection);
     Pace {
-        by_line: reads_lines(links.wait, links.lock_released, origin) && !is_logged_in,
-        is_shut: links.lock_released,
-        wait: links.wait,
+        by_line: reads_lines(clients.wait, clients.lock_released, origin) && !is_logged_in,
+        is_shut: clients.lock_released,
+        wait: clients.wait,
         origin,
-        waited: links.newcomers.waited(seat.connection, now),
+        waited: clients.newcomers.waited(seat.connection, now),
         now,
     }
 }
@@ -245,17 +242,17 @@ pub(crate) fn next_part<V: Vault, W: Wire>(
 /// A line that brought none changes nothing.
 pub(crate) fn note_guess<V: Vault>(
     office: &Office<V>,
-    links: &mut Clients,
+    clients: &mut Clients,
     connection: u64,
     pace: Pace,
     login: &Option<LoginName>,
     before: u8,
 )
-    ensures keeps { NotesGuesses links.old links.new }
+    ensures keeps { NotesGuesses clients.old clients.new }
     ensures noted { (T : Trace) → StandsFor V.holds office.now T
         → AreNotedSo pace.now pace.origin login.now (nat_lt before (refusals T connection))
-        (live (history T) connection) links.old.guesses.refusals.items
-        links.new.guesses.refusals.items }
+        (live (history T) connection) clients.old.guesses.refusals.items
+        clients.new.guesses.refusals.items }
 {
     let Some(origin) = pace.origin else {
         return;
@@ -264,10 +261,10 @@ pub(crate) fn note_guess<V: Vault>(
         return;
     };
     if office.refusals(connection) > before {
-        links.guesses.refuse(origin, name, pace.now);
+        clients.guesses.refuse(origin, name, pace.now);
         return;
     }
     if office.is_logged_in(connection) {
-        links.guesses.forget(origin, name);
+        clients.guesses.forget(origin, name);
     }
 }

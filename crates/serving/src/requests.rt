@@ -14,18 +14,18 @@ ghost use Rattle.adminhttp.specs.Responses.{answer_response, refusal_response, f
 ghost use Rattle.adminhttp.specs.Contents.{response_of as response_of_content};
 ghost use Rattle.adminhttp.specs.declared.refusal.Refusal.TheVariants.{OutOfMemory};
 ghost use Rattle.serving.specs.HttpTurns.{is_late_at, most_exchanges, TheseGoOn};
-ghost use Rattle.serving.specs.HttpParts.{ComeTo, GivesApart, DoesApart, AsksApart, HadTurnAt};
-ghost use Rattle.serving.specs.HttpParts.{ServesApart};
-ghost use Rattle.serving.specs.HttpWorks.{HasAcceptedForAdmin, HasHeard, HasTold, HasHttpTurn};
-ghost use Rattle.serving.specs.HttpParts.{Tells, KeepsLink, KeepsWritten};
+ghost use Rattle.serving.specs.HttpParts.{ComeTo, GivesApart, DoesApart, AskingApart, AsksApart};
+ghost use Rattle.serving.specs.HttpParts.{ServesApart, HadTurnAt, ServesPlace, Writes};
+ghost use Rattle.serving.specs.HttpParts.{KeepsLink, KeepsWritten};
+ghost use Rattle.serving.specs.HttpWorks.{HasAcceptedForAdmin, HasRead, HasWritten, HasHttpTurn};
 ghost use Rattle.serving.specs.HttpWorks.{HadHttpTurns, response_of};
-ghost use Rattle.serving.specs.HttpParts.{ServesPlace};
 ghost use Rattle.serving.specs.Parts.{PollsBy};
-ghost use Rattle.serving.specs.Hearing.{Hearing, WasTold, HeardApart, heard_by};
-ghost use Rattle.serving.specs.Requests.{octets_of, IsToldBy, HasAsked, HasOneMore, StillAnswers};
-ghost use Rattle.serving.specs.Requests.{StillAsked, AllStillAnswer, AllStillAsked};
+ghost use Rattle.serving.specs.Hearing.{Hearing, HasHeard, HeardApart, heard_by};
+ghost use Rattle.serving.specs.Requests.{octets_of, IsResponseTo, HasAsked, HasOneMore};
+ghost use Rattle.serving.specs.Requests.{StillAnswers, StillAsked, AllStillAnswer, AllStillAsked};
 
 use crate::ends::close_link;
+use crate::links::{MOST_AT_ONCE, MOST_WRITES};
 use crate::listener::{AdminRequest, LinkEvent, Listener};
 use crate::octets::part_of;
 use crate::server::Server;
@@ -42,17 +42,12 @@ use vault::Vault;
 /// How many links of the administration may be open at once.
 pub const MOST_REQUESTS: usize = 8;
 
-/// How many seconds after its acceptance a link of the administration is closed.
+/// A link of the administration is closed, finished or not, in the first turn that is so many
+/// seconds or more after its acceptance.
 const MOST_SECONDS: u64 = 60;
 
-/// How many octets are read at once.
-const MOST_AT_ONCE: usize = 4096;
-
-/// How many writes a link has in one turn at most.
-const MOST_WRITES: usize = 64;
-
-/// How many octets of a response are written in one turn, and at once, so that no client waits long
-/// for it.
+/// How many octets of a response are offered at each write. Once so many or more were written in a
+/// turn, no more is written in it, so that no client waits long for it.
 const SHARE: usize = 16_384;
 
 /// The response to a request.
@@ -129,8 +124,8 @@ impl Requests {
         self.exchanges.len()
     }
 
-    /// Keeps a link that was accepted, unless eight are open. Whether it is kept. Its error is
-    /// [`AllocError`]: memory for it was refused.
+    /// Keeps a link that was accepted, unless eight are open. Returns whether it is kept. Its error
+    /// is [`AllocError`]: memory for it was refused.
     fn keep(&mut self, link: Link, now: u64) -> Result<bool, AllocError>
         ensures kept { IfOk result (λ kept. kept ≡ true → HasOneMore now link
             self.old.exchanges.items self.new.exchanges.items) }
@@ -168,7 +163,7 @@ fn fixed<'a>(refusal: Refusal) -> (Response, Content<'a>)
 
 /// The response to an answer, and what it tells.
 fn response_to_answer<'a>(alloc: Global, answer: &'a Answer) -> (Response, Content<'a>)
-    ensures told { (octets_of result.0 ≡ answer_response (answer_seen answer.now))
+    ensures response { (octets_of result.0 ≡ answer_response (answer_seen answer.now))
         ⊎ (octets_of result.0 ≡ refusal_response OutOfMemory) }
     ensures content { octets_of result.0 ≡ response_of_content result.1 }
 {
@@ -180,7 +175,7 @@ fn response_to_answer<'a>(alloc: Global, answer: &'a Answer) -> (Response, Conte
 
 /// The response to a command that had this outcome, and what it tells.
 fn response_to<'a>(alloc: Global, outcome: &'a Outcome) -> (Response, Content<'a>)
-    ensures told { IsToldBy (outcome_seen outcome.now) (octets_of result.0) }
+    ensures response { IsResponseTo (outcome_seen outcome.now) (octets_of result.0) }
     ensures content { octets_of result.0 ≡ response_of_content result.1 }
 {
     match outcome {
@@ -191,12 +186,12 @@ fn response_to<'a>(alloc: Global, outcome: &'a Outcome) -> (Response, Content<'a
 }
 
 /// Tells the listener of the connection whose session a command ended.
-fn tell_end<L: Listener>(listener: &mut L, command: &AdminCommand, account: &Account)
-    ensures { WasTold L.heard listener.old listener.new (heard_by (command_seen command.now)
+fn report_end<L: Listener>(listener: &mut L, command: &AdminCommand, account: &Account)
+    ensures { HasHeard L.heard listener.old listener.new (heard_by (command_seen command.now)
         account.now) }
 {
     if let AdminCommand::EndSession(connection) = command {
-        listener.hear(*connection, account);
+        listener.on_account(*connection, account);
     }
 }
 
@@ -211,7 +206,7 @@ fn command<V: Vault, L: Listener>(
     ensures works { (site : Site) (read : List ℕ) → ((B : Records) (L : Log)
         → StandsFor V.holds office.old (trace_of B L)
         → IsRequest site (access_in L) read (Ok (command_seen command.now)))
-        → GivesApart V.holds V.is_clean V.faults V.is_up V.may_leave office.old office.new
+        → GivesApart V.Vault office.old office.new
         (HeardApart L.heard listener.old listener.new
         (ComeTo site read (Some (octets_of result)))) }
     ensures asked { (site : Site) (B : Records) (L : Log) (read : List ℕ)
@@ -222,14 +217,14 @@ fn command<V: Vault, L: Listener>(
     ensures clean { V.is_clean (vault_of office.new) → V.is_clean (vault_of office.old) }
 {
     let report = office.step_with_account(Event::Admin(command));
-    tell_end(listener, command, &report.account);
+    report_end(listener, command, &report.account);
     let (response, content) = response_to(alloc, &report.outcome);
     let line = Some(RequestLine::of(command));
-    listener.asked(link, &AdminRequest { line, content });
+    listener.on_request(link, &AdminRequest { line, content });
     response
 }
 
-/// The response to a request that is refused. Tells the listener.
+/// Tells the listener of a refused request. Returns its response.
 fn refuse<L: Listener>(
     alloc: Global,
     listener: &mut L,
@@ -237,18 +232,18 @@ fn refuse<L: Listener>(
     read: &[u8],
     refusal: Refusal,
 ) -> Response
-    ensures told { octets_of result ≡ refusal_response refusal }
+    ensures response { octets_of result ≡ refusal_response refusal }
     ensures heard { (h : List Hearing) → L.heard listener.old h → L.heard listener.new h }
 {
     let line = RequestLine::read(alloc, read).unwrap_or(None);
     let content = Content::Refusal(refusal);
-    listener.asked(link, &AdminRequest { line, content });
+    listener.on_request(link, &AdminRequest { line, content });
     Response::Fixed(refusal)
 }
 
 /// The response to a body that is no policy, and what it tells.
 fn response_to_fault<'a>(alloc: Global, fault: &PolicyFault) -> (Response, Content<'a>)
-    ensures told { (octets_of result.0 ≡ fault_response fault.now)
+    ensures response { (octets_of result.0 ≡ fault_response fault.now)
         ⊎ (octets_of result.0 ≡ refusal_response OutOfMemory) }
     ensures content { octets_of result.0 ≡ response_of_content result.1 }
 {
@@ -258,14 +253,14 @@ fn response_to_fault<'a>(alloc: Global, fault: &PolicyFault) -> (Response, Conte
     }
 }
 
-/// The response to a body that is no policy. Tells the listener.
+/// Tells the listener of a body that is no policy. Returns the response.
 fn refuse_policy<L: Listener>(
     alloc: Global,
     listener: &mut L,
     link: Link,
     fault: &PolicyFault,
 ) -> Response
-    ensures told { (octets_of result ≡ fault_response fault.now)
+    ensures response { (octets_of result ≡ fault_response fault.now)
         ⊎ (octets_of result ≡ refusal_response OutOfMemory) }
     ensures heard { (h : List Hearing) → L.heard listener.old h → L.heard listener.new h }
 {
@@ -274,7 +269,7 @@ fn refuse_policy<L: Listener>(
         method: Method::Put,
         target: Target::Policy,
     });
-    listener.asked(link, &AdminRequest { line, content });
+    listener.on_request(link, &AdminRequest { line, content });
     response
 }
 
@@ -288,7 +283,7 @@ fn respond_to<V: Vault, L: Listener>(
     link: Link,
     read: &[u8],
 ) -> Option<Response>
-    ensures works { GivesApart V.holds V.is_clean V.faults V.is_up V.may_leave office.old office.new
+    ensures works { GivesApart V.Vault office.old office.new
         (HeardApart L.heard listener.old listener.new
         (ComeTo site.now read.now (option_map octets_of result))) }
     ensures asked { (B : Records) (L : Log) → StandsFor V.holds office.old (trace_of B L)
@@ -313,7 +308,7 @@ fn take_piece<V: Vault, L: Listener>(
     exchange: &mut Exchange,
     piece: &[u8],
 )
-    ensures works { GivesApart V.holds V.is_clean V.faults V.is_up V.may_leave office.old office.new
+    ensures works { GivesApart V.Vault office.old office.new
         (HeardApart L.heard listener.old listener.new
         (ComeTo site.now (exchange.old.read.items ++ piece.now) (response_of exchange.new))) }
     ensures asked { (B : Records) (L : Log) → StandsFor V.holds office.old (trace_of B L)
@@ -341,15 +336,15 @@ fn take_piece<V: Vault, L: Listener>(
     );
 }
 
-/// Writes once of a response. How many octets were taken. The exchange is over if nothing is
-/// left, or the link is broken.
+/// Writes once of a response. Returns how many octets were taken. The exchange is over if nothing
+/// is left, or the link is broken or at its end.
 fn write_some<W: Wire, L: Listener>(
     wire: &mut W,
     listener: &mut L,
     exchange: &mut Exchange,
 ) -> usize
-    ensures works { AsksApart W.asked wire.old wire.new
-        (Tells exchange.old exchange.new (if result == 0 then 0 else 1) result
+    ensures works { AskingApart W.asked wire.old wire.new
+        (Writes exchange.old exchange.new (if result == 0 then 0 else 1) result
         (not (result == 0))) }
     ensures keeps { KeepsLink exchange.old exchange.new }
     ensures answers { StillAnswers W.tells wire.old exchange.old wire.new exchange.new }
@@ -370,7 +365,7 @@ fn write_some<W: Wire, L: Listener>(
     let part = part_of(octets, exchange.written, SHARE);
     match wire.write(Port::Admin, exchange.link, part) {
         Io::Count(count) => {
-            listener.follow(wire, Port::Admin, exchange.link, LinkEvent::WasWritten);
+            listener.on_link(wire, Port::Admin, exchange.link, LinkEvent::WasWritten);
             exchange.written += count;
             exchange.is_over = exchange.written >= whole;
             count
@@ -383,15 +378,15 @@ fn write_some<W: Wire, L: Listener>(
     }
 }
 
-/// Writes a response as long as the link takes it, up to its share. Whether more can be written at
-/// once.
+/// Writes a response until the link takes no more, or its share is reached. Returns whether more
+/// can be written at once.
 fn write_response<W: Wire, L: Listener>(
     wire: &mut W,
     listener: &mut L,
     exchange: &mut Exchange,
 ) -> bool
-    ensures works { AsksApart W.asked wire.old wire.new
-        (λ calls. HasTold exchange.old exchange.new calls × PollsBy false result calls) }
+    ensures works { AskingApart W.asked wire.old wire.new
+        (λ calls. HasWritten exchange.old exchange.new calls × PollsBy false result calls) }
     ensures keeps { KeepsLink exchange.old exchange.new }
     ensures answers { StillAnswers W.tells wire.old exchange.old wire.new exchange.new }
     ensures heard { (h : List Hearing) → L.heard listener.old h → L.heard listener.new h }
@@ -410,66 +405,53 @@ fn write_response<W: Wire, L: Listener>(
     true
 }
 
-/// Accepts a link of the administration; or closes it, if eight are open or memory for it was
-/// refused.
-/// Whether one came.
-fn accept_request<W: Wire, L: Listener>(
-    wire: &mut W,
-    listener: &mut L,
-    requests: &mut Requests,
-    now: u64,
-) -> bool
-    ensures few { length requests.old.exchanges.items ≤ most_exchanges
-        → length requests.new.exchanges.items ≤ most_exchanges }
-    ensures works { AsksApart W.asked wire.old wire.new
-        (HasAcceptedForAdmin now 1 result requests.old.exchanges.items
-        requests.new.exchanges.items) }
-    ensures heard { (h : List Hearing) → L.heard listener.old h → L.heard listener.new h }
-    ensures answers { AllStillAnswer W.tells wire.old requests.old.exchanges.items wire.new
-        requests.new.exchanges.items }
-{
-    let Some(link) = wire.accept(Port::Admin) else {
-        return false;
-    };
-    listener.follow(wire, Port::Admin, link, LinkEvent::Came);
-    match requests.keep(link, now) {
-        Ok(true) => {}
-        Ok(false) => close_link(wire, listener, Port::Admin, link),
-        Err(_) => close_link(wire, listener, Port::Admin, link),
+impl<V: Vault, W: Wire, L: Listener> Server<V, W, L> {
+    /// Accepts a link of the administration; or closes it, if eight are open or memory for it was
+    /// refused. Returns whether one came.
+    fn accept_request(&mut self, requests: &mut Requests, now: u64) -> bool
+        ensures few { length requests.old.exchanges.items ≤ most_exchanges
+            → length requests.new.exchanges.items ≤ most_exchanges }
+        ensures works { AsksApart W.Wire L.Listener self.old self.new
+            (HasAcceptedForAdmin now 1 result requests.old.exchanges.items
+            requests.new.exchanges.items) }
+        ensures answers { AllStillAnswer W.tells self.old.wire requests.old.exchanges.items
+            self.new.wire requests.new.exchanges.items }
+    {
+        let Some(link) = self.wire.accept(Port::Admin) else {
+            return false;
+        };
+        self.listener
+            .on_link(&self.wire, Port::Admin, link, LinkEvent::Came);
+        match requests.keep(link, now) {
+            Ok(true) => {}
+            Ok(false) => close_link(&mut self.wire, &mut self.listener, Port::Admin, link),
+            Err(_) => close_link(&mut self.wire, &mut self.listener, Port::Admin, link),
+        }
+        true
     }
-    true
-}
 
-/// Accepts the links of the administration that came, at most so many.
-pub(crate) fn accept_requests<W: Wire, L: Listener>(
-    wire: &mut W,
-    listener: &mut L,
-    requests: &mut Requests,
-    most: usize,
-    now: u64,
-)
-    ensures few { length requests.old.exchanges.items ≤ most_exchanges
-        → length requests.new.exchanges.items ≤ most_exchanges }
-    ensures works { (has_more : Bool) × AsksApart W.asked wire.old wire.new
-        (HasAcceptedForAdmin now most has_more requests.old.exchanges.items
-        requests.new.exchanges.items) }
-    ensures heard { (h : List Hearing) → L.heard listener.old h → L.heard listener.new h }
-    ensures answers { AllStillAnswer W.tells wire.old requests.old.exchanges.items wire.new
-        requests.new.exchanges.items }
-{
-    for _times in 0..most {
-        if !accept_request(wire, listener, requests, now) {
-            return;
+    /// Accepts the links of the administration that came, at most so many.
+    pub(crate) fn accept_requests(&mut self, requests: &mut Requests, most: usize, now: u64)
+        ensures few { length requests.old.exchanges.items ≤ most_exchanges
+            → length requests.new.exchanges.items ≤ most_exchanges }
+        ensures works { (has_more : Bool) × AsksApart W.Wire L.Listener self.old self.new
+            (HasAcceptedForAdmin now most has_more requests.old.exchanges.items
+            requests.new.exchanges.items) }
+        ensures answers { AllStillAnswer W.tells self.old.wire requests.old.exchanges.items
+            self.new.wire requests.new.exchanges.items }
+    {
+        for _times in 0..most {
+            if !self.accept_request(requests, now) {
+                return;
+            }
         }
     }
-}
 
-impl<V: Vault, W: Wire, L: Listener> Server<V, W, L> {
     /// Reads a piece of a request that isn't whole. The exchange is over if the link is at its end
     /// or broken.
     fn read_request(&mut self, alloc: Global, site: &Option<HostName>, exchange: &mut Exchange)
         ensures works { DoesApart V.Vault W.Wire L.Listener self.old self.new
-            (λ B L. HasHeard site.now B L exchange.old exchange.new) }
+            (λ B L. HasRead site.now B L exchange.old exchange.new) }
         ensures asked { StillAsked V.holds V.is_clean W.tells site.now
             self.old.office self.old.wire exchange.old
             self.new.office self.new.wire exchange.new }
@@ -499,8 +481,9 @@ impl<V: Vault, W: Wire, L: Listener> Server<V, W, L> {
         }
     }
 
-    /// Reads of a request, and writes of its response. Whether more can be written at once. The
-    /// exchange is over if its link was accepted 60 seconds ago or more.
+    /// If the link was accepted 60 seconds ago or more, marks the exchange as over and does nothing
+    /// else. Otherwise reads the next piece of the request, and writes what follows of the
+    /// response. Returns whether more can be written at once.
     fn serve_exchange(
         &mut self,
         alloc: Global,
@@ -525,7 +508,8 @@ impl<V: Vault, W: Wire, L: Listener> Server<V, W, L> {
         write_response(&mut self.wire, &mut self.listener, exchange)
     }
 
-    /// Serves the link at one place, and closes it if its exchange is over. Whether it stays.
+    /// Serves the link at one place, and closes it if its exchange is over. Returns
+    /// whether it stays.
     fn serve_place(
         &mut self,
         requests: &mut Requests,

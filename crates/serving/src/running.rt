@@ -18,10 +18,10 @@ use crate::turn::millis_for;
 use crate::wire::Wire;
 use vault::Vault;
 
-/// What gives a server the moments of its turns, each after the turn's wait, and ends it.
+/// Gives a server the moment of each turn, once the turn has waited, and tells it when to stop.
 ///
-/// `gave c answers`: c was asked so often and gave these answers. Of a clock of the machine's it is
-/// known by a [`NotedClock`](crate::NotedClock) around it.
+/// `gave c answers`: c was asked so often and gave these answers. Of the machine's own clock this
+/// is known only if a [`NotedClock`](crate::NotedClock) wraps it.
 pub trait Clock {
     /// `gave c answers`: c gave these answers, the newest last.
     ghost gave: { Self → List (Option ℕ) → Type 0 };
@@ -54,11 +54,11 @@ impl<V: Vault, W: Wire, L: Listener> Server<V, W, L> {
     /// more, and the office is told nothing. After a turn that has nothing more to do, the store
     /// does what it has put off.
     ///
-    /// Each turn finds what the first one did: the settings, the administration's site, seats for
-    /// all who haven't logged in, and refusals that keep a login back for 1 to 15 seconds. No
-    /// clause says which refusals are kept between turns, nor, if something moved in a turn,
-    /// whether the next one waits, but after a whole share, a file that was dealt with, and a
-    /// session that ended.
+    /// What held before the first turn holds before each: the settings and the site are the same,
+    /// all who haven't logged in have seats, and a refusal keeps a login back for 1 to 15 seconds.
+    /// No clause says which refusals are kept between turns. If something moved, none says whether
+    /// the next turn waits, except after a whole share, a file that was removed or renamed, and, if
+    /// logins wait for locks, a client's link that was closed.
     pub fn serve_while<S: Spool, C: Clock>(
         &mut self,
         links: &mut Links,

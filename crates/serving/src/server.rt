@@ -23,8 +23,8 @@ use std::alloc::Global;
 use vault::Vault;
 
 /// An office, the wire by which its clients and its administration come, and who hears what the
-/// office judged. What a turn does with them is in `turn`, `arrivals`, `clients`, `ends` and
-/// `requests`.
+/// office judged. What a turn does with them is in `turn`, `arrivals`, `clients`, `ends`,
+/// `requests` and `files`.
 #[derive(Drop)]
 pub struct Server<V: Vault, W: Wire, L: Listener> {
     pub office: Office<V>,
@@ -32,9 +32,9 @@ pub struct Server<V: Vault, W: Wire, L: Listener> {
     pub listener: L,
 }
 
-/// Begins to serve any wire and any spool, with no link open. What the calls of both are answered
-/// from now on is noted, in the proofs alone, and it is that by which they are served. The office
-/// must have no open connection.
+/// Begins to serve any wire and any spool, with no link open. From now on all answers of both are
+/// noted, for the proofs alone, and `serves` speaks of these notes. The office must have no open
+/// connection.
 pub fn begin_noted<V: Vault, W: Wire, S: Spool, L: Listener>(
     alloc: Global,
     office: Office<V>,

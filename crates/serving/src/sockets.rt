@@ -128,7 +128,7 @@ pub struct SocketWire {
 fn counted(count: usize, room: usize) -> Io
     requires { count ≤ room }
     ensures within { IsWithin room result }
-    ensures told { (octets : List ℕ) → shown_of result octets ≡ take count octets }
+    ensures shown { (octets : List ℕ) → shown_of result octets ≡ take count octets }
 {
     if count == 0 {
         Io::End

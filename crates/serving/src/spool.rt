@@ -38,7 +38,7 @@ pub trait Spool {
         ensures called { (a : List FileCall) → asked self.old a
             → asked self.new (a ++ Read name.now (option_map (λ text. text.items) result) ∷ []) };
 
-    /// Removes a file. Whether it was removed.
+    /// Removes a file. Returns whether it was removed.
     fn remove(&mut self, name: &FileName) -> bool
         ensures told { (a : List FileAct) → tells self.old a
             → tells self.new (if result then a ++ WasRemoved name.now ∷ [] else a) }
@@ -46,7 +46,7 @@ pub trait Spool {
             → asked self.new (a ++ Removed name.now result ∷ []) };
 
     /// Renames a file, by `.bad` after its name, or by `.bad.2` and so on if such a file is
-    /// there. Whether it was renamed.
+    /// there. Returns whether it was renamed.
     fn rename(&mut self, name: &FileName) -> bool
         ensures told { (a : List FileAct) → tells self.old a
             → tells self.new (if result then a ++ WasRenamed name.now ∷ [] else a) }

@@ -19,11 +19,9 @@ ghost use Rattle.serving.specs.Running.{LeavesAsFound};
 ghost use Rattle.serving.specs.declared.links.Seat as declared;
 ghost use Rattle.adminhttp.specs.Sites.{Site};
 
-use crate::ends::{close_links, tell_idle_ones};
-use crate::files::serve_spool;
+use crate::ends::report_idle_ones;
 use crate::links::{Links, MOST_LINKS};
 use crate::listener::Listener;
-use crate::requests::accept_requests;
 use crate::server::Server;
 use crate::spool::Spool;
 use crate::wire::Wire;
@@ -57,6 +55,9 @@ impl<V: Vault, W: Wire, L: Listener> Server<V, W, L> {
     /// long to log in; closes the links whose connections ended; and tries one file of the spool.
     /// The listener hears of each connection that is opened, what was judged of what came on it,
     /// that it was idle or late, and what the administration was asked.
+    ///
+    /// `few`: at most eight links of the administration are open. `short`: what was read of a
+    /// request that isn't whole is below its size limit.
     pub fn serve_turn<S: Spool>(&mut self, links: &mut Links, spool: &mut S, now: u64)
         ensures serves { (T : Trace)
             → Serves V.holds W.tells S.tells T self.old.office self.old.wire spool.old
@@ -105,23 +106,16 @@ impl<V: Vault, W: Wire, L: Listener> Server<V, W, L> {
     {
         links.clients.poll_now = false;
         self.tick(now);
-        tell_idle_ones(&self.office, &mut self.listener, &links.clients);
+        report_idle_ones(&self.office, &mut self.listener, &links.clients);
         self.accept_links(&mut links.clients, now);
-        accept_requests(
-            &mut self.wire,
-            &mut self.listener,
-            &mut links.requests,
-            MOST_LINKS,
-            now,
-        );
+        self.accept_requests(&mut links.requests, MOST_LINKS, now);
         self.serve_links(&mut links.clients, now);
         let site = &links.site;
         self.serve_requests(&mut links.requests, site, now);
         let seconds = links.clients.newcomers.limit(links.clients.seats.len());
         self.end_late_ones(&mut links.clients, now, seconds);
-        let clients = &mut links.clients;
-        close_links(&self.office, &mut self.wire, &mut self.listener, clients);
-        serve_spool(&mut self.office, spool, clients);
+        self.close_links(&mut links.clients);
+        self.serve_spool(&mut links.clients, spool);
         // For the proof: what each connection took was sent to it.
         taken_is_sent();
     }

@@ -42,11 +42,11 @@ pub enum Refusal {
     NoLine,
     /// It wasn't whole at a read ten seconds or more after the link's acceptance.
     TooLate,
-    /// Memory for it, or for what it says, was wanting.
+    /// There wasn't enough memory for it, or for what it says.
     NoMemory,
 }
 
-/// Links as they come.
+/// A server's links: accepts, reads, writes and closes them.
 ///
 /// `tells w t`: `t` is a true record of w's traffic. The links of each port are numbered in it from
 /// 0 on, in the order in which they were accepted. `asked w calls`: `calls` is a true record of
@@ -103,7 +103,7 @@ pub trait Wire {
             → asked self.new (a ++ Read port link (length buffer.old) result
             (counted result buffer.new) ∷ []) };
 
-    /// Writes octets on a link, from the first on.
+    /// Writes octets on a link: all of them, or as many of the first as it takes.
     fn write(&mut self, port: Port, link: Link, octets: &[u8]) -> Io
         ensures within { IsWithin (length octets.now) result }
         ensures told { (t : ToldOfPorts) → tells self.old t

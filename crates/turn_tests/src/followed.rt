@@ -49,15 +49,15 @@ impl Followed {
 impl Listener for Followed {
     ghost heard = { λ _ _. ⊥ };
 
-    fn follow<W: Wire>(&mut self, _wire: &W, port: Port, link: Link, event: LinkEvent) {
+    fn on_link<W: Wire>(&mut self, _wire: &W, port: Port, link: Link, event: LinkEvent) {
         self.is_short |= self.keep(port, link, event).is_err();
     }
 
-    fn open(&mut self, _link: Link, _connection: u64) {}
+    fn on_open(&mut self, _link: Link, _connection: u64) {}
 
-    fn hear(&mut self, _connection: u64, _account: &Account) {}
+    fn on_account(&mut self, _connection: u64, _account: &Account) {}
 
-    fn asked(&mut self, _link: Link, _asked: &AdminRequest<'_>) {}
+    fn on_request(&mut self, _link: Link, _request: &AdminRequest<'_>) {}
 }
 
 /// A server whose listener follows its links. It has the maildrop `orders`.

@@ -42,7 +42,7 @@ fn connect(office: &mut Office<PlainVault>) -> u64 {
 fn say(office: &mut Office<PlainVault>, heard: &mut Heard, connection: u64, line: &[u8]) {
     for piece in line.chunks(4096) {
         let report = office.step_with_account(Event::Bytes(connection, piece));
-        heard.hear(connection, &report.account);
+        heard.on_account(connection, &report.account);
     }
 }
 

@@ -154,13 +154,13 @@ impl Heard {
 impl Listener for Heard {
     ghost heard = { λ _ _. ⊥ };
 
-    fn follow<W: Wire>(&mut self, _wire: &W, _port: Port, _link: Link, _event: LinkEvent) {}
+    fn on_link<W: Wire>(&mut self, _wire: &W, _port: Port, _link: Link, _event: LinkEvent) {}
 
-    fn open(&mut self, _link: Link, _connection: u64) {}
+    fn on_open(&mut self, _link: Link, _connection: u64) {}
 
-    fn hear(&mut self, connection: u64, account: &Account) {
+    fn on_account(&mut self, connection: u64, account: &Account) {
         self.is_short |= self.keep(connection, account).is_err();
     }
 
-    fn asked(&mut self, _link: Link, _asked: &AdminRequest<'_>) {}
+    fn on_request(&mut self, _link: Link, _request: &AdminRequest<'_>) {}
 }

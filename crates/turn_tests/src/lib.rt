@@ -17,6 +17,8 @@ mod kept_back;
 #[cfg(test)]
 mod late;
 #[cfg(test)]
+mod maintenance;
+#[cfg(test)]
 mod opened;
 #[cfg(test)]
 mod random_turns;

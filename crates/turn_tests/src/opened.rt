@@ -18,17 +18,17 @@ struct Doorman {
 impl Listener for Doorman {
     ghost heard = { λ _ _. ⊥ };
 
-    fn follow<W: Wire>(&mut self, _wire: &W, _port: Port, _link: Link, _event: LinkEvent) {}
+    fn on_link<W: Wire>(&mut self, _wire: &W, _port: Port, _link: Link, _event: LinkEvent) {}
 
-    fn open(&mut self, link: Link, connection: u64) {
+    fn on_open(&mut self, link: Link, connection: u64) {
         self.link = link.number;
         self.connection = connection;
         self.count = self.count.saturating_add(1);
     }
 
-    fn hear(&mut self, _connection: u64, _account: &Account) {}
+    fn on_account(&mut self, _connection: u64, _account: &Account) {}
 
-    fn asked(&mut self, _link: Link, _asked: &AdminRequest<'_>) {}
+    fn on_request(&mut self, _link: Link, _request: &AdminRequest<'_>) {}
 }
 
 #[test]

@@ -1,6 +1,6 @@
 //! A wire whose reads and writes go well, wait, end or break by chance, and which looks at each
 //! beside a reckoning.
-ghost use Rattle.std.specs.Prelude.{◌≡◌, length, None};
+ghost use Rattle.std.specs.Prelude.{None};
 ghost use Rattle.serving.specs.Wires.{IsWithin};
 
 use crate::chance::Chance;

@@ -1,12 +1,14 @@
-use Rattle.std.proofs.Common.{arith, ◌+◌, ◌≡◌, ◌<◌, ℕ, ℤ, subst, sym, to_z, of_z, to_z-of_z, w64, refl, ap, not, ◌∙◌}
+use Rattle.std.proofs.Common.{arith, ◌+◌, ◌≡◌, ◌<◌, ℕ, ℤ, subst, sym, to_z-of_z, refl, ap, not, ◌∙◌}
 use Rattle.sqlite.specs.Held.{state}
-use Rattle.sqlite.specs.State.{HasCleanDisk}
+use Rattle.sqlite.specs.State.{HasCleanDisk, Survives}
 use Rattle.mailsql.specs.Sheets.{sheet_count}
-use Rattle.mailsql.specs.Rows.{Changes}
-use Rattle.mailsql.specs.Changes.{AddsFirstSheets}
+use Rattle.mailsql.specs.Rows.{Changes, MayLeave}
+use Rattle.mailsql.specs.Changes.{AddsFirstSheets, AddsSomeSheets}
 use Rattle.mailsql.proofs.StateLemmas.{survives_nothing}
 use Rattle.mailsql.proofs.ChainLemmas.{halts_then}
 use Rattle.mailsql.proofs.SheetRunLemmas.{HasAdded, none_added, added, stops_between}
+use Rattle.mailsql.proofs.sheets.add_sheets.Given.{Over}
+use Rattle.mailsql.proofs.sheets.add_sheets.Goals.{After-add_sheet_at}
 use Rattle.mailsql.proofs.sheets.add_sheets.Goals as goal
 
 pub loop-place-init : goal.loop-place-init
@@ -16,63 +18,60 @@ loop-place-init g c = (
       (λ off. c.is_autocommit-settled.ensures.settled (c.is_autocommit-settled.ensures.value ∙ ap not off) ready.0),
 )
 
+-- ---- what every sheet after the first ones meets
+
+-- the first sheets were added
+so_far : (g : Over) (c : After-add_sheet_at g) → HasAdded c.args.mail c.args.text.now c.loop-place.place (state g.S.Store c.args.conn.now) (state g.S.Store c.loop-place.conn)
+so_far g c = subst (λ (m : ℤ). HasAdded m c.args.text.now c.loop-place.place (state g.S.Store c.args.conn.now) (state g.S.Store c.loop-place.conn)) (to_z-of_z c.ranges.mail) c.loop-place.invariant
+
+low : (g : Over) (c : After-add_sheet_at g) → c.loop-place.place < sheet_count c.args.text.now
+low g c = omega (arith, c.loop-place-test.true, c.count_sheets-place-end.ensures)
+
+clean_before : (g : Over) (c : After-add_sheet_at g) → HasCleanDisk (state g.S.Store c.add_sheet_at.new.conn) → HasCleanDisk (state g.S.Store c.loop-place.conn)
+clean_before g c clean = omega (arith, clean, c.add_sheet_at.ensures.survives.clean)
+
+stops : (g : Over) (c : After-add_sheet_at g) → Survives (state g.S.Store c.args.conn.now) (state g.S.Store c.add_sheet_at.new.conn)
+    (MayLeave (AddsSomeSheets c.args.mail c.args.text.now) (state g.S.Store c.args.conn.now))
+stops g c =
+    let n = c.loop-place.place in
+    let inv = so_far g c in
+    stops_between c.args.mail c.args.text.now (state g.S.Store c.args.conn.now) (state g.S.Store c.loop-place.conn) (state g.S.Store c.add_sheet_at.new.conn) n (n + 1) refl (low g c) inv.1 inv.0
+    (simp (to_z-of_z, c.ranges.mail) at c.add_sheet_at.ensures.survives)
+
+-- ---- each exit
+
 pub loop-place-preserved : goal.loop-place-preserved
 loop-place-preserved g c =
-    let s0 = state g.S.Store c.args.conn.now in
-    let s1 = state g.S.Store c.loop-place.conn in
-    let s2 = state g.S.Store c.add_sheet_at.new.conn in
+    let it = (goal.at.loop-place-preserved g c).After-add_sheet_at in
     let mail = c.args.mail in
     let text = c.args.text.now in
     let n = c.loop-place.place in
-    let e : to_z w64 (of_z w64 c.args.mail) ≡ c.args.mail = to_z-of_z c.ranges.mail in
-    let inv = subst (λ (m : ℤ). HasAdded m c.args.text.now c.loop-place.place (state g.S.Store c.args.conn.now) (state g.S.Store c.loop-place.conn)) e c.loop-place.invariant in
-    let low : c.loop-place.place < sheet_count c.args.text.now = omega (arith, c.loop-place-test.true, c.count_sheets-place-end.ensures) in
-    subst (λ (m : ℤ). HasAdded m c.args.text.now (c.loop-place.place + 1) (state g.S.Store c.args.conn.now) (state g.S.Store c.add_sheet_at.new.conn)) (sym e) (
-      stops_between mail text s0 s1 s2 n (n + 1) refl low inv.1 inv.0 (simp (to_z-of_z, c.ranges.mail) at c.add_sheet_at.ensures.survives),
-      λ clean ready.
-          let clean1 : HasCleanDisk s1 = omega (arith, c.add_sheet_at.ensures.survives.clean) in
-          added mail text s0 s1 s2 n (n + 1) refl low (inv.1 clean1 ready) (λ on. simp (to_z-of_z, c.ranges.mail) at (c.in-Ok.ensures.ok clean on)),
+    subst (λ (m : ℤ). HasAdded m c.args.text.now (c.loop-place.place + 1) (state g.S.Store c.args.conn.now) (state g.S.Store c.add_sheet_at.new.conn)) (sym (to_z-of_z c.ranges.mail)) (
+      stops g it,
+      λ clean ready. added mail text (state g.S.Store c.args.conn.now) (state g.S.Store c.loop-place.conn) (state g.S.Store c.add_sheet_at.new.conn) n (n + 1) refl (low g it)
+          ((so_far g it).1 (clean_before g it clean) ready) (λ on. simp (to_z-of_z, c.ranges.mail) at (c.in-Ok.ensures.ok clean on)),
     )
 
 pub returns-in-Err-clause-err : goal.returns-in-Err-clause-err
 returns-in-Err-clause-err g c clean ready inside =
-    let s0 = state g.S.Store c.args.conn.now in
-    let s1 = state g.S.Store c.loop-place.conn in
-    let s2 = state g.S.Store c.add_sheet_at.new.conn in
-    let e : to_z w64 (of_z w64 c.args.mail) ≡ c.args.mail = to_z-of_z c.ranges.mail in
-    let inv = subst (λ (m : ℤ). HasAdded m c.args.text.now c.loop-place.place (state g.S.Store c.args.conn.now) (state g.S.Store c.loop-place.conn)) e c.loop-place.invariant in
-    let clean1 : HasCleanDisk s1 = omega (arith, c.add_sheet_at.ensures.survives.clean) in
-    halts_then (AddsFirstSheets c.loop-place.place c.args.mail c.args.text.now) s0 s1 s2 inside (inv.1 clean1 ready) (c.in-Err.ensures.err clean)
+    let it = (goal.at.returns-in-Err-clause-err g c).After-add_sheet_at in
+    halts_then (AddsFirstSheets c.loop-place.place c.args.mail c.args.text.now) (state g.S.Store c.args.conn.now) (state g.S.Store c.loop-place.conn) (state g.S.Store c.add_sheet_at.new.conn)
+    inside ((so_far g it).1 (clean_before g it clean) ready) (c.in-Err.ensures.err clean)
 
 pub returns-in-Err-clause-cause : goal.returns-in-Err-clause-cause
 returns-in-Err-clause-cause g c clean ready =
-    let s1 = state g.S.Store c.loop-place.conn in
-    let e : to_z w64 (of_z w64 c.args.mail) ≡ c.args.mail = to_z-of_z c.ranges.mail in
-    let inv = subst (λ (m : ℤ). HasAdded m c.args.text.now c.loop-place.place (state g.S.Store c.args.conn.now) (state g.S.Store c.loop-place.conn)) e c.loop-place.invariant in
-    let low : c.loop-place.place < sheet_count c.args.text.now = omega (arith, c.loop-place-test.true, c.count_sheets-place-end.ensures) in
-    let clean1 : HasCleanDisk s1 = omega (arith, c.add_sheet_at.ensures.survives.clean) in
-    (c.loop-place.place, low, (c.loop-place.conn, inv.1 clean1 ready, simp (to_z-of_z, c.ranges.mail) at (c.in-Err.ensures.cause clean)))
+    let it = (goal.at.returns-in-Err-clause-cause g c).After-add_sheet_at in
+    (c.loop-place.place, low g it, (c.loop-place.conn, (so_far g it).1 (clean_before g it clean) ready, simp (to_z-of_z, c.ranges.mail) at (c.in-Err.ensures.cause clean)))
 
 pub returns-in-Err-clause-survives : goal.returns-in-Err-clause-survives
-returns-in-Err-clause-survives g c =
-    let s0 = state g.S.Store c.args.conn.now in
-    let s1 = state g.S.Store c.loop-place.conn in
-    let s2 = state g.S.Store c.add_sheet_at.new.conn in
-    let n = c.loop-place.place in
-    let e : to_z w64 (of_z w64 c.args.mail) ≡ c.args.mail = to_z-of_z c.ranges.mail in
-    let inv = subst (λ (m : ℤ). HasAdded m c.args.text.now c.loop-place.place (state g.S.Store c.args.conn.now) (state g.S.Store c.loop-place.conn)) e c.loop-place.invariant in
-    let low : c.loop-place.place < sheet_count c.args.text.now = omega (arith, c.loop-place-test.true, c.count_sheets-place-end.ensures) in
-    stops_between c.args.mail c.args.text.now s0 s1 s2 n (n + 1) refl low inv.1 inv.0 (simp (to_z-of_z, c.ranges.mail) at c.add_sheet_at.ensures.survives)
+returns-in-Err-clause-survives g c = stops g (goal.at.returns-in-Err-clause-survives g c).After-add_sheet_at
 
 pub returns-clause-ok : goal.returns-clause-ok
 returns-clause-ok g c clean ready =
-    let e : to_z w64 (of_z w64 c.args.mail) ≡ c.args.mail = to_z-of_z c.ranges.mail in
-    let inv = subst (λ (m : ℤ). HasAdded m c.args.text.now c.loop-place.place (state g.S.Store c.args.conn.now) (state g.S.Store c.loop-place.conn)) e c.loop-place.invariant in
+    let inv = subst (λ (m : ℤ). HasAdded m c.args.text.now c.loop-place.place (state g.S.Store c.args.conn.now) (state g.S.Store c.loop-place.conn)) (to_z-of_z c.ranges.mail) c.loop-place.invariant in
     let end : c.loop-place.place ≡ sheet_count c.args.text.now = omega (arith, c.loop-place-test.false, c.loop-place.auto.place-end, c.count_sheets-place-end.ensures) in
     subst (λ (n : ℕ). Changes (AddsFirstSheets n c.args.mail c.args.text.now) (state g.S.Store c.args.conn.now) (state g.S.Store c.loop-place.conn)) end (inv.1 clean ready)
 
 pub returns-clause-survives : goal.returns-clause-survives
 returns-clause-survives g c =
-    let e : to_z w64 (of_z w64 c.args.mail) ≡ c.args.mail = to_z-of_z c.ranges.mail in
-    let inv = subst (λ (m : ℤ). HasAdded m c.args.text.now c.loop-place.place (state g.S.Store c.args.conn.now) (state g.S.Store c.loop-place.conn)) e c.loop-place.invariant in
-    inv.0
+    (subst (λ (m : ℤ). HasAdded m c.args.text.now c.loop-place.place (state g.S.Store c.args.conn.now) (state g.S.Store c.loop-place.conn)) (to_z-of_z c.ranges.mail) c.loop-place.invariant).0

@@ -12,10 +12,21 @@ use Rattle.office.proofs.Accounts.{quitting, not_quitting, state_told}
 use Rattle.office.specs.Output.{OwesReply}
 use Rattle.office.specs.Transaction.{Transaction, transaction_of, GoesOn, session_if, transaction_reply, transaction_asks}
 use Rattle.office.proofs.AfterLines.{err_or_not}
+use Rattle.vault.specs.Changes.{Contents}
+use Rattle.office.specs.Kept.{asks}
+use Rattle.office.specs.Answered.{HasTransaction}
+use Rattle.office.proofs.lines.transaction_answer.Given.{Over}
+use Rattle.office.proofs.lines.transaction_answer.Goals.{After-answer}
 use Rattle.office.proofs.lines.transaction_answer.Goals as goal
 
 pub same-session : goal.same-session
 same-session g c = search rules
+
+-- nothing is asked, if the line asks nothing
+unasked : (g : Over) (c : After-answer g) (d : Contents) (v : Transaction) → HasTransaction d (Some c.args.session) (Some v)
+    → asks c.args.context.policy.now c.args.state.now (Some v) (reading c.args.line.now) ≡ false → c.answer.new.vault ≡ c.args.vault.now
+unasked g c d v sits none =
+    c.answer.ensures.unasked d sits.0 sits.1 (subst (λ (w : Transaction). transaction_asks c.args.context.policy.now w (reading c.args.line.now) ≡ false) sits.2 none)
 
 pub returns-then-is_quit-clause-answered : goal.returns-then-is_quit-clause-answered
 returns-then-is_quit-clause-answered g c d v held clean sits =
@@ -73,13 +84,10 @@ pub returns-then-is_quit-clause-locks : goal.returns-then-is_quit-clause-locks
 returns-then-is_quit-clause-locks g c = search rules
 
 pub returns-in_err-answered-clause-unasked : goal.returns-in_err-answered-clause-unasked
-returns-in_err-answered-clause-unasked g c d v sits none =
-    c.answer.ensures.unasked d sits.0 sits.1 (subst (λ (w : Transaction). transaction_asks c.args.context.policy.now w (reading c.args.line.now) ≡ false) sits.2 none)
+returns-in_err-answered-clause-unasked g c = unasked g (goal.at.returns-in_err-answered-clause-unasked g c).After-answer
 
 pub returns-then-is_quit-clause-unasked : goal.returns-then-is_quit-clause-unasked
-returns-then-is_quit-clause-unasked g c d v sits none =
-    c.answer.ensures.unasked d sits.0 sits.1 (subst (λ (w : Transaction). transaction_asks c.args.context.policy.now w (reading c.args.line.now) ≡ false) sits.2 none)
+returns-then-is_quit-clause-unasked g c = unasked g (goal.at.returns-then-is_quit-clause-unasked g c).After-answer
 
 pub returns-clause-unasked : goal.returns-clause-unasked
-returns-clause-unasked g c d v sits none =
-    c.answer.ensures.unasked d sits.0 sits.1 (subst (λ (w : Transaction). transaction_asks c.args.context.policy.now w (reading c.args.line.now) ≡ false) sits.2 none)
+returns-clause-unasked g c = unasked g (goal.at.returns-clause-unasked g c).After-answer

@@ -11,6 +11,9 @@ use Rattle.office.proofs.Owing.{owes_put}
 use Rattle.vault.proofs.CallLemmas.{looks_none}
 use Rattle.office.proofs.Frames.{acts_looking, acts_once}
 use Rattle.office.proofs.Stopping.{removal_left}
+use Rattle.office.specs.Stopping.{ActsOnce}
+use Rattle.office.proofs.quit.quit.Given.{Over}
+use Rattle.office.proofs.quit.quit.Goals.{Start}
 use Rattle.office.proofs.quit.quit.Goals as goal
 
 pub returns-then-is_empty-clause-done : goal.returns-then-is_empty-clause-done
@@ -75,36 +78,30 @@ returns-in_err-say-in-Err g c = search rules
 pub returns-in-Err-NoMemory-clause-err : goal.returns-in-Err-NoMemory-clause-err
 returns-in-Err-NoMemory-clause-err c = search rules
 
+-- the store wasn't asked yet
+unasked : (g : Over) (c : Start g) {Own : Type 0} → ActsOnce g.V.Vault c.args.vault.now c.args.vault.now Own (without_marked c.args.policy.now c.args.session.now)
+unasked g c = acts_looking (without_marked c.args.policy.now c.args.session.now) (looks_none g.V.Vault c.args.vault.now (g.met.V.Vault.settled c.args.vault.now))
+
 pub returns-in_err-keys-clause-acts : goal.returns-in_err-keys-clause-acts
-returns-in_err-keys-clause-acts g c = acts_looking (without_marked c.args.policy.now c.args.session.now)
-    (looks_none g.V.Vault c.args.vault.now (g.met.V.Vault.settled c.args.vault.now))
+returns-in_err-keys-clause-acts g c = unasked g (goal.at.returns-in_err-keys-clause-acts g c).Start
 
 pub returns-in_err-reserve-clause-acts : goal.returns-in_err-reserve-clause-acts
-returns-in_err-reserve-clause-acts g c = acts_looking (without_marked c.args.policy.now c.args.session.now)
-    (looks_none g.V.Vault c.args.vault.now (g.met.V.Vault.settled c.args.vault.now))
+returns-in_err-reserve-clause-acts g c = unasked g (goal.at.returns-in_err-reserve-clause-acts g c).Start
 
 pub returns-in_err-say-clause-acts : goal.returns-in_err-say-clause-acts
-returns-in_err-say-clause-acts g c = acts_looking (without_marked c.args.policy.now c.args.session.now)
-    (looks_none g.V.Vault c.args.vault.now (g.met.V.Vault.settled c.args.vault.now))
+returns-in_err-say-clause-acts g c = unasked g (goal.at.returns-in_err-say-clause-acts g c).Start
 
 pub returns-then-is_empty-clause-acts : goal.returns-then-is_empty-clause-acts
-returns-then-is_empty-clause-acts g c = acts_looking (without_marked c.args.policy.now c.args.session.now)
-    (looks_none g.V.Vault c.args.vault.now (g.met.V.Vault.settled c.args.vault.now))
+returns-then-is_empty-clause-acts g c = unasked g (goal.at.returns-then-is_empty-clause-acts g c).Start
 
 pub returns-in-Ok-clause-acts : goal.returns-in-Ok-clause-acts
-returns-in-Ok-clause-acts g c = acts_once g.V.Vault (without_marked c.args.policy.now c.args.session.now)
-    c.in-Ok.ensures.commits (λ own. tt)
-    (λ left d. removal_left left d c.args.policy.now c.args.session.now _ _ c.maildrop.ensures
-    (c.deref.ensures.value ∙ c.in_ok-keys.ensures.keys))
+returns-in-Ok-clause-acts g c = acts_once g.V.Vault (without_marked c.args.policy.now c.args.session.now) c.in-Ok.ensures.commits (λ own. tt)
+    (λ left d. removal_left left d c.args.policy.now c.args.session.now _ _ c.maildrop.ensures (c.deref.ensures.value ∙ c.in_ok-keys.ensures.keys))
 
 pub returns-in-Err-NoMemory-clause-acts : goal.returns-in-Err-NoMemory-clause-acts
-returns-in-Err-NoMemory-clause-acts g c = acts_once g.V.Vault (without_marked c.args.policy.now c.args.session.now)
-    c.in-Err-NoMemory.ensures.commits (λ none. absurd none)
-    (λ left d. removal_left left d c.args.policy.now c.args.session.now _ _ c.maildrop.ensures
-    (c.deref.ensures.value ∙ c.in_ok-keys.ensures.keys))
+returns-in-Err-NoMemory-clause-acts g c = acts_once g.V.Vault (without_marked c.args.policy.now c.args.session.now) c.in-Err-NoMemory.ensures.commits (λ none. absurd none)
+    (λ left d. removal_left left d c.args.policy.now c.args.session.now _ _ c.maildrop.ensures (c.deref.ensures.value ∙ c.in_ok-keys.ensures.keys))
 
 pub returns-clause-acts : goal.returns-clause-acts
-returns-clause-acts g c = acts_once g.V.Vault (without_marked c.args.policy.now c.args.session.now)
-    c.in-Err.ensures.commits (λ none. absurd none)
-    (λ left d. removal_left left d c.args.policy.now c.args.session.now _ _ c.maildrop.ensures
-    (c.deref.ensures.value ∙ c.in_ok-keys.ensures.keys))
+returns-clause-acts g c = acts_once g.V.Vault (without_marked c.args.policy.now c.args.session.now) c.in-Err.ensures.commits (λ none. absurd none)
+    (λ left d. removal_left left d c.args.policy.now c.args.session.now _ _ c.maildrop.ensures (c.deref.ensures.value ∙ c.in_ok-keys.ensures.keys))

@@ -46,6 +46,6 @@ returns-clause-served g c = λ T k clean.
     let opened = opened_by c.args.options.now c.args.boot T in
     let w = c.serve-served.ensures.served opened stands clean_served in (
       trace_of T.base (w.given ++ opened.log),
-      Opened w.given w.admitted,
-      keeps_so _ _ (trace_of T.base (w.given ++ opened.log)) (λ b h. subst (λ v. g.V.Vault.holds v b) (sym back) h.inside) w.stands.keeps,
+      Opened w.given w.served.admitted,
+      keeps_so _ _ (trace_of T.base (w.given ++ opened.log)) (λ b h. subst (λ v. g.V.Vault.holds v b) (sym back) h.inside) w.served.stands.keeps,
     ))

@@ -6,7 +6,7 @@ use Rattle.serving.proofs.pace.note_guess.Goals as goal
 
 pub returns-then-refusals-before-clause-keeps : goal.returns-then-refusals-before-clause-keeps
 returns-then-refusals-before-clause-keeps g c =
-    let old = c.args.links.now in
+    let old = c.args.clients.now in
     record {
       keeps = record {
         keeps = record {
@@ -18,13 +18,13 @@ returns-then-refusals-before-clause-keeps g c =
         seats = refl;
       };
       newcomers = refl;
-      freed = refl;
+      lock_released = refl;
       poll_now = refl;
     }
 
 pub returns-then-is_logged_in-clause-keeps : goal.returns-then-is_logged_in-clause-keeps
 returns-then-is_logged_in-clause-keeps g c =
-    let old = c.args.links.now in
+    let old = c.args.clients.now in
     record {
       keeps = record {
         keeps = record {
@@ -36,6 +36,6 @@ returns-then-is_logged_in-clause-keeps g c =
         seats = refl;
       };
       newcomers = refl;
-      freed = refl;
+      lock_released = refl;
       poll_now = refl;
     }

@@ -6,7 +6,7 @@ use Rattle.serving.proofs.Requesting.{asked_one, comes_to}
 use Rattle.serving.specs.HttpParts.{ComeTo}
 use Rattle.std.proofs.Common.{Some, ◌∷◌, []}
 use Rattle.serving.specs.Hearing.{HeardApart, heard_of_all}
-use Rattle.serving.proofs.Hearing.{told_same, told_still, command_told}
+use Rattle.serving.proofs.Hearing.{hears_same, hears_still, hears_command}
 use Rattle.serving.proofs.Quieting.{gives_command}
 use Rattle.office.specs.Events as event
 use Rattle.office.specs.Outcomes.{event_tag_of}
@@ -19,7 +19,7 @@ returns-clause-asked g c = λ site B L read stands asks clean.
     asked_one g.V.Vault.holds site B L read c.step_with_account-report.new.self (lent_by c.args.office.now) (command_seen c.args.command.now)
     (outcome_seen c.step_with_account-report.result.outcome) (octets_of c.response_to-response.result.0)
     (c.step_with_account-report.ensures.outcome now stands clean) (c.step_with_account-report.ensures.stands now stands clean)
-    (c.step_with_account-report.ensures.admitted now stands clean) asks c.response_to-response.ensures.told)
+    (c.step_with_account-report.ensures.admitted now stands clean) asks c.response_to-response.ensures.response)
 
 pub returns-clause-works : goal.returns-clause-works
 returns-clause-works g c = λ site read asks.
@@ -29,18 +29,18 @@ returns-clause-works g c = λ site read asks.
     let seen = command_seen c.args.command.now in
     let response = octets_of c.response_to-response.result.0 in
     let l = c.args.listener.now in
-    let l1 = c.tell_end.new.listener in
-    let l2 = c.asked.new.self in
+    let l1 = c.report_end.new.listener in
+    let l2 = c.on_request.new.self in
     let told = c.step_with_account-report.result.account in
-    gives_command g.V.Vault.holds g.V.Vault.is_clean g.V.Vault.faults g.V.Vault.is_up g.V.Vault.may_leave o o1 seen (event_tag_of out)
+    gives_command g.V.Vault o o1 seen (event_tag_of out)
     (HeardApart g.L.Listener.heard l l2 (ComeTo site read (Some response)))
-    (given_one g.V.Vault.holds g.V.Vault.is_clean g.V.Vault.faults g.V.Vault.is_up g.V.Vault.may_leave o o1
+    (given_one g.V.Vault o o1
     (event.Admin seen) out c.step_with_account-report.ensures.clean c.step_with_account-report.ensures.stands
     c.step_with_account-report.ensures.admitted c.step_with_account-report.ensures.counted c.step_with_account-report.ensures.cause
     c.step_with_account-report.ensures.up c.step_with_account-report.ensures.stop)
     (λ B L stands clean. (
-      told_still g.L.Listener.heard l l1 l2 (heard_of_all B L ((event.Admin seen, event_tag_of out) ∷ []))
-          (command_told g.L.Listener.heard l l1 B L seen (event_tag_of out) told (c.step_with_account-report.ensures.account (trace_of B L) stands clean) c.tell_end.ensures)
-          (told_same g.L.Listener.heard l1 l2 c.asked.ensures.told),
-      comes_to site B L read (lent_by o) seen out response (c.step_with_account-report.ensures.outcome (trace_of B L) stands clean) (asks B L stands) c.response_to-response.ensures.told,
+      hears_still g.L.Listener.heard l l1 l2 (heard_of_all B L ((event.Admin seen, event_tag_of out) ∷ []))
+          (hears_command g.L.Listener.heard l l1 B L seen (event_tag_of out) told (c.step_with_account-report.ensures.account (trace_of B L) stands clean) c.report_end.ensures)
+          (hears_same g.L.Listener.heard l1 l2 c.on_request.ensures.heard),
+      comes_to site B L read (lent_by o) seen out response (c.step_with_account-report.ensures.outcome (trace_of B L) stands clean) (asks B L stands) c.response_to-response.ensures.response,
     )))

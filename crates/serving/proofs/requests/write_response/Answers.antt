@@ -2,12 +2,12 @@ use Rattle.std.proofs.Common.{rules, ◌≡◌, ◌≤◌, ◌==◌, ◌+◌, �
 use Rattle.std.specs.Bool.{if◌then◌else◌}
 use Rattle.serving.specs.Parts.{PollsBy}
 use Rattle.serving.specs.Works.{is_moving}
-use Rattle.serving.specs.HttpParts.{Tells}
-use Rattle.serving.specs.HttpWorks.{HasTold}
+use Rattle.serving.specs.HttpParts.{Writes}
+use Rattle.serving.specs.HttpWorks.{HasWritten}
 use Rattle.serving.proofs.Quieting.{asks_none, asks_then, asks_so}
-use Rattle.serving.proofs.HttpWorking.{told_more, told_ended, told_share, told_often, written_once}
+use Rattle.serving.proofs.HttpWorking.{response_more, response_ended, response_share, response_often, written_once}
 use Rattle.serving.proofs.Working.{any_right}
-use Rattle.serving.proofs.Resting.{TellsSoFar, told_moved, polled_same, polled_moved}
+use Rattle.serving.proofs.Resting.{WritesSoFar, written_moved, polled_same, polled_moved}
 use Rattle.serving.proofs.requests.write_response.Goals as goal
 
 pub loop-times-init : goal.loop-times-init
@@ -18,7 +18,7 @@ loop-times-init g c =
       keeps = record { link = refl; since = refl };
       heard = λ h k. k;
       works =
-          asks_none g.W.Wire.asked c.args.wire.now (TellsSoFar e e 0 0) (inl (refl, refl, refl, refl), λ h. absurd (omega (arith, h)));
+          asks_none g.W.Wire.asked c.args.wire.now (WritesSoFar e e 0 0) (inl (refl, refl, refl, refl), λ h. absurd (omega (arith, h)));
     }
 
 pub loop-times-preserved : goal.loop-times-preserved
@@ -37,11 +37,11 @@ loop-times-preserved g c =
       answers = λ y B start L pop others s. x.ensures.answers y B start L pop others (k.invariant.answers y B start L pop others s);
       keeps = record { link = x.ensures.keeps.link ∙ k.invariant.keeps.link; since = x.ensures.keeps.since ∙ k.invariant.keeps.since };
       heard = λ h q. x.ensures.heard h (k.invariant.heard h q);
-      works = asks_then g.W.Wire.asked c.args.wire.now k.wire x.new.wire (TellsSoFar e e1 k._times k.written)
-          (Tells e1 e2 (if n == 0 then 0 else 1) n (not (n == 0))) (TellsSoFar e e2 (k._times + 1) sum)
+      works = asks_then g.W.Wire.asked c.args.wire.now k.wire x.new.wire (WritesSoFar e e1 k._times k.written)
+          (Writes e1 e2 (if n == 0 then 0 else 1) n (not (n == 0))) (WritesSoFar e e2 (k._times + 1) sum)
           (λ c1 c2 a b. (
-            inr (told_more e e1 e2 k._times (if n == 0 then 0 else 1) k.written n (k._times + 1) sum c1 c2 (omega (arith, one)) fits a.0 b.is),
-            λ h. any_right is_moving c1 c2 (told_moved e1 e2 (if n == 0 then 0 else 1) n c2 some b.is),
+            inr (response_more e e1 e2 k._times (if n == 0 then 0 else 1) k.written n (k._times + 1) sum c1 c2 (omega (arith, one)) fits a.0 b.is),
+            λ h. any_right is_moving c1 c2 (written_moved e1 e2 (if n == 0 then 0 else 1) n c2 some b.is),
           )) k.invariant.works x.ensures.works;
     }
 
@@ -54,9 +54,9 @@ returns-then-count-eq0-clause-works g c =
     let e1 = k.exchange in
     let e2 = x.new.exchange in
     let none : (n == 0) ≡ true = search rules in
-    asks_then g.W.Wire.asked c.args.wire.now k.wire x.new.wire (TellsSoFar e e1 k._times k.written)
-    (Tells e1 e2 (if n == 0 then 0 else 1) n (not (n == 0))) (λ cs. HasTold e e2 cs × PollsBy false false cs)
-    (λ c1 c2 a b. (told_ended e e1 e2 k._times (if n == 0 then 0 else 1) k.written n c1 c2 a.0 b.is (b.ends (ap not none)), polled_same false (c1 ++ c2))) k.invariant.works x.ensures.works
+    asks_then g.W.Wire.asked c.args.wire.now k.wire x.new.wire (WritesSoFar e e1 k._times k.written)
+    (Writes e1 e2 (if n == 0 then 0 else 1) n (not (n == 0))) (λ cs. HasWritten e e2 cs × PollsBy false false cs)
+    (λ c1 c2 a b. (response_ended e e1 e2 k._times (if n == 0 then 0 else 1) k.written n c1 c2 a.0 b.is (b.ends (ap not none)), polled_same false (c1 ++ c2))) k.invariant.works x.ensures.works
 
 pub returns-then-written-ge-SHARE-clause-works : goal.returns-then-written-ge-SHARE-clause-works
 returns-then-written-ge-SHARE-clause-works g c =
@@ -70,11 +70,11 @@ returns-then-written-ge-SHARE-clause-works g c =
     let fits : sum ≤ k.written + n = search rules in
     let enough : 16384 ≤ sum = search rules in
     let some : (n == 0) ≡ false = search rules in
-    asks_then g.W.Wire.asked c.args.wire.now k.wire x.new.wire (TellsSoFar e e1 k._times k.written)
-    (Tells e1 e2 (if n == 0 then 0 else 1) n (not (n == 0))) (λ cs. HasTold e e2 cs × PollsBy false true cs)
+    asks_then g.W.Wire.asked c.args.wire.now k.wire x.new.wire (WritesSoFar e e1 k._times k.written)
+    (Writes e1 e2 (if n == 0 then 0 else 1) n (not (n == 0))) (λ cs. HasWritten e e2 cs × PollsBy false true cs)
     (λ c1 c2 a b. (
-      told_share e e1 e2 k._times (if n == 0 then 0 else 1) k.written n c1 c2 (omega (arith, fits, enough)) a.0 b.is,
-      polled_moved false true (c1 ++ c2) (any_right is_moving c1 c2 (told_moved e1 e2 (if n == 0 then 0 else 1) n c2 some b.is)),
+      response_share e e1 e2 k._times (if n == 0 then 0 else 1) k.written n c1 c2 (omega (arith, fits, enough)) a.0 b.is,
+      polled_moved false true (c1 ++ c2) (any_right is_moving c1 c2 (written_moved e1 e2 (if n == 0 then 0 else 1) n c2 some b.is)),
     )) k.invariant.works x.ensures.works
 
 pub returns-clause-works : goal.returns-clause-works
@@ -82,5 +82,5 @@ returns-clause-works g c =
     let k = c.loop-times in
     let e = c.args.exchange.now in
     let h : 64 ≤ k._times = search rules in
-    asks_so g.W.Wire.asked c.args.wire.now k.wire (TellsSoFar e k.exchange k._times k.written) (λ cs. HasTold e k.exchange cs × PollsBy false true cs)
-    (λ cs a. (told_often e k.exchange k._times k.written cs h a.0, polled_moved false true cs (a.1 (omega (arith, h))))) k.invariant.works
+    asks_so g.W.Wire.asked c.args.wire.now k.wire (WritesSoFar e k.exchange k._times k.written) (λ cs. HasWritten e k.exchange cs × PollsBy false true cs)
+    (λ cs a. (response_often e k.exchange k._times k.written cs h a.0, polled_moved false true cs (a.1 (omega (arith, h))))) k.invariant.works

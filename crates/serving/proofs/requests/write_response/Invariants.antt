@@ -3,7 +3,7 @@ use Rattle.std.proofs.Common.{List}
 use Rattle.serving.specs.Hearing.{Hearing}
 use Rattle.serving.specs.Parts.{Asking}
 use Rattle.serving.specs.HttpParts.{AskedApart, KeepsLink}
-use Rattle.serving.proofs.Resting.{TellsSoFar}
+use Rattle.serving.proofs.Resting.{WritesSoFar}
 use Rattle.serving.proofs.requests.write_response.Given as goal
 
 abbrev pub invariant-loop-times : goal.invariant-loop-times
@@ -11,5 +11,5 @@ invariant-loop-times g l = record {
   answers : StillAnswers g.W.Wire.tells l.fn.wire l.fn.exchange l.wire l.exchange;
   keeps : KeepsLink l.fn.exchange l.exchange;
   heard : (h : List Hearing) → g.L.Listener.heard l.fn.listener h → g.L.Listener.heard l.listener h;
-  works : Asking g.W.Wire.asked l.fn.wire l.wire (AskedApart (TellsSoFar l.fn.exchange l.exchange l._times l.written));
+  works : Asking g.W.Wire.asked l.fn.wire l.wire (AskedApart (WritesSoFar l.fn.exchange l.exchange l._times l.written));
 }

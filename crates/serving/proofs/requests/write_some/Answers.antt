@@ -9,8 +9,8 @@ use Rattle.std.proofs.Common.{◌<◌, ◌+◌, ◌==◌, not, nat_le, true, Non
 use Rattle.std.specs.Bool.{if◌then◌else◌}
 use Rattle.serving.specs.declared.wire.Port.TheVariants.{Admin}
 use Rattle.serving.specs.Calls.{Wrote}
-use Rattle.serving.specs.HttpParts.{Tells}
-use Rattle.serving.proofs.HttpWorking.{told_over, told_no_response, told_whole, told_some, told_later, told_cut}
+use Rattle.serving.specs.HttpParts.{Writes}
+use Rattle.serving.proofs.HttpWorking.{response_over, response_none, response_whole, response_some, response_later, response_cut}
 use Rattle.serving.proofs.requests.write_some.Goals as goal
 
 pub returns-in-Count-clause-answers : goal.returns-in-Count-clause-answers
@@ -59,19 +59,19 @@ pub returns-then-exchange-clause-works : goal.returns-then-exchange-clause-works
 returns-then-exchange-clause-works g c =
     let e = c.args.exchange.now in
     let over : e.is_over ≡ true = search rules in
-    asks_none g.W.Wire.asked c.args.wire.now (Tells e e 0 0 false) (told_over e over)
+    asks_none g.W.Wire.asked c.args.wire.now (Writes e e 0 0 false) (response_over e over)
 
 pub returns-in_default-clause-works : goal.returns-in_default-clause-works
 returns-in_default-clause-works g c =
     let e = c.args.exchange.now in
     let none : e.response ≡ None = search rules in
-    asks_none g.W.Wire.asked c.args.wire.now (Tells e e 0 0 false) (told_no_response e none)
+    asks_none g.W.Wire.asked c.args.wire.now (Writes e e 0 0 false) (response_none e none)
 
 pub returns-then-exchange-whole-clause-works : goal.returns-then-exchange-whole-clause-works
 returns-then-exchange-whole-clause-works g c =
     let e = c.args.exchange.now in
     let h : length (octets_of c.in-Some.response) ≤ e.written = search rules in
-    asks_none g.W.Wire.asked c.args.wire.now (Tells e _ 0 0 false) (told_whole e _ c.in-Some.response c.in-Some.is refl refl refl refl refl h)
+    asks_none g.W.Wire.asked c.args.wire.now (Writes e _ 0 0 false) (response_whole e _ c.in-Some.response c.in-Some.is refl refl refl refl refl h)
 
 pub returns-in-Count-clause-works : goal.returns-in-Count-clause-works
 returns-in-Count-clause-works g c =
@@ -84,8 +84,8 @@ returns-in-Count-clause-works g c =
     let fits : n ≤ length (take 16384 whole) = subst (λ xs. n ≤ length xs) is c.in-Count.ensures.within.1 in
     let goes : e.is_over ≡ false = search rules in
     asks_one g.W.Wire.asked c.args.wire.now c.write.new.self (Wrote Admin e.link (length part) (Count n) (take n part))
-    (Tells e _ (if n == 0 then 0 else 1) n (not (n == 0))) (quiet_wrote e.link (length part) (Count n) (take n part))
-    (told_some e _ r (length part) n (take n part) c.in-Some.is goes c.in-Count.ensures.within.0 (ap length is)
+    (Writes e _ (if n == 0 then 0 else 1) n (not (n == 0))) (quiet_wrote e.link (length part) (Count n) (take n part))
+    (response_some e _ r (length part) n (take n part) c.in-Some.is goes c.in-Count.ensures.within.0 (ap length is)
     (ap (take n) is ∙ front_of_front n 16384 whole fits) refl refl refl refl (ap (λ xs. nat_le (length xs) (e.written + n)) c.octets-octets.ensures))
     c.in-Count.ensures.called
 
@@ -96,8 +96,8 @@ returns-in-Later-clause-works g c =
     let less : e.written < length (octets_of c.in-Some.response) = search rules in
     let part = c.part_of-part.result.now in
     let is : part ≡ take 16384 (drop e.written (octets_of c.in-Some.response)) = c.part_of-part.ensures ∙ ap (λ xs. take 16384 (drop e.written xs)) c.octets-octets.ensures in
-    asks_one g.W.Wire.asked c.args.wire.now c.write.new.self (Wrote Admin e.link (length part) Later []) (Tells e e 0 0 false) (quiet_wrote e.link (length part) Later [])
-    (told_later e c.in-Some.response (length part) c.in-Some.is goes less (ap length is)) c.in-Later.ensures.called
+    asks_one g.W.Wire.asked c.args.wire.now c.write.new.self (Wrote Admin e.link (length part) Later []) (Writes e e 0 0 false) (quiet_wrote e.link (length part) Later [])
+    (response_later e c.in-Some.response (length part) c.in-Some.is goes less (ap length is)) c.in-Later.ensures.called
 
 pub returns-in-End-clause-works : goal.returns-in-End-clause-works
 returns-in-End-clause-works g c =
@@ -108,5 +108,5 @@ returns-in-End-clause-works g c =
     let is : part ≡ take 16384 (drop e.written (octets_of c.in-Some.response)) = c.part_of-part.ensures ∙ ap (λ xs. take 16384 (drop e.written xs)) c.octets-octets.ensures in
     let fault : is_fault io ≡ true = search rules in
     let goes : e.is_over ≡ false = search rules in
-    asks_one g.W.Wire.asked c.args.wire.now c.write.new.self (Wrote Admin e.link (length part) io octets) (Tells e _ 0 0 false) (quiet_wrote e.link (length part) io octets)
-    (told_cut e _ c.in-Some.response (length part) io octets c.in-Some.is goes fault (ap length is) refl refl refl refl refl) c.write.ensures.called
+    asks_one g.W.Wire.asked c.args.wire.now c.write.new.self (Wrote Admin e.link (length part) io octets) (Writes e _ 0 0 false) (quiet_wrote e.link (length part) io octets)
+    (response_cut e _ c.in-Some.response (length part) io octets c.in-Some.is goes fault (ap length is) refl refl refl refl refl) c.write.ensures.called

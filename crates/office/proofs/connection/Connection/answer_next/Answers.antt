@@ -14,13 +14,21 @@ use Rattle.office.specs.declared.account.LineReport.{LineReport}
 use Rattle.office.specs.declared.login_state.LineOutcome.TheVariants as outcome
 use Rattle.office.proofs.Obeying.{if_ok_so}
 use Rattle.office.proofs.AfterLines.{is_whole, asks_next, acts_next, next_answered, next_none}
+use Rattle.office.proofs.connection.Connection.answer_next.Given.{Over}
+use Rattle.office.proofs.connection.Connection.answer_next.Goals.{After-clear}
 use Rattle.office.proofs.connection.Connection.answer_next.Goals as goal
+
+-- what is kept of the connection, by its fields
+abbrev kept : (g : Over) → After-clear g → Kept
+kept g c =
+    let s = c.self.inside in
+    record { held = s.cutter; pending = drop s.cut s.pending.items; output = s.output; state = s.state; stamp = string_bytes s.stamp; session = s.session; clock = s.clock }
 
 pub returns-clause-answered : goal.returns-clause-answered
 returns-clause-answered g c =
     let v = c.self.view_is in
     let s = c.self.inside in
-    let k : Kept = record { held = s.cutter; pending = drop s.cut s.pending.items; output = s.output; state = s.state; stamp = string_bytes s.stamp; session = s.session; clock = s.clock } in
+    let k = kept g (goal.at.returns-clause-answered g c).After-clear in
     let p = c.args.policy.now in
     let locks = c.args.locks.now in
     let x = cut_seen c.in-Some.cut in
@@ -38,7 +46,7 @@ returns-clause-answered g c =
 pub returns-in_default-clause-answered : goal.returns-in_default-clause-answered
 returns-in_default-clause-answered g c d t held clean sits =
     let s = c.self.inside in
-    let k : Kept = record { held = s.cutter; pending = drop s.cut s.pending.items; output = s.output; state = s.state; stamp = string_bytes s.stamp; session = s.session; clock = s.clock } in
+    let k = kept g (goal.at.returns-in_default-clause-answered g c).After-clear in
     subst (λ (k : Kept). AfterNext (g.V.Vault.holds c.args.vault.now)
     (has_grown (g.V.Vault.faults c.args.vault.now) (g.V.Vault.faults c.args.vault.now)) d c.args.policy.now c.args.locks.now t k
     (record { held = s.cutter; pending = drop s.cut s.pending.items; output = c.clear.new.self; state = s.state; stamp = string_bytes s.stamp; session = s.session; clock = s.clock })
@@ -47,14 +55,12 @@ returns-in_default-clause-answered g c d t held clean sits =
 
 pub returns-clause-err : goal.returns-clause-err
 returns-clause-err g c =
-    let s = c.self.inside in
-    let k : Kept = record { held = s.cutter; pending = drop s.cut s.pending.items; output = s.output; state = s.state; stamp = string_bytes s.stamp; session = s.session; clock = s.clock } in
+    let k = kept g (goal.at.returns-clause-err g c).After-clear in
     on_err_weaker c.answer.result (λ none. (ap (λ (k : Kept). k.held.whole) (sym c.self.view_is) ∙ is_whole k (cut_seen c.in-Some.cut) c.in-Some.ensures, none)) c.answer.ensures.err
 
 pub returns-clause-acts : goal.returns-clause-acts
 returns-clause-acts g c =
-    let s = c.self.inside in
-    let k : Kept = record { held = s.cutter; pending = drop s.cut s.pending.items; output = s.output; state = s.state; stamp = string_bytes s.stamp; session = s.session; clock = s.clock } in
+    let k = kept g (goal.at.returns-clause-acts g c).After-clear in
     let p = c.args.policy.now in
     subst (λ (k : Kept). ActsOnce g.V.Vault c.args.vault.now c.answer.new.vault (IsOkAnd c.answer.result (λ (r : LineReport). WasDone r.outcome))
     (held_if k.held.whole outcome.Done p k.session (reading (line_of k)))) c.self.view_is
@@ -63,8 +69,7 @@ returns-clause-acts g c =
 pub returns-clause-unasked : goal.returns-clause-unasked
 returns-clause-unasked g c d t sits none =
     let v = c.self.view_is in
-    let s = c.self.inside in
-    let k : Kept = record { held = s.cutter; pending = drop s.cut s.pending.items; output = s.output; state = s.state; stamp = string_bytes s.stamp; session = s.session; clock = s.clock } in
+    let k = kept g (goal.at.returns-clause-unasked g c).After-clear in
     let p = c.args.policy.now in
     let asked = subst (λ (k : Kept). k.held.whole ≡ true → asks p k.state t (reading (line_of k)) ≡ false) (sym v) none in
     c.answer.ensures.unasked d t (subst (λ (k : Kept). HasTransaction d k.session t) (sym v) sits) (asks_next k (cut_seen c.in-Some.cut) c.in-Some.ensures p t asked)

@@ -1,11 +1,11 @@
-use Rattle.std.proofs.Common.{◌≡◌, true, false, Some, None, sym, ◌∙◌, subst, refl, nat_cmp}
-use Rattle.std.specs.BTreeMap.{get}
+use Rattle.std.proofs.Common.{◌≡◌, true, false, sym, ◌∙◌, refl}
 use Rattle.office.specs.Replying.{is_empty}
 use Rattle.office.specs.Kept.{Kept}
 use Rattle.office.specs.Trace.{is_open}
-use Rattle.office.specs.Stands.{Matches, IsOver, IsKeptFor, seen, untaken_of}
+use Rattle.office.specs.Stands.{seen, untaken_of}
 use Rattle.office.proofs.Owing.{some_owed}
 use Rattle.office.proofs.MeetingLocks.{brought_so}
+use Rattle.office.proofs.AfterEvents.{kept_at, closed_at}
 use Rattle.office.proofs.office.Office.login_brought.Goals as goal
 
 pub returns : goal.returns
@@ -13,19 +13,14 @@ returns g c T st =
     let n = c.args.c in
     let k : Kept = c.in-Some.connection.now in
     let ct = st.keeps.contents in
-    let found : get nat_cmp c.args.self.now.connections n ≡ Some k = sym c.in-Some.ensures.value in
-    let m : Matches ct (seen T n) k = subst (IsKeptFor ct (seen T n)) found (st.connections n) in
+    let m = kept_at T n st k (sym c.in-Some.ensures.value) in
     let nothing = c.owes_nothing.ensures.nothing c.if-not-owes_nothing.false in
     let p = c.args.piece.now in
     c.coming_login.ensures ∙ brought_so ct T n p k m nothing
 
 pub returns-in_default : goal.returns-in_default
 returns-in_default g c T st =
-    let n = c.args.c in
-    let ct = st.keeps.contents in
-    let found : get nat_cmp c.args.self.now.connections n ≡ None = sym c.in_default.ensures.value in
-    let over : IsOver (seen T n) = subst (IsKeptFor ct (seen T n)) found (st.connections n) in
-    let closed : is_open T n ≡ false = over.closed in
+    let closed = closed_at T c.args.c st (sym c.in_default.ensures.value) in
     rw closed refl
 
 pub returns-then-not-owes_nothing : goal.returns-then-not-owes_nothing
@@ -34,8 +29,7 @@ returns-then-not-owes_nothing g c T st =
     let s = seen T n in
     let k : Kept = c.in-Some.connection.now in
     let ct = st.keeps.contents in
-    let found : get nat_cmp c.args.self.now.connections n ≡ Some k = sym c.in-Some.ensures.value in
-    let m : Matches ct s k = subst (IsKeptFor ct s) found (st.connections n) in
+    let m = kept_at T n st k (sym c.in-Some.ensures.value) in
     let opened : is_open T n ≡ true = m.opened in
     let owes = sym c.owes_nothing.ensures.value ∙ c.if-not-owes_nothing.true in
     let some : is_empty (untaken_of s) ≡ false =

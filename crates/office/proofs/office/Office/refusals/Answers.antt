@@ -1,8 +1,8 @@
-use Rattle.std.proofs.Common.{◌≡◌, true, false, Some, None, sym, ◌∙◌, subst, refl, nat_cmp}
-use Rattle.std.specs.BTreeMap.{get}
+use Rattle.std.proofs.Common.{◌≡◌, true, sym, ◌∙◌, refl}
 use Rattle.office.specs.Kept.{Kept}
 use Rattle.office.specs.Trace.{is_open}
-use Rattle.office.specs.Stands.{Matches, IsOver, IsKeptFor, seen}
+use Rattle.office.specs.Stands.{seen}
+use Rattle.office.proofs.AfterEvents.{kept_at, closed_at}
 use Rattle.office.proofs.office.Office.refusals.Goals as goal
 
 pub returns-in-Some : goal.returns-in-Some
@@ -11,17 +11,12 @@ returns-in-Some g c T st =
     let s = seen T n in
     let k : Kept = c.in-Some.connection.now in
     let ct = st.keeps.contents in
-    let found : get nat_cmp c.args.self.now.connections n ≡ Some k = sym c.in-Some.ensures.value in
-    let m : Matches ct s k = subst (IsKeptFor ct s) found (st.connections n) in
+    let m = kept_at T n st k (sym c.in-Some.ensures.value) in
     let opened : is_open T n ≡ true = m.opened in
     let counted = c.refusals.ensures ∙ m.failures in
     rw opened counted
 
 pub returns-in-None : goal.returns-in-None
 returns-in-None g c T st =
-    let n = c.args.c in
-    let ct = st.keeps.contents in
-    let found : get nat_cmp c.args.self.now.connections n ≡ None = sym c.in-None.ensures.value in
-    let over : IsOver (seen T n) = subst (IsKeptFor ct (seen T n)) found (st.connections n) in
-    let closed : is_open T n ≡ false = over.closed in
+    let closed = closed_at T c.args.c st (sym c.in-None.ensures.value) in
     rw closed refl

@@ -16,20 +16,20 @@ use Rattle.serving.proofs.Accepting.{Comes, IsRefusal, comes, owned_at, owned_st
 use Rattle.serving.specs.declared.wire.Port.TheVariants.{Pop}
 use Rattle.serving.specs.Calls.{Accepted, Closed}
 use Rattle.serving.proofs.Working.{given_one, asked_one, asked_then}
-use Rattle.serving.proofs.Hearing.{told_same}
+use Rattle.serving.proofs.Hearing.{hears_same}
 use Rattle.serving.proofs.Arriving.{done_mark, refusal_so, accepted_full, accepted_none, accepted_seated, accepted_unseated}
 use Rattle.serving.proofs.Composing.{set_same, does_none, does_call}
 use Rattle.serving.proofs.Newly.{noted_none, noted_one}
 use Rattle.serving.proofs.server.Server.accept_link.Goals as goal
 
 pub returns-in-Some-number-clause-serves : goal.returns-in-Some-number-clause-serves
-returns-in-Some-number-clause-serves g c = λ T beside s clean.
+returns-in-Some-number-clause-serves g c = λ T elsewhere s clean.
     (let now = trace_of T.base s.log in
     let o = outcome_seen c.step.result in
     let link = c.in-Some.link in
     let connection = c.in-Some-number.connection in
     let seats = c.args.clients.now.seats.items in
-    let accepted = c.in-Some.ensures.told (record { pop = s.told; admin = beside.admin }) s.tells in
+    let accepted = c.in-Some.ensures.told (record { pop = s.told; admin = elsewhere.admin }) s.tells in
     let e : opened_by o ≡ Some connection = sym c.opened-number.ensures ∙ c.in-Some-number.is in
     let k = subst (Comes s.log o) {y = Some connection} e (comes now (lent_by c.args.self.now.office) o (c.step.ensures.outcome now s.stands clean)) in
     let after = owned_at s.told.accepted (next_number s.log) s.owner in
@@ -47,14 +47,14 @@ returns-in-Some-number-clause-serves g c = λ T beside s clean.
           (opened_before s.told s.owner T.base s.log connection k.1 s.served) own
           (subst (λ m. Frame T.base s.log ((event.Connect, m) ∷ s.log) connection) (sym k.0)
           (subst (Frame T.base s.log ((event.Connect, Tagged Done) ∷ s.log)) (sym k.1) (frame_connect T.base s.log))) s.seated;
-      adds = adds_connect after T.base T.log s.log beside s.told.accepted (event_tag_of o) (adds_still s.owner after still T.base T.log s.log beside s.told.accepted s.adds);
+      adds = adds_connect after T.base T.log s.log elsewhere s.told.accepted (event_tag_of o) (adds_still s.owner after still T.base T.log s.log elsewhere s.told.accepted s.adds);
     })
 
 pub returns-in-None-clause-serves : goal.returns-in-None-clause-serves
-returns-in-None-clause-serves g c = λ T beside s clean.
+returns-in-None-clause-serves g c = λ T elsewhere s clean.
     (let now = trace_of T.base s.log in
     let o = outcome_seen c.step.result in
-    let accepted = c.in-Some.ensures.told (record { pop = s.told; admin = beside.admin }) s.tells in
+    let accepted = c.in-Some.ensures.told (record { pop = s.told; admin = elsewhere.admin }) s.tells in
     let e : opened_by o ≡ None = sym c.opened-number.ensures ∙ c.in-None.is in
     let k : IsRefusal (event_tag_of o) = subst (Comes s.log o) {y = None} e (comes now (lent_by c.args.self.now.office) o (c.step.ensures.outcome now s.stands clean)) in
     record {
@@ -63,11 +63,11 @@ returns-in-None-clause-serves g c = λ T beside s clean.
       owner = s.owner;
       stands = c.step.ensures.stands now s.stands clean;
       admitted = (c.step.ensures.admitted now s.stands clean, s.admitted);
-      tells = c.close_link.ensures.told (record { pop = has_accepted s.told; admin = beside.admin }) accepted.1;
+      tells = c.close_link.ensures.told (record { pop = has_accepted s.told; admin = elsewhere.admin }) accepted.1;
       served = subst (λ n. AreServed (has_closed (has_accepted s.told) n) s.owner T.base ((event.Connect, event_tag_of o) ∷ s.log)) (sym accepted.0)
           (served_unseated s.told s.owner T.base s.log (event_tag_of o) k s.served);
       seated = seated_same s.owner T.base s.log c.args.clients.now.seats.items [] ((event.Connect, event_tag_of o) ∷ s.log) (refused_same s.told s.owner T.base s.log (event_tag_of o) k) s.seated;
-      adds = adds_connect s.owner T.base T.log s.log beside s.told.accepted (event_tag_of o) s.adds;
+      adds = adds_connect s.owner T.base T.log s.log elsewhere s.told.accepted (event_tag_of o) s.adds;
     })
 
 pub returns-then-is_full-clause-works : goal.returns-then-is_full-clause-works
@@ -76,13 +76,13 @@ returns-then-is_full-clause-works g c =
     let is : c.is_full.result ≡ true = search rules in
     let full : length seats ≡ 128 = eqb-true (length seats) 128 (sym c.is_full.ensures.value ∙ is) in
     does_none g.V.Vault g.W.Wire g.L.Listener c.args.self.now _
-    (accepted_full g.V.Vault.holds g.V.Vault.is_clean g.V.Vault.faults g.V.Vault.is_up g.V.Vault.may_leave c.args.self.now.office seats full)
+    (accepted_full g.V.Vault c.args.self.now.office seats full)
 
 pub returns-in_default-clause-works : goal.returns-in_default-clause-works
 returns-in_default-clause-works g c =
     let s = c.args.self.now in
     does_call g.V.Vault g.W.Wire g.L.Listener s.office s.listener s.wire c.accept.new.self (Accepted Pop None) _ c.in_default.ensures.called
-    (accepted_none g.V.Vault.holds g.V.Vault.is_clean g.V.Vault.faults g.V.Vault.is_up g.V.Vault.may_leave s.office c.args.clients.now.seats.items)
+    (accepted_none g.V.Vault s.office c.args.clients.now.seats.items)
 
 pub returns-in-Some-number-clause-works : goal.returns-in-Some-number-clause-works
 returns-in-Some-number-clause-works g c =
@@ -96,12 +96,12 @@ returns-in-Some-number-clause-works g c =
     record {
       given = (event.Connect, event_tag_of o) ∷ [];
       calls = Accepted Pop (Some link) ∷ [];
-      was_given = given_one Holds IsClean g.V.Vault.faults g.V.Vault.is_up g.V.Vault.may_leave s.office c.step.new.self event.Connect o
+      was_given = given_one g.V.Vault s.office c.step.new.self event.Connect o
           c.step.ensures.clean c.step.ensures.stands c.step.ensures.admitted c.step.ensures.counted c.step.ensures.cause c.step.ensures.up c.step.ensures.stop;
       was_asked = asked_one g.W.Wire.asked s.wire c.accept.new.self (Accepted Pop (Some link)) c.in-Some.ensures.called;
       facts = (
-        record { is = λ B L st clean. told_same g.L.Listener.heard s.listener c.open.new.self (λ h k. c.open.ensures.told h (c.follow.ensures.told h k)) },
-        accepted_seated Holds IsClean g.V.Vault.faults g.V.Vault.is_up g.V.Vault.may_leave s.office c.step.new.self c.args.clients.now.seats.items _ link connection
+        record { is = λ B L st clean. hears_same g.L.Listener.heard s.listener c.on_open.new.self (λ h k. c.on_open.ensures.heard h (c.on_link.ensures.heard h k)) },
+        accepted_seated g.V.Vault s.office c.step.new.self c.args.clients.now.seats.items _ link connection
             (event_tag_of o) (done_mark o connection e) c.push.ensures.items,
       );
     }
@@ -118,14 +118,14 @@ returns-in-None-clause-works g c =
     record {
       given = (event.Connect, event_tag_of o) ∷ [];
       calls = Accepted Pop (Some link) ∷ Closed Pop link ∷ [];
-      was_given = given_one Holds IsClean g.V.Vault.faults g.V.Vault.is_up g.V.Vault.may_leave office c.step.new.self event.Connect o
+      was_given = given_one g.V.Vault office c.step.new.self event.Connect o
           c.step.ensures.clean c.step.ensures.stands c.step.ensures.admitted c.step.ensures.counted c.step.ensures.cause c.step.ensures.up c.step.ensures.stop;
       was_asked = asked_then g.W.Wire.asked s.wire c.accept.new.self c.close_link.new.wire (Accepted Pop (Some link) ∷ []) (Closed Pop link ∷ [])
           (asked_one g.W.Wire.asked s.wire c.accept.new.self (Accepted Pop (Some link)) c.in-Some.ensures.called)
           (asked_one g.W.Wire.asked c.accept.new.self c.close_link.new.wire (Closed Pop link) c.close_link.ensures.called);
       facts = (
-        record { is = λ B L st clean. told_same g.L.Listener.heard s.listener c.close_link.new.listener (λ h k. c.close_link.ensures.heard h (c.follow.ensures.told h k)) },
-        accepted_unseated Holds IsClean g.V.Vault.faults g.V.Vault.is_up g.V.Vault.may_leave office c.step.new.self c.args.clients.now.seats.items link (event_tag_of o)
+        record { is = λ B L st clean. hears_same g.L.Listener.heard s.listener c.close_link.new.listener (λ h k. c.close_link.ensures.heard h (c.on_link.ensures.heard h k)) },
+        accepted_unseated g.V.Vault office c.step.new.self c.args.clients.now.seats.items link (event_tag_of o)
             (λ T st k.
             (let r : IsRefusal (event_tag_of o) = subst (Comes T.log o) {y = None} e (comes T (lent_by office) o (c.step.ensures.outcome T st k)) in
             refusal_so (event_tag_of o) r)),

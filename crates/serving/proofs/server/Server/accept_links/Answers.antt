@@ -8,11 +8,11 @@ use Rattle.serving.proofs.server.Server.accept_links.Goals as goal
 
 pub loop-times-init : goal.loop-times-init
 loop-times-init g c = record {
-  serves = λ T beside s clean. s;
+  serves = λ T elsewhere s clean. s;
   comers = noted_none c.args.now c.args.clients.now;
   heard = λ h a. a;
   works = does_none g.V.Vault g.W.Wire g.L.Listener c.args.self.now _
-      (accepting_none g.V.Vault.holds g.V.Vault.is_clean g.V.Vault.faults g.V.Vault.is_up g.V.Vault.may_leave c.args.self.now.office c.args.clients.now.seats.items);
+      (accepting_none g.V.Vault c.args.self.now.office c.args.clients.now.seats.items);
 }
 
 pub loop-times-preserved : goal.loop-times-preserved
@@ -28,11 +28,11 @@ loop-times-preserved g c =
     let seats2 = x.new.clients.seats.items in
     let once = subst (λ b. Does g.V.Vault g.W.Wire g.L.Listener k.self x.new.self (AreAccepted Holds IsClean k.self.office x.new.self.office seats1 seats2 1 b)) goes x.ensures.works in
     record {
-      serves = λ T beside s clean. x.ensures.serves T beside (k.invariant.serves T beside s (x.ensures.works.was_given.clean clean)) clean;
+      serves = λ T elsewhere s clean. x.ensures.serves T elsewhere (k.invariant.serves T elsewhere s (x.ensures.works.was_given.clean clean)) clean;
       comers = noted_then c.args.now c.args.clients.now k.clients x.new.clients k.invariant.comers x.ensures.comers;
       heard = λ h a. x.ensures.heard h (k.invariant.heard h a);
       works = does_then g.V.Vault g.W.Wire g.L.Listener s k.self x.new.self _ _ _
-          (λ g1 g2 c1 c2 wa wb a b. accepted_then Holds IsClean g.V.Vault.faults g.V.Vault.is_up g.V.Vault.may_leave s.office k.self.office
+          (λ g1 g2 c1 c2 wa wb a b. accepted_then g.V.Vault s.office k.self.office
           x.new.self.office seats seats1 seats2 k._times true g1 g2 c1 c2 wa wb a b) k.invariant.works once;
     }
 
@@ -50,8 +50,8 @@ returns-then-not-accept_link-clause-works g c =
     let once = subst (λ b. Does g.V.Vault g.W.Wire g.L.Listener k.self x.new.self (AreAccepted Holds IsClean k.self.office x.new.self.office seats1 seats2 1 b)) goes x.ensures.works in (
       false,
       does_then g.V.Vault g.W.Wire g.L.Listener s k.self x.new.self _ _ _
-          (λ g1 g2 c1 c2 wa wb a b. accepted_ended Holds IsClean g.V.Vault.faults g.V.Vault.is_up g.V.Vault.may_leave s.office x.new.self.office seats seats2 (k._times + 1) 64 _ _
-          (accepted_then Holds IsClean g.V.Vault.faults g.V.Vault.is_up g.V.Vault.may_leave s.office k.self.office x.new.self.office seats seats1 seats2 k._times false g1 g2 c1 c2 wa wb a b))
+          (λ g1 g2 c1 c2 wa wb a b. accepted_ended g.V.Vault s.office x.new.self.office seats seats2 (k._times + 1) 64 _ _
+          (accepted_then g.V.Vault s.office k.self.office x.new.self.office seats seats1 seats2 k._times false g1 g2 c1 c2 wa wb a b))
           k.invariant.works once,
     )
 
@@ -61,7 +61,7 @@ returns-clause-works g c =
     let h : 64 ≤ k._times = search rules in (
       true,
       does_so g.V.Vault g.W.Wire g.L.Listener c.args.self.now k.self _ _
-          (λ gv cl wa a. accepted_all g.V.Vault.holds g.V.Vault.is_clean g.V.Vault.faults g.V.Vault.is_up g.V.Vault.may_leave c.args.self.now.office
+          (λ gv cl wa a. accepted_all g.V.Vault c.args.self.now.office
           k.self.office c.args.clients.now.seats.items k.clients.seats.items k._times 64 gv cl h a) k.invariant.works,
     )
 

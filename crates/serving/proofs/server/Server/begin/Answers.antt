@@ -15,7 +15,7 @@ use Rattle.serving.proofs.server.Server.begin.Goals as goal
 pub returns-clause-serves : goal.returns-clause-serves
 returns-clause-serves g c = λ T t site stands admitted none tells fresh files.
     record {
-      beside = record { acts = []; admin = t.admin; x = record { site = site; response = λ k. None; place = λ k. None } };
+      elsewhere = record { acts = []; admin = t.admin; x = record { site = site; response = λ k. None; place = λ k. None } };
       tells = files;
       is = record {
         log = T.log;

@@ -1,7 +1,7 @@
 use Rattle.std.proofs.Common.{rules, ◌≡◌, [], true, false, refl, sym, subst, ◌∙◌, true≢false}
 use Rattle.serving.specs.Newcomers.{HaveSeats}
 use Rattle.serving.proofs.Composing.{ends_none}
-use Rattle.serving.proofs.Hearing.{told_none}
+use Rattle.serving.proofs.Hearing.{hears_none}
 use Rattle.serving.proofs.Late.{late_forgotten, late_so}
 use Rattle.serving.proofs.Newly.{seated_others}
 use Rattle.serving.proofs.Timely.{late_lived, late_prompt, late_unread, late_shut, prompt_so}
@@ -35,11 +35,11 @@ returns-then-is_logged_in-clause-works g c =
       wire = refl;
       part = record {
         given = [];
-        was_given = given_none g.V.Vault.holds g.V.Vault.is_clean g.V.Vault.faults g.V.Vault.is_up g.V.Vault.may_leave o;
+        was_given = given_none g.V.Vault o;
         facts = (
-          λ on. late_lived g.V.Vault.holds g.V.Vault.is_clean g.V.Vault.faults g.V.Vault.is_up g.V.Vault.may_leave c.args.now c.args.seconds o
+          λ on. late_lived g.V.Vault c.args.now c.args.seconds o
               n.newcomers.items c.forget.new.self.newcomers.items c.args.seat c.forget.ensures.newcomers (λ T s. sym (c.is_logged_in.ensures T s) ∙ yes),
-          told_none g.L.Listener.heard c.args.self.now.listener,
+          hears_none g.L.Listener.heard c.args.self.now.listener,
         );
       };
     }
@@ -53,11 +53,11 @@ returns-then-lies_unread-clause-works g c =
       wire = refl;
       part = record {
         given = [];
-        was_given = given_none g.V.Vault.holds g.V.Vault.is_clean g.V.Vault.faults g.V.Vault.is_up g.V.Vault.may_leave o;
+        was_given = given_none g.V.Vault o;
         facts = (
-          λ on. late_unread g.V.Vault.holds g.V.Vault.is_clean g.V.Vault.faults g.V.Vault.is_up g.V.Vault.may_leave c.args.now c.args.seconds o n.newcomers.items c.args.seat
+          λ on. late_unread g.V.Vault c.args.now c.args.seconds o n.newcomers.items c.args.seat
               (sym c.lies_unread.ensures ∙ yes),
-          told_none g.L.Listener.heard c.args.self.now.listener,
+          hears_none g.L.Listener.heard c.args.self.now.listener,
         );
       };
     }
@@ -71,11 +71,11 @@ returns-then-not-is_late-clause-works g c =
       wire = refl;
       part = record {
         given = [];
-        was_given = given_none g.V.Vault.holds g.V.Vault.is_clean g.V.Vault.faults g.V.Vault.is_up g.V.Vault.may_leave o;
+        was_given = given_none g.V.Vault o;
         facts = (
-          λ on. late_prompt g.V.Vault.holds g.V.Vault.is_clean g.V.Vault.faults g.V.Vault.is_up g.V.Vault.may_leave c.args.now c.args.seconds o n.newcomers.items c.args.seat
+          λ on. late_prompt g.V.Vault c.args.now c.args.seconds o n.newcomers.items c.args.seat
               (prompt_so c.args.now c.args.seconds n.newcomers.items c.args.seat.connection (sym c.is_late.ensures ∙ no)),
-          told_none g.L.Listener.heard c.args.self.now.listener,
+          hears_none g.L.Listener.heard c.args.self.now.listener,
         );
       };
     }
@@ -91,7 +91,7 @@ returns-clause-works g c =
         given = w.given;
         was_given = w.was_given;
         facts = (
-          λ on. late_shut g.V.Vault.holds g.V.Vault.is_clean g.V.Vault.faults g.V.Vault.is_up g.V.Vault.may_leave c.args.now c.args.seconds
+          λ on. late_shut g.V.Vault c.args.now c.args.seconds
               c.args.self.now.office c.end_seat.new.self.office n.newcomers.items c.args.seat w.given
               (w.facts.0.gone c.args.now c.args.seconds n.newcomers.items (late_so c.args.now c.args.seconds n.newcomers.items _ on (sym c.is_late.ensures ∙ is))) w.facts.0.shut,
           w.facts.1,

@@ -3,12 +3,12 @@ use Rattle.serving.specs.declared.links.Seat.{Seat}
 use Rattle.serving.specs.Late.{HasEndedLate}
 use Rattle.serving.proofs.Timely.{late_none, late_off, late_step, late_whole}
 use Rattle.serving.specs.Served.{IsServing}
-use Rattle.serving.specs.Hearing.{WasTold, late_ends}
-use Rattle.serving.proofs.Hearing.{told_none, late_told, late_heard}
+use Rattle.serving.specs.Hearing.{HasHeard, late_ends}
+use Rattle.serving.proofs.Hearing.{hears_none, hears_late, late_heard}
 use Rattle.serving.specs.Settings.{Settings}
 use Rattle.serving.proofs.Working.{given_none}
 use Rattle.serving.proofs.Composing.{seats_none, seats_then, ends_none, ends_then}
-use Rattle.serving.proofs.Freeing.{at_place}
+use Rattle.serving.proofs.Releasing.{at_place}
 use Rattle.serving.proofs.Seating.{contained}
 use Rattle.serving.proofs.server.Server.end_late_ones.Goals as goal
 
@@ -24,11 +24,11 @@ returns-then-seconds-eq0-clause-works g c =
       wire = refl;
       part = record {
         given = [];
-        was_given = given_none g.V.Vault.holds g.V.Vault.is_clean g.V.Vault.faults g.V.Vault.is_up g.V.Vault.may_leave c.args.self.now.office;
+        was_given = given_none g.V.Vault c.args.self.now.office;
         facts = (
-          late_off g.V.Vault.holds g.V.Vault.is_clean g.V.Vault.faults g.V.Vault.is_up g.V.Vault.may_leave c.args.now c.args.seconds
+          late_off g.V.Vault c.args.now c.args.seconds
               c.args.self.now.office n.newcomers.items c.args.clients.now.seats.items off,
-          told_none g.L.Listener.heard c.args.self.now.listener,
+          hears_none g.L.Listener.heard c.args.self.now.listener,
         );
       };
     }
@@ -38,7 +38,7 @@ returns-then-seconds-eq0-clause-ends g c = ends_none c.args.now c.args.seconds c
 
 pub loop-place-init : goal.loop-place-init
 loop-place-init g c = record {
-  serves = λ T beside s clean. s;
+  serves = λ T elsewhere s clean. s;
   keeps = seats_none c.args.clients.now;
   ends = ends_none c.args.now c.args.seconds c.args.clients.now;
   works = record {
@@ -47,11 +47,11 @@ loop-place-init g c = record {
         record {
           given = [];
           was_given =
-              given_none g.V.Vault.holds g.V.Vault.is_clean g.V.Vault.faults g.V.Vault.is_up g.V.Vault.may_leave c.args.self.now.office;
+              given_none g.V.Vault c.args.self.now.office;
           facts = (
-            late_none g.V.Vault.holds g.V.Vault.is_clean g.V.Vault.faults g.V.Vault.is_up g.V.Vault.may_leave c.args.now c.args.seconds
+            late_none g.V.Vault c.args.now c.args.seconds
                 c.args.self.now.office c.args.clients.now.newcomers.newcomers.items,
-            told_none g.L.Listener.heard c.args.self.now.listener,
+            hears_none g.L.Listener.heard c.args.self.now.listener,
           );
         };
   };
@@ -72,22 +72,22 @@ loop-place-preserved g c =
     let w = x.ensures.works.part in
     let same : k.clients.newcomers.seconds ≡ n.seconds = ap (λ (s : Settings). s.login_seconds) k.invariant.keeps.keeps.set in
     record {
-      serves = λ T beside s clean.
-          (let served = x.ensures.serves seats [] (contained seats ys k.place _ c.deref.ensures.0 within) (λ j d inside. absurd (omega (arith, inside))) T beside
-          (k.invariant.serves T beside s (w.was_given.clean clean)) clean in
-          subst (λ kept. IsServing g.V.Vault.holds g.W.Wire.tells T beside x.new.self.office x.new.self.wire kept.items []) (sym x.ensures.keeps.seats) served);
+      serves = λ T elsewhere s clean.
+          (let served = x.ensures.serves seats [] (contained seats ys k.place _ c.deref.ensures.0 within) (λ j d inside. absurd (omega (arith, inside))) T elsewhere
+          (k.invariant.serves T elsewhere s (w.was_given.clean clean)) clean in
+          subst (λ kept. IsServing g.V.Vault.holds g.W.Wire.tells T elsewhere x.new.self.office x.new.self.wire kept.items []) (sym x.ensures.keeps.seats) served);
       keeps = seats_then c.args.clients.now k.clients x.new.clients k.invariant.keeps x.ensures.keeps;
       ends = ends_then now c.args.seconds c.args.clients.now k.clients x.new.clients k.invariant.ends x.ensures.ends;
       works = record {
         wire = x.ensures.works.wire ∙ k.invariant.works.wire;
-        part = late_step g.V.Vault.holds g.V.Vault.is_clean g.V.Vault.faults g.V.Vault.is_up g.V.Vault.may_leave now c.args.seconds
+        part = late_step g.V.Vault now c.args.seconds
             c.args.self.now.office k.self.office x.new.self.office n.newcomers.items k.clients.newcomers.newcomers.items
             x.new.clients.newcomers.newcomers.items c.args.clients.now.seats.items k.clients.seats.items k.place no_seat
-            (λ given. WasTold Heard l k.self.listener (late_ends now n.seconds n.newcomers.items given))
-            (λ given. WasTold Heard k.self.listener x.new.self.listener (late_ends now k.clients.newcomers.seconds k.clients.newcomers.newcomers.items given))
-            (λ given. WasTold Heard l x.new.self.listener (late_ends now n.seconds n.newcomers.items given)) (ap (λ v. v.items) k.invariant.keeps.seats) within k.invariant.ends.late
+            (λ given. HasHeard Heard l k.self.listener (late_ends now n.seconds n.newcomers.items given))
+            (λ given. HasHeard Heard k.self.listener x.new.self.listener (late_ends now k.clients.newcomers.seconds k.clients.newcomers.newcomers.items given))
+            (λ given. HasHeard Heard l x.new.self.listener (late_ends now n.seconds n.newcomers.items given)) (ap (λ v. v.items) k.invariant.keeps.seats) within k.invariant.ends.late
             (λ g1 g2 gone a b.
-            late_told Heard now n.seconds n.newcomers.items l k.self.listener x.new.self.listener g1 g2 a
+            hears_late Heard now n.seconds n.newcomers.items l k.self.listener x.new.self.listener g1 g2 a
             (late_heard Heard now c.args.seconds n.seconds k.clients.newcomers.seconds n.newcomers.items k.clients.newcomers.newcomers.items
             k.invariant.ends.late same k.self.listener x.new.self.listener g2 gone b))
             k.invariant.works.part
@@ -111,8 +111,8 @@ returns-clause-works g c =
     let done : length k.clients.seats.items ≤ k.place = search rules in
     record {
       wire = k.invariant.works.wire;
-      part = late_whole g.V.Vault.holds g.V.Vault.is_clean g.V.Vault.faults g.V.Vault.is_up g.V.Vault.may_leave c.args.now c.args.seconds c.args.self.now.office k.self.office n.newcomers.items
+      part = late_whole g.V.Vault c.args.now c.args.seconds c.args.self.now.office k.self.office n.newcomers.items
           k.clients.newcomers.newcomers.items c.args.clients.now.seats.items k.clients.seats.items k.place
-          (λ given. WasTold g.L.Listener.heard c.args.self.now.listener k.self.listener (late_ends c.args.now n.seconds n.newcomers.items given))
+          (λ given. HasHeard g.L.Listener.heard c.args.self.now.listener k.self.listener (late_ends c.args.now n.seconds n.newcomers.items given))
           (ap (λ v. v.items) k.invariant.keeps.seats) done k.invariant.works.part;
     }

@@ -16,11 +16,11 @@ use Rattle.std.proofs.Common.{[]}
 use Rattle.std.proofs.lemmas.List.Elements.{All-nil, All-cons}
 use Rattle.serving.specs.Works.{IsLateGone}
 use Rattle.serving.proofs.Working.{given_none, given_one}
-use Rattle.serving.proofs.Hearing.{told_none}
+use Rattle.serving.proofs.Hearing.{hears_none}
 use Rattle.serving.proofs.server.Server.end_seat.Goals as goal
 
 pub returns-clause-serves : goal.returns-clause-serves
-returns-clause-serves g c = λ seats these has before T beside s clean.
+returns-clause-serves g c = λ seats these has before T elsewhere s clean.
     (let number = c.args.seat.link.number in
     let connection = c.args.seat.connection in
     let now = trace_of T.base s.log in
@@ -41,7 +41,7 @@ returns-clause-serves g c = λ seats these has before T beside s clean.
       seated = subst (λ m. AreSeated s.owner (trace_of T.base ((event.Gone connection, m) ∷ s.log)) seats these) (sym k.1)
           (seated_one s.owner T.base s.log seats these ((event.Gone connection, Tagged k.0) ∷ s.log) c.args.seat before
           (fewer_framed T.base s.log connection ((event.Gone connection, Tagged k.0) ∷ s.log) here (frame_gone T.base s.log connection k.0)) (frame_gone T.base s.log connection k.0) s.seated);
-      adds = adds_one s.owner T.base T.log s.log beside s.told.accepted (event.Gone connection) (event_tag_of o) (number, at_k) (λ l Before h. h) (λ l. refl) s.adds;
+      adds = adds_one s.owner T.base T.log s.log elsewhere s.told.accepted (event.Gone connection) (event_tag_of o) (number, at_k) (λ l Before h. h) (λ l. refl) s.adds;
     })
 
 pub returns-clause-works : goal.returns-clause-works
@@ -52,7 +52,7 @@ returns-clause-works g c =
       wire = refl;
       part = record {
         given = (e, m) ∷ [];
-        was_given = given_one g.V.Vault.holds g.V.Vault.is_clean g.V.Vault.faults g.V.Vault.is_up g.V.Vault.may_leave c.args.self.now.office c.step.new.self e
+        was_given = given_one g.V.Vault c.args.self.now.office c.step.new.self e
             (outcome_seen c.step.result) c.step.ensures.clean c.step.ensures.stands c.step.ensures.admitted c.step.ensures.counted c.step.ensures.cause c.step.ensures.up c.step.ensures.stop;
         facts = (
           record {
@@ -65,7 +65,7 @@ returns-clause-works g c =
                 subst (λ x. is_open (trace_of B ((event.Gone connection, x) ∷ L)) connection ≡ false) (sym k.1) (gone_so B L connection k.0));
           },
           record {
-            is = λ before k. subst (λ why. g.L.Listener.heard c.hear.new.self (before ++ (c.args.seat.connection, Ended why) ∷ [])) c.why_late-why.ensures (c.hear.ensures.told before k);
+            is = λ before k. subst (λ why. g.L.Listener.heard c.on_account.new.self (before ++ (c.args.seat.connection, Ended why) ∷ [])) c.why_late-why.ensures (c.on_account.ensures.heard before k);
           },
         );
       };
@@ -77,13 +77,13 @@ returns-then-ended-clause-works g c =
       wire = refl;
       part = record {
         given = [];
-        was_given = given_none g.V.Vault.holds g.V.Vault.is_clean g.V.Vault.faults g.V.Vault.is_up g.V.Vault.may_leave c.args.self.now.office;
+        was_given = given_none g.V.Vault c.args.self.now.office;
         facts = (
           record {
             gone = λ now seconds newcomers late. All-nil (IsLateGone now seconds newcomers);
             shut = λ B L s clean. (let over : c.ended.result ≡ true = search rules in shut_so (is_open (trace_of B L) c.args.seat.connection) c.ended.result (c.ended.ensures (trace_of B L) s) over);
           },
-          told_none g.L.Listener.heard c.args.self.now.listener,
+          hears_none g.L.Listener.heard c.args.self.now.listener,
         );
       };
     }

@@ -22,13 +22,13 @@ use Rattle.serving.proofs.Resting.{polled_quiet}
 use Rattle.serving.proofs.server.Server.read_once.Goals as goal
 
 pub returns-in-Count-clause-serves : goal.returns-in-Count-clause-serves
-returns-in-Count-clause-serves g c = λ seats these has before T beside s clean.
+returns-in-Count-clause-serves g c = λ seats these has before T elsewhere s clean.
     (let n = c.in-Count.count in
     let piece = take n c.read.new.buffer in
     let number = c.args.seat.link.number in
     let connection = c.args.seat.connection in
     let now = trace_of T.base s.log in
-    let both : ToldOfPorts = record { pop = s.told; admin = beside.admin } in
+    let both : ToldOfPorts = record { pop = s.told; admin = elsewhere.admin } in
     let o = outcome_seen c.step_with_account-report.result.outcome in
     let within = c.in-Count.ensures.within in
     let is_so : c.ready.result ≡ true = search rules in
@@ -50,15 +50,15 @@ returns-in-Count-clause-serves g c = λ seats these has before T beside s clean.
           (seated_one s.owner T.base s.log seats these ((event.Bytes connection piece, Tagged k.0) ∷ s.log) c.args.seat before
           (fewer_framed T.base s.log connection ((event.Bytes connection piece, Tagged k.0) ∷ s.log) here (frame_read T.base s.log connection piece k.0))
           (frame_read T.base s.log connection piece k.0) s.seated);
-      adds = adds_one s.owner T.base T.log s.log beside s.told.accepted (event.Bytes connection piece) (event_tag_of o) (number, at_k) (λ l Before h. h) (λ l. refl) s.adds;
+      adds = adds_one s.owner T.base T.log s.log elsewhere s.told.accepted (event.Bytes connection piece) (event_tag_of o) (number, at_k) (λ l Before h. h) (λ l. refl) s.adds;
     })
 
 pub returns-in-Later-clause-serves : goal.returns-in-Later-clause-serves
-returns-in-Later-clause-serves g c = λ seats these has before T beside s clean.
+returns-in-Later-clause-serves g c = λ seats these has before T elsewhere s clean.
     (let number = c.args.seat.link.number in
     let connection = c.args.seat.connection in
     let now = trace_of T.base s.log in
-    let both : ToldOfPorts = record { pop = s.told; admin = beside.admin } in
+    let both : ToldOfPorts = record { pop = s.told; admin = elsewhere.admin } in
     let is_so : c.ready.result ≡ true = search rules in
     let here = ready_open now connection (sym (c.ready.ensures now s.stands) ∙ is_so) in
     let at_k = seat_owns s.owner seats c.args.seat has s.seated.own in
@@ -75,11 +75,11 @@ returns-in-Later-clause-serves g c = λ seats these has before T beside s clean.
     })
 
 pub returns-in-End-clause-serves : goal.returns-in-End-clause-serves
-returns-in-End-clause-serves g c = λ seats these has before T beside s clean.
+returns-in-End-clause-serves g c = λ seats these has before T elsewhere s clean.
     (let number = c.args.seat.link.number in
     let connection = c.args.seat.connection in
     let now = trace_of T.base s.log in
-    let both : ToldOfPorts = record { pop = s.told; admin = beside.admin } in
+    let both : ToldOfPorts = record { pop = s.told; admin = elsewhere.admin } in
     let o = outcome_seen c.step_with_account-report-in-End.result.outcome in
     let io = c.read.result in
     let fault : is_fault io ≡ true = search rules in
@@ -93,14 +93,14 @@ returns-in-End-clause-serves g c = λ seats these has before T beside s clean.
       owner = s.owner;
       stands = c.step_with_account-report-in-End.ensures.stands now s.stands clean;
       admitted = (c.step_with_account-report-in-End.ensures.admitted now s.stands clean, s.admitted);
-      tells = subst (λ xs. g.W.Wire.tells c.read.new.self (record { pop = has_read s.told number io xs; admin = beside.admin }))
+      tells = subst (λ xs. g.W.Wire.tells c.read.new.self (record { pop = has_read s.told number io xs; admin = elsewhere.admin }))
           (fault_none io c.read.new.buffer fault) (c.read.ensures.told both s.tells);
       served = subst (λ m. AreServed (has_read s.told number io []) s.owner T.base ((event.Gone connection, m) ∷ s.log)) (sym k.1)
           (served_read_fault s.told s.owner T.base s.log number connection io k.0 fault s.served at_k here);
       seated = subst (λ m. AreSeated s.owner (trace_of T.base ((event.Gone connection, m) ∷ s.log)) seats these) (sym k.1)
           (seated_one s.owner T.base s.log seats these ((event.Gone connection, Tagged k.0) ∷ s.log) c.args.seat before
           (fewer_framed T.base s.log connection ((event.Gone connection, Tagged k.0) ∷ s.log) here (frame_gone T.base s.log connection k.0)) (frame_gone T.base s.log connection k.0) s.seated);
-      adds = adds_one s.owner T.base T.log s.log beside s.told.accepted (event.Gone connection) (event_tag_of o) (number, at_k) (λ l Before h. h) (λ l. refl) s.adds;
+      adds = adds_one s.owner T.base T.log s.log elsewhere s.told.accepted (event.Gone connection) (event_tag_of o) (number, at_k) (λ l Before h. h) (λ l. refl) s.adds;
     })
 
 pub returns-then-not-ready-clause-works : goal.returns-then-not-ready-clause-works
@@ -116,11 +116,11 @@ returns-in-Count-clause-works g c =
     let n = c.in-Count.count in
     let piece = take n c.read.new.buffer in
     let x = c.step_with_account-report in
-    does_event g.V.Vault g.W.Wire g.L.Listener o x.new.self c.args.self.now.listener c.hear.new.self c.args.self.now.wire c.read.new.self
+    does_event g.V.Vault g.W.Wire g.L.Listener o x.new.self c.args.self.now.listener c.on_account.new.self c.args.self.now.wire c.read.new.self
     (Read Pop seat.link room (Count n) piece) (event.Bytes seat.connection piece) (outcome_seen x.result.outcome) seat.connection x.result.account _ (λ T. refl)
     x.ensures.clean x.ensures.stands x.ensures.admitted x.ensures.counted x.ensures.cause x.ensures.up x.ensures.stop x.ensures.account c.in-Count.ensures.called
-    (λ h k. c.hear.ensures.told h (c.follow.ensures.told h k))
-    (read_some g.V.Vault.holds g.V.Vault.is_clean g.V.Vault.faults g.V.Vault.is_up g.V.Vault.may_leave o seat room (Count n) piece piece (event_tag_of (outcome_seen x.result.outcome)), λ e. refl)
+    (λ h k. c.on_account.ensures.heard h (c.on_link.ensures.heard h k))
+    (read_some g.V.Vault o seat room (Count n) piece piece (event_tag_of (outcome_seen x.result.outcome)), λ e. refl)
 
 pub returns-in-Later-clause-works : goal.returns-in-Later-clause-works
 returns-in-Later-clause-works g c =
@@ -128,7 +128,7 @@ returns-in-Later-clause-works g c =
     let seat = c.args.seat in
     let room = length c.args.buffer.now in
     does_call g.V.Vault g.W.Wire g.L.Listener o c.args.self.now.listener c.args.self.now.wire c.read.new.self (Read Pop seat.link room Later []) _ c.in-Later.ensures.called
-    (read_later g.V.Vault.holds g.V.Vault.is_clean g.V.Vault.faults g.V.Vault.is_up g.V.Vault.may_leave o seat room Later [], λ e. e)
+    (read_later g.V.Vault o seat room Later [], λ e. e)
 
 pub returns-in-End-clause-works : goal.returns-in-End-clause-works
 returns-in-End-clause-works g c =
@@ -139,10 +139,10 @@ returns-in-End-clause-works g c =
     let io = c.read.result in
     let octets = counted io c.read.new.buffer in
     let fault : is_fault io ≡ true = search rules in
-    does_event g.V.Vault g.W.Wire g.L.Listener o x.new.self c.args.self.now.listener c.hear-in-End.new.self c.args.self.now.wire c.read.new.self
+    does_event g.V.Vault g.W.Wire g.L.Listener o x.new.self c.args.self.now.listener c.on_account-in-End.new.self c.args.self.now.wire c.read.new.self
     (Read Pop seat.link room io octets) (event.Gone seat.connection) (outcome_seen x.result.outcome) seat.connection x.result.account _ (λ T. refl)
     x.ensures.clean x.ensures.stands x.ensures.admitted x.ensures.counted x.ensures.cause x.ensures.up x.ensures.stop x.ensures.account c.read.ensures.called
-    (λ h k. c.hear-in-End.ensures.told h (c.follow-in-End.ensures.told h k)) (
-      read_cut g.V.Vault.holds g.V.Vault.is_clean g.V.Vault.faults g.V.Vault.is_up g.V.Vault.may_leave o seat room io octets (event_tag_of (outcome_seen x.result.outcome)) fault,
+    (λ h k. c.on_account-in-End.ensures.heard h (c.on_link-in-End.ensures.heard h k)) (
+      read_cut g.V.Vault o seat room io octets (event_tag_of (outcome_seen x.result.outcome)) fault,
       polled_quiet false (Read Pop seat.link room io octets ∷ []),
     )

@@ -6,7 +6,7 @@ use Rattle.serving.specs.Works.{reads_by_line, is_moving}
 use Rattle.serving.specs.Parts.{PollsBy}
 use Rattle.serving.proofs.Composing.{does_none}
 use Rattle.serving.proofs.Offering.{unwritten_look}
-use Rattle.serving.proofs.Turns.{heard_none, heard_unread, heard_asked, heard_after, read_part}
+use Rattle.serving.proofs.Turns.{read_none, read_unread, read_asked, read_after, read_part}
 use Rattle.serving.proofs.Unread.{may_so, line_so, looked_quiet, unread_so}
 use Rattle.serving.proofs.Hearing.{heard_on}
 use Rattle.serving.proofs.Working.{any_right, part_so}
@@ -18,16 +18,16 @@ use Rattle.serving.proofs.Settling.{not_unread}
 use Rattle.serving.proofs.server.Server.read_piece.Goals as goal
 
 pub returns-then-part-eq0-clause-serves : goal.returns-then-part-eq0-clause-serves
-returns-then-part-eq0-clause-serves g c = λ seats these has before T beside s clean.
-    serving_seen g.V.Vault.holds g.W.Wire.tells T beside _ _ _ seats these c.next_part-part.ensures.told s
+returns-then-part-eq0-clause-serves g c = λ seats these has before T elsewhere s clean.
+    serving_seen g.V.Vault.holds g.W.Wire.tells T elsewhere _ _ _ seats these c.next_part-part.ensures.told s
 
 pub returns-then-not-read_once-clause-serves : goal.returns-then-not-read_once-clause-serves
-returns-then-not-read_once-clause-serves g c = λ seats these has before T beside s clean.
-    c.read_once.ensures.serves seats these has before T beside (serving_seen g.V.Vault.holds g.W.Wire.tells T beside _ _ _ seats these c.next_part-part.ensures.told s) clean
+returns-then-not-read_once-clause-serves g c = λ seats these has before T elsewhere s clean.
+    c.read_once.ensures.serves seats these has before T elsewhere (serving_seen g.V.Vault.holds g.W.Wire.tells T elsewhere _ _ _ seats these c.next_part-part.ensures.told s) clean
 
 pub returns-clause-serves : goal.returns-clause-serves
-returns-clause-serves g c = λ seats these has before T beside s clean.
-    c.read_once.ensures.serves seats these has before T beside (serving_seen g.V.Vault.holds g.W.Wire.tells T beside _ _ _ seats these c.next_part-part.ensures.told s) clean
+returns-clause-serves g c = λ seats these has before T elsewhere s clean.
+    c.read_once.ensures.serves seats these has before T elsewhere (serving_seen g.V.Vault.holds g.W.Wire.tells T elsewhere _ _ _ seats these c.next_part-part.ensures.told s) clean
 
 pub returns-then-not-ready-clause-settles : goal.returns-then-not-ready-clause-settles
 returns-then-not-ready-clause-settles g c = record { lies = false; is = c.settle.ensures.newcomers }
@@ -46,7 +46,7 @@ returns-then-not-ready-clause-works g c =
     let links = c.args.clients.now in
     let no : c.ready.result ≡ false = search rules in
     does_none g.V.Vault g.W.Wire g.L.Listener c.args.self.now _ (
-      heard_none g.V.Vault.holds g.V.Vault.is_clean g.V.Vault.faults g.V.Vault.is_up g.V.Vault.may_leave links.wait
+      read_none g.V.Vault links.wait
           (reads_by_line links.wait (may_keep links)) (may_at c.args.now links c.args.seat.connection)
           (lies_unread (newcomer c.args.seat.connection c.settle.new.self.newcomers.items)) c.args.self.now.office c.args.seat
           (not_unread c.args.seat.connection c.args.now links.newcomers.newcomers.items c.settle.new.self.newcomers.items c.settle.ensures.newcomers)
@@ -75,11 +75,11 @@ returns-then-part-eq0-clause-works g c =
     (λ h. subst (λ w. (links.lock_released || (links.guesses.are_slow && nat_lt w most_paced)) ≡ true) p.ensures.pace.waited
     (may_so links.guesses.are_slow links.lock_released pace.is_shut (nat_lt pace.waited most_paced) pace.origin p.ensures.pace.shut p.ensures.fast h)) none a.facts) in
     let l = c.args.self.now.listener in
-    part_so Holds IsClean g.V.Vault.faults g.V.Vault.is_up g.V.Vault.may_leave g.W.Wire.asked o o c.args.self.now.wire part.new.wire _ _
-    (λ given calls was heard. (heard_on Holds IsClean g.L.Listener.heard o o l l c.follow.new.self given c.follow.ensures.told heard.0, heard.1))
-    (heard_asked Holds IsClean g.V.Vault.faults g.V.Vault.is_up g.V.Vault.may_leave g.W.Wire.asked g.L.Listener.heard o c.args.self.now.wire part.new.wire l seat links.wait lines may noted
+    part_so g.V.Vault g.W.Wire.asked o o c.args.self.now.wire part.new.wire _ _
+    (λ given calls was heard. (heard_on g.V.Vault g.L.Listener.heard o o l l c.on_link.new.self given c.on_link.ensures.heard heard.0, heard.1))
+    (read_asked g.V.Vault g.W.Wire.asked g.L.Listener.heard o c.args.self.now.wire part.new.wire l seat links.wait lines may noted
     (PollsBy links.poll_now (links.poll_now || false)) a.calls a.was_asked
-    (heard_unread Holds IsClean g.V.Vault.faults g.V.Vault.is_up g.V.Vault.may_leave links.wait lines may noted o seat a.calls
+    (read_unread g.V.Vault links.wait lines may noted o seat a.calls
     (unwritten_look Holds o seat pace refusals part.result.count part.result.login a.calls a.facts) (looked_quiet Holds o seat pace refusals part.result.count part.result.login a.calls a.facts)
     unread) (polled_quiet links.poll_now a.calls))
 
@@ -97,7 +97,7 @@ returns-then-not-read_once-clause-works g c =
     let line : pace.by_line ≡ true → reads_by_line links.wait (may_keep links) ≡ true = λ b.
     subst (λ w. reads_by_line w (may_keep links) ≡ true) p.ensures.pace.wait
     (line_so links.guesses.are_slow links.lock_released pace.is_shut pace.wait pace.origin p.ensures.pace.shut p.ensures.fast (p.ensures.lines b)) in
-    heard_after g.V.Vault.holds g.V.Vault.is_clean g.V.Vault.faults g.V.Vault.is_up g.V.Vault.may_leave g.W.Wire.asked g.L.Listener.heard
+    read_after g.V.Vault g.W.Wire.asked g.L.Listener.heard
     c.args.self.now.office c.read_once.new.self.office c.args.self.now.wire part.new.wire c.read_once.new.self.wire c.args.self.now.listener c.read_once.new.self.listener seat links.wait
     (reads_by_line links.wait (may_keep links)) (may_at c.args.now links seat.connection)
     (lies_unread (newcomer seat.connection c.settle-2.new.self.newcomers.items)) pace refusals part.result.count part.result.login
@@ -105,7 +105,7 @@ returns-then-not-read_once-clause-works g c =
     (λ cs m. polled_quiet links.poll_now (a.calls ++ cs)) quiet a.facts some line
     (not_unread seat.connection c.args.now links.newcomers.newcomers.items c.settle-2.new.self.newcomers.items
     (subst (λ b. c.settle-2.new.self.newcomers.items ≡ settled_in seat.connection b c.args.now links.newcomers.newcomers.items) some c.settle-2.ensures.newcomers)) a.was_asked
-    (read_part g.V.Vault.holds g.V.Vault.is_clean g.V.Vault.faults g.V.Vault.is_up g.V.Vault.may_leave g.W.Wire.asked g.L.Listener.heard
+    (read_part g.V.Vault g.W.Wire.asked g.L.Listener.heard
     c.args.self.now.office c.read_once.new.self.office part.new.wire c.read_once.new.self.wire c.args.self.now.listener c.read_once.new.self.listener seat part.result.count _
     (PollsBy false c.read_once.result) c.read_once.ensures.works part.ensures.most)
 
@@ -124,16 +124,16 @@ returns-clause-works g c =
     let line : pace.by_line ≡ true → reads_by_line links.wait (may_keep links) ≡ true = λ b.
     subst (λ w. reads_by_line w (may_keep links) ≡ true) p.ensures.pace.wait
     (line_so links.guesses.are_slow links.lock_released pace.is_shut pace.wait pace.origin p.ensures.pace.shut p.ensures.fast (p.ensures.lines b)) in
-    let poll_now = c.note_guess.new.links.poll_now || true in
-    heard_after g.V.Vault.holds g.V.Vault.is_clean g.V.Vault.faults g.V.Vault.is_up g.V.Vault.may_leave g.W.Wire.asked g.L.Listener.heard
+    let poll_now = c.note_guess.new.clients.poll_now || true in
+    read_after g.V.Vault g.W.Wire.asked g.L.Listener.heard
     c.args.self.now.office c.read_once.new.self.office c.args.self.now.wire part.new.wire c.read_once.new.self.wire c.args.self.now.listener c.read_once.new.self.listener seat links.wait
     (reads_by_line links.wait (may_keep links)) (may_at c.args.now links seat.connection)
-    (lies_unread (newcomer seat.connection c.note_guess.new.links.newcomers.newcomers.items)) pace refusals part.result.count part.result.login
+    (lies_unread (newcomer seat.connection c.note_guess.new.clients.newcomers.newcomers.items)) pace refusals part.result.count part.result.login
     (PollsBy false c.read_once.result) (PollsBy links.poll_now poll_now) a.calls
     (λ cs m. polled_moved links.poll_now poll_now (a.calls ++ cs) (any_right is_moving a.calls cs (m came))) quiet a.facts some line
-    (not_unread seat.connection c.args.now links.newcomers.newcomers.items c.note_guess.new.links.newcomers.newcomers.items
+    (not_unread seat.connection c.args.now links.newcomers.newcomers.items c.note_guess.new.clients.newcomers.newcomers.items
     (ap (λ n. n.newcomers.items) c.note_guess.ensures.keeps.newcomers
     ∙ subst (λ b. c.settle-2.new.self.newcomers.items ≡ settled_in seat.connection b c.args.now links.newcomers.newcomers.items) some c.settle-2.ensures.newcomers)) a.was_asked
-    (read_part g.V.Vault.holds g.V.Vault.is_clean g.V.Vault.faults g.V.Vault.is_up g.V.Vault.may_leave g.W.Wire.asked g.L.Listener.heard
+    (read_part g.V.Vault g.W.Wire.asked g.L.Listener.heard
     c.args.self.now.office c.read_once.new.self.office part.new.wire c.read_once.new.self.wire c.args.self.now.listener c.read_once.new.self.listener seat part.result.count _
     (PollsBy false c.read_once.result) c.read_once.ensures.works part.ensures.most)

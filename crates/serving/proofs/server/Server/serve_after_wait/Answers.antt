@@ -1,14 +1,11 @@
 use Rattle.std.proofs.Common.{arith, length, refl, sym, subst}
 use Rattle.serving.specs.Calls.{Waited}
 use Rattle.serving.specs.Turns.{millis_of}
-use Rattle.office.specs.Taken.{trace_of}
-use Rattle.serving.specs.Served.{Beside, Serves}
-use Rattle.serving.specs.Requests.{AsksNone}
-use Rattle.serving.proofs.Depositing.{serves_tried, serves_asked, serves_answering}
+use Rattle.serving.proofs.Depositing.{so_far_first, so_far_served, so_far_came, so_far_asked, so_far_tried}
 use Rattle.std.proofs.Common.{◌≡◌, ◌||◌, [], ap, ◌∙◌}
 use Rattle.std.specs.List.{filter_map}
 use Rattle.serving.specs.Settings.{Settings, settings_of}
-use Rattle.serving.specs.Parts.{Part, Asking, Also, PollsBy, Releases}
+use Rattle.serving.specs.Parts.{Part, Asking, Also, PollsBy, PollsAfterClosing}
 use Rattle.serving.specs.ClientParts.{IsPassed, AreAccepted, AreClosed, WereServed}
 use Rattle.serving.specs.SpoolTurns.{SpoolPart, IsSpoolTurn, has_dealt}
 use Rattle.std.proofs.Common.{ℕ, Some, true}
@@ -27,8 +24,9 @@ use Rattle.serving.specs.Guesses.{ArePacing}
 use Rattle.serving.specs.Parts.{Giving}
 use Rattle.serving.specs.Late.{HasEndedLate}
 use Rattle.serving.proofs.Timely.{late_both}
-use Rattle.serving.specs.Hearing.{WasTold, WithHeard, heard_of_all, idle_ends, late_ends}
-use Rattle.serving.proofs.Hearing.{told_on, told_same, told_then, late_heard}
+use Rattle.serving.specs.Hearing.{HasHeard, WithHeard, heard_of_all, idle_ends, late_ends}
+use Rattle.serving.proofs.Hearing.{hears_on, hears_same, hears_then, late_heard}
+use Rattle.serving.proofs.Composing.{clean_same}
 use Rattle.serving.proofs.Working.{part_so}
 use Rattle.serving.proofs.Going.{passed_by}
 use Rattle.serving.proofs.Finishing.{turn_done}
@@ -37,54 +35,62 @@ use Rattle.serving.proofs.server.Server.serve_after_wait.Goals as goal
 pub returns-clause-serves : goal.returns-clause-serves
 returns-clause-serves g c = λ T s clean.
     (let Holds = g.V.Vault.holds in
+    let IsClean = g.V.Vault.is_clean in
     let Tells = g.W.Wire.tells in
-    let start = length T.log in
-    let late_clean = c.serve_spool.ensures.works.was_given.clean clean in
+    let Files = g.S.Spool.tells in
+    let site = c.args.links.now.site in
+    let spool = c.args.spool.now in
+    let shut_clean = c.serve_spool.ensures.works.part.was_given.clean clean in
+    let late_clean = clean_same IsClean c.end_late_ones.new.self.office c.close_links.new.self.office c.close_links.ensures.works.office shut_clean in
     let asked_clean = c.end_late_ones.ensures.works.part.was_given.clean late_clean in
     let links_clean = c.serve_requests.ensures.works.was_given.clean asked_clean in
-    let accepted_clean = c.serve_links.ensures.works.was_given.clean links_clean in
+    let same = c.accept_requests.ensures.works.1.office in
+    let accepted_clean = clean_same IsClean c.accept_links.new.self.office c.accept_requests.new.self.office same (c.serve_links.ensures.works.was_given.clean links_clean) in
     let passed_clean = c.accept_links.ensures.works.1.was_given.clean accepted_clean in
-    let seats = c.args.links.now.clients.seats.items in
-    let b = s.beside in
-    let passed = c.tick.ensures.serves seats seats T b s.is passed_clean in
-    let accepted = c.accept_links.ensures.serves T b passed accepted_clean in
-    let came = c.accept_requests.ensures.answers b.x T.base start accepted.log accepted.told
-    (record { told = b.admin; tells = accepted.tells; exchanged = accepted.adds.requests; held = s.requests }) in
-    let b2 : Beside = record { acts = b.acts; admin = came.told; x = b.x } in
-    let with_requests = serves_answering Holds Tells T b _ _ _ _ _ accepted came in
-    let links = c.serve_links.ensures.serves T b2 with_requests links_clean in
-    let k = c.serve_requests.ensures.asked T.base start links.log links.told
-    (record {
-      log = links.log;
-      x = b2.x;
-      of_site = s.of_site;
-      stands = links.stands;
-      admitted = λ before. before;
-      grown = AsksNone;
-      is = record { told = b2.admin; tells = links.tells; exchanged = links.adds.requests; held = came.held };
-    })
-    asked_clean in
-    let b3 : Beside = record { acts = b.acts; admin = k.is.told; x = k.x } in
-    let answered = serves_asked Holds Tells T b2 _ _ _ _ _ _ links _ k in
-    let late = c.end_late_ones.ensures.serves T b3 answered late_clean in
-    let closed = c.close_links.ensures.serves T b3 late late_clean in
-    let tried = c.serve_spool.ensures.tried (trace_of T.base closed.log) b.acts closed.stands s.tells clean in
-    let serves = serves_tried Holds Tells g.S.Spool.tells T b3 _ _ _ _ _ _ _ closed c.taken_is_sent.ensures k.is.held k.of_site tried in
-    subst (λ seats. Serves Holds Tells g.S.Spool.tells T c.serve_spool.new.office c.close_links.new.wire c.serve_spool.new.spool seats.items
-    c.serve_requests.new.requests.exchanges.items c.args.links.now.site) (sym c.serve_spool.ensures.keeps.seats) serves)
+    let seats0 = c.args.links.now.clients.seats.items in
+    let seats1 = c.accept_links.new.clients.seats.items in
+    let seats2 = c.serve_links.new.clients.seats.items in
+    let seats3 = c.end_late_ones.new.clients.seats.items in
+    let seats4 = c.close_links.new.clients.seats.items in
+    let held0 = c.args.links.now.requests.exchanges.items in
+    let held1 = c.accept_requests.new.requests.exchanges.items in
+    let held2 = c.serve_requests.new.requests.exchanges.items in
+    so_far_tried Holds IsClean Tells Files T site spool c.close_links.new.self.office c.serve_spool.new.self.office c.close_links.new.self.wire c.serve_spool.new.self.wire
+    c.serve_spool.new.spool seats4 c.serve_spool.new.clients.seats.items held2 c.taken_is_sent.ensures c.serve_spool.ensures.works.wire
+    (ap (λ v. v.items) c.serve_spool.ensures.keeps.seats) c.serve_spool.ensures.tried clean
+    (so_far_served Holds IsClean Tells Files T site spool c.end_late_ones.new.self.office c.close_links.new.self.office c.end_late_ones.new.self.wire c.close_links.new.self.wire
+    seats3 [] seats4 seats4 held2 c.close_links.ensures.serves shut_clean
+    (so_far_served Holds IsClean Tells Files T site spool c.serve_requests.new.self.office c.end_late_ones.new.self.office c.serve_requests.new.self.wire c.end_late_ones.new.self.wire
+    seats2 [] seats3 [] held2 c.end_late_ones.ensures.serves late_clean
+    (so_far_asked Holds IsClean Tells Files T site spool c.serve_links.new.self.office c.serve_requests.new.self.office c.serve_links.new.self.wire c.serve_requests.new.self.wire
+    seats2 held1 held2 c.serve_requests.ensures.asked asked_clean
+    (so_far_served Holds IsClean Tells Files T site spool c.accept_requests.new.self.office c.serve_links.new.self.office c.accept_requests.new.self.wire c.serve_links.new.self.wire
+    seats1 [] seats2 [] held1 c.serve_links.ensures.serves links_clean
+    (so_far_came Holds IsClean Tells Files T site spool c.accept_links.new.self.office c.accept_requests.new.self.office c.accept_links.new.self.wire c.accept_requests.new.self.wire
+    seats1 held0 held1 same c.accept_requests.ensures.answers
+    (so_far_served Holds IsClean Tells Files T site spool c.tick.new.self.office c.accept_links.new.self.office c.tick.new.self.wire c.accept_links.new.self.wire
+    seats0 [] seats1 [] held0 c.accept_links.ensures.serves accepted_clean
+    (so_far_served Holds IsClean Tells Files T site spool c.args.self.now.office c.tick.new.self.office c.args.self.now.wire c.tick.new.self.wire
+    seats0 seats0 seats0 [] held0 (c.tick.ensures.serves seats0 seats0) passed_clean
+    (so_far_first Holds IsClean Tells Files T site spool c.args.self.now.office c.args.self.now.wire seats0 held0 s)))))))))
 
 pub returns-clause-clean : goal.returns-clause-clean
 returns-clause-clean g c = λ clean.
-    c.tick.ensures.works.was_given.clean (c.accept_links.ensures.works.1.was_given.clean (c.serve_links.ensures.works.was_given.clean
-    (c.serve_requests.ensures.works.was_given.clean (c.end_late_ones.ensures.works.part.was_given.clean (c.serve_spool.ensures.works.was_given.clean clean)))))
+    (let IsClean = g.V.Vault.is_clean in
+    let late_clean = clean_same IsClean _ _ c.close_links.ensures.works.office (c.serve_spool.ensures.works.part.was_given.clean clean) in
+    let links_clean = c.serve_requests.ensures.works.was_given.clean (c.end_late_ones.ensures.works.part.was_given.clean late_clean) in
+    let accepted_clean = clean_same IsClean _ _ c.accept_requests.ensures.works.1.office (c.serve_links.ensures.works.was_given.clean links_clean) in
+    c.tick.ensures.works.was_given.clean (c.accept_links.ensures.works.1.was_given.clean accepted_clean))
 
 pub returns-clause-works : goal.returns-clause-works
 returns-clause-works g c = λ wire asked T s clean.
     (let Holds = g.V.Vault.holds in
     let IsClean = g.V.Vault.is_clean in
     let Asked = g.W.Wire.asked in
-    let passed_clean = c.accept_links.ensures.works.1.was_given.clean (c.serve_links.ensures.works.was_given.clean (c.serve_requests.ensures.works.was_given.clean
-    (c.end_late_ones.ensures.works.part.was_given.clean (c.serve_spool.ensures.works.was_given.clean clean)))) in
+    let same = c.accept_requests.ensures.works.1.office in
+    let late_clean = clean_same IsClean _ _ c.close_links.ensures.works.office (c.serve_spool.ensures.works.part.was_given.clean clean) in
+    let links_clean = c.serve_requests.ensures.works.was_given.clean (c.end_late_ones.ensures.works.part.was_given.clean late_clean) in
+    let passed_clean = c.accept_links.ensures.works.1.was_given.clean (clean_same IsClean _ _ same (c.serve_links.ensures.works.was_given.clean links_clean)) in
     let links = c.args.links.now in
     let old = links.clients in
     let now = c.args.now in
@@ -98,36 +104,41 @@ returns-clause-works g c = λ wire asked T s clean.
     let o4 = c.serve_requests.new.self.office in
     let o5 = c.end_late_ones.new.self.office in
     let w1 = c.tick.new.self.wire in
-    let w3 = c.accept_requests.new.wire in
+    let w3 = c.accept_requests.new.self.wire in
     let w4 = c.serve_links.new.self.wire in
     let w5 = c.serve_requests.new.self.wire in
-    let w6 = c.close_links.new.wire in
+    let w6 = c.serve_spool.new.self.wire in
+    let closed = c.close_links.ensures.works.part in
     let same_wire : c.end_late_ones.new.self.wire ≡ w5 = c.end_late_ones.ensures.works.wire in
     let Heard = g.L.Listener.heard in
     let l = c.args.self.now.listener in
     let l0 = c.tick.new.self.listener in
-    let l1 = c.tell_idle_ones.new.listener in
-    let l2 = c.accept_requests.new.listener in
+    let l1 = c.report_idle_ones.new.listener in
+    let l2 = c.accept_requests.new.self.listener in
     let l3 = c.serve_links.new.self.listener in
     let l4 = c.serve_requests.new.self.listener in
     let l5 = c.end_late_ones.new.self.listener in
-    let l6 = c.close_links.new.listener in
+    let l6 = c.serve_spool.new.self.listener in
     let a = c.accept_links.ensures.works in
-    let accepted : Part Holds IsClean g.V.Vault.faults g.V.Vault.is_up g.V.Vault.may_leave Asked o1 w1 o2 c.accept_links.new.self.wire (AreAccepted Holds IsClean o1 o2 old.seats.items seats2 64 a.0) =
-    part_so Holds IsClean g.V.Vault.faults g.V.Vault.is_up g.V.Vault.may_leave Asked o1 o2 w1 c.accept_links.new.self.wire _ _ (λ gv cl wa x. x.1) a.1 in
-    let ticked : Part Holds IsClean g.V.Vault.faults g.V.Vault.is_up g.V.Vault.may_leave Asked c.args.self.now.office c.args.self.now.wire o1 w1 (IsPassed [] now) =
-    part_so Holds IsClean g.V.Vault.faults g.V.Vault.is_up g.V.Vault.may_leave Asked c.args.self.now.office o1 c.args.self.now.wire w1 _ _ (λ gv cl wa x. x.1) c.tick.ensures.works in
-    let passed = passed_by Holds IsClean g.V.Vault.faults g.V.Vault.is_up g.V.Vault.may_leave Asked c.args.self.now.office o1 wire c.args.self.now.wire w1
+    let accepted : Part g.V.Vault Asked o1 w1 o2 c.accept_links.new.self.wire (AreAccepted Holds IsClean o1 o2 old.seats.items seats2 64 a.0) =
+    part_so g.V.Vault Asked o1 o2 w1 c.accept_links.new.self.wire _ _ (λ gv cl wa x. x.1) a.1 in
+    let ticked : Part g.V.Vault Asked c.args.self.now.office c.args.self.now.wire o1 w1 (IsPassed [] now) =
+    part_so g.V.Vault Asked c.args.self.now.office o1 c.args.self.now.wire w1 _ _ (λ gv cl wa x. x.1) c.tick.ensures.works in
+    let passed = passed_by g.V.Vault Asked c.args.self.now.office o1 wire c.args.self.now.wire w1
     (Waited (millis_of links)) now asked ticked in
-    let untold = subst (λ gv. WasTold Heard l l0 (heard_of_all T.base T.log gv)) c.tick.ensures.works.facts.1.given_is (c.tick.ensures.works.facts.0.is T.base T.log s passed_clean) in
-    let turned = subst (λ set. Part Holds IsClean g.V.Vault.faults g.V.Vault.is_up g.V.Vault.may_leave Asked o2 w3 o3 w4
+    let untold = subst (λ gv. HasHeard Heard l l0 (heard_of_all T.base T.log gv)) c.tick.ensures.works.facts.1.given_is (c.tick.ensures.works.facts.0.is T.base T.log s passed_clean) in
+    let turned = subst (λ set. Part g.V.Vault Asked o2 w3 o3 w4
     (WithHeard Holds IsClean Heard o2 l2 o3 l3
     (Also (WereServed Holds IsClean o2 o3 set now came.newcomers.newcomers.items served.lock_released served.poll_now served.newcomers.newcomers.items seats2 seats2)
     (PollsBy served.lock_released served.poll_now)))) c.accept_links.ensures.comers.keeps.set
-    (subst (λ b. Part Holds IsClean g.V.Vault.faults g.V.Vault.is_up g.V.Vault.may_leave Asked o2 w3 o3 w4
+    (subst (λ b. Part g.V.Vault Asked o2 w3 o3 w4
     (WithHeard Holds IsClean Heard o2 l2 o3 l3
     (Also (WereServed Holds IsClean o2 o3 (settings_of came) now came.newcomers.newcomers.items served.lock_released served.poll_now served.newcomers.newcomers.items seats2 seats2)
-    (PollsBy (b || served.lock_released) served.poll_now)))) c.accept_links.ensures.comers.poll_now c.serve_links.ensures.works) in
+    (PollsBy (b || served.lock_released) served.poll_now)))) c.accept_links.ensures.comers.poll_now
+    (subst (λ o. Part g.V.Vault Asked o w3 o3 w4
+    (WithHeard Holds IsClean Heard o l2 o3 l3
+    (Also (WereServed Holds IsClean o o3 (settings_of came) now came.newcomers.newcomers.items served.lock_released served.poll_now served.newcomers.newcomers.items seats2 seats2)
+    (PollsBy (came.poll_now || served.lock_released) served.poll_now)))) same c.serve_links.ensures.works)) in
     let settled = c.serve_links.ensures.settled in
     let set = c.serve_links.ensures.keeps.keeps.set ∙ c.accept_links.ensures.comers.keeps.set in
     let most = limit links (length seats2) in
@@ -139,15 +150,15 @@ returns-clause-works g c = λ wire asked T s clean.
     (late_comers now most old.newcomers.newcomers.items came.newcomers.newcomers.items c.accept_links.ensures.comers.each)
     (late_settled now most came.newcomers.newcomers.items served.newcomers.newcomers.items settled) in
     let login_same : served.newcomers.seconds ≡ old.newcomers.seconds = ap (λ (s : Settings). s.login_seconds) set in
-    let late = late_both Holds IsClean g.V.Vault.faults g.V.Vault.is_up g.V.Vault.may_leave now c.limit-seconds.result most
+    let late = late_both g.V.Vault now c.limit-seconds.result most
     old.newcomers.newcomers.items served.newcomers.newcomers.items ended.newcomers.newcomers.items seats2 o4 o5
-    (λ given. WasTold Heard l4 l5 (late_ends now served.newcomers.seconds served.newcomers.newcomers.items given))
-    (λ given. WasTold Heard l4 l6 (late_ends now old.newcomers.seconds old.newcomers.newcomers.items given)) seconds less
-    (λ given gone told. told_on Heard l4 l5 l6 _ c.close_links.ensures.heard
+    (λ given. HasHeard Heard l4 l5 (late_ends now served.newcomers.seconds served.newcomers.newcomers.items given))
+    (λ given. HasHeard Heard l4 l6 (late_ends now old.newcomers.seconds old.newcomers.newcomers.items given)) seconds less
+    (λ given gone told. hears_on Heard l4 l5 l6 _ (λ h q. subst (λ x. Heard x h) (sym c.serve_spool.ensures.works.listener) (c.close_links.ensures.works.unheard h q))
     (late_heard Heard now most old.newcomers.seconds served.newcomers.seconds old.newcomers.newcomers.items served.newcomers.newcomers.items less login_same l4 l5 given gone told))
-    (subst (λ v. Giving Holds IsClean g.V.Vault.faults g.V.Vault.is_up g.V.Vault.may_leave o4 o5
+    (subst (λ v. Giving g.V.Vault o4 o5
     (λ given. HasEndedLate Holds IsClean o4 o5 now c.limit-seconds.result served.newcomers.newcomers.items ended.newcomers.newcomers.items v.items given
-    × WasTold Heard l4 l5 (late_ends now served.newcomers.seconds served.newcomers.newcomers.items given)))
+    × HasHeard Heard l4 l5 (late_ends now served.newcomers.seconds served.newcomers.newcomers.items given)))
     c.serve_links.ensures.keeps.seats c.end_late_ones.ensures.works.part) in
     let keeps : (n : ℕ) (x : Newcomer) → newcomer n old.newcomers.newcomers.items ≡ Some x → IsSettled now (Some x) (newcomer n served.newcomers.newcomers.items) =
     λ n x h. subst (λ m. IsSettled now m (newcomer n served.newcomers.newcomers.items)) (c.accept_links.ensures.comers.noted n x h) (settled.each n) in
@@ -158,38 +169,45 @@ returns-clause-works g c = λ wire asked T s clean.
     (λ q k. comer_so now old.newcomers.newcomers.items came.newcomers.newcomers.items served.newcomers.newcomers.items q settled k) (filter_map seat_of accepted.facts.came)
     (subst (All (IsNewlyNoted now old.newcomers.newcomers.items came.newcomers.newcomers.items))
     (more_is old.seats.items comers.more (filter_map seat_of accepted.facts.came) seats2 comers.is accepted.facts.come.seated) (comers.newly h)) in
-    let forgets : (U : Trace) → StandsFor Holds o5 U → (n : ℕ) → is_open U n ≡ true → newcomer n c.serve_spool.new.links.newcomers.newcomers.items ≡ newcomer n ended.newcomers.newcomers.items =
+    let forgets : (U : Trace) → StandsFor Holds o5 U → (n : ℕ) → is_open U n ≡ true → newcomer n c.serve_spool.new.clients.newcomers.newcomers.items ≡ newcomer n ended.newcomers.newcomers.items =
     λ U su n here. ap (λ v. newcomer n v.newcomers.items) c.serve_spool.ensures.keeps.newcomers ∙ c.close_links.ensures.newcomers U su n here in
     let last = c.close_links.ensures.closes.keeps.last ∙ (c.end_late_ones.ensures.keeps.keeps.last ∙ (c.serve_links.ensures.keeps.keeps.last ∙ c.accept_links.ensures.comers.keeps.last)) in
-    let tried = subst (λ l. SpoolPart Holds IsClean g.V.Vault.faults g.V.Vault.is_up g.V.Vault.may_leave g.S.Spool.asked o5 c.args.spool.now c.serve_spool.new.office c.serve_spool.new.spool
-    (λ U given calls. IsSpoolTurn l c.serve_spool.new.links.last U given calls
-    × (c.serve_spool.new.links.poll_now ≡ (c.close_links.new.links.poll_now || has_dealt calls)))) last c.serve_spool.ensures.works in
+    let tried = subst (λ l. SpoolPart g.V.Vault g.S.Spool.asked o5 c.args.spool.now c.serve_spool.new.self.office c.serve_spool.new.spool
+    (λ U given calls. IsSpoolTurn l c.serve_spool.new.clients.last U given calls
+    × (c.serve_spool.new.clients.poll_now ≡ (c.close_links.new.clients.poll_now || has_dealt calls)))) last
+    (subst (λ o. SpoolPart g.V.Vault g.S.Spool.asked o c.args.spool.now c.serve_spool.new.self.office c.serve_spool.new.spool
+    (λ U given calls. IsSpoolTurn c.close_links.new.clients.last c.serve_spool.new.clients.last U given calls
+    × (c.serve_spool.new.clients.poll_now ≡ (c.close_links.new.clients.poll_now || has_dealt calls)))) c.close_links.ensures.works.office c.serve_spool.ensures.works.part) in
     let waits : ended.wait ≡ old.wait = ap (λ (s : Settings). s.wait) (c.end_late_ones.ensures.keeps.keeps.set ∙ (c.serve_links.ensures.keeps.keeps.set ∙ c.accept_links.ensures.comers.keeps.set)) in
     let seats_same = c.end_late_ones.ensures.keeps.seats ∙ c.serve_links.ensures.keeps.seats in
-    turn_done Holds IsClean g.V.Vault.faults g.V.Vault.is_up g.V.Vault.may_leave Asked g.S.Spool.asked Heard T now links
-    (record { clients = c.serve_spool.new.links; requests = c.serve_requests.new.requests; site = c.args.links.now.site })
-    c.args.self.now.office o1 o2 o3 o4 o5 c.serve_spool.new.office
+    turn_done g.V.Vault Asked g.S.Spool.asked Heard T now links
+    (record { clients = c.serve_spool.new.clients; requests = c.serve_requests.new.requests; site = c.args.links.now.site })
+    c.args.self.now.office o1 o2 o3 o4 o5 c.serve_spool.new.self.office
     wire w1 c.accept_links.new.self.wire w3 w4 w5 w6 c.args.spool.now c.serve_spool.new.spool c.args.self.now.listener l1 l2 l3 l4 l6
     seats2 a.0 c.accept_requests.new.requests.exchanges.items c.accept_requests.ensures.works.0 served.lock_released served.poll_now
-    c.close_links.new.links.poll_now came.newcomers.newcomers.items served.newcomers.newcomers.items ended.newcomers.newcomers.items passed
-    (λ U su. told_then Heard l l0 l1 [] (idle_ends U old.seats.items) untold (c.tell_idle_ones.ensures U su)) accepted c.accept_requests.ensures.works.1
-    (told_same Heard l1 l2 (λ h q. c.accept_requests.ensures.heard h (c.accept_links.ensures.heard h q))) turned c.serve_links.ensures.frees
+    c.close_links.new.clients.poll_now came.newcomers.newcomers.items served.newcomers.newcomers.items ended.newcomers.newcomers.items passed
+    (λ U su. hears_then Heard l l0 l1 [] (idle_ends U old.seats.items) untold (c.report_idle_ones.ensures U su)) accepted c.accept_requests.ensures.works.1.part
+    (hears_same Heard l1 l2 (λ h q. c.accept_requests.ensures.works.1.unheard h (c.accept_links.ensures.heard h q))) turned c.serve_links.ensures.releases
     (λ e. c.close_links.ensures.closes.keeps.polled (c.end_late_ones.ensures.ends.poll_now ∙ e)) c.serve_requests.ensures.works waited keeps newly late forgets
     (λ U su.
-    subst (λ w. Asking Asked w w6 (λ calls. AreClosed U seats2 c.serve_spool.new.links.seats.items calls
-    × PollsBy served.poll_now c.close_links.new.links.poll_now calls × Releases old.wait c.close_links.new.links.poll_now calls)) same_wire
+    subst (λ w. Asking Asked w w6 (λ calls. AreClosed U seats2 c.serve_spool.new.clients.seats.items calls
+    × PollsBy served.poll_now c.close_links.new.clients.poll_now calls × PollsAfterClosing old.wait c.close_links.new.clients.poll_now calls)) same_wire
     (subst (λ v. Asking Asked c.end_late_ones.new.self.wire w6
-    (λ calls. AreClosed U v.items c.serve_spool.new.links.seats.items calls × PollsBy served.poll_now c.close_links.new.links.poll_now calls
-    × Releases old.wait c.close_links.new.links.poll_now calls)) seats_same
+    (λ calls. AreClosed U v.items c.serve_spool.new.clients.seats.items calls × PollsBy served.poll_now c.close_links.new.clients.poll_now calls
+    × PollsAfterClosing old.wait c.close_links.new.clients.poll_now calls)) seats_same
     (subst (λ v. Asking Asked c.end_late_ones.new.self.wire w6
-    (λ calls. AreClosed U ended.seats.items v.items calls × PollsBy served.poll_now c.close_links.new.links.poll_now calls × Releases old.wait c.close_links.new.links.poll_now calls))
+    (λ calls. AreClosed U ended.seats.items v.items calls × PollsBy served.poll_now c.close_links.new.clients.poll_now calls × PollsAfterClosing old.wait c.close_links.new.clients.poll_now calls))
     (sym c.serve_spool.ensures.keeps.seats)
     (subst (λ n. Asking Asked c.end_late_ones.new.self.wire w6
-    (λ calls. AreClosed U ended.seats.items c.close_links.new.links.seats.items calls × PollsBy served.poll_now c.close_links.new.links.poll_now calls
-    × Releases n c.close_links.new.links.poll_now calls)) waits
+    (λ calls. AreClosed U ended.seats.items c.close_links.new.clients.seats.items calls × PollsBy served.poll_now c.close_links.new.clients.poll_now calls
+    × PollsAfterClosing n c.close_links.new.clients.poll_now calls)) waits
     (subst (λ b. Asking Asked c.end_late_ones.new.self.wire w6
-    (λ calls. AreClosed U ended.seats.items c.close_links.new.links.seats.items calls × PollsBy b c.close_links.new.links.poll_now calls
-    × Releases ended.wait c.close_links.new.links.poll_now calls)) c.end_late_ones.ensures.ends.poll_now (c.close_links.ensures.works U su))))))
+    (λ calls. AreClosed U ended.seats.items c.close_links.new.clients.seats.items calls × PollsBy b c.close_links.new.clients.poll_now calls
+    × PollsAfterClosing ended.wait c.close_links.new.clients.poll_now calls)) c.end_late_ones.ensures.ends.poll_now
+    (subst (λ w. Asking Asked c.end_late_ones.new.self.wire w
+    (λ calls. AreClosed U ended.seats.items c.close_links.new.clients.seats.items calls × PollsBy ended.poll_now c.close_links.new.clients.poll_now calls
+    × PollsAfterClosing ended.wait c.close_links.new.clients.poll_now calls)) (sym c.serve_spool.ensures.works.wire)
+    (record { calls = closed.calls; was_asked = closed.was_asked; facts = closed.facts U su })))))))
     tried s clean)
 
 pub returns-clause-left : goal.returns-clause-left
@@ -203,8 +221,8 @@ returns-clause-left g c = record {
       c.serve_links.new.clients.seats.items c.serve_links.ensures.settled.same
       (subst (λ v. HaveSeats c.accept_links.new.clients.newcomers.newcomers.items v.items) (sym c.serve_links.ensures.keeps.seats) came) in
       let closed = c.close_links.ensures.closes.seated (c.end_late_ones.ensures.ends.seated served) in
-      subst (λ n. HaveSeats n.newcomers.items c.serve_spool.new.links.seats.items) (sym c.serve_spool.ensures.keeps.newcomers)
-      (subst (λ v. HaveSeats c.close_links.new.links.newcomers.newcomers.items v.items) (sym c.serve_spool.ensures.keeps.seats) closed));
+      subst (λ n. HaveSeats n.newcomers.items c.serve_spool.new.clients.seats.items) (sym c.serve_spool.ensures.keeps.newcomers)
+      (subst (λ v. HaveSeats c.close_links.new.clients.newcomers.newcomers.items v.items) (sym c.serve_spool.ensures.keeps.seats) closed));
   pacing = λ h.
       subst (λ gs. ArePacing gs.refusals.items) (sym c.serve_spool.ensures.keeps.guesses)
       (c.close_links.ensures.closes.keeps.pacing (c.end_late_ones.ensures.keeps.keeps.pacing (c.serve_links.ensures.keeps.keeps.pacing (c.accept_links.ensures.comers.keeps.pacing h))));

@@ -1,7 +1,7 @@
 use Rattle.std.proofs.Common.{◌≡◌, ◌⊎◌, ◌||◌, ◌==◌, ◌∷◌, [], true, false, refl, sym, subst, ap, ◌∙◌}
 use Rattle.office.specs.Trace.{history}
 use Rattle.office.specs.Sessions.{live}
-use Rattle.serving.specs.Paces.{has_freed}
+use Rattle.serving.specs.Paces.{releases_lock}
 use Rattle.serving.specs.Settings.{Settings}
 use Rattle.serving.specs.ClientParts.{HadTurns, way_at}
 use Rattle.serving.proofs.Composing.{does_so}
@@ -13,7 +13,7 @@ pub returns-clause-keeps : goal.returns-clause-keeps
 returns-clause-keeps g c =
     let x = c.serve_link-more in
     let a = x.ensures.keeps in
-    let b = c.note_freed.ensures.keeps in
+    let b = c.note_release.ensures.keeps in
     record {
       keeps = record {
         set = b.keeps.set ∙ a.keeps.set;
@@ -24,25 +24,25 @@ returns-clause-keeps g c =
       seats = b.seats ∙ a.seats;
     }
 
-pub returns-clause-frees : goal.returns-clause-frees
-returns-clause-frees g c =
+pub returns-clause-releases : goal.returns-clause-releases
+returns-clause-releases g c =
     let x = c.serve_link-more in
-    let n = c.note_freed in
+    let n = c.note_release in
     let old = c.args.clients.now in
     let q = c.args.seat.connection in
     let wait : x.new.clients.wait ≡ old.wait = ap (λ (s : Settings). s.wait) x.ensures.keeps.keeps.set in
-    let freed : x.new.clients.lock_released ≡ old.lock_released = x.ensures.freed in
+    let lock_released : x.new.clients.lock_released ≡ old.lock_released = x.ensures.lock_released in
     record {
       more = record {
-        still = λ e. n.ensures.more.still (freed ∙ e);
-        waits = λ e. subst (λ w. (old.lock_released ≡ true) ⊎ ((w == 0) ≡ false)) wait (subst (λ b. (b ≡ true) ⊎ ((x.new.clients.wait == 0) ≡ false)) freed (n.ensures.more.waits e));
-        poll_now = λ e. subst (λ b. (b ≡ true) ⊎ (n.new.links.poll_now ≡ true)) freed (n.ensures.more.poll_now e);
+        still = λ e. n.ensures.more.still (lock_released ∙ e);
+        waits = λ e. subst (λ w. (old.lock_released ≡ true) ⊎ ((w == 0) ≡ false)) wait (subst (λ b. (b ≡ true) ⊎ ((x.new.clients.wait == 0) ≡ false)) lock_released (n.ensures.more.waits e));
+        poll_now = λ e. subst (λ b. (b ≡ true) ⊎ (n.new.clients.poll_now ≡ true)) lock_released (n.ensures.more.poll_now e);
       };
       is = λ T U s u.
-          n.ensures.freed U u
-          ∙ (ap (λ b. b || has_freed x.new.clients.wait c.is_logged_in-was_logged_in.result (live (history U) q)) freed
-          ∙ (ap (λ w. old.lock_released || has_freed w c.is_logged_in-was_logged_in.result (live (history U) q)) wait
-          ∙ ap (λ b. old.lock_released || has_freed old.wait b (live (history U) q)) (c.is_logged_in-was_logged_in.ensures T s)));
+          n.ensures.lock_released U u
+          ∙ (ap (λ b. b || releases_lock x.new.clients.wait c.is_logged_in-was_logged_in.result (live (history U) q)) lock_released
+          ∙ (ap (λ w. old.lock_released || releases_lock w c.is_logged_in-was_logged_in.result (live (history U) q)) wait
+          ∙ ap (λ b. old.lock_released || releases_lock old.wait b (live (history U) q)) (c.is_logged_in-was_logged_in.ensures T s)));
     }
 
 pub returns-clause-works : goal.returns-clause-works
@@ -52,20 +52,20 @@ returns-clause-works g c =
     let s = c.args.self.now in
     let x = c.serve_link-more in
     let s1 = x.new.self in
-    let n = c.note_freed.new.links in
+    let n = c.note_release.new.clients in
     let clients = c.args.clients.now in
     let now = c.args.now in
     let seat = c.args.seat in
     does_so g.V.Vault g.W.Wire g.L.Listener s s1 _ _ (λ gv cl wa a. (
-      served_so Holds IsClean g.V.Vault.faults g.V.Vault.is_up g.V.Vault.may_leave s.office s1.office
+      served_so g.V.Vault s.office s1.office
           (way_at now clients (x.new.clients.poll_now || x.result)) (way_at now clients n.poll_now) n.newcomers.newcomers.items (seat ∷ [])
-          (seat ∷ []) gv cl refl refl (λ e. e) (λ i d within e. e) c.note_freed.ensures.keeps.keeps.polled
+          (seat ∷ []) gv cl refl refl (λ e. e) (λ i d within e. e) c.note_release.ensures.keeps.keeps.polled
           (subst (λ m. HadTurns Holds IsClean s.office s1.office (way_at now clients (x.new.clients.poll_now || x.result)) m.newcomers.items (seat ∷ []) (seat ∷ []) gv cl)
-          (sym c.note_freed.ensures.newcomers) a.0),
-      client_polled clients.poll_now (x.new.clients.poll_now || x.result) n.lock_released n.poll_now cl a.1 c.note_freed.ensures.poll_now,
+          (sym c.note_release.ensures.newcomers) a.0),
+      client_polled clients.poll_now (x.new.clients.poll_now || x.result) n.lock_released n.poll_now cl a.1 c.note_release.ensures.poll_now,
     )) x.ensures.works
 
 pub returns-clause-settles : goal.returns-clause-settles
 returns-clause-settles g c =
     let x = c.serve_link-more.ensures.settles in
-    record { lies = x.lies; is = ap (λ m. m.newcomers.items) c.note_freed.ensures.newcomers ∙ x.is }
+    record { lies = x.lies; is = ap (λ m. m.newcomers.items) c.note_release.ensures.newcomers ∙ x.is }

@@ -21,7 +21,7 @@ returns-then-write_owed-clause-works g c =
     let out = subst (λ b. Does g.V.Vault g.W.Wire g.L.Listener s s1 (IsWrittenOut Holds IsClean s.office s1.office c.args.seat way.share b)) goes
     (subst (λ n. Does g.V.Vault g.W.Wire g.L.Listener s s1 (IsWrittenOut Holds IsClean s.office s1.office c.args.seat n x.result)) c.share_of-share.ensures x.ensures.works) in
     does_so g.V.Vault g.W.Wire g.L.Listener s s1 _ _ (λ gv cl wa a. (
-      served_written Holds IsClean g.V.Vault.faults g.V.Vault.is_up g.V.Vault.may_leave s.office s1.office way c.settle.new.self.newcomers.items c.args.seat gv cl (or_true clients.poll_now)
+      served_written g.V.Vault s.office s1.office way c.settle.new.self.newcomers.items c.args.seat gv cl (or_true clients.poll_now)
           (not_unread c.args.seat.connection c.args.now clients.newcomers.newcomers.items c.settle.new.self.newcomers.items c.settle.ensures.newcomers) a,
       polled_moved clients.poll_now (clients.poll_now || true) cl (shared_moved c.args.seat.link (length clients.seats.items) cl (a.goes_on refl)),
     )) out
@@ -44,7 +44,7 @@ returns-then-not-read_piece-clause-works g c =
     (subst (λ n. Does g.V.Vault g.W.Wire g.L.Listener s s1 (IsWrittenOut Holds IsClean s.office s1.office c.args.seat n x.result)) c.share_of-share.ensures x.ensures.works) in
     does_then g.V.Vault g.W.Wire g.L.Listener s s1 s2 _ _ _
     (λ g1 g2 c1 c2 wa wb a b. (
-      served_one Holds IsClean g.V.Vault.faults g.V.Vault.is_up g.V.Vault.may_leave s.office s1.office s2.office way noted.newcomers.newcomers.items c.args.seat g1 g2 c1 c2 wa wb a b.0,
+      served_one g.V.Vault s.office s1.office s2.office way noted.newcomers.newcomers.items c.args.seat g1 g2 c1 c2 wa wb a b.0,
       polled_behind clients.poll_now (noted.poll_now || y.result) (noted.poll_now || false) c1 c2 (λ e. ap (λ b. noted.poll_now || b) none ∙ e) b.1,
     )) out y.ensures.works
 
@@ -70,12 +70,12 @@ returns-clause-works g c =
     (Also (HadTurns Holds IsClean s.office s2.office way noted.newcomers.newcomers.items (c.args.seat ∷ []) (c.args.seat ∷ [])) (PollsBy clients.poll_now true)) =
     does_then g.V.Vault g.W.Wire g.L.Listener s s1 s2 _ _ _
     (λ g1 g2 c1 c2 wa wb a b. (
-      served_one Holds IsClean g.V.Vault.faults g.V.Vault.is_up g.V.Vault.may_leave s.office s1.office s2.office way noted.newcomers.newcomers.items c.args.seat g1 g2 c1 c2 wa wb a b.0,
+      served_one g.V.Vault s.office s1.office s2.office way noted.newcomers.newcomers.items c.args.seat g1 g2 c1 c2 wa wb a b.0,
       polled_behind clients.poll_now (noted.poll_now || y.result) true c1 c2 (λ e. is_right noted.poll_now y.result came) b.1,
     )) out y.ensures.works in
     does_then g.V.Vault g.W.Wire g.L.Listener s s2 s3 _ _ _
     (λ g1 g2 c1 c2 wa wb a b. (
-      served_then Holds IsClean g.V.Vault.faults g.V.Vault.is_up g.V.Vault.may_leave s.office s2.office s3.office way noted.newcomers.newcomers.items
+      served_then g.V.Vault s.office s2.office s3.office way noted.newcomers.newcomers.items
           c.args.seat g1 g2 c1 c2 wa wb a.0 b.of_seat b.offered,
       polled_then clients.poll_now true (noted.poll_now || z.result) c1 c2 a.1 (λ e. refl),
     )) first z.ensures.works

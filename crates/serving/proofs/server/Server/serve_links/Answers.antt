@@ -2,13 +2,13 @@ use Rattle.std.proofs.Common.{rules, arith, ◌≡◌, ◌<◌, ◌≤◌, ◌||
 use Rattle.serving.specs.declared.links.Seat.{Seat}
 use Rattle.serving.specs.Served.{IsServing}
 use Rattle.serving.specs.Newcomers.{Settles}
-use Rattle.serving.specs.Parts.{Frees}
+use Rattle.serving.specs.Parts.{ReleasesLock}
 use Rattle.serving.specs.Settings.{settings_of}
 use Rattle.serving.specs.ClientParts.{way_at}
 use Rattle.serving.proofs.Seating.{contained}
 use Rattle.serving.proofs.Composing.{seats_then, does_none, does_so, does_then}
 use Rattle.serving.proofs.Turns.{served_at}
-use Rattle.serving.proofs.Freeing.{at_place, were_none, were_next, were_whole}
+use Rattle.serving.proofs.Releasing.{at_place, were_none, were_next, were_whole}
 use Rattle.serving.proofs.Resting.{is_left, clients_polled}
 use Rattle.serving.proofs.Settling.{settled_none, settled_then, are_settled, unread_before, touched_next}
 use Rattle.serving.proofs.server.Server.serve_links.Goals as goal
@@ -22,13 +22,13 @@ loop-place-init g c =
     let clients = c.args.clients.now in
     let newcomers = clients.newcomers.newcomers.items in
     record {
-      serves = λ T beside s clean. s;
+      serves = λ T elsewhere s clean. s;
       keeps = record { keeps = record { set = refl; last = refl; polled = λ e. e; pacing = λ h. h }; seats = refl };
       settled = settled_none c.args.now newcomers;
       touched = λ n. inl refl;
-      frees = λ e. cc;
+      releases = λ e. cc;
       works = does_none g.V.Vault g.W.Wire g.L.Listener c.args.self.now _ (
-        were_none g.V.Vault.holds g.V.Vault.is_clean g.V.Vault.faults g.V.Vault.is_up g.V.Vault.may_leave c.args.self.now.office
+        were_none g.V.Vault c.args.self.now.office
             (settings_of clients) c.args.now newcomers clients.poll_now newcomers clients.seats.items,
         λ e. is_left (clients.poll_now || false) false (is_left clients.poll_now false e),
       );
@@ -49,29 +49,29 @@ loop-place-preserved g c =
     let ys = c.deref.result.now in
     let within : k.place < length seats = search rules in
     let lies = at_place seats ys k.place _ (λ q. Settles c.args.now q.connection k.clients served) c.deref.ensures.0 within x.ensures.settles no_seat in
-    let frees = at_place seats ys k.place _ (λ q. Frees Holds s1.office s2.office k.clients served q.connection) c.deref.ensures.0 within x.ensures.frees no_seat in
+    let releases = at_place seats ys k.place _ (λ q. ReleasesLock Holds s1.office s2.office k.clients served q.connection) c.deref.ensures.0 within x.ensures.releases no_seat in
     let same = ap (λ v. v.items) k.invariant.keeps.seats in
     let polled = x.ensures.keeps.keeps.polled in
     record {
-      serves = λ T beside b clean.
-          (let serves = x.ensures.serves seats [] (contained seats ys k.place _ c.deref.ensures.0 within) (λ j d inside. absurd (omega (arith, inside))) T beside
-          (k.invariant.serves T beside b (x.ensures.works.was_given.clean clean)) clean in
-          subst (λ kept. IsServing Holds g.W.Wire.tells T beside s2.office s2.wire kept.items []) (sym x.ensures.keeps.seats) serves);
+      serves = λ T elsewhere b clean.
+          (let serves = x.ensures.serves seats [] (contained seats ys k.place _ c.deref.ensures.0 within) (λ j d inside. absurd (omega (arith, inside))) T elsewhere
+          (k.invariant.serves T elsewhere b (x.ensures.works.was_given.clean clean)) clean in
+          subst (λ kept. IsServing Holds g.W.Wire.tells T elsewhere s2.office s2.wire kept.items []) (sym x.ensures.keeps.seats) serves);
       keeps = seats_then old k.clients served k.invariant.keeps x.ensures.keeps;
       settled = settled_then c.args.now old.newcomers.newcomers.items k.clients.newcomers.newcomers.items served.newcomers.newcomers.items k.invariant.settled
           (are_settled _ lies.lies c.args.now k.clients.newcomers.newcomers.items served.newcomers.newcomers.items lies.is);
       touched = touched_next c.args.now lies.lies old.newcomers.newcomers.items k.clients.newcomers.newcomers.items served.newcomers.newcomers.items
           old.seats.items seats k.place no_seat same within lies.is k.invariant.touched;
-      frees = λ e. ⊎_elim (λ (b : k.clients.lock_released ≡ true). polled (k.invariant.frees b)) (λ (h : served.poll_now ≡ true). h) (frees.more.poll_now e);
+      releases = λ e. ⊎_elim (λ (b : k.clients.lock_released ≡ true). polled (k.invariant.releases b)) (λ (h : served.poll_now ≡ true). h) (releases.more.poll_now e);
       works = does_then g.V.Vault g.W.Wire g.L.Listener s s1 s2 _ _ _
           (λ g1 g2 c1 c2 wa wb a b. (
-            were_next Holds IsClean g.V.Vault.faults g.V.Vault.is_up g.V.Vault.may_leave s.office s1.office s2.office
+            were_next g.V.Vault s.office s1.office s2.office
                 (settings_of old) c.args.now old.newcomers.newcomers.items served.newcomers.newcomers.items old.seats.items k.clients served.lock_released served.poll_now k.place no_seat g1 g2 c1 c2
-                k.invariant.keeps.keeps.set same within frees.more.still polled frees.is frees.more.waits
+                k.invariant.keeps.keeps.set same within releases.more.still polled releases.is releases.more.waits
                 (unread_before _ lies.lies c.args.now k.clients.newcomers.newcomers.items served.newcomers.newcomers.items lies.is) k.invariant.touched wa wb a.0
-                (served_at Holds IsClean g.V.Vault.faults g.V.Vault.is_up g.V.Vault.may_leave s1.office s2.office
+                (served_at g.V.Vault s1.office s2.office
                 (way_at c.args.now k.clients served.poll_now) served.newcomers.newcomers.items seats ys k.place _ g2 c2 c.deref.ensures.0 within b.0 no_seat),
-            clients_polled old.poll_now k.clients.poll_now served.poll_now k.clients.lock_released served.lock_released c1 c2 frees.more.still a.1 b.1,
+            clients_polled old.poll_now k.clients.poll_now served.poll_now k.clients.lock_released served.lock_released c1 c2 releases.more.still a.1 b.1,
           ))
           k.invariant.works x.ensures.works;
     }
@@ -83,7 +83,7 @@ returns-clause-works g c =
     let old = c.args.clients.now in
     let done : length k.clients.seats.items ≤ k.place = search rules in
     does_so g.V.Vault g.W.Wire g.L.Listener s k.self _ _ (λ gv cl wa a. (
-      were_whole g.V.Vault.holds g.V.Vault.is_clean g.V.Vault.faults g.V.Vault.is_up g.V.Vault.may_leave s.office k.self.office
+      were_whole g.V.Vault s.office k.self.office
           (settings_of old) c.args.now old.newcomers.newcomers.items k.clients.lock_released k.clients.poll_now k.clients.newcomers.newcomers.items old.seats.items k.clients.seats.items k.place gv cl
           (ap (λ v. v.items) k.invariant.keeps.seats) done a.0,
       a.1,

@@ -14,7 +14,7 @@ invariant-loop-place g l = record {
   keeps : KeepsSeats l.fn.clients l.clients;
   settled : AreSettled l.fn.now l.fn.clients.newcomers.newcomers.items l.clients.newcomers.newcomers.items;
   touched : AreTouched l.fn.clients.newcomers.newcomers.items l.clients.newcomers.newcomers.items (take l.place l.fn.clients.seats.items);
-  frees : l.clients.lock_released ≡ true → l.clients.poll_now ≡ true;
+  releases : l.clients.lock_released ≡ true → l.clients.poll_now ≡ true;
   works : Does g.V.Vault g.W.Wire g.L.Listener l.fn.self l.self
       (Also (WereServed g.V.Vault.holds g.V.Vault.is_clean l.fn.self.office l.self.office
       (settings_of l.fn.clients) l.fn.now l.fn.clients.newcomers.newcomers.items l.clients.lock_released l.clients.poll_now l.clients.newcomers.newcomers.items l.fn.clients.seats.items

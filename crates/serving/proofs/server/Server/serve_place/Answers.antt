@@ -1,13 +1,13 @@
 use Rattle.std.proofs.Common.{◌<◌, length, set, refl, sym, ◌∙◌, ap, arith, subst}
 use Rattle.std.proofs.lemmas.List.{length-set, get_or-set_same}
 use Rattle.serving.specs.Wires.{has_closed}
-use Rattle.serving.specs.Requests.{AreHeld, AreKeptBeside}
+use Rattle.serving.specs.Requests.{AreHeld, AreKeptAmong}
 use Rattle.serving.proofs.Requesting.{asked_so, asked_still, exchanged_same, one_held, held_again, held_without}
 use Rattle.serving.proofs.Quieting.{NoEvent, IsOne, quiet_closed, asks_one, did_asked, also_from, also_then, also_so}
 use Rattle.serving.proofs.HttpWorking.{held_on, closed_so, one_at, one_set, behind_held, behind_closed}
 use Rattle.serving.specs.HttpWorks.{HasHttpTurn, HadHttpTurns}
 use Rattle.serving.specs.Hearing.{HeardApart}
-use Rattle.serving.proofs.Hearing.{told_on, apart_still}
+use Rattle.serving.proofs.Hearing.{hears_on, apart_still}
 use Rattle.serving.specs.Calls.{Closed}
 use Rattle.serving.specs.declared.wire.Port.TheVariants.{Admin}
 use Rattle.std.proofs.Common.{rules, ◌≡◌, true, false, [], ◌∷◌, ◌++◌, take, drop, ◌||◌}
@@ -23,11 +23,11 @@ returns-then-not-exchange-clause-asked g c = λ B start L pop s clean.
     let e = c.index_mut-exchange.result.now in
     let e2 = c.serve_exchange.new.exchange in
     let value = c.index_mut-exchange.ensures.value in
-    let one = asked_so g.V.Vault.holds g.W.Wire.tells c.args.site.now B start L pop c.args.self.now.office c.args.self.now.wire (λ told x. AreHeld told x xs) (AreKeptBeside xs e)
-    (λ told x a. subst (λ y. AreKeptBeside xs y told x) (sym value) (one_held told x xs place e c.requires a)) s in
+    let one = asked_so g.V.Vault.holds g.W.Wire.tells c.args.site.now B start L pop c.args.self.now.office c.args.self.now.wire (λ told x. AreHeld told x xs) (AreKeptAmong xs e)
+    (λ told x a. subst (λ y. AreKeptAmong xs y told x) (sym value) (one_held told x xs place e c.requires a)) s in
     let k = c.serve_exchange.ensures.asked B start L pop xs one clean in
     asked_so g.V.Vault.holds g.W.Wire.tells c.args.site.now B start L pop c.serve_exchange.new.self.office c.serve_exchange.new.self.wire
-    (AreKeptBeside xs e2) (λ told x. AreHeld told x (set xs place e2))
+    (AreKeptAmong xs e2) (λ told x. AreHeld told x (set xs place e2))
     (λ told x a. held_again told x xs place e2 e c.requires s.is.held.ascend (c.serve_exchange.ensures.keeps.link ∙ ap (λ y. y.link) value) a) k)
 
 pub returns-clause-asked : goal.returns-clause-asked
@@ -38,10 +38,10 @@ returns-clause-asked g c = λ B start L pop s clean.
     let e2 = c.serve_exchange.new.exchange in
     let ys = set xs place e2 in
     let value = c.index_mut-exchange.ensures.value in
-    let one = asked_so g.V.Vault.holds g.W.Wire.tells c.args.site.now B start L pop c.args.self.now.office c.args.self.now.wire (λ told x. AreHeld told x xs) (AreKeptBeside xs e)
-    (λ told x a. subst (λ y. AreKeptBeside xs y told x) (sym value) (one_held told x xs place e c.requires a)) s in
+    let one = asked_so g.V.Vault.holds g.W.Wire.tells c.args.site.now B start L pop c.args.self.now.office c.args.self.now.wire (λ told x. AreHeld told x xs) (AreKeptAmong xs e)
+    (λ told x a. subst (λ y. AreKeptAmong xs y told x) (sym value) (one_held told x xs place e c.requires a)) s in
     let k = c.serve_exchange.ensures.asked B start L pop xs one clean in
-    let all = asked_so g.V.Vault.holds g.W.Wire.tells c.args.site.now B start L pop c.serve_exchange.new.self.office c.serve_exchange.new.self.wire (AreKeptBeside xs e2) (λ told x. AreHeld told x ys)
+    let all = asked_so g.V.Vault.holds g.W.Wire.tells c.args.site.now B start L pop c.serve_exchange.new.self.office c.serve_exchange.new.self.wire (AreKeptAmong xs e2) (λ told x. AreHeld told x ys)
     (λ told x a. held_again told x xs place e2 e c.requires s.is.held.ascend (c.serve_exchange.ensures.keeps.link ∙ ap (λ y. y.link) value) a) k in
     let n = e2.link.number in
     let told = all.is.told in
@@ -71,7 +71,7 @@ returns-then-not-exchange-clause-works g c =
     let live : e2.is_over ≡ false = search rules in
     let is : take 1 (drop place xs) ≡ e ∷ [] = one_at xs place e c.requires ∙ ap (λ y. y ∷ []) (sym c.index_mut-exchange.ensures.value) in
     let left = one_set xs place e2 c.requires in
-    also_so g.V.Vault.holds g.V.Vault.is_clean g.V.Vault.faults g.V.Vault.is_up g.V.Vault.may_leave g.W.Wire.asked c.args.self.now.office
+    also_so g.V.Vault g.W.Wire.asked c.args.self.now.office
     c.serve_exchange.new.self.office c.args.self.now.wire c.serve_exchange.new.self.wire
     (HeardApart g.L.Listener.heard l l1 (λ B L. HasHttpTurn c.args.site.now now B L e e2))
     (HeardApart g.L.Listener.heard l l1 (λ B L. HadHttpTurns c.args.site.now now B L (take 1 (drop place xs)) (take 1 (drop place (set xs place e2)))))
@@ -102,19 +102,19 @@ returns-clause-works g c =
     let l2 = c.close_link.new.listener in
     let over : e2.is_over ≡ true = search rules in
     let is : take 1 (drop place xs) ≡ e ∷ [] = one_at xs place e c.requires ∙ ap (λ y. y ∷ []) (sym c.index_mut-exchange.ensures.value) in
-    also_then g.V.Vault.holds g.V.Vault.is_clean g.V.Vault.faults g.V.Vault.is_up g.V.Vault.may_leave g.W.Wire.asked c.args.self.now.office o1 o1 c.args.self.now.wire w1 w2
+    also_then g.V.Vault g.W.Wire.asked c.args.self.now.office o1 o1 c.args.self.now.wire w1 w2
     (HeardApart g.L.Listener.heard l l1 (λ B L. HasHttpTurn c.args.site.now now B L e e2)) (NoEvent (IsOne call))
     (HeardApart g.L.Listener.heard l l2 (λ B L. HadHttpTurns c.args.site.now now B L (take 1 (drop place xs)) []))
     (PollsBy false polled) (PollsBy false false) (PollsBy before (before || polled))
     (λ B L g1 g2 c1 c2 turn q. (
-      told_on g.L.Listener.heard l l1 l2 _ c.close_link.ensures.heard (apart_still g.L.Listener.heard l l1 B L g1 g2 q.0 turn.0),
+      hears_on g.L.Listener.heard l l1 l2 _ c.close_link.ensures.heard (apart_still g.L.Listener.heard l l1 B L g1 g2 q.0 turn.0),
       subst (λ v. HadHttpTurns c.args.site.now now B L v [] (g2 ++ g1) (c1 ++ c2)) (sym is)
           (closed_so c.args.site.now now B L e e2 g1 g2 c1 c2 turn.1 over e2.link c.serve_exchange.ensures.keeps.link q.0 q.1),
     ))
     (λ c1 c2 m n. closed_polled before polled c1 c2 m)
     c.serve_exchange.ensures.works
-    (also_from g.V.Vault.holds g.V.Vault.is_clean g.V.Vault.faults g.V.Vault.is_up g.V.Vault.may_leave g.W.Wire.asked o1 o1 w1 w2 _ (PollsBy false false) (polled_same false)
-    (did_asked g.V.Vault.holds g.V.Vault.is_clean g.V.Vault.faults g.V.Vault.is_up g.V.Vault.may_leave g.W.Wire.asked o1 w1 w2 (IsOne call) (NoEvent (IsOne call)) (λ B L cs at. (refl, at))
+    (also_from g.V.Vault g.W.Wire.asked o1 o1 w1 w2 _ (PollsBy false false) (polled_same false)
+    (did_asked g.V.Vault g.W.Wire.asked o1 w1 w2 (IsOne call) (NoEvent (IsOne call)) (λ B L cs at. (refl, at))
     (asks_one g.W.Wire.asked w1 w2 call (IsOne call) (quiet_closed e2.link) refl c.close_link.ensures.called)))
 
 pub returns-then-not-exchange-clause-held : goal.returns-then-not-exchange-clause-held

@@ -4,7 +4,7 @@ use Rattle.serving.specs.Parts.{PollsBy}
 use Rattle.serving.specs.HttpParts.{ServesApart}
 use Rattle.serving.specs.HttpWorks.{HadHttpTurns}
 use Rattle.serving.specs.Hearing.{HeardApart}
-use Rattle.serving.proofs.Hearing.{told_none, apart_then}
+use Rattle.serving.proofs.Hearing.{hears_none, apart_then}
 use Rattle.std.proofs.Common.{◌≡◌, ◌+◌, true, false, [], take, drop, subst}
 use Rattle.std.specs.Bool.{if◌then◌else◌}
 use Rattle.std.proofs.Common.{rules, arith, ◌≤◌, length}
@@ -17,11 +17,11 @@ loop-place-init g c = record {
   asked = λ B start L pop s clean. s;
   stay = none_yet c.args.now c.args.requests.now.exchanges.items;
   no_more = omega arith;
-  works = also_from g.V.Vault.holds g.V.Vault.is_clean g.V.Vault.faults g.V.Vault.is_up g.V.Vault.may_leave g.W.Wire.asked c.args.self.now.office
+  works = also_from g.V.Vault g.W.Wire.asked c.args.self.now.office
       c.args.self.now.office c.args.self.now.wire c.args.self.now.wire _ (PollsBy false false) (polled_same false)
-      (did_none g.V.Vault.holds g.V.Vault.is_clean g.V.Vault.faults g.V.Vault.is_up g.V.Vault.may_leave g.W.Wire.asked c.args.self.now.office c.args.self.now.wire
+      (did_none g.V.Vault g.W.Wire.asked c.args.self.now.office c.args.self.now.wire
       (HeardApart g.L.Listener.heard c.args.self.now.listener c.args.self.now.listener (HadSome c.args.site.now c.args.now 0 c.args.requests.now.exchanges.items c.args.requests.now.exchanges.items))
-      (λ B L. (told_none g.L.Listener.heard c.args.self.now.listener, had_none c.args.site.now c.args.now c.args.requests.now.exchanges.items B L)));
+      (λ B L. (hears_none g.L.Listener.heard c.args.self.now.listener, had_none c.args.site.now c.args.now c.args.requests.now.exchanges.items B L)));
 }
 
 pub loop-place-preserved-then-serve_place : goal.loop-place-preserved-then-serve_place
@@ -41,7 +41,7 @@ loop-place-preserved-then-serve_place g c =
       works =
           (let one = subst (λ b. ServesApart g.V.Vault g.W.Wire g.L.Listener k.self x.new.self (PollsBy k.requests.poll_now x.new.requests.poll_now)
           (λ B L. HadHttpTurns c.args.site.now now B L (take 1 (drop k.place ys)) (take (if b then 1 else 0) (drop k.place zs)))) so x.ensures.works in
-          also_then g.V.Vault.holds g.V.Vault.is_clean g.V.Vault.faults g.V.Vault.is_up g.V.Vault.may_leave g.W.Wire.asked c.args.self.now.office
+          also_then g.V.Vault g.W.Wire.asked c.args.self.now.office
           k.self.office x.new.self.office c.args.self.now.wire k.self.wire x.new.self.wire
           (HeardApart g.L.Listener.heard l k.self.listener (HadSome c.args.site.now now k.place xs ys))
           (HeardApart g.L.Listener.heard k.self.listener x.new.self.listener (λ B L. HadHttpTurns c.args.site.now now B L (take 1 (drop k.place ys)) (take 1 (drop k.place zs))))
@@ -73,7 +73,7 @@ loop-place-preserved g c =
       works =
           (let one = subst (λ b. ServesApart g.V.Vault g.W.Wire g.L.Listener k.self x.new.self (PollsBy k.requests.poll_now x.new.requests.poll_now)
           (λ B L. HadHttpTurns c.args.site.now now B L (take 1 (drop k.place ys)) (take (if b then 1 else 0) (drop k.place zs)))) so x.ensures.works in
-          also_then g.V.Vault.holds g.V.Vault.is_clean g.V.Vault.faults g.V.Vault.is_up g.V.Vault.may_leave g.W.Wire.asked c.args.self.now.office
+          also_then g.V.Vault g.W.Wire.asked c.args.self.now.office
           k.self.office x.new.self.office c.args.self.now.wire k.self.wire x.new.self.wire
           (HeardApart g.L.Listener.heard l k.self.listener (HadSome c.args.site.now now k.place xs ys))
           (HeardApart g.L.Listener.heard k.self.listener x.new.self.listener (λ B L. HadHttpTurns c.args.site.now now B L (take 1 (drop k.place ys)) []))
@@ -101,7 +101,7 @@ returns-clause-works g c =
     let xs = c.args.requests.now.exchanges.items in
     let ys = k.requests.exchanges.items in
     let done : length ys ≤ k.place = search rules in
-    also_so g.V.Vault.holds g.V.Vault.is_clean g.V.Vault.faults g.V.Vault.is_up g.V.Vault.may_leave g.W.Wire.asked c.args.self.now.office k.self.office c.args.self.now.wire k.self.wire
+    also_so g.V.Vault g.W.Wire.asked c.args.self.now.office k.self.office c.args.self.now.wire k.self.wire
     (HeardApart g.L.Listener.heard c.args.self.now.listener k.self.listener (HadSome c.args.site.now now k.place xs ys))
     (HeardApart g.L.Listener.heard c.args.self.now.listener k.self.listener (λ B L. HadHttpTurns c.args.site.now now B L xs ys)) (PollsBy false k.requests.poll_now) (PollsBy false k.requests.poll_now)
     (λ B L given calls a. (a.0, had_all c.args.site.now now k.place xs ys B L given calls done a.1)) (λ cs m. m) k.invariant.works

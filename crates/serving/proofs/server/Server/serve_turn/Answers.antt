@@ -1,11 +1,11 @@
 use Rattle.serving.proofs.Bounds.{all_short}
-use Rattle.serving.proofs.Going.{serves_told, waited_for}
+use Rattle.serving.proofs.Going.{serves_on, waited_for}
 use Rattle.serving.proofs.server.Server.serve_turn.Goals as goal
 
 pub returns-clause-serves : goal.returns-clause-serves
 returns-clause-serves g c = λ T s clean.
-    c.serve_after_wait.ensures.serves T (serves_told g.V.Vault.holds g.W.Wire.tells g.S.Spool.tells T c.args.self.now.office c.args.self.now.wire c.wait.new.self c.args.spool.now
-    c.args.links.now.clients.seats.items c.args.links.now.requests.exchanges.items c.args.links.now.site c.wait.ensures.told s) clean
+    c.serve_after_wait.ensures.serves T (serves_on g.V.Vault.holds g.W.Wire.tells g.S.Spool.tells T c.args.self.now.office c.args.self.now.office c.args.self.now.wire c.wait.new.self c.args.spool.now
+    c.args.links.now.clients.seats.items c.args.links.now.requests.exchanges.items c.args.links.now.site c.wait.ensures.told (λ U k. k) s) clean
 
 pub returns-clause-works : goal.returns-clause-works
 returns-clause-works g c = λ T s clean.

@@ -2,7 +2,7 @@ use Rattle.std.proofs.Common.{rules, ◌≤◌, ◌++◌, ◌∷◌, [], true, f
 use Rattle.office.specs.Taken.{trace_of}
 use Rattle.serving.specs.Served.{Serves}
 use Rattle.serving.specs.Running.{HasTurned}
-use Rattle.serving.proofs.Going.{serves_told, serves_still, maintained_clean, waited_for, turned_none, turned_more, turned_stopped, one_longer}
+use Rattle.serving.proofs.Going.{serves_on, maintained_clean, waited_for, turned_none, turned_more, turned_stopped, one_longer}
 use Rattle.serving.proofs.Bounds.{all_short}
 use Rattle.serving.proofs.server.Server.serve_while.Goals as goal
 
@@ -43,10 +43,12 @@ loop-turn-preserved g c =
       serves = λ T s clean.
           subst (λ w. Serves g.V.Vault.holds g.W.Wire.tells g.S.Spool.tells T o3 w x.new.spool x.new.links.clients.seats.items x.new.links.requests.exchanges.items x.new.links.site)
           (sym y.ensures.wire)
-          (serves_still g.V.Vault.holds g.W.Wire.tells g.S.Spool.tells T o2 o3 x.new.self.wire x.new.spool x.new.links.clients.seats.items x.new.links.requests.exchanges.items x.new.links.site
-          (λ U st. y.ensures.stands U st clean)
-          (x.ensures.serves T (serves_told g.V.Vault.holds g.W.Wire.tells g.S.Spool.tells T k.self.office w0 w1 k.spool k.links.clients.seats.items k.links.requests.exchanges.items k.links.site
-          c.wait.ensures.told (k.invariant.serves T s (x.ensures.clean (clean2 clean)))) (clean2 clean)));
+          (serves_on g.V.Vault.holds g.W.Wire.tells g.S.Spool.tells T o2 o3 x.new.self.wire x.new.self.wire x.new.spool
+          x.new.links.clients.seats.items x.new.links.requests.exchanges.items x.new.links.site
+          (λ t told. told) (λ U st. y.ensures.stands U st clean)
+          (x.ensures.serves T (serves_on g.V.Vault.holds g.W.Wire.tells g.S.Spool.tells T k.self.office k.self.office w0 w1 k.spool
+          k.links.clients.seats.items k.links.requests.exchanges.items k.links.site
+          c.wait.ensures.told (λ U st. st) (k.invariant.serves T s (x.ensures.clean (clean2 clean)))) (clean2 clean)));
       clean = λ clean. k.invariant.clean (x.ensures.clean (clean2 clean));
       turned = (
         m.0 ++ now ∷ [],
@@ -71,7 +73,7 @@ loop-turn-preserved g c =
           (let before = x.ensures.clean (clean2 clean) in
           let gone = m.2.each T s before in
           let trace = trace_of T.base (gone.given ++ T.log) in
-          let w = x.ensures.works w0 waited trace gone.stands (clean2 clean) in
+          let w = x.ensures.works w0 waited trace gone.served.stands (clean2 clean) in
           all_short trace now k.links x.new.links w.seen w.accepts w.admin (k.invariant.short T s before a));
       settings = left.set ∙ k.invariant.settings;
       site = left.site ∙ k.invariant.site;
@@ -80,8 +82,8 @@ loop-turn-preserved g c =
 pub returns-in_default-clause-serves : goal.returns-in_default-clause-serves
 returns-in_default-clause-serves g c = λ T s clean.
     (let k = c.loop-turn in
-    serves_told g.V.Vault.holds g.W.Wire.tells g.S.Spool.tells T k.self.office k.self.wire c.wait.new.self k.spool k.links.clients.seats.items k.links.requests.exchanges.items k.links.site
-    c.wait.ensures.told (k.invariant.serves T s clean))
+    serves_on g.V.Vault.holds g.W.Wire.tells g.S.Spool.tells T k.self.office k.self.office k.self.wire c.wait.new.self k.spool k.links.clients.seats.items k.links.requests.exchanges.items k.links.site
+    c.wait.ensures.told (λ U st. st) (k.invariant.serves T s clean))
 
 pub returns-in_default-clause-runs : goal.returns-in_default-clause-runs
 returns-in_default-clause-runs g c =

@@ -7,11 +7,11 @@ use Rattle.serving.proofs.Staying.{fewer_tick}
 use Rattle.serving.proofs.Seating.{seated_fewer}
 use Rattle.serving.proofs.Keeping.{served_tick, adds_one}
 use Rattle.serving.proofs.Working.{given_one, asked_none}
-use Rattle.serving.proofs.Hearing.{told_none}
+use Rattle.serving.proofs.Hearing.{hears_none}
 use Rattle.serving.proofs.server.Server.tick.Goals as goal
 
 pub returns-clause-serves : goal.returns-clause-serves
-returns-clause-serves g c = λ seats these T beside s clean.
+returns-clause-serves g c = λ seats these T elsewhere s clean.
     (let m = event_tag_of (outcome_seen c.step.result) in
     let now = trace_of T.base s.log in
     record {
@@ -23,7 +23,7 @@ returns-clause-serves g c = λ seats these T beside s clean.
       tells = s.tells;
       served = served_tick s.told s.owner T.base s.log c.args.now m s.served;
       seated = seated_fewer s.owner T.base s.log seats these ((event.Tick c.args.now, m) ∷ s.log) (fewer_tick T.base s.log c.args.now m) s.seated;
-      adds = adds_one s.owner T.base T.log s.log beside s.told.accepted (event.Tick c.args.now) m tt (λ l Before h. h) (λ l. refl) s.adds;
+      adds = adds_one s.owner T.base T.log s.log elsewhere s.told.accepted (event.Tick c.args.now) m tt (λ l Before h. h) (λ l. refl) s.adds;
     })
 
 pub returns-clause-works : goal.returns-clause-works
@@ -32,12 +32,12 @@ returns-clause-works g c =
     record {
       given = (event.Tick c.args.now, m) ∷ [];
       calls = [];
-      was_given = given_one g.V.Vault.holds g.V.Vault.is_clean g.V.Vault.faults g.V.Vault.is_up g.V.Vault.may_leave c.args.self.now.office c.step.new.self
+      was_given = given_one g.V.Vault c.args.self.now.office c.step.new.self
           (event.Tick c.args.now) (outcome_seen c.step.result) c.step.ensures.clean c.step.ensures.stands c.step.ensures.admitted
           c.step.ensures.counted c.step.ensures.cause c.step.ensures.up c.step.ensures.stop;
       was_asked = asked_none g.W.Wire.asked c.args.self.now.wire;
       facts = (
-        record { is = λ B L s k. told_none g.L.Listener.heard c.args.self.now.listener },
+        record { is = λ B L s k. hears_none g.L.Listener.heard c.args.self.now.listener },
         record { event_tag = m; given_is = refl; calls_are = refl },
       );
     }

@@ -22,7 +22,7 @@ use Rattle.serving.proofs.Turns.{wrote_some, wrote_later, wrote_cut, wrote_none,
 use Rattle.serving.proofs.server.Server.write_once.Goals as goal
 
 pub returns-in-Count-clause-serves : goal.returns-in-Count-clause-serves
-returns-in-Count-clause-serves g c = λ seats these has before T beside s clean.
+returns-in-Count-clause-serves g c = λ seats these has before T elsewhere s clean.
     (let n = c.in-Count.count in
     let lent = c.owed-lent.result.now in
     let number = c.args.seat.link.number in
@@ -40,17 +40,17 @@ returns-in-Count-clause-serves g c = λ seats these has before T beside s clean.
       owner = s.owner;
       stands = c.step_with_account-report.ensures.stands now s.stands clean;
       admitted = (c.step_with_account-report.ensures.admitted now s.stands clean, s.admitted);
-      tells = c.in-Count.ensures.told (record { pop = s.told; admin = beside.admin }) s.tells;
+      tells = c.in-Count.ensures.told (record { pop = s.told; admin = elsewhere.admin }) s.tells;
       served = subst (λ m. AreServed (has_written s.told number (Count n) (take n lent)) s.owner T.base ((event.Took connection n, m) ∷ s.log)) (sym k.1)
           (served_written s.told s.owner T.base s.log number connection n (take n lent) k.0 (lent_rest now connection n lent is within.1) s.served at_k here);
       seated = subst (λ m. AreSeated s.owner (trace_of T.base ((event.Took connection n, m) ∷ s.log)) seats these) (sym k.1)
           (seated_one s.owner T.base s.log seats these ((event.Took connection n, Tagged k.0) ∷ s.log) c.args.seat before
           (fewer_framed T.base s.log connection ((event.Took connection n, Tagged k.0) ∷ s.log) here (frame_took T.base s.log connection n k.0)) (frame_took T.base s.log connection n k.0) s.seated);
-      adds = adds_one s.owner T.base T.log s.log beside s.told.accepted (event.Took connection n) (event_tag_of o) (number, at_k) (λ l Before h. h) (λ l. refl) s.adds;
+      adds = adds_one s.owner T.base T.log s.log elsewhere s.told.accepted (event.Took connection n) (event_tag_of o) (number, at_k) (λ l Before h. h) (λ l. refl) s.adds;
     })
 
 pub returns-in-Later-clause-serves : goal.returns-in-Later-clause-serves
-returns-in-Later-clause-serves g c = λ seats these has before T beside s clean.
+returns-in-Later-clause-serves g c = λ seats these has before T elsewhere s clean.
     (let lent = c.owed-lent.result.now in
     let number = c.args.seat.link.number in
     let connection = c.args.seat.connection in
@@ -65,14 +65,14 @@ returns-in-Later-clause-serves g c = λ seats these has before T beside s clean.
       owner = s.owner;
       stands = s.stands;
       admitted = s.admitted;
-      tells = c.in-Later.ensures.told (record { pop = s.told; admin = beside.admin }) s.tells;
+      tells = c.in-Later.ensures.told (record { pop = s.told; admin = elsewhere.admin }) s.tells;
       served = served_written_none s.told s.owner T.base s.log number connection s.served at_k here;
       seated = s.seated;
       adds = s.adds;
     })
 
 pub returns-in-End-clause-serves : goal.returns-in-End-clause-serves
-returns-in-End-clause-serves g c = λ seats these has before T beside s clean.
+returns-in-End-clause-serves g c = λ seats these has before T elsewhere s clean.
     (let lent = c.owed-lent.result.now in
     let number = c.args.seat.link.number in
     let connection = c.args.seat.connection in
@@ -91,14 +91,14 @@ returns-in-End-clause-serves g c = λ seats these has before T beside s clean.
       owner = s.owner;
       stands = c.step_with_account-report-in-End.ensures.stands now s.stands clean;
       admitted = (c.step_with_account-report-in-End.ensures.admitted now s.stands clean, s.admitted);
-      tells = subst (λ xs. g.W.Wire.tells c.write.new.self (record { pop = has_written s.told number io xs; admin = beside.admin }))
-          (fault_none io lent fault) (c.write.ensures.told (record { pop = s.told; admin = beside.admin }) s.tells);
+      tells = subst (λ xs. g.W.Wire.tells c.write.new.self (record { pop = has_written s.told number io xs; admin = elsewhere.admin }))
+          (fault_none io lent fault) (c.write.ensures.told (record { pop = s.told; admin = elsewhere.admin }) s.tells);
       served = subst (λ m. AreServed (has_written s.told number io []) s.owner T.base ((event.Gone connection, m) ∷ s.log)) (sym k.1)
           (served_written_fault s.told s.owner T.base s.log number connection io k.0 fault s.served at_k here);
       seated = subst (λ m. AreSeated s.owner (trace_of T.base ((event.Gone connection, m) ∷ s.log)) seats these) (sym k.1)
           (seated_one s.owner T.base s.log seats these ((event.Gone connection, Tagged k.0) ∷ s.log) c.args.seat before
           (fewer_framed T.base s.log connection ((event.Gone connection, Tagged k.0) ∷ s.log) here (frame_gone T.base s.log connection k.0)) (frame_gone T.base s.log connection k.0) s.seated);
-      adds = adds_one s.owner T.base T.log s.log beside s.told.accepted (event.Gone connection) (event_tag_of o) (number, at_k) (λ l Before h. h) (λ l. refl) s.adds;
+      adds = adds_one s.owner T.base T.log s.log elsewhere s.told.accepted (event.Gone connection) (event_tag_of o) (number, at_k) (λ l Before h. h) (λ l. refl) s.adds;
     })
 
 pub returns-then-is_empty-clause-works : goal.returns-then-is_empty-clause-works
@@ -107,7 +107,7 @@ returns-then-is_empty-clause-works g c =
     let seat = c.args.seat in
     let e : c.is_empty.result ≡ true = search rules in
     does_none g.V.Vault g.W.Wire g.L.Listener c.args.self.now _
-    (wrote_none g.V.Vault.holds g.V.Vault.is_clean g.V.Vault.faults g.V.Vault.is_up g.V.Vault.may_leave o seat
+    (wrote_none g.V.Vault o seat
     (λ B L s k. nothing_left (rest (trace_of B L) seat.connection) (length c.owed-lent.result.now) c.is_empty.result (c.owed-lent.ensures.exact (trace_of B L) s) c.is_empty.ensures e))
 
 pub returns-in-Count-clause-works : goal.returns-in-Count-clause-works
@@ -117,10 +117,10 @@ returns-in-Count-clause-works g c =
     let n = c.in-Count.count in
     let lent = c.owed-lent.result.now in
     let x = c.step_with_account-report in
-    does_event g.V.Vault g.W.Wire g.L.Listener o x.new.self c.args.self.now.listener c.hear.new.self c.args.self.now.wire c.write.new.self
+    does_event g.V.Vault g.W.Wire g.L.Listener o x.new.self c.args.self.now.listener c.on_account.new.self c.args.self.now.wire c.write.new.self
     (Wrote Pop seat.link (length lent) (Count n) (take n lent)) (event.Took seat.connection n) (outcome_seen x.result.outcome) seat.connection x.result.account _ (λ T. refl)
-    x.ensures.clean x.ensures.stands x.ensures.admitted x.ensures.counted x.ensures.cause x.ensures.up x.ensures.stop x.ensures.account c.in-Count.ensures.called c.hear.ensures.told
-    (wrote_some g.V.Vault.holds g.V.Vault.is_clean g.V.Vault.faults g.V.Vault.is_up g.V.Vault.may_leave o x.new.self seat (length lent) n
+    x.ensures.clean x.ensures.stands x.ensures.admitted x.ensures.counted x.ensures.cause x.ensures.up x.ensures.stop x.ensures.account c.in-Count.ensures.called c.on_account.ensures.heard
+    (wrote_some g.V.Vault o x.new.self seat (length lent) n
     (take n lent) (event_tag_of (outcome_seen x.result.outcome)) c.in-Count.ensures.within.0 (λ B L s. c.owed-lent.ensures.exact (trace_of B L) s))
 
 pub returns-in-Later-clause-works : goal.returns-in-Later-clause-works
@@ -129,7 +129,7 @@ returns-in-Later-clause-works g c =
     let seat = c.args.seat in
     let lent = c.owed-lent.result.now in
     does_call g.V.Vault g.W.Wire g.L.Listener o c.args.self.now.listener c.args.self.now.wire c.write.new.self (Wrote Pop seat.link (length lent) Later []) _ c.in-Later.ensures.called
-    (wrote_later g.V.Vault.holds g.V.Vault.is_clean g.V.Vault.faults g.V.Vault.is_up g.V.Vault.may_leave o seat (length lent) [] (λ B L s. c.owed-lent.ensures.exact (trace_of B L) s))
+    (wrote_later g.V.Vault o seat (length lent) [] (λ B L s. c.owed-lent.ensures.exact (trace_of B L) s))
 
 pub returns-in-End-clause-works : goal.returns-in-End-clause-works
 returns-in-End-clause-works g c =
@@ -144,10 +144,10 @@ returns-in-End-clause-works g c =
     let no : c.is_empty.result ≡ false = search rules in
     let some = lent_some c.is_empty.result (length lent) c.is_empty.ensures no in
     let octets = counted io lent in
-    does_event g.V.Vault g.W.Wire g.L.Listener office x.new.self c.args.self.now.listener c.hear-in-End.new.self c.args.self.now.wire c.write.new.self
+    does_event g.V.Vault g.W.Wire g.L.Listener office x.new.self c.args.self.now.listener c.on_account-in-End.new.self c.args.self.now.wire c.write.new.self
     (Wrote Pop seat.link (length lent) io octets) (event.Gone connection) o connection x.result.account _ (λ T. refl)
-    x.ensures.clean x.ensures.stands x.ensures.admitted x.ensures.counted x.ensures.cause x.ensures.up x.ensures.stop x.ensures.account c.write.ensures.called c.hear-in-End.ensures.told
-    (wrote_cut g.V.Vault.holds g.V.Vault.is_clean g.V.Vault.faults g.V.Vault.is_up g.V.Vault.may_leave office x.new.self seat (length lent) io octets
+    x.ensures.clean x.ensures.stands x.ensures.admitted x.ensures.counted x.ensures.cause x.ensures.up x.ensures.stop x.ensures.account c.write.ensures.called c.on_account-in-End.ensures.heard
+    (wrote_cut g.V.Vault office x.new.self seat (length lent) io octets
     (event_tag_of o) fault (λ B L s. c.owed-lent.ensures.exact (trace_of B L) s)
     (λ B L s k.
     (let now = trace_of B L in

@@ -8,9 +8,9 @@ use Rattle.serving.proofs.server.Server.write_owed.Goals as goal
 
 pub loop-times-init : goal.loop-times-init
 loop-times-init g c = record {
-  serves = λ seats these has before T beside s clean. s;
+  serves = λ seats these has before T elsewhere s clean. s;
   works = does_none g.V.Vault g.W.Wire g.L.Listener c.args.self.now _
-      (written_none g.V.Vault.holds g.V.Vault.is_clean g.V.Vault.faults g.V.Vault.is_up g.V.Vault.may_leave c.args.self.now.office c.args.seat);
+      (written_none g.V.Vault c.args.self.now.office c.args.seat);
 }
 
 -- a count that isn't 0 is a write
@@ -33,13 +33,13 @@ loop-times-preserved g c =
     let once_more = subst (λ b. Does g.V.Vault g.W.Wire g.L.Listener k.self x.new.self
     (IsWritten Holds IsClean k.self.office x.new.self.office c.args.seat (if n == 0 then 0 else 1) n b)) goes x.ensures.works in
     record {
-      serves = λ seats these has before T beside s clean. x.ensures.serves seats these has before T beside
-          (k.invariant.serves seats these has before T beside s (x.ensures.works.was_given.clean clean)) clean;
+      serves = λ seats these has before T elsewhere s clean. x.ensures.serves seats these has before T elsewhere
+          (k.invariant.serves seats these has before T elsewhere s (x.ensures.works.was_given.clean clean)) clean;
       works = does_then g.V.Vault g.W.Wire g.L.Listener s k.self x.new.self _ _ _
           (λ g1 g2 c1 c2 wa wb a b.
-          written_less Holds IsClean g.V.Vault.faults g.V.Vault.is_up g.V.Vault.may_leave s.office x.new.self.office c.args.seat
+          written_less g.V.Vault s.office x.new.self.office c.args.seat
           (k._times + (if n == 0 then 0 else 1)) (k._times + 1) (k.written + n) sum true _ _ (omega (arith, one)) fits
-          (written_then Holds IsClean g.V.Vault.faults g.V.Vault.is_up g.V.Vault.may_leave s.office k.self.office x.new.self.office c.args.seat k._times
+          (written_then g.V.Vault s.office k.self.office x.new.self.office c.args.seat k._times
           (if n == 0 then 0 else 1) k.written n true g1 g2 c1 c2 wa wb a b)) k.invariant.works once_more;
     }
 
@@ -57,8 +57,8 @@ returns-then-count-eq0-clause-works g c =
     (IsWritten Holds IsClean k.self.office x.new.self.office c.args.seat (if n == 0 then 0 else 1) n b)) ends x.ensures.works in
     does_then g.V.Vault g.W.Wire g.L.Listener s k.self x.new.self _ _ _
     (λ g1 g2 c1 c2 wa wb a b.
-    written_ended Holds IsClean g.V.Vault.faults g.V.Vault.is_up g.V.Vault.may_leave s.office x.new.self.office c.args.seat (k._times + (if n == 0 then 0 else 1)) (k.written + n) c.args.share _ _
-    (written_then Holds IsClean g.V.Vault.faults g.V.Vault.is_up g.V.Vault.may_leave s.office k.self.office x.new.self.office c.args.seat k._times
+    written_ended g.V.Vault s.office x.new.self.office c.args.seat (k._times + (if n == 0 then 0 else 1)) (k.written + n) c.args.share _ _
+    (written_then g.V.Vault s.office k.self.office x.new.self.office c.args.seat k._times
     (if n == 0 then 0 else 1) k.written n false g1 g2 c1 c2 wa wb a b)) k.invariant.works once_more
 
 pub returns-then-written-share-clause-works : goal.returns-then-written-share-clause-works
@@ -74,9 +74,9 @@ returns-then-written-share-clause-works g c =
     let enough : c.args.share ≤ sum = search rules in
     does_then g.V.Vault g.W.Wire g.L.Listener s k.self x.new.self _ _ _
     (λ g1 g2 c1 c2 wa wb a b.
-    written_share Holds IsClean g.V.Vault.faults g.V.Vault.is_up g.V.Vault.may_leave s.office x.new.self.office c.args.seat
+    written_share g.V.Vault s.office x.new.self.office c.args.seat
     (k._times + (if n == 0 then 0 else 1)) (k.written + n) c.args.share _ _ _ (omega (arith, fits, enough))
-    (written_then Holds IsClean g.V.Vault.faults g.V.Vault.is_up g.V.Vault.may_leave s.office k.self.office x.new.self.office c.args.seat k._times
+    (written_then g.V.Vault s.office k.self.office x.new.self.office c.args.seat k._times
     (if n == 0 then 0 else 1) k.written n _ g1 g2 c1 c2 wa wb a b)) k.invariant.works x.ensures.works
 
 pub returns-clause-works : goal.returns-clause-works
@@ -85,5 +85,5 @@ returns-clause-works g c =
     let o = c.args.self.now.office in
     let h : 64 ≤ k._times = search rules in
     does_so g.V.Vault g.W.Wire g.L.Listener c.args.self.now k.self _ _
-    (λ gv cl wa a. written_all g.V.Vault.holds g.V.Vault.is_clean g.V.Vault.faults g.V.Vault.is_up g.V.Vault.may_leave o k.self.office c.args.seat k._times k.written c.args.share true gv cl h a)
+    (λ gv cl wa a. written_all g.V.Vault o k.self.office c.args.seat k._times k.written c.args.share true gv cl h a)
     k.invariant.works

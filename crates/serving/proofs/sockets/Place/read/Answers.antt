@@ -3,4 +3,4 @@ use Rattle.serving.proofs.sockets.Place.read.Goals as goal
 
 pub returns-clause-ahead : goal.returns-clause-ahead
 returns-clause-ahead c =
-    inr (ap (λ xs. xs ++ c.read.new.self) (c.counted.ensures.told c.read.new.buffer) ∙ c.read.ensures.read)
+    inr (ap (λ xs. xs ++ c.read.new.self) (c.counted.ensures.shown c.read.new.buffer) ∙ c.read.ensures.read)
