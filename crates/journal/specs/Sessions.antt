@@ -166,6 +166,31 @@ number_of client = client.number
 abbrev pub heard_of : Client → Heard
 heard_of client = client.heard
 
+-- a client's address, as the log writes it
+abbrev pub address_of : Client → List ℕ
+address_of client = string_bytes client.address
+
+-- a client's connection was opened, and has this number; all else that is kept of the client stays
+abbrev pub with_number : (connection : ℕ) → Client → Client
+with_number connection client = record client { number = Some connection }
+
+-- so it was for the client at a place, and the others stay
+abbrev pub opened_at : (place connection : ℕ) → List Client → List Client
+opened_at place connection [] = []
+opened_at zero connection (client ∷ clients) = with_number connection client ∷ clients
+opened_at (suc place) connection (client ∷ clients) =
+    client ∷ opened_at place connection clients
+
+abbrev pub opened_in : Option ℕ → (connection : ℕ) → List Client → List Client
+opened_in None connection clients = clients
+opened_in (Some place) connection clients = opened_at place connection clients
+
+-- so it was for the client of this link, if there is one
+abbrev pub opened_on : (link connection : ℕ) → List Client → List Client
+opened_on link connection clients =
+    opened_in (position (λ (client : Client). client.link.number == link) clients) connection
+    clients
+
 -- the client at a place has heard an account, and the others have not
 abbrev pub heard_at : (place : ℕ) → Account → List Client → List Heard
 heard_at place account [] = []
@@ -240,6 +265,15 @@ loss_of client =
     loss_text (who_of client)
     (session_text client.heard.name client.heard.marked client.heard.counts)
     (cut_text client.heard.sending) (string_bytes client.cause)
+
+-- the line of a client whose connection was opened
+abbrev pub connect_of : Client → List ℕ
+connect_of client = codes "event=connect " ++ who_of client
+
+-- the same, of the client that was found and got this number
+abbrev pub connected_of : (connection : ℕ) → Option Client → List ℕ
+connected_of connection None = []
+connected_of connection (Some client) = connect_of (with_number connection client)
 
 -- for how many seconds a login waited, where it was one or more
 abbrev pub waited_text : (seconds : ℕ) → List ℕ

@@ -1,6 +1,6 @@
 //! The mail programs' connections, as the log has them.
 ghost use Rattle.std.specs.Prelude.{◌≡◌, ◌≢◌, ◌⊎◌, ◌<◌, ◌==◌, [], ◌∷◌, ◌++◌, Some, None, map};
-ghost use Rattle.std.specs.Prelude.{IfOk, IfSome};
+ghost use Rattle.std.specs.Prelude.{IfOk, IfErr, IfSome, is_some};
 ghost use Rattle.std.specs.Prelude.{◌+◌, true, false};
 ghost use Rattle.std.specs.Prelude.{find, position, length, string_bytes, vec_len};
 ghost use Rattle.journal.specs.Lines.{cause_text as cause_words};
@@ -10,7 +10,8 @@ ghost use Rattle.journal.specs.Sessions.{client_text, held_text, holder_of, who_
 ghost use Rattle.journal.specs.Sessions.{loss_text, loss_of, lost_of};
 ghost use Rattle.journal.specs.Sessions.{waited_text, behind_account, session_of, who_in};
 ghost use Rattle.journal.specs.Sessions.{is_new, gets_told, is_told_of};
-ghost use Rattle.journal.specs.Sessions.{link_of, number_of, unheard};
+ghost use Rattle.journal.specs.Sessions.{link_of, number_of, unheard, address_of};
+ghost use Rattle.journal.specs.Sessions.{opened_on, connect_of, connected_of};
 ghost use Rattle.journal.specs.declared.client.Client.{Client as AClient};
 
 use super::account_text::{cause_text, has_line, line_of};
@@ -314,6 +315,9 @@ impl Clients {
             ≡ map number_of self.old.clients.items ++ None ∷ []) }
         ensures heard { IfOk result (λ _. map heard_of self.new.clients.items
             ≡ map heard_of self.old.clients.items ++ unheard ∷ []) }
+        ensures addresses { IfOk result (λ _. map address_of self.new.clients.items
+            ≡ map address_of self.old.clients.items ++ string_bytes address ∷ []) }
+        ensures err { IfErr result (λ _. self.new.clients.items ≡ self.old.clients.items) }
     {
         let alloc = *address.allocator();
         self.clients.push(Client {
@@ -394,13 +398,22 @@ impl Clients {
         }
     }
 
-    /// A link got a connection. Its line, if the link is known.
+    /// A link got a connection. Its line, if the link is known. Without memory for the line the
+    /// connection is kept all the same.
     pub fn open(
         &mut self,
         alloc: Global,
         link: Link,
         connection: u64,
-    ) -> Option<Result<String, AllocError>> {
+    ) -> Option<Result<String, AllocError>>
+        ensures opened { self.new.clients.items
+            ≡ opened_on link.number connection self.old.clients.items }
+        ensures line { IfSome result (λ line. IfOk line (λ text. string_bytes text
+            ≡ connected_of connection (find
+            (λ (client : AClient). client.link.number == link.number) self.old.clients.items))) }
+        ensures known { is_some result ≡ is_some (position
+            (λ (client : AClient). client.link.number == link.number) self.old.clients.items) }
+    {
         let at = self.place_at(link)?;
         self.clients[at].number = Some(connection);
         Some(connect_text(alloc, &self.clients[at]))
@@ -503,9 +516,12 @@ fn has_number(client: &Client, connection: u64) -> bool
 }
 
 /// The line of a connection that was opened.
-fn connect_text(alloc: Global, client: &Client) -> Result<String, AllocError> {
+fn connect_text(alloc: Global, client: &Client) -> Result<String, AllocError>
+    ensures { IfOk result (λ text. string_bytes text ≡ connect_of client.now) }
+{
     let who = client.who(alloc)?;
-    format!(in alloc; "event=connect {who}")
+    let text = format!(in alloc; "event=connect {who}")?;
+    Ok(text)
 }
 
 /// The line of an account.
