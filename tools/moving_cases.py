@@ -260,6 +260,13 @@ def an_mbox_comes_in_in_its_order(place):
         words = ["from-mbox", f"{place.folder}/box", "orders"]
         for _ in range(2):
             wants(put(place, server, *words), ((0, "", ""), wanted, []))
+        # One whose lines end with CRLF is cut at the same places; its texts are other ones.
+        with open(words[1], "w", encoding="ascii", newline="\r\n") as file:
+            for text in (first, second, third, third):
+                file.write(f"From ann Thu Nov 26 09:15:02 2026\n{text}\n")
+        names = ("note.4", "invoice.2", "note.5", "note.6")
+        wanted += [f"{name} {count}" for name, count in zip(names, octets)]
+        wants(put(place, server, *words), ((0, "", ""), wanted, []))
         told = "from-mbox: it has no line `From ` at its front\n"
         words[1] = f"{place.folder}/scripts/put-in"
         wants(put(place, server, *words), ((1, "", told), wanted, []))

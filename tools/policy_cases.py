@@ -139,6 +139,25 @@ def set_policy_sets_nothing_before_the_old_one_is_on_the_disk(place):
 
 
 @case
+def set_policy_sets_what_it_showed(place):
+    # The file is another one once the change is shown.
+    new, other = write(place, READ_ONLY), rule("eve", "*", ["open"])
+    with open(f"{place.folder}/other.toml", "w", encoding="utf-8") as file:
+        file.write(other)
+    place.stand_in("diff", f'REAL "$@"\ncp {file.name} {new}')
+    with office(place) as server:
+        status, said, why, after = set_policy(place, server, "--yes", "--html", new)
+        wants((status, why), (0, ""))
+        wants("remove: allow by rule all -> deny by rule default" in said, True)
+        wants(('"eve"' in after, decision(server)), (False, "deny by rule default\n"))
+        kept = f"{place.folder}/kept/port-{server.admin}"
+        page = next(it for it in os.listdir(kept) if it.endswith(".html"))
+        with open(f"{kept}/{page}", encoding="utf-8") as file:
+            told = file.read()
+        wants(("# Nobody may remove." in told, "eve" in told), (True, False))
+
+
+@case
 def set_policy_leaves_a_page(place):
     new = write(place, READ_ONLY)
     with office(place) as server:

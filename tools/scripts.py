@@ -139,3 +139,15 @@ def serves(server):
     """Fails unless a server goes on, and answers."""
     wait_for(lambda: not is_halted(server), "the server stays halted")
     wants(server.administer("GET", "/maildrops").split()[:2], ["orders", str(len(TEXTS))])
+
+
+def place_run(place, *words):
+    """What the program does in a place that it may change: status, output, error."""
+    ran = subprocess.run(words, capture_output=True, text=True, timeout=LIMIT, check=False)
+    return ran.returncode, ran.stdout, ran.stderr
+
+
+def open_whole(path):
+    """The octets of a file."""
+    with open(path, "rb") as file:
+        return file.read()
