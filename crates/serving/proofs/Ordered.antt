@@ -1,6 +1,6 @@
 -- What is done for one seat, and that seats are served in their order.
-use Rattle.std.proofs.Common.{◌≡◌, ℕ, ◌+◌, ◌<◌, ◌≤◌, Bool, true, false, ◌||◌, List, [], ◌∷◌, ◌++◌, length, take, suc, get_or, refl, sym, subst, arith, Option}
-use Rattle.std.specs.List.{All, filter}
+use Rattle.std.proofs.Common.{◌≡◌, ℕ, ◌+◌, ◌<◌, ◌≤◌, Bool, ◌||◌, List, [], ◌∷◌, ◌++◌, length, take, suc, get_or, refl, sym, subst, arith, Option}
+use Rattle.std.specs.List.{All}
 use Rattle.std.proofs.lemmas.List.Elements.{All-nil, All-cons, All-append}
 use Rattle.vault.specs.Changes.{Contents}
 use Rattle.vault.specs.Records.{Records}

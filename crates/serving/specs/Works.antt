@@ -2,7 +2,7 @@
 -- offered to it, and why a connection goes. Which sessions end is in specs/InOrder, why a link
 -- stays unread in specs/KeptBack, what is seen of calls in specs/Calls, and of events in
 -- specs/Given; specs/Turns puts all together.
-use Rattle.std.specs.Prelude.{◌≡◌, ◌⊎◌, ⊤, ℕ, Bool, true, false, not, ◌&&◌, ◌||◌, nat_le, min}
+use Rattle.std.specs.Prelude.{◌≡◌, ◌⊎◌, ⊤, ℕ, Bool, true, not, ◌&&◌, ◌||◌, nat_le, min}
 use Rattle.std.specs.Prelude.{if◌then◌else◌, List, ◌++◌, length, filter, Option, Some, None}
 use Rattle.std.specs.List.{All, Contains, list_any}
 use Rattle.vault.specs.Records.{Records}

@@ -108,7 +108,7 @@ impl<V: Vault, W: Wire, L: Listener> Server<V, W, L> {
         self.tick(now);
         report_idle_ones(&self.office, &mut self.listener, &links.clients);
         self.accept_links(&mut links.clients, now);
-        self.accept_requests(&mut links.requests, MOST_LINKS, now);
+        self.accept_admin_links(&mut links.requests, MOST_LINKS, now);
         self.serve_links(&mut links.clients, now);
         let site = &links.site;
         self.serve_requests(&mut links.requests, site, now);

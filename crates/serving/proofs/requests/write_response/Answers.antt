@@ -58,8 +58,11 @@ returns-then-count-eq0-clause-works g c =
     let room : k._times < 64 = search rules in
     asks_then g.W.Wire.asked c.args.wire.now k.wire x.new.wire (WritesSoFar e e1 k._times k.written)
     (Writes e1 e2 (if n == 0 then 0 else 1) n (not (n == 0))) (λ cs. HasWritten e e2 cs × PollsBy false false cs)
-    (λ c1 c2 a b. (response_ended e e1 e2 k._times (if n == 0 then 0 else 1) k.written n c1 c2
-    (let h = one_more_call k._times c1 c2 a.2 b.once in omega (arith, h, room)) a.0 b.is (b.ends (ap not none)), polled_same false (c1 ++ c2))) k.invariant.works x.ensures.works
+    (λ c1 c2 a b. (
+      response_ended e e1 e2 k._times (if n == 0 then 0 else 1) k.written n c1 c2
+          (let h = one_more_call k._times c1 c2 a.2 b.once in omega (arith, h, room)) a.0 b.is (b.ends (ap not none)),
+      polled_same false (c1 ++ c2),
+    )) k.invariant.works x.ensures.works
 
 pub returns-then-written-ge-SHARE-clause-works : goal.returns-then-written-ge-SHARE-clause-works
 returns-then-written-ge-SHARE-clause-works g c =

@@ -7,7 +7,7 @@ use Rattle.std.proofs.Common.{None, Some, [], ◌∷◌, arith}
 use Rattle.serving.specs.declared.wire.Port.TheVariants.{Admin}
 use Rattle.serving.specs.Calls.{Accepted, Closed}
 use Rattle.serving.specs.HttpWorks.{NoMore, IsKept, IsTurnedAway, WantsMemory, HasAcceptedForAdmin}
-use Rattle.serving.proofs.server.Server.accept_request.Goals as goal
+use Rattle.serving.proofs.server.Server.accept_admin_link.Goals as goal
 
 pub returns-in-Ok-true-clause-answers : goal.returns-in-Ok-true-clause-answers
 returns-in-Ok-true-clause-answers g c = λ x B start L pop s.

@@ -4,7 +4,7 @@ use Rattle.serving.specs.HttpParts.{AskedApart}
 use Rattle.serving.specs.HttpWorks.{HasAcceptedForAdmin}
 use Rattle.serving.proofs.Quieting.{asks_none, asks_then, asks_so}
 use Rattle.serving.proofs.HttpWorking.{accepted_none, accepted_then, accepted_less}
-use Rattle.serving.proofs.server.Server.accept_requests.Goals as goal
+use Rattle.serving.proofs.server.Server.accept_admin_links.Goals as goal
 
 pub loop-times-init : goal.loop-times-init
 loop-times-init g c =
@@ -22,7 +22,7 @@ loop-times-init g c =
 pub loop-times-preserved : goal.loop-times-preserved
 loop-times-preserved g c =
     let k = c.loop-times in
-    let x = c.accept_request in
+    let x = c.accept_admin_link in
     let xs = c.args.requests.now.exchanges.items in
     let ys = k.requests.exchanges.items in
     let zs = x.new.requests.exchanges.items in
@@ -40,10 +40,10 @@ loop-times-preserved g c =
       };
     }
 
-pub returns-then-not-accept_request-clause-works : goal.returns-then-not-accept_request-clause-works
-returns-then-not-accept_request-clause-works g c =
+pub returns-then-not-accept_admin_link-clause-works : goal.returns-then-not-accept_admin_link-clause-works
+returns-then-not-accept_admin_link-clause-works g c =
     let k = c.loop-times in
-    let x = c.accept_request in
+    let x = c.accept_admin_link in
     let now = c.args.now in
     let most = c.args.most in
     let xs = c.args.requests.now.exchanges.items in
