@@ -63,7 +63,7 @@ module _ {V : Type 0} (vault : Ghosts V) where
   }
 
   pub accepted_full : (o : Office V) (seats : List Seat) → length seats ≡ 128 → AreAccepted vault.holds vault.is_clean o o seats seats 1 false [] []
-  accepted_full o seats full = record { came = []; come = come_none o seats; enough = λ e. cc; all = λ e. inr full }
+  accepted_full o seats full = record { came = []; come = come_none o seats; enough = λ e. cc; few = omega arith; all = λ e. inr full }
 
   pub accepted_none : (o : Office V) (seats : List Seat) → AreAccepted vault.holds vault.is_clean o o seats seats 1 false [] (Accepted Pop None ∷ [])
   accepted_none o seats = record {
@@ -82,6 +82,7 @@ module _ {V : Type 0} (vault : Ghosts V) where
       caused = All-nil (HasCause [] (Accepted Pop None ∷ []));
     };
     enough = λ e. cc;
+    few = omega arith;
     all = λ e. inl refl;
   }
 
@@ -103,6 +104,7 @@ module _ {V : Type 0} (vault : Ghosts V) where
       caused = All-cons (HasCause [] (Accepted Pop (Some link) ∷ [])) (event.Connect, m) [] tt (All-nil (HasCause [] (Accepted Pop (Some link) ∷ [])));
     };
     enough = λ e. omega arith;
+    few = omega arith;
     all = λ e. cc;
   }
 
@@ -125,6 +127,7 @@ module _ {V : Type 0} (vault : Ghosts V) where
       caused = All-cons (HasCause [] (Accepted Pop (Some link) ∷ Closed Pop link ∷ [])) (event.Connect, m) [] tt (All-nil (HasCause [] (Accepted Pop (Some link) ∷ Closed Pop link ∷ [])));
     };
     enough = λ e. omega arith;
+    few = omega arith;
     all = λ e. cc;
   }
 
@@ -156,7 +159,7 @@ module _ {V : Type 0} (vault : Ghosts V) where
   }
 
   pub accepting_none : (o : Office V) (seats : List Seat) → AreAccepted vault.holds vault.is_clean o o seats seats 0 true [] []
-  accepting_none o seats = record { came = []; come = come_none o seats; enough = λ e. omega arith; all = λ e. cc }
+  accepting_none o seats = record { came = []; come = come_none o seats; enough = λ e. omega arith; few = omega arith; all = λ e. cc }
 
   pub accepted_then : (o o1 o2 : Office V) (seats seats1 seats2 : List Seat) (n : ℕ) (goes : Bool) (g1 g2 : Log) (c1 c2 : List Call)
       → WasGiven vault o o1 g1 → WasGiven vault o1 o2 g2
@@ -166,6 +169,7 @@ module _ {V : Type 0} (vault : Ghosts V) where
     came = a.came ++ b.came;
     come = come_then o o1 o2 seats seats1 seats2 a.came b.came g1 g2 c1 c2 wa wb a.come b.come;
     enough = λ e. (let k = length-append a.came b.came in let p = a.enough refl in let q = b.enough e in omega (arith, k, p, q));
+    few = (let k = length-append a.came b.came in let p = a.few in let q = b.few in omega (arith, k, p, q));
     all = λ e.
         ⊎_elim
         (λ (none : none_waited c2 ≡ true). inl (any_right tells_none c1 c2 none))
@@ -173,13 +177,19 @@ module _ {V : Type 0} (vault : Ghosts V) where
         (b.all e);
   }
 
-  pub accepted_ended : (o o1 : Office V) (seats seats1 : List Seat) (n most : ℕ) (g : Log) (c : List Call)
+  pub accepted_ended : (o o1 : Office V) (seats seats1 : List Seat) (n most : ℕ) (g : Log) (c : List Call) → n ≤ most
       → AreAccepted vault.holds vault.is_clean o o1 seats seats1 n false g c → AreAccepted vault.holds vault.is_clean o o1 seats seats1 most false g c
-  accepted_ended o o1 seats seats1 n most g c a = record { came = a.came; come = a.come; enough = λ e. cc; all = a.all }
+  accepted_ended o o1 seats seats1 n most g c less a = record { came = a.came; come = a.come; enough = λ e. cc; few = (let p = a.few in omega (arith, p, less)); all = a.all }
 
-  pub accepted_all : (o o1 : Office V) (seats seats1 : List Seat) (n most : ℕ) (g : Log) (c : List Call) → most ≤ n
+  pub accepted_all : (o o1 : Office V) (seats seats1 : List Seat) (n most : ℕ) (g : Log) (c : List Call) → n ≤ most → most ≤ n
       → AreAccepted vault.holds vault.is_clean o o1 seats seats1 n true g c → AreAccepted vault.holds vault.is_clean o o1 seats seats1 most true g c
-  accepted_all o o1 seats seats1 n most g c h a = record { came = a.came; come = a.come; enough = λ e. (let p = a.enough e in omega (arith, p, h)); all = a.all }
+  accepted_all o o1 seats seats1 n most g c less h a = record {
+    came = a.came;
+    come = a.come;
+    enough = λ e. (let p = a.enough e in omega (arith, p, h));
+    few = (let p = a.few in omega (arith, p, less));
+    all = a.all;
+  }
 
 -- ---- closing
 

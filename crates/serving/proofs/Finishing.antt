@@ -38,7 +38,6 @@ use Rattle.serving.proofs.Arriving.{shut_moved}
 use Rattle.serving.proofs.Hearing.{hears_then, turn_heard}
 use Rattle.serving.proofs.Turns.{served_so}
 use Rattle.serving.proofs.Offering.{none_offered, offered_left, offered_right, unwritten_turns, unwritten_accepted, unwritten_closings}
-use Rattle.serving.proofs.Releasing.{released_left, released_right}
 use Rattle.serving.specs.Newcomers.{newcomer, limit, lies_unread, waited_of, AllHaveSeats, IsSettled, CountsFrom, IsComer}
 use Rattle.serving.specs.Late.{HasLived, IsNotedSince, HasEndedLate}
 use Rattle.serving.proofs.Timely.{lived_left, lived_right}
@@ -187,7 +186,7 @@ module _ {V W S H : Type 0} (vault : Ghosts V) (Asked : W → List Call → Type
       → Asking Asked w5 w6 (λ calls. AreClosed U seats2 links_then.clients.seats.items calls × PollsBy polling polled calls × PollsAfterClosing links.clients.wait polled calls))
       → SpoolPart vault AskedFiles o5 f o6 f1
       (λ U given calls. IsSpoolTurn (last_tried links) (last_tried links_then) U given calls × (links_then.clients.poll_now ≡ (polled || has_dealt calls)))
-      → StandsFor vault.holds o T → vault.is_clean (vault_of o6) → Works vault.holds vault.faults vault.is_up vault.may_leave Asked AskedFiles Heard T now links o w f l o6 links_then w6 f1 l5
+      → StandsFor vault.holds o T → vault.is_clean (vault_of o6) → Works vault Asked AskedFiles Heard T now links o w f l o6 links_then w6 f1 l5
   turn_done T now links links_then o o1 o2 o3 o4 o5 o6 w w1 w2 w3 w4 w5 w6 f f1 l l1 l2 l3 l4 l5 seats2 goes held more lock_released polling polled n0 n1 n2
       pass idle acc asked unheard served releasing still reqs waited keeps comers late forgets close spool s k6 =
       let B = T.base in
@@ -331,6 +330,7 @@ module _ {V W S H : Type 0} (vault : Ghosts V) (Asked : W → List Call → Type
         };
         accepts = record {
           enough = accepted_so vault o1 o2 links.clients.seats.items seats2 goes ga ca C5 (seen_second cp ca cq cl cr cx tells_none) acc.facts;
+          few = acc.facts.few;
           arrived = only_first _ ((((cp ++ ca) ++ cq) ++ cl) ++ cr) cx arrivals_x
               ∙ (seen_first cp ca cq cl cr cx arrival_of asked.facts.0.no_arrivals lq.no_arrivals rq.no_arrivals ∙ (only_last arrival_of cp ca arrivals_p ∙ come.arrived));
           opened =
@@ -378,10 +378,7 @@ module _ {V W S H : Type 0} (vault : Ghosts V) (Asked : W → List Call → Type
               let of_first : All R (cp ++ ca) = All-append R cp ca (none cp (ap (list_any is_client_write) pass.facts.calls_are)) (none ca come.unwritten) in
               All-append R ((((cp ++ ca) ++ cq) ++ cl) ++ cr) cx
               (All-append R (((cp ++ ca) ++ cq) ++ cl) cr (All-append R ((cp ++ ca) ++ cq) cl (All-append R (cp ++ ca) cq of_first of_asked) of_links) of_reqs) of_close);
-          ended = λ e. (
-            (served.facts.1.0.released_by e).0,
-            released_left B L G3 gx seats2 (released_left B L G2 gr seats2 (released_right B L G1 gl seats2 ((served.facts.1.0.released_by e).1 B (G1 ++ L) s2 k3))),
-          );
+          in_order = served.facts.1.0.in_order B (G1 ++ L) s2 k3;
           caused = All-append (HasCause seats2 C5) gr (gl ++ ga) caused_r (All-append (HasCause seats2 C5) gl ga caused_l caused_a);
         };
         admin = record {

@@ -92,85 +92,84 @@ pub waits_idle : (links : Links) → (links.clients.poll_now || links.requests.p
 waits_idle links none = ap (λ more. if more then 0 else 1000) none
 
 -- a maintenance counts faults on, and makes no store clean
-module _ {V : Type 0} (Holds : V → Contents → Type 0) (Faults : V → ℕ) (IsClean IsUp : V → Type 0) (MayLeave : V → Contents → Type 0) (l : Links) (o o1 : Office V) where
-  maintained_more : Maintains Holds Faults IsClean IsUp MayLeave l o o1 → Faults (vault_of o) ≤ Faults (vault_of o1)
+module _ {V : Type 0} (vault : Ghosts V) (l : Links) (o o1 : Office V) where
+  maintained_more : Maintains vault l o o1 → vault.faults (vault_of o) ≤ vault.faults (vault_of o1)
   maintained_more (Maintained answer idle looks) = looks.counted.kept
-  maintained_more (Deferred busy same) = subst (λ x. Faults (vault_of o) ≤ Faults (vault_of x)) (sym same) (omega arith)
+  maintained_more (Deferred busy same) = subst (λ x. vault.faults (vault_of o) ≤ vault.faults (vault_of x)) (sym same) (omega arith)
 
-  pub maintained_clean : Maintains Holds Faults IsClean IsUp MayLeave l o o1 → IsClean (vault_of o1) → IsClean (vault_of o)
+  pub maintained_clean : Maintains vault l o o1 → vault.is_clean (vault_of o1) → vault.is_clean (vault_of o)
   maintained_clean (Maintained answer idle looks) = looks.clean
-  maintained_clean (Deferred busy same) = λ k. subst (λ x. IsClean (vault_of x)) same k
+  maintained_clean (Deferred busy same) = λ k. subst (λ x. vault.is_clean (vault_of x)) same k
 
 -- an office that was given nothing
 pub unserved : {V : Type 0} (Holds : V → Contents → Type 0) (Faults : V → ℕ) (T : Trace) (o : Office V) → StandsFor Holds o T → WasServed Holds Faults T o o []
 unserved Holds Faults T o stands = record { stands = stands; admitted = tt; counted = omega arith; failed = λ e. cc }
 
-module _ {V W S H : Type 0} (Holds : V → Contents → Type 0) (IsClean : V → Type 0) (Faults : V → ℕ) (IsUp : V → Type 0)
-    (MayLeave : V → Contents → Type 0) (Asked : W → List Call → Type 0) (AskedFiles : S → List FileCall → Type 0) (Heard : H → List Hearing → Type 0) (T : Trace) where
-  gone_none : (l : Links) (o : Office V) (w : W) (s : S) (h : H) → StandsFor Holds o T → HasGoneOn Holds IsClean Faults IsUp MayLeave Asked AskedFiles Heard T [] l o w s h l o w s h
-  gone_none l o w s h stands = record { given = []; turns = NoTurn; served = unserved Holds Faults T o stands }
+module _ {V W S H : Type 0} (vault : Ghosts V) (Asked : W → List Call → Type 0) (AskedFiles : S → List FileCall → Type 0) (Heard : H → List Hearing → Type 0) (T : Trace) where
+  gone_none : (l : Links) (o : Office V) (w : W) (s : S) (h : H) → StandsFor vault.holds o T → HasGoneOn vault Asked AskedFiles Heard T [] l o w s h l o w s h
+  gone_none l o w s h stands = record { given = []; turns = NoTurn; served = unserved vault.holds vault.faults T o stands }
 
   gone_more : (moments : List ℕ) (l : Links) (o : Office V) (w : W) (s : S) (h : H) (l1 : Links) (o1 : Office V) (w1 : W) (s1 : S) (h1 : H) (now : ℕ)
       (l2 : Links) (o2 : Office V) (w2 : W) (s2 : S) (h2 : H) (o3 : Office V)
-      → (a : HasGoneOn Holds IsClean Faults IsUp MayLeave Asked AskedFiles Heard T moments l o w s h l1 o1 w1 s1 h1)
-      → Works Holds Faults IsUp MayLeave Asked AskedFiles Heard (trace_of T.base (a.given ++ T.log)) now l1 o1 w1 s1 h1 o2 l2 w2 s2 h2
+      → (a : HasGoneOn vault Asked AskedFiles Heard T moments l o w s h l1 o1 w1 s1 h1)
+      → Works vault Asked AskedFiles Heard (trace_of T.base (a.given ++ T.log)) now l1 o1 w1 s1 h1 o2 l2 w2 s2 h2
       → LeavesAsFound now l1 l2
-      → Maintains Holds Faults IsClean IsUp MayLeave l2 o2 o3
-      → ((U : Trace) → StandsFor Holds o2 U → StandsFor Holds o3 U)
-      → HasGoneOn Holds IsClean Faults IsUp MayLeave Asked AskedFiles Heard T (moments ++ now ∷ []) l o w s h l2 o3 w2 s2 h2
+      → Maintains vault l2 o2 o3
+      → ((U : Trace) → StandsFor vault.holds o2 U → StandsFor vault.holds o3 U)
+      → HasGoneOn vault Asked AskedFiles Heard T (moments ++ now ∷ []) l o w s h l2 o3 w2 s2 h2
   gone_more moments l o w s h l1 o1 w1 s1 h1 now l2 o2 w2 s2 h2 o3 a turn left kept still =
-      let more : Faults (vault_of o2) ≤ Faults (vault_of o3) = maintained_more Holds Faults IsClean IsUp MayLeave l2 o2 o3 kept in
+      let more : vault.faults (vault_of o2) ≤ vault.faults (vault_of o3) = maintained_more vault l2 o2 o3 kept in
       record {
         given = given_in turn.seen ++ a.given;
         turns = OneMore moments a.given l1 o1 w1 s1 h1 now l2 o2 w2 s2 h2 o3 a.turns turn left kept;
         served = record {
-          stands = subst (λ x. StandsFor Holds o3 (trace_of T.base x)) (sym (append_assoc (given_in turn.seen) a.given T.log))
+          stands = subst (λ x. StandsFor vault.holds o3 (trace_of T.base x)) (sym (append_assoc (given_in turn.seen) a.given T.log))
               (still (trace_of T.base (given_in turn.seen ++ (a.given ++ T.log))) turn.stands);
           admitted = newly_then T.base T.log a.given (given_in turn.seen) a.served.admitted turn.admitted;
           counted = (let p = a.served.counted in let q = turn.counted in omega (arith, p, q, more));
           failed = λ e.
               ⊎_elim
               (λ (later : list_any is_failed (given_in turn.seen) ≡ true).
-              grown_more (Faults (vault_of o)) (Faults (vault_of o1)) (Faults (vault_of o2)) (Faults (vault_of o3)) a.served.counted more (turn.failed later))
+              grown_more (vault.faults (vault_of o)) (vault.faults (vault_of o1)) (vault.faults (vault_of o2)) (vault.faults (vault_of o3)) a.served.counted more (turn.failed later))
               (λ (first : list_any is_failed a.given ≡ true).
               (let q = turn.counted in
-              grown_more (Faults (vault_of o)) (Faults (vault_of o)) (Faults (vault_of o1)) (Faults (vault_of o3)) (omega arith) (omega (arith, q, more)) (a.served.failed first)))
+              grown_more (vault.faults (vault_of o)) (vault.faults (vault_of o)) (vault.faults (vault_of o1)) (vault.faults (vault_of o3))
+              (omega arith) (omega (arith, q, more)) (a.served.failed first)))
               (or_cases (list_any is_failed (given_in turn.seen)) (list_any is_failed a.given) (sym (list_any-append is_failed (given_in turn.seen) a.given) ∙ e));
         };
       }
 
-module _ {V W S H C : Type 0} (Holds : V → Contents → Type 0) (IsClean : V → Type 0) (Faults : V → ℕ) (IsUp : V → Type 0)
-    (MayLeave : V → Contents → Type 0) (Asked : W → List Call → Type 0) (AskedFiles : S → List FileCall → Type 0) (Heard : H → List Hearing → Type 0) (Gave : C → List (Option ℕ) → Type 0)
+module _ {V W S H C : Type 0} (vault : Ghosts V) (Asked : W → List Call → Type 0) (AskedFiles : S → List FileCall → Type 0) (Heard : H → List Hearing → Type 0) (Gave : C → List (Option ℕ) → Type 0)
     (l : Links) (o : Office V) (w : W) (s : S) (h : H) (k : C) where
-  pub turned_none : HasTurned Holds IsClean Faults IsUp MayLeave Asked AskedFiles Heard Gave false [] l o w s h k l o w s h k
+  pub turned_none : HasTurned vault Asked AskedFiles Heard Gave false [] l o w s h k l o w s h k
   turned_none = record {
     gave = λ before g. subst (Gave k) (none_yet before) g;
-    each = λ T stands clean. gone_none Holds IsClean Faults IsUp MayLeave Asked AskedFiles Heard T l o w s h stands;
+    each = λ T stands clean. gone_none vault Asked AskedFiles Heard T l o w s h stands;
   }
 
   pub turned_more : (moments : List ℕ) (l1 : Links) (o1 : Office V) (w1 : W) (s1 : S) (h1 : H) (k1 : C) (now : ℕ)
       (l2 : Links) (o2 : Office V) (w2 : W) (s2 : S) (h2 : H) (o3 : Office V) (k2 : C)
-      → HasTurned Holds IsClean Faults IsUp MayLeave Asked AskedFiles Heard Gave false moments l o w s h k l1 o1 w1 s1 h1 k1
+      → HasTurned vault Asked AskedFiles Heard Gave false moments l o w s h k l1 o1 w1 s1 h1 k1
       → ((before : List (Option ℕ)) → Gave k1 before → Gave k2 (before ++ Some now ∷ []))
-      → (IsClean (vault_of o2) → IsClean (vault_of o1))
-      → ((T : Trace) → StandsFor Holds o1 T → IsClean (vault_of o2) → Works Holds Faults IsUp MayLeave Asked AskedFiles Heard T now l1 o1 w1 s1 h1 o2 l2 w2 s2 h2)
+      → (vault.is_clean (vault_of o2) → vault.is_clean (vault_of o1))
+      → ((T : Trace) → StandsFor vault.holds o1 T → vault.is_clean (vault_of o2) → Works vault Asked AskedFiles Heard T now l1 o1 w1 s1 h1 o2 l2 w2 s2 h2)
       → LeavesAsFound now l1 l2
-      → Maintains Holds Faults IsClean IsUp MayLeave l2 o2 o3
-      → ((U : Trace) → StandsFor Holds o2 U → IsClean (vault_of o3) → StandsFor Holds o3 U)
-      → HasTurned Holds IsClean Faults IsUp MayLeave Asked AskedFiles Heard Gave false (moments ++ now ∷ []) l o w s h k l2 o3 w2 s2 h2 k2
+      → Maintains vault l2 o2 o3
+      → ((U : Trace) → StandsFor vault.holds o2 U → vault.is_clean (vault_of o3) → StandsFor vault.holds o3 U)
+      → HasTurned vault Asked AskedFiles Heard Gave false (moments ++ now ∷ []) l o w s h k l2 o3 w2 s2 h2 k2
   turned_more moments l1 o1 w1 s1 h1 k1 now l2 o2 w2 s2 h2 o3 k2 a called clean works left kept still = record {
     gave = λ before g. subst (Gave k2) (one_more before moments now) (called (before ++ answers false moments) (a.gave before g));
     each = λ T stands z.
-        (let z2 = maintained_clean Holds Faults IsClean IsUp MayLeave l2 o2 o3 kept z in
+        (let z2 = maintained_clean vault l2 o2 o3 kept z in
         let g = a.each T stands (clean z2) in
-        gone_more Holds IsClean Faults IsUp MayLeave Asked AskedFiles Heard T moments l o w s h l1 o1 w1 s1 h1 now l2 o2 w2 s2 h2 o3 g
+        gone_more vault Asked AskedFiles Heard T moments l o w s h l1 o1 w1 s1 h1 now l2 o2 w2 s2 h2 o3 g
         (works (trace_of T.base (g.given ++ T.log)) g.served.stands z2) left kept (λ U st. still U st z));
   }
 
   pub turned_stopped : (moments : List ℕ) (l1 : Links) (o1 : Office V) (w1 : W) (s1 : S) (h1 : H) (k1 k2 : C)
-      → HasTurned Holds IsClean Faults IsUp MayLeave Asked AskedFiles Heard Gave false moments l o w s h k l1 o1 w1 s1 h1 k1
+      → HasTurned vault Asked AskedFiles Heard Gave false moments l o w s h k l1 o1 w1 s1 h1 k1
       → ((before : List (Option ℕ)) → Gave k1 before → Gave k2 (before ++ None ∷ []))
-      → HasTurned Holds IsClean Faults IsUp MayLeave Asked AskedFiles Heard Gave true moments l o w s h k l1 o1 w1 s1 h1 k2
+      → HasTurned vault Asked AskedFiles Heard Gave true moments l o w s h k l1 o1 w1 s1 h1 k2
   turned_stopped moments l1 o1 w1 s1 h1 k1 k2 a called = record {
     gave = λ before g. subst (Gave k2) (none_more before moments) (called (before ++ answers false moments) (a.gave before g));
     each = a.each;

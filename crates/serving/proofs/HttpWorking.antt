@@ -51,7 +51,7 @@ module _ (now : ℕ) where
       (WantsMemory link held h3 (came + m) (calls ++ c2) (come_then held held_then h3 came m calls c2 rest b))
 
   pub accepted_none : (held : List Exchange) → HasAcceptedForAdmin now 0 true held held []
-  accepted_none held = record { came = 0; arrivals = []; come = NoMore held; calls_are = refl; enough = λ e. omega arith }
+  accepted_none held = record { came = 0; arrivals = []; come = NoMore held; calls_are = refl; enough = λ e. omega arith; few = omega arith }
 
   pub accepted_then : (h1 h2 h3 : List Exchange) (n m : ℕ) (goes : Bool) (c1 c2 : List Call) → HasAcceptedForAdmin now n true h1 h2 c1
       → HasAcceptedForAdmin now m goes h2 h3 c2 → HasAcceptedForAdmin now (n + m) goes h1 h3 (c1 ++ c2)
@@ -63,12 +63,20 @@ module _ (now : ℕ) where
         come = come_then h1 h2 h3 a.came b.came a.arrivals b.arrivals a.come b.come;
         calls_are = ap (λ c. c ++ c2) (a.calls_are ∙ append-nil a.arrivals) ∙ (ap (λ c. a.arrivals ++ c) b.calls_are ∙ sym (append_assoc a.arrivals b.arrivals last));
         enough = λ e. (let p = a.enough refl in let q = b.enough e in omega (arith, p, q));
+        few = (let p = a.few in let q = b.few in omega (arith, p, q));
       }
 
-  -- fewer
-  pub accepted_less : (h1 h2 : List Exchange) (n m : ℕ) (goes : Bool) (c : List Call) → (goes ≡ true → m ≤ n) → HasAcceptedForAdmin now n goes h1 h2 c → HasAcceptedForAdmin now m goes h1 h2 c
-  accepted_less h1 h2 n m goes c less a =
-      record { came = a.came; arrivals = a.arrivals; come = a.come; calls_are = a.calls_are; enough = λ e. (let p = a.enough e in let q = less e in omega (arith, p, q)) }
+  -- no fewer than came, and no more than that if the wire had more
+  pub accepted_less : (h1 h2 : List Exchange) (n m : ℕ) (goes : Bool) (c : List Call) → n ≤ m → (goes ≡ true → m ≤ n)
+      → HasAcceptedForAdmin now n goes h1 h2 c → HasAcceptedForAdmin now m goes h1 h2 c
+  accepted_less h1 h2 n m goes c within less a = record {
+    came = a.came;
+    arrivals = a.arrivals;
+    come = a.come;
+    calls_are = a.calls_are;
+    enough = λ e. (let p = a.enough e in let q = less e in omega (arith, p, q));
+    few = (let p = a.few in omega (arith, p, within));
+  }
 
 -- ---- what is read of a request
 
@@ -196,16 +204,22 @@ all_written e2 c1 c2 (inl over) = inl over
 all_written e2 c1 c2 (inr (inl later)) = inr (inl (any_right took_nothing c1 c2 later))
 all_written e2 c1 c2 (inr (inr none)) = inr (inr none)
 
-pub response_ended : (e e1 e2 : Exchange) (n m k j : ℕ) (c1 c2 : List Call) → WrittenSoFar e e1 n k c1 → IsWrittenOf e1 e2 m j c2 → HasWrittenAll e2 c2 → HasWritten e e2 (c1 ++ c2)
-response_ended e e1 e2 n m k j c1 c2 a b ends = record { times = n + m; octets = k + j; is = response_next e e1 e2 n m k j c1 c2 a b; enough = inr (inr (all_written e2 c1 c2 ends)) }
+pub response_ended : (e e1 e2 : Exchange) (n m k j : ℕ) (c1 c2 : List Call) → length (c1 ++ c2) ≤ 64 → WrittenSoFar e e1 n k c1 → IsWrittenOf e1 e2 m j c2 → HasWrittenAll e2 c2
+    → HasWritten e e2 (c1 ++ c2)
+response_ended e e1 e2 n m k j c1 c2 few a b ends =
+    record { times = n + m; octets = k + j; is = response_next e e1 e2 n m k j c1 c2 a b; few = few; enough = inr (inr (all_written e2 c1 c2 ends)) }
 
 -- the share is written, or as many writes were made as may be
-pub response_share : (e e1 e2 : Exchange) (n m k j : ℕ) (c1 c2 : List Call) → 16384 ≤ k + j → WrittenSoFar e e1 n k c1 → IsWrittenOf e1 e2 m j c2 → HasWritten e e2 (c1 ++ c2)
-response_share e e1 e2 n m k j c1 c2 h a b = record { times = n + m; octets = k + j; is = response_next e e1 e2 n m k j c1 c2 a b; enough = inr (inl h) }
+pub response_share : (e e1 e2 : Exchange) (n m k j : ℕ) (c1 c2 : List Call) → length (c1 ++ c2) ≤ 64 → 16384 ≤ k + j → WrittenSoFar e e1 n k c1 → IsWrittenOf e1 e2 m j c2 → HasWritten e e2 (c1 ++ c2)
+response_share e e1 e2 n m k j c1 c2 few h a b = record { times = n + m; octets = k + j; is = response_next e e1 e2 n m k j c1 c2 a b; few = few; enough = inr (inl h) }
 
-pub response_often : (e e2 : Exchange) (n k : ℕ) (c : List Call) → 64 ≤ n → WrittenSoFar e e2 n k c → HasWritten e e2 c
-response_often e e2 n k c h (inl (same, no_times, no_octets, no_calls)) = absurd (omega (arith, h, no_times))
-response_often e e2 n k c h (inr a) = record { times = n; octets = k; is = a; enough = inl h }
+pub response_often : (e e2 : Exchange) (n k : ℕ) (c : List Call) → length c ≤ 64 → 64 ≤ n → WrittenSoFar e e2 n k c → HasWritten e e2 c
+response_often e e2 n k c few h (inl (same, no_times, no_octets, no_calls)) = absurd (omega (arith, h, no_times))
+response_often e e2 n k c few h (inr a) = record { times = n; octets = k; is = a; few = few; enough = inl h }
+
+-- one call more at most
+pub one_more_call : (n : ℕ) (c1 c2 : List Call) → length c1 ≤ n → length c2 ≤ 1 → length (c1 ++ c2) ≤ n + 1
+one_more_call n c1 c2 h k = let e = length-append c1 c2 in omega (arith, e, h, k)
 
 -- ---- one write, or none
 
@@ -229,6 +243,7 @@ response_over e over = record {
     times_are = omega arith;
     octets_are = omega arith;
   };
+  once = omega arith;
   ends = λ h. inl over;
 }
 
@@ -244,6 +259,7 @@ response_none e none = record {
     times_are = omega arith;
     octets_are = omega arith;
   };
+  once = omega arith;
   ends = λ h. inr (inr none);
 }
 
@@ -265,6 +281,7 @@ module _ (e e2 : Exchange) (r : Response) where
           times_are = omega arith;
           octets_are = omega (arith, written);
         };
+        once = omega arith;
         ends = λ h. inl over;
       }
 
@@ -287,6 +304,7 @@ module _ (e e2 : Exchange) (r : Response) where
           times_are = rw z (omega arith);
           octets_are = omega (arith, written);
         };
+        once = omega arith;
         ends = λ h. (let k : not (n == 0) ≡ true = ap not z in absurd (true≢false (sym k ∙ h)));
       }
 
@@ -306,6 +324,7 @@ module _ (e e2 : Exchange) (r : Response) where
       times_are = omega arith;
       octets_are = omega (arith, written);
     };
+    once = omega arith;
     ends = λ h. inl over;
   }
 
@@ -326,6 +345,7 @@ response_later e r offered has goes less all =
         times_are = omega arith;
         octets_are = omega arith;
       };
+      once = omega arith;
       ends = λ h. inr (inl refl);
     } where
       not_le : (n w : ℕ) → w < n → nat_le n w ≡ false

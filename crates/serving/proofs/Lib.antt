@@ -15,6 +15,7 @@ pub mod Pacing
 pub mod Waiting
 pub mod Working
 pub mod Offering
+pub mod Ordered
 pub mod Turns
 pub mod Arriving
 pub mod Hearing

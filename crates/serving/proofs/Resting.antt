@@ -177,9 +177,9 @@ written_moved e e1 times octets calls some a =
     let grown = a.octets_are in
     response_moved e.link e.response e.written e1.written calls a.writes (omega (arith, more, grown))
 
--- while it is written
+-- while it is written, so many times at most
 abbrev pub WritesSoFar : (e e1 : Exchange) (times octets : ℕ) (calls : List Call) → Type 0
-WritesSoFar e e1 times octets calls = WrittenSoFar e e1 times octets calls × (0 < times → has_moved calls ≡ true)
+WritesSoFar e e1 times octets calls = WrittenSoFar e e1 times octets calls × (0 < times → has_moved calls ≡ true) × (length calls ≤ times)
 
 -- a link of the administration has more, or one before it does
 pub admin_polled : (p q : Bool) (calls : List Call) → PollsBy false q calls → PollsBy p (p || q) calls

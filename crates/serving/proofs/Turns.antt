@@ -33,6 +33,8 @@ use Rattle.creds.specs.declared.login_name.LoginName.{LoginName}
 use Rattle.serving.specs.declared.pace.Pace.{Pace}
 use Rattle.office.specs.Waiting as waiting
 use Rattle.office.specs.Logins.{brings_login}
+use Rattle.serving.proofs.Ordered.{took_one, gone_one, bytes_one, serves_none, one_write, one_read, serves_then, serves_less, looked_served}
+use Rattle.serving.specs.InOrder.{IsEventOf, ServesSeat}
 use Rattle.serving.proofs.Offering.{offered_then, offered_more, none_offered, lent_once, unwritten_look}
 use Rattle.serving.proofs.Seating.{any_default, contained, whole_front}
 use Rattle.serving.specs.Newcomers.{newcomer, lies_unread}
@@ -87,7 +89,7 @@ module _ {V : Type 0} (vault : Ghosts V) where
   OffersAll o seat offered = (B : Records) (L : Log) → StandsFor vault.holds o (trace_of B L) → offered ≡ min (length (rest (trace_of B L) seat.connection)) most_lent
 
   pub wrote_some : (o o1 : Office V) (seat : Seat) (offered n : ℕ) (octets : List ℕ) (m : EventTag) → 0 < n → OffersAll o seat offered
-      → IsWritten vault.holds vault.is_clean o o1 seat (if n == 0 then 0 else 1) n (not (n == 0)) ((event.Took seat.connection n, m) ∷ []) (Wrote Pop seat.link offered (Count n) octets ∷ [])
+      → IsWritten vault.holds vault.is_clean o o1 seat (if n == 0 then 0 else 1) 1 n (not (n == 0)) ((event.Took seat.connection n, m) ∷ []) (Wrote Pop seat.link offered (Count n) octets ∷ [])
   wrote_some o o1 seat offered n octets m some all =
       let z = not_zero n some in
       let q = same_number seat.link.number in
@@ -98,6 +100,7 @@ module _ {V : Type 0} (vault : Ghosts V) where
           caused = All-cons (HasCause (seat ∷ []) (Wrote Pop seat.link offered (Count n) octets ∷ [])) (event.Took seat.connection n, m) [] tt
               (All-nil (HasCause (seat ∷ []) (Wrote Pop seat.link offered (Count n) octets ∷ [])));
         };
+        served = one_write seat ((event.Took seat.connection n, m) ∷ []) offered (Count n) octets (took_one seat.connection n m);
         taken = rw (z, q) (omega arith);
         octets_are = rw q (omega arith);
         offered = lent_once vault.holds vault.is_clean o o1 seat offered (Count n) octets ((event.Took seat.connection n, m) ∷ []) all;
@@ -105,13 +108,14 @@ module _ {V : Type 0} (vault : Ghosts V) where
       }
 
   pub wrote_later : (o : Office V) (seat : Seat) (offered : ℕ) (octets : List ℕ) → OffersAll o seat offered
-      → IsWritten vault.holds vault.is_clean o o seat 0 0 false [] (Wrote Pop seat.link offered Later octets ∷ [])
+      → IsWritten vault.holds vault.is_clean o o seat 0 1 0 false [] (Wrote Pop seat.link offered Later octets ∷ [])
   wrote_later o seat offered octets all = record {
     of_seat = record {
       quiet = record { no_moments = refl; no_openings = refl; no_refusals = refl; no_waits = refl; no_arrivals = refl; no_closings = refl };
       apart = refl;
       caused = All-nil (HasCause (seat ∷ []) (Wrote Pop seat.link offered Later octets ∷ []));
     };
+    served = one_write seat [] offered Later octets (All-nil (IsEventOf seat.connection));
     taken = omega arith;
     octets_are = omega arith;
     offered = lent_once vault.holds vault.is_clean o o seat offered Later octets [] all;
@@ -120,7 +124,7 @@ module _ {V : Type 0} (vault : Ghosts V) where
 
   pub wrote_cut : (o o1 : Office V) (seat : Seat) (offered : ℕ) (io : Io) (octets : List ℕ) (m : EventTag) → is_fault io ≡ true
       → OffersAll o seat offered → OwesNothing vault.holds vault.is_clean o o1 seat.connection ((event.Gone seat.connection, m) ∷ [])
-      → IsWritten vault.holds vault.is_clean o o1 seat 0 0 false ((event.Gone seat.connection, m) ∷ []) (Wrote Pop seat.link offered io octets ∷ [])
+      → IsWritten vault.holds vault.is_clean o o1 seat 0 1 0 false ((event.Gone seat.connection, m) ∷ []) (Wrote Pop seat.link offered io octets ∷ [])
   wrote_cut o o1 seat offered io octets m fault all owes = record {
     of_seat = record {
       quiet = record { no_moments = refl; no_openings = refl; no_refusals = refl; no_waits = refl; no_arrivals = refl; no_closings = refl };
@@ -129,14 +133,22 @@ module _ {V : Type 0} (vault : Ghosts V) where
           (seat, first_seat seat, refl, or_none ((seat.link.number == seat.link.number) && is_fault io) (cut_so seat.link.number io fault))
           (All-nil (HasCause (seat ∷ []) (Wrote Pop seat.link offered io octets ∷ [])));
     };
+    served = one_write seat ((event.Gone seat.connection, m) ∷ []) offered io octets (gone_one seat.connection m);
     taken = omega arith;
     octets_are = omega arith;
     offered = lent_once vault.holds vault.is_clean o o1 seat offered io octets ((event.Gone seat.connection, m) ∷ []) all;
     ends = λ e. inr owes;
   }
 
-  pub wrote_none : (o : Office V) (seat : Seat) → OwesNothing vault.holds vault.is_clean o o seat.connection [] → IsWritten vault.holds vault.is_clean o o seat 0 0 false [] []
-  wrote_none o seat owes = record { of_seat = of_none (seat ∷ []); taken = omega arith; octets_are = omega arith; offered = λ B L s k. All-nil (IsOffered B L [] (seat ∷ [])); ends = λ e. inr owes }
+  pub wrote_none : (o : Office V) (seat : Seat) → OwesNothing vault.holds vault.is_clean o o seat.connection [] → IsWritten vault.holds vault.is_clean o o seat 0 1 0 false [] []
+  wrote_none o seat owes = record {
+    of_seat = of_none (seat ∷ []);
+    served = serves_less seat 0 0 0 1 [] [] (omega arith) (omega arith) (serves_none seat);
+    taken = omega arith;
+    octets_are = omega arith;
+    offered = λ B L s k. All-nil (IsOffered B L [] (seat ∷ []));
+    ends = λ e. inr owes;
+  }
 
   -- one read
   module _ (o : Office V) (seat : Seat) (room : ℕ) where
@@ -146,14 +158,14 @@ module _ {V : Type 0} (vault : Ghosts V) where
       apart = refl;
       caused = All-cons (HasCause (seat ∷ []) (Read Pop seat.link room io octets ∷ [])) (event.Bytes seat.connection piece, m) [] tt
           (All-nil (HasCause (seat ∷ []) (Read Pop seat.link room io octets ∷ [])));
-    })
+    }) (one_read seat ((event.Bytes seat.connection piece, m) ∷ []) room io octets (bytes_one seat.connection piece m))
 
     pub read_later : (io : Io) (octets : List ℕ) → IsReadOnce vault.holds o seat room [] (Read Pop seat.link room io octets ∷ [])
     read_later io octets = WasRead io octets [] (record {
       quiet = record { no_moments = refl; no_openings = refl; no_refusals = refl; no_waits = refl; no_arrivals = refl; no_closings = refl };
       apart = refl;
       caused = All-nil (HasCause (seat ∷ []) (Read Pop seat.link room io octets ∷ []));
-    })
+    }) (one_read seat [] room io octets (All-nil (IsEventOf seat.connection)))
 
     pub read_cut : (io : Io) (octets : List ℕ) (m : EventTag) → is_fault io ≡ true → IsReadOnce vault.holds o seat room ((event.Gone seat.connection, m) ∷ []) (Read Pop seat.link room io octets ∷ [])
     read_cut io octets m fault = WasRead io octets ((event.Gone seat.connection, m) ∷ []) (record {
@@ -162,16 +174,28 @@ module _ {V : Type 0} (vault : Ghosts V) where
       caused = All-cons (HasCause (seat ∷ []) (Read Pop seat.link room io octets ∷ [])) (event.Gone seat.connection, m) []
           (seat, first_seat seat, refl, or_none ((seat.link.number == seat.link.number) && is_fault io) (cut_so seat.link.number io fault))
           (All-nil (HasCause (seat ∷ []) (Read Pop seat.link room io octets ∷ [])));
-    })
+    }) (one_read seat ((event.Gone seat.connection, m) ∷ []) room io octets (gone_one seat.connection m))
 
   module _ (wait : ℕ) (by_line may is_noted : Bool) where
     pub read_none : (o : Office V) (seat : Seat) → (is_noted ≡ true → ⊥) → IsNotReady vault.holds o seat.connection → IsReadPiece vault.holds o seat wait by_line may is_noted [] []
-    read_none o seat calm idle = record { of_seat = of_none (seat ∷ []); read = inr (inr (refl, inl idle)); noted = λ e. absurd (calm e); unwritten = refl }
+    read_none o seat calm idle = record {
+      of_seat = of_none (seat ∷ []);
+      read = inr (inr (refl, inl idle));
+      noted = λ e. absurd (calm e);
+      served = serves_less seat 0 0 1 0 [] [] (omega arith) (omega arith) (serves_none seat);
+      unwritten = refl;
+    }
 
     -- what was looked at stays unread
-    pub read_unread : (o : Office V) (seat : Seat) (calls : List Call) → list_any is_client_write calls ≡ false → IsQuietFor (seat ∷ []) [] calls
+    pub read_unread : (o : Office V) (seat : Seat) (calls : List Call) → list_any is_client_write calls ≡ false → IsQuietFor (seat ∷ []) [] calls → ServesSeat seat 0 0 [] calls
         → IsUnread vault.holds o seat wait may calls → IsReadPiece vault.holds o seat wait by_line may is_noted [] calls
-    read_unread o seat calls none quiet u = record { of_seat = quiet; read = inr (inr (refl, inr u)); noted = λ e. u; unwritten = none }
+    read_unread o seat calls none quiet looked u = record {
+      of_seat = quiet;
+      read = inr (inr (refl, inr u));
+      noted = λ e. u;
+      served = serves_less seat 0 0 1 0 [] calls (omega arith) (omega arith) looked;
+      unwritten = none;
+    }
 
     -- a read that asked for all
     whole_read : (seat : Seat) (room : ℕ) (io : Io) (octets : List ℕ) → room ≡ most_at_once → list_any (is_read_of seat.link) (Read Pop seat.link room io octets ∷ []) ≡ true
@@ -210,9 +234,11 @@ module _ {V : Type 0} (vault : Ghosts V) where
       of_seat = of_then (seat ∷ []) [] [] looks [] quiet (of_none (seat ∷ []));
       read = inr (inr (refl, inl idle));
       noted = λ e. absurd (calm e);
+      served = serves_less seat (0 + 0) (0 + 0) 1 0 [] (looks ++ []) (omega arith) (omega arith)
+          (serves_then seat 0 0 0 0 [] [] looks [] (looked_served vault.holds o seat pace refusals room login looks looked) (serves_none seat));
       unwritten = none_of is_client_write looks [] (unwritten_look vault.holds o seat pace refusals room login looks looked) refl;
     }
-    read_behind o seat pace refusals room login _ looks _ quiet looked some line calm (WasRead io octets given q) =
+    read_behind o seat pace refusals room login _ looks _ quiet looked some line calm (WasRead io octets given q own) =
         let call = Read Pop seat.link room io octets in
         record {
           of_seat = subst (λ g. IsQuietFor (seat ∷ []) g (looks ++ call ∷ [])) (append-nil given)
@@ -222,24 +248,35 @@ module _ {V : Type 0} (vault : Ghosts V) where
               (λ (u : IsReadByLine (looks ++ call ∷ []) by_line seat). inr (inl u))
               (read_so o seat pace refusals room login io octets looks some line looked);
           noted = λ e. absurd (calm e);
+          served = serves_less seat (0 + 1) (0 + 0) 1 0 given (looks ++ call ∷ []) (omega arith) (omega arith)
+              (subst (λ g. ServesSeat seat (0 + 1) (0 + 0) g (looks ++ call ∷ [])) (append-nil given)
+              (serves_then seat 0 0 1 0 [] given looks (call ∷ []) (looked_served vault.holds o seat pace refusals room login looks looked) own));
           unwritten = none_of is_client_write looks (call ∷ []) (unwritten_look vault.holds o seat pace refusals room login looks looked) refl;
         }
 
   -- ---- a link
 
-  pub written_none : (o : Office V) (seat : Seat) → IsWritten vault.holds vault.is_clean o o seat 0 0 true [] []
-  written_none o seat = record { of_seat = of_none (seat ∷ []); taken = omega arith; octets_are = omega arith; offered = λ B L s k. All-nil (IsOffered B L [] (seat ∷ [])); ends = λ e. cc }
+  pub written_none : (o : Office V) (seat : Seat) → IsWritten vault.holds vault.is_clean o o seat 0 0 0 true [] []
+  written_none o seat = record {
+    of_seat = of_none (seat ∷ []);
+    served = serves_none seat;
+    taken = omega arith;
+    octets_are = omega arith;
+    offered = λ B L s k. All-nil (IsOffered B L [] (seat ∷ []));
+    ends = λ e. cc;
+  }
 
   owes_then : (o o1 o2 : Office V) (c : ℕ) (g1 g2 : Log) → WasGiven vault o o1 g1
       → WasGiven vault o1 o2 g2 → OwesNothing vault.holds vault.is_clean o1 o2 c g2 → OwesNothing vault.holds vault.is_clean o o2 c (g2 ++ g1)
   owes_then o o1 o2 c g1 g2 a b owes = λ B L s k. subst (λ l. rest (trace_of B l) c ≡ []) (sym (append_assoc g2 g1 L)) (owes B (g1 ++ L) (a.stands B L s (b.clean k)) k)
 
-  pub written_then : (o o1 o2 : Office V) (seat : Seat) (n1 n2 k1 k2 : ℕ) (goes : Bool) (g1 g2 : Log) (c1 c2 : List Call)
+  pub written_then : (o o1 o2 : Office V) (seat : Seat) (n1 n2 m1 m2 k1 k2 : ℕ) (goes : Bool) (g1 g2 : Log) (c1 c2 : List Call)
       → WasGiven vault o o1 g1 → WasGiven vault o1 o2 g2
-      → IsWritten vault.holds vault.is_clean o o1 seat n1 k1 true g1 c1 → IsWritten vault.holds vault.is_clean o1 o2 seat n2 k2 goes g2 c2
-      → IsWritten vault.holds vault.is_clean o o2 seat (n1 + n2) (k1 + k2) goes (g2 ++ g1) (c1 ++ c2)
-  written_then o o1 o2 seat n1 n2 k1 k2 goes g1 g2 c1 c2 wa wb a b = record {
+      → IsWritten vault.holds vault.is_clean o o1 seat n1 m1 k1 true g1 c1 → IsWritten vault.holds vault.is_clean o1 o2 seat n2 m2 k2 goes g2 c2
+      → IsWritten vault.holds vault.is_clean o o2 seat (n1 + n2) (m1 + m2) (k1 + k2) goes (g2 ++ g1) (c1 ++ c2)
+  written_then o o1 o2 seat n1 n2 m1 m2 k1 k2 goes g1 g2 c1 c2 wa wb a b = record {
     of_seat = of_then (seat ∷ []) g1 g2 c1 c2 a.of_seat b.of_seat;
+    served = serves_then seat 0 m1 0 m2 g1 g2 c1 c2 a.served b.served;
     taken = (let k = count_joined (is_taking_of seat.link) c1 c2 in let p = a.taken in let q = b.taken in omega (arith, k, p, q));
     octets_are = (let k = taken_joined seat.link c1 c2 in let p = a.octets_are in let q = b.octets_are in omega (arith, k, p, q));
     offered = λ B L s k. offered_then B L g1 g2 (seat ∷ []) c1 c2 (a.offered B L s (wb.clean k)) (b.offered B (g1 ++ L) (wa.stands B L s (wb.clean k)) k);
@@ -251,10 +288,11 @@ module _ {V : Type 0} (vault : Ghosts V) where
   }
 
   -- fewer writes, and fewer octets
-  pub written_less : (o o1 : Office V) (seat : Seat) (n n2 k k2 : ℕ) (goes : Bool) (g : Log) (c : List Call) → n2 ≤ n → k2 ≤ k
-      → IsWritten vault.holds vault.is_clean o o1 seat n k goes g c → IsWritten vault.holds vault.is_clean o o1 seat n2 k2 goes g c
-  written_less o o1 seat n n2 k k2 goes g c h h2 a = record {
+  pub written_less : (o o1 : Office V) (seat : Seat) (n n2 m k k2 : ℕ) (goes : Bool) (g : Log) (c : List Call) → n2 ≤ n → k2 ≤ k
+      → IsWritten vault.holds vault.is_clean o o1 seat n m k goes g c → IsWritten vault.holds vault.is_clean o o1 seat n2 m k2 goes g c
+  written_less o o1 seat n n2 m k k2 goes g c h h2 a = record {
     of_seat = a.of_seat;
+    served = a.served;
     taken = (let p = a.taken in omega (arith, p, h));
     octets_are = (let p = a.octets_are in omega (arith, p, h2));
     offered = a.offered;
@@ -262,18 +300,31 @@ module _ {V : Type 0} (vault : Ghosts V) where
   }
 
   -- it ended early
-  pub written_ended : (o o1 : Office V) (seat : Seat) (n k share : ℕ) (g : Log) (c : List Call)
-      → IsWritten vault.holds vault.is_clean o o1 seat n k false g c → IsWrittenOut vault.holds vault.is_clean o o1 seat share false g c
-  written_ended o o1 seat n k share g c a = record { of_seat = a.of_seat; offered = a.offered; goes_on = λ e. cc; ends = a.ends }
+  pub written_ended : (o o1 : Office V) (seat : Seat) (n m k share : ℕ) (g : Log) (c : List Call) → m ≤ most_writes
+      → IsWritten vault.holds vault.is_clean o o1 seat n m k false g c → IsWrittenOut vault.holds vault.is_clean o o1 seat share false g c
+  written_ended o o1 seat n m k share g c few a =
+      record { of_seat = a.of_seat; offered = a.offered; served = serves_less seat 0 m 0 64 g c (omega arith) few a.served; goes_on = λ e. cc; ends = a.ends }
 
   -- the share is written
-  pub written_share : (o o1 : Office V) (seat : Seat) (n k share : ℕ) (goes : Bool) (g : Log) (c : List Call) → share ≤ k
-      → IsWritten vault.holds vault.is_clean o o1 seat n k goes g c → IsWrittenOut vault.holds vault.is_clean o o1 seat share true g c
-  written_share o o1 seat n k share goes g c h a = record { of_seat = a.of_seat; offered = a.offered; goes_on = λ e. inr (let p = a.octets_are in omega (arith, p, h)); ends = λ e. cc }
+  pub written_share : (o o1 : Office V) (seat : Seat) (n m k share : ℕ) (goes : Bool) (g : Log) (c : List Call) → m ≤ most_writes → share ≤ k
+      → IsWritten vault.holds vault.is_clean o o1 seat n m k goes g c → IsWrittenOut vault.holds vault.is_clean o o1 seat share true g c
+  written_share o o1 seat n m k share goes g c few h a = record {
+    of_seat = a.of_seat;
+    offered = a.offered;
+    served = serves_less seat 0 m 0 64 g c (omega arith) few a.served;
+    goes_on = λ e. inr (let p = a.octets_are in omega (arith, p, h));
+    ends = λ e. cc;
+  }
 
-  pub written_all : (o o1 : Office V) (seat : Seat) (n k share : ℕ) (goes : Bool) (g : Log) (c : List Call) → most_writes ≤ n
-      → IsWritten vault.holds vault.is_clean o o1 seat n k goes g c → IsWrittenOut vault.holds vault.is_clean o o1 seat share true g c
-  written_all o o1 seat n k share goes g c h a = record { of_seat = a.of_seat; offered = a.offered; goes_on = λ e. inl (let p = a.taken in omega (arith, p, h)); ends = λ e. cc }
+  pub written_all : (o o1 : Office V) (seat : Seat) (n m k share : ℕ) (goes : Bool) (g : Log) (c : List Call) → m ≤ most_writes → most_writes ≤ n
+      → IsWritten vault.holds vault.is_clean o o1 seat n m k goes g c → IsWrittenOut vault.holds vault.is_clean o o1 seat share true g c
+  written_all o o1 seat n m k share goes g c few h a = record {
+    of_seat = a.of_seat;
+    offered = a.offered;
+    served = serves_less seat 0 m 0 64 g c (omega arith) few a.served;
+    goes_on = λ e. inl (let p = a.taken in omega (arith, p, h));
+    ends = λ e. cc;
+  }
 
   -- a link that was written its share had its turn
   turn_written : (o o1 : Office V) (way : Way) (seat : Seat) (g : Log) (c : List Call) → way.poll_now ≡ true

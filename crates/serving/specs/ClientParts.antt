@@ -1,6 +1,6 @@
 -- What the parts of a turn do for clients, each in one word that its contract cites: the moment,
 -- links that come, what is written and read on one link and on all, and links that are closed.
-use Rattle.std.specs.Prelude.{◌≡◌, ◌⊎◌, ◌≤◌, ◌<◌, ⊤, ℕ, Bool, true, false, ◌&&◌, ◌||◌, ◌==◌}
+use Rattle.std.specs.Prelude.{◌≡◌, ◌⊎◌, ◌≤◌, ◌<◌, ⊤, ℕ, ◌+◌, Bool, true, false, ◌&&◌, ◌||◌, ◌==◌}
 use Rattle.std.specs.Prelude.{List, [], ◌∷◌, ◌++◌, length, map, filter, filter_map, Option, None}
 use Rattle.std.specs.Prelude.{if◌then◌else◌, nat_lt}
 use Rattle.std.specs.List.{All, Contains, list_any, remove}
@@ -30,7 +30,8 @@ use Rattle.serving.specs.Works.{waits, arrivals, closings, is_admin, is_read_of,
 use Rattle.serving.specs.Works.{is_taking_of, octets_taken, most_writes, share_by, moments}
 use Rattle.serving.specs.Works.{openings, refusals, AreCaused, IsKeptBack, reads_by_line}
 use Rattle.serving.specs.Works.{IsReadByLine, LiesUnread, Came, seat_of, unseated_of, link_of}
-use Rattle.serving.specs.Works.{HasAccepted, HasReleasedLock, is_open_seat}
+use Rattle.serving.specs.Works.{HasAccepted, is_open_seat}
+use Rattle.serving.specs.InOrder.{ServesSeat, ServesInOrder}
 use Rattle.serving.specs.Ways.{Way, way_by, HadTurn}
 use Rattle.serving.specs.Works.{is_shut_seat, IsOffered}
 use Rattle.serving.specs.Parts.{IsQuietFor}
@@ -86,6 +87,7 @@ pub record AreAccepted {V : Type 0} (Holds : V → Contents → Type 0) (IsClean
   pub came : List Came
   pub come : HaveCome Holds IsClean office office_then seats seats_then came given calls
   pub enough : has_more ≡ true → most ≤ length came
+  pub few : length came ≤ most
   pub all : has_more ≡ false → HasAccepted (length seats_then) calls
 
 -- nothing is owed to a connection by then
@@ -93,10 +95,11 @@ abbrev pub OwesNothing : {V : Type 0} (Holds : V → Contents → Type 0) (IsCle
 OwesNothing Holds IsClean office office_then c given =
     (B : Records) (L : Log) → StandsFor Holds office (trace_of B L) → IsClean (vault_of office_then) → rest (trace_of B (given ++ L)) c ≡ []
 
--- A link was written on so many times, so many octets; and it takes no more for now, or nothing more is owed, if that is over.
-pub record IsWritten {V : Type 0} (Holds : V → Contents → Type 0) (IsClean : V → Type 0) (office office_then : Office V) (seat : Seat) (times octets : ℕ) (has_more : Bool)
+-- A link was written on so many times and no more than `most`, so many octets; and it takes no more for now, or nothing more is owed, if that is over.
+pub record IsWritten {V : Type 0} (Holds : V → Contents → Type 0) (IsClean : V → Type 0) (office office_then : Office V) (seat : Seat) (times most octets : ℕ) (has_more : Bool)
     (given : Log) (calls : List Call) : Type 0 where
   pub of_seat : IsQuietFor (seat ∷ []) given calls
+  pub served : ServesSeat seat 0 most given calls
   pub taken : times ≤ length (filter (is_taking_of seat.link) calls)
   pub octets_are : octets ≤ octets_taken seat.link calls
   pub offered : AreOffered Holds IsClean office office_then (seat ∷ []) given calls
@@ -107,6 +110,7 @@ pub record IsWrittenOut {V : Type 0} (Holds : V → Contents → Type 0) (IsClea
     (given : Log) (calls : List Call) : Type 0 where
   pub of_seat : IsQuietFor (seat ∷ []) given calls
   pub offered : AreOffered Holds IsClean office office_then (seat ∷ []) given calls
+  pub served : ServesSeat seat 0 most_writes given calls
   pub goes_on : has_more ≡ true → (most_writes ≤ length (filter (is_taking_of seat.link) calls)) ⊎ (share ≤ octets_taken seat.link calls)
   pub ends : has_more ≡ false → (list_any (is_later_of seat.link) calls ≡ true) ⊎ OwesNothing Holds IsClean office office_then seat.connection given
 
@@ -158,6 +162,7 @@ pub data IsReadOnce {V : Type 0} (Holds : V → Contents → Type 0) (office : O
   NotReady : IsNotReady Holds office seat.connection → IsReadOnce Holds office seat room [] []
   WasRead : (io : Io) (octets : List ℕ) (given : Log)
       → IsQuietFor (seat ∷ []) given (Read Pop seat.link room io octets ∷ [])
+      → ServesSeat seat 1 0 given (Read Pop seat.link room io octets ∷ [])
       → IsReadOnce Holds office seat room given (Read Pop seat.link room io octets ∷ [])
 
 -- A link was read from, if its connection waits for octets and nothing is kept back. If its login
@@ -169,6 +174,7 @@ pub record IsReadPiece {V : Type 0} (Holds : V → Contents → Type 0) (office 
       ⊎ (IsReadByLine calls by_line seat ⊎ ((given ≡ [])
       × (IsNotReady Holds office seat.connection ⊎ IsUnread Holds office seat wait may calls)))
   pub noted : is_noted ≡ true → IsUnread Holds office seat wait may calls
+  pub served : ServesSeat seat 1 0 given calls
   pub unwritten : list_any is_client_write calls ≡ false
 
 -- logins may be kept back: after refusals, if guesses are slow, or after a session that ended
@@ -203,25 +209,23 @@ pub record HadTurns {V : Type 0} (Holds : V → Contents → Type 0) (IsClean : 
       → IsClean (vault_of office_then)
       → All (IsNotedSo noted B L given calls way.wait way.may seats) these
 
--- logins are kept back after sessions that ended, if they wait for a lock, and after nothing
--- else
-abbrev pub IsReleasedBy : {V : Type 0} (Holds : V → Contents → Type 0) (IsClean : V → Type 0)
-    (office office_then : Office V) (wait : ℕ) (lock_released : Bool) (seats : List Seat) (given : Log)
-    → Type 0
-IsReleasedBy Holds IsClean office office_then wait lock_released seats given =
-    lock_released ≡ true → ((wait == 0) ≡ false) × ((B : Records) (L : Log)
-    → StandsFor Holds office (trace_of B L) → IsClean (vault_of office_then)
-    → HasReleasedLock B L given seats)
+-- the link of one seat had its turn, by events and calls of its own
+pub record HadOwnTurn {V : Type 0} (Holds : V → Contents → Type 0) (IsClean : V → Type 0)
+    (office office_then : Office V) (way : Way) (noted : List Newcomer) (seat : Seat) (given : Log)
+    (calls : List Call) : Type 0 where
+  pub turns : HadTurns Holds IsClean office office_then way noted (seat ∷ []) (seat ∷ []) given calls
+  pub served : ServesSeat seat 1 (most_writes + most_writes) given calls
 
--- the links of these seats had their turns, by these settings, and what was kept back after a
--- session that ended was so for that
+-- the links of these seats had their turns, by these settings, one after the other
 pub record WereServed {V : Type 0} (Holds : V → Contents → Type 0) (IsClean : V → Type 0)
     (office office_then : Office V) (set : Settings) (now : ℕ) (newcomers : List Newcomer)
     (lock_released poll_now : Bool) (noted : List Newcomer) (seats these : List Seat) (given : Log) (calls : List Call)
     : Type 0 where
   pub turns : HadTurns Holds IsClean office office_then
       (way_by set now newcomers seats lock_released poll_now) noted seats these given calls
-  pub released_by : IsReleasedBy Holds IsClean office office_then set.wait lock_released seats given
+  pub in_order : (B : Records) (L : Log) → StandsFor Holds office (trace_of B L)
+      → IsClean (vault_of office_then)
+      → ServesInOrder set.wait B L these given calls lock_released
 
 abbrev pub closing : Seat → Call
 closing s = Closed Pop s.link

@@ -1,6 +1,6 @@
 -- What the parts of a turn do for the links of the administration, each in one word that its
 -- contract cites.
-use Rattle.std.specs.Prelude.{◌≡◌, ℕ, ◌+◌, Bool, true, false, if◌then◌else◌, List, []}
+use Rattle.std.specs.Prelude.{◌≡◌, ◌≤◌, ℕ, ◌+◌, Bool, true, false, if◌then◌else◌, List, [], length}
 use Rattle.std.specs.Prelude.{take, drop, Option}
 use Rattle.vault.specs.Records.{Records}
 use Rattle.vault.specs.Changes.{Contents}
@@ -83,11 +83,12 @@ HadTurnAt site now place stays held held_then B L given calls =
     HadHttpTurns site now B L (take 1 (drop place held))
     (take (if stays then 1 else 0) (drop place held_then)) given calls
 
--- What follows of a response was written once or more, and if that doesn't go on nothing more
--- can be written for now.
+-- What follows of a response was written once at most, and if that doesn't go on nothing more can be
+-- written for now.
 pub record Writes (e e_then : Exchange) (times octets : ℕ) (has_more : Bool) (calls : List Call)
     : Type 0 where
   pub is : IsWrittenOf e e_then times octets calls
+  pub once : length calls ≤ 1
   pub ends : has_more ≡ false → HasWrittenAll e_then calls
 
 -- the exchange is still that of its link, which was accepted when it was

@@ -39,7 +39,7 @@ pub data HaveComeForAdmin (now : ℕ) : (held held_then : List Exchange) → (ca
       → HaveComeForAdmin now held held_then (suc came)
       (Accepted Admin (Some link) ∷ Closed Admin link ∷ calls)
 
--- They came until the wire gave none; or so many or more had come, and more may come.
+-- They came until the wire gave none, so many at most; or so many had come, and more may come.
 pub record HasAcceptedForAdmin (now most : ℕ) (has_more : Bool) (held held_then : List Exchange)
     (calls : List Call) : Type 0 where
   pub came : ℕ
@@ -47,6 +47,7 @@ pub record HasAcceptedForAdmin (now most : ℕ) (has_more : Bool) (held held_the
   pub come : HaveComeForAdmin now held held_then came arrivals
   pub calls_are : calls ≡ arrivals ++ (if has_more then [] else Accepted Admin None ∷ [])
   pub enough : has_more ≡ true → most ≤ came
+  pub few : came ≤ most
 
 -- ---- what is read of a request
 
@@ -140,11 +141,13 @@ abbrev pub HasWrittenAll : (e_then : Exchange) → List Call → Type 0
 HasWrittenAll e_then calls =
     (e_then.is_over ≡ true) ⊎ ((list_any took_nothing calls ≡ true) ⊎ (e_then.response ≡ None))
 
--- Its share was written, or as often as it may be, or nothing more can be written for now.
+-- Its share was written, or as often as it may be, or nothing more can be written for now; and not
+-- more often than it may be.
 pub record HasWritten (e e_then : Exchange) (calls : List Call) : Type 0 where
   pub times : ℕ
   pub octets : ℕ
   pub is : IsWrittenOf e e_then times octets calls
+  pub few : length calls ≤ most_writes
   pub enough : (most_writes ≤ times) ⊎ ((admin_share ≤ octets) ⊎ HasWrittenAll e_then calls)
 
 -- ---- a link's turn

@@ -15,6 +15,7 @@ pub mod Given
 pub mod KeptBack
 pub mod Works
 pub mod Ways
+pub mod InOrder
 pub mod Seen
 pub mod Late
 pub mod Stopping

@@ -6,6 +6,7 @@ use Rattle.vault.specs.Call.{Looks}
 use Rattle.vault.specs.Calls.{has_grown}
 use Rattle.vault.specs.Changes.{Contents}
 use Rattle.vault.specs.declared.fault.VaultFault.{VaultFault}
+use Rattle.vault.specs.declared.vault.Vault.{Ghosts}
 use Rattle.office.specs.Events.{Log, Trace}
 use Rattle.office.specs.Taken.{trace_of}
 use Rattle.office.specs.Stands.{StandsFor, vault_of}
@@ -36,35 +37,34 @@ pub record LeavesAsFound (now : ℕ) (links links_then : Links) : Type 0 where
 -- After a turn: if the next one waits, the store did nothing but look, whatever it answered; else
 -- nothing was done. That the store was asked to do what it has put off is seen in no value: the
 -- tests of `maintenance.rt` (turn_tests) count the calls.
-pub data Maintains {V : Type 0} (Holds : V → Contents → Type 0) (Faults : V → ℕ)
-    (IsClean IsUp : V → Type 0) (MayLeave : V → Contents → Type 0) (links : Links)
+pub data Maintains {V : Type 0} (vault : Ghosts V) (links : Links)
     (office office_then : Office V) : Type 0 where
   Maintained : (answer : Result ⊤ VaultFault) → millis_of links ≡ 1000
-      → Looks Holds Faults IsClean IsUp MayLeave (vault_of office) (vault_of office_then) answer
-      → Maintains Holds Faults IsClean IsUp MayLeave links office office_then
+      → Looks vault.holds vault.faults vault.is_clean vault.is_up vault.may_leave
+      (vault_of office) (vault_of office_then) answer
+      → Maintains vault links office office_then
   Deferred : millis_of links ≡ 0 → office_then ≡ office
-      → Maintains Holds Faults IsClean IsUp MayLeave links office office_then
+      → Maintains vault links office office_then
 
 -- The turns of these moments were done, the oldest first, and gave these events: each turn works,
 -- from the trace with the events of those before it; and after each the store is maintained.
-pub data AreTurns {V W S H : Type 0} (Holds : V → Contents → Type 0) (IsClean : V → Type 0)
-    (Faults : V → ℕ) (IsUp : V → Type 0) (MayLeave : V → Contents → Type 0)
+pub data AreTurns {V W S H : Type 0} (vault : Ghosts V)
     (Asked : W → List Call → Type 0) (AskedFiles : S → List FileCall → Type 0)
     (Heard : H → List Hearing → Type 0) (T : Trace)
     (links : Links) (office : Office V) (wire : W) (spool : S) (listener : H)
     : (moments : List ℕ) → (given : Log) → Links → Office V → W → S → H → Type 0 where
-  NoTurn : AreTurns Holds IsClean Faults IsUp MayLeave Asked AskedFiles Heard T links office wire spool listener
+  NoTurn : AreTurns vault Asked AskedFiles Heard T links office wire spool listener
       [] [] links office wire spool listener
   OneMore : (moments : List ℕ) (given : Log) (links1 : Links) (office1 : Office V) (wire1 : W)
       (spool1 : S) (listener1 : H) (now : ℕ) (links2 : Links) (office2 : Office V) (wire2 : W)
       (spool2 : S) (listener2 : H) (office3 : Office V)
-      → AreTurns Holds IsClean Faults IsUp MayLeave Asked AskedFiles Heard T links office wire spool listener
+      → AreTurns vault Asked AskedFiles Heard T links office wire spool listener
       moments given links1 office1 wire1 spool1 listener1
-      → (turn : Works Holds Faults IsUp MayLeave Asked AskedFiles Heard (trace_of T.base (given ++ T.log)) now
+      → (turn : Works vault Asked AskedFiles Heard (trace_of T.base (given ++ T.log)) now
       links1 office1 wire1 spool1 listener1 office2 links2 wire2 spool2 listener2)
       → LeavesAsFound now links1 links2
-      → Maintains Holds Faults IsClean IsUp MayLeave links2 office2 office3
-      → AreTurns Holds IsClean Faults IsUp MayLeave Asked AskedFiles Heard T links office wire spool listener
+      → Maintains vault links2 office2 office3
+      → AreTurns vault Asked AskedFiles Heard T links office wire spool listener
       (moments ++ now ∷ []) (given_in turn.seen ++ given) links2 office3 wire2 spool2 listener2
 
 -- What came of an office that was given these events since a trace: it stands for that trace with
@@ -80,26 +80,24 @@ pub record WasServed {V : Type 0} (Holds : V → Contents → Type 0) (Faults : 
       → has_grown (Faults (vault_of office)) (Faults (vault_of office_then)) ≡ true
 
 -- So an office went on since a trace, turn by turn, by the events of the turns.
-pub record HasGoneOn {V W S H : Type 0} (Holds : V → Contents → Type 0) (IsClean : V → Type 0)
-    (Faults : V → ℕ) (IsUp : V → Type 0) (MayLeave : V → Contents → Type 0)
+pub record HasGoneOn {V W S H : Type 0} (vault : Ghosts V)
     (Asked : W → List Call → Type 0) (AskedFiles : S → List FileCall → Type 0)
     (Heard : H → List Hearing → Type 0) (T : Trace) (moments : List ℕ)
     (links : Links) (office : Office V) (wire : W) (spool : S) (listener : H)
     (links_then : Links) (office_then : Office V) (wire_then : W) (spool_then : S)
     (listener_then : H) : Type 0 where
   pub given : Log
-  pub turns : AreTurns Holds IsClean Faults IsUp MayLeave Asked AskedFiles Heard T links office wire spool listener
+  pub turns : AreTurns vault Asked AskedFiles Heard T links office wire spool listener
       moments given links_then office_then wire_then spool_then listener_then
-  pub served : WasServed Holds Faults T office office_then given
+  pub served : WasServed vault.holds vault.faults T office office_then given
 
 -- what a clock answered: these moments, and after them none, if it stopped
 abbrev pub answers : (stopped : Bool) → (moments : List ℕ) → List (Option ℕ)
 answers stopped moments = map (λ m. Some m) moments ++ (if stopped then None ∷ [] else [])
 
 -- A clock was asked for these moments and no others, and for each a turn was done, since any trace.
-pub record HasTurned {V W S H C : Type 0} (Holds : V → Contents → Type 0) (IsClean : V → Type 0)
-    (Faults : V → ℕ)
-    (IsUp : V → Type 0) (MayLeave : V → Contents → Type 0) (Asked : W → List Call → Type 0) (AskedFiles : S → List FileCall → Type 0)
+pub record HasTurned {V W S H C : Type 0} (vault : Ghosts V)
+    (Asked : W → List Call → Type 0) (AskedFiles : S → List FileCall → Type 0)
     (Heard : H → List Hearing → Type 0) (Gave : C → List (Option ℕ) → Type 0)
     (stopped : Bool) (moments : List ℕ)
     (links : Links) (office : Office V) (wire : W) (spool : S) (listener : H) (clock : C)
@@ -107,8 +105,8 @@ pub record HasTurned {V W S H C : Type 0} (Holds : V → Contents → Type 0) (I
     (listener_then : H) (clock_then : C) : Type 0 where
   pub gave : (before : List (Option ℕ)) → Gave clock before
       → Gave clock_then (before ++ answers stopped moments)
-  pub each : (T : Trace) → StandsFor Holds office T → IsClean (vault_of office_then)
-      → HasGoneOn Holds IsClean Faults IsUp MayLeave Asked AskedFiles Heard T moments
+  pub each : (T : Trace) → StandsFor vault.holds office T → vault.is_clean (vault_of office_then)
+      → HasGoneOn vault Asked AskedFiles Heard T moments
       links office wire spool listener links_then office_then wire_then spool_then listener_then
 
 -- If the clock stopped, the wire was asked for one wait more, and for nothing else.
@@ -120,9 +118,8 @@ WaitsOnceMore Asked false links wire wire_then = wire_then ≡ wire
 
 -- Turns were done until the clock stopped, or so many were over. The clock is asked after a turn's
 -- wait: if it stopped, nothing but this wait was done since the turn before.
-pub record HasRun {V W S H C : Type 0} (Holds : V → Contents → Type 0) (IsClean : V → Type 0)
-    (Faults : V → ℕ)
-    (IsUp : V → Type 0) (MayLeave : V → Contents → Type 0) (Asked : W → List Call → Type 0) (AskedFiles : S → List FileCall → Type 0)
+pub record HasRun {V W S H C : Type 0} (vault : Ghosts V)
+    (Asked : W → List Call → Type 0) (AskedFiles : S → List FileCall → Type 0)
     (Heard : H → List Hearing → Type 0) (Gave : C → List (Option ℕ) → Type 0) (most : ℕ)
     (links : Links) (office : Office V) (wire : W) (spool : S) (listener : H) (clock : C)
     (links_then : Links) (office_then : Office V) (wire_then : W) (spool_then : S)
@@ -131,7 +128,7 @@ pub record HasRun {V W S H C : Type 0} (Holds : V → Contents → Type 0) (IsCl
   pub stopped : Bool
   -- the wire after the last turn that was done
   pub wire_left : W
-  pub turned : HasTurned Holds IsClean Faults IsUp MayLeave Asked AskedFiles Heard Gave stopped moments
+  pub turned : HasTurned vault Asked AskedFiles Heard Gave stopped moments
       links office wire spool listener clock
       links_then office_then wire_left spool_then listener_then clock_then
   pub last : WaitsOnceMore Asked stopped links_then wire_left wire_then

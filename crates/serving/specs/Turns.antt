@@ -5,7 +5,7 @@ use Rattle.std.specs.Prelude.{◌≡◌, ◌⊎◌, ◌≤◌, ℕ, Bool, true, 
 use Rattle.std.specs.Prelude.{length, map, filter, filter_map, Some, if◌then◌else◌}
 use Rattle.std.specs.List.{All, list_all, list_any}
 use Rattle.vault.specs.Calls.{has_grown}
-use Rattle.vault.specs.Changes.{Contents}
+use Rattle.vault.specs.declared.vault.Vault.{Ghosts}
 use Rattle.office.specs.Events.{EventTag, Trace}
 use Rattle.office.specs.Events as event
 use Rattle.office.specs.Trace.{is_open}
@@ -18,6 +18,7 @@ use Rattle.serving.specs.Given.{moments, openings, refusals, is_failed, AreNewly
 use Rattle.serving.specs.Given.{AreDeposits, AreLateGone}
 use Rattle.serving.specs.Hearing.{Hearing, HasHeard, hearings}
 use Rattle.serving.specs.HttpWorks.{HasAcceptedForAdmin, HadHttpTurns}
+use Rattle.serving.specs.InOrder.{ServesInOrder}
 use Rattle.serving.specs.KeptBack.{reads_by_line, IsHeldBack}
 use Rattle.serving.specs.Late.{noted_by, LoggedIn, IsInTime, IsNotedSince, IsCountedOn}
 use Rattle.serving.specs.Newcomers.{newcomer, limit, AllHaveSeats, IsSettled}
@@ -28,7 +29,7 @@ use Rattle.serving.specs.SpoolTurns.{IsSpoolTurn, has_dealt}
 use Rattle.serving.specs.Spools.{FileCall}
 use Rattle.serving.specs.Stopping.{is_answered, StopLeavesAfter}
 use Rattle.serving.specs.Works.{seat_of, unseated_of, link_of, HasAccepted, most_links, share_by}
-use Rattle.serving.specs.Works.{had_its_turn, HasReleasedLock, IsOffered, AreCaused, is_open_seat}
+use Rattle.serving.specs.Works.{had_its_turn, IsOffered, AreCaused, is_open_seat}
 use Rattle.serving.specs.Works.{is_shut_seat, link_of_seat}
 use Rattle.serving.specs.declared.links.Seat.{Seat}
 use Rattle.serving.specs.declared.links.Links.{Links}
@@ -55,6 +56,7 @@ module _ (T : Trace) (now : ℕ) (links links_then : Links) (t : Seen) where
   -- next seats. It accepts links of the administration until the wire gives none, or 64 came.
   pub record Accepts : Type 0 where
     pub enough : HasAccepted (length t.seats) (calls_in t) ⊎ (most_links ≤ length t.came)
+    pub few : length t.came ≤ most_links
     pub arrived : arrivals (calls_in t) ≡ map link_of t.came
     pub opened : openings (given_in t) ≡ length t.came
     pub refused : refusals (given_in t) ≡ length (filter_map unseated_of t.came)
@@ -74,15 +76,16 @@ module _ (T : Trace) (now : ℕ) (links links_then : Links) (t : Seen) where
       (reads_by_line links.clients.wait ((settings links).slow_guesses || t.lock_released))
       (may_keep now links t s.connection) s
 
-  -- 4. It serves each client's link. Each write is offered all that its connection is owed, or the
-  -- first 16,384 octets of it. If `lock_released`, logins wait for locks and a session ended, and
-  -- further logins are kept back. A connection is Gone only if its link broke or ended (that it is
-  -- Gone then: `over` of specs/Served).
+  -- 4. It serves each client's link, in the order of the seats. Each write is offered all that its
+  -- connection is owed, or the first 16,384 octets of it. Exactly if logins wait for locks and a
+  -- session ended as its link was served, `lock_released`, and further logins are kept back. A
+  -- connection is Gone only if its link broke or ended (that it is Gone then: `over` of
+  -- specs/Served).
   pub record ServesClients : Type 0 where
     pub turns : All HadItsTurn t.seats
     pub offered : All (IsOffered T.base T.log (given_in t) t.seats) (calls_in t)
-    pub ended : t.lock_released ≡ true
-        → ((links.clients.wait == 0) ≡ false) × HasReleasedLock T.base T.log (given_in t) t.seats
+    pub in_order : ServesInOrder links.clients.wait T.base ((t.connects ++ t.tick) ++ T.log)
+        t.seats t.served t.serves t.lock_released
     pub caused : AreCaused t.seats (calls_in t) (t.commands ++ (t.served ++ t.connects))
 
   -- 5. It serves each link of the administration, one after the other, and makes no other call on
@@ -139,25 +142,24 @@ module _ (T : Trace) (now : ℕ) (links links_then : Links) (t : Seen) where
 -- that trace with the turn's events, each of which has a tag that it may have; the store's count of
 -- faults never falls, and an event failed only if it grew; no other call was made, and nothing else
 -- was heard.
-pub record Works {V W S H : Type 0} (Holds : V → Contents → Type 0) (Faults : V → ℕ)
-    (IsUp : V → Type 0) (MayLeave : V → Contents → Type 0)
+pub record Works {V W S H : Type 0} (vault : Ghosts V)
     (Asked : W → List Call → Type 0) (AskedFiles : S → List FileCall → Type 0)
     (Heard : H → List Hearing → Type 0) (T : Trace) (now : ℕ)
     (links : Links) (office : Office V) (wire : W) (spool : S) (listener : H)
     (office_then : Office V) (links_then : Links) (wire_then : W) (spool_then : S)
     (listener_then : H) : Type 0 where
   pub seen : Seen
-  pub stands : StandsFor Holds office_then (trace_after T seen)
+  pub stands : StandsFor vault.holds office_then (trace_after T seen)
   pub admitted : AreNewlyAdmitted T.base T.log (given_in seen)
-  pub counted : Faults (vault_of office) ≤ Faults (vault_of office_then)
+  pub counted : vault.faults (vault_of office) ≤ vault.faults (vault_of office_then)
   pub failed : list_any is_failed (given_in seen) ≡ true
-      → has_grown (Faults (vault_of office)) (Faults (vault_of office_then)) ≡ true
+      → has_grown (vault.faults (vault_of office)) (vault.faults (vault_of office_then)) ≡ true
   -- a store's device that was up is up, unless an event failed or wanted memory; and what a stop in
   -- the last event leaves, if all before it were answered
-  pub up : IsUp (vault_of office) → list_all is_answered (given_in seen) ≡ true
-      → IsUp (vault_of office_then)
-  pub stop : IsUp (vault_of office)
-      → StopLeavesAfter (MayLeave (vault_of office_then)) T.base T.log (given_in seen)
+  pub up : vault.is_up (vault_of office) → list_all is_answered (given_in seen) ≡ true
+      → vault.is_up (vault_of office_then)
+  pub stop : vault.is_up (vault_of office)
+      → StopLeavesAfter (vault.may_leave (vault_of office_then)) T.base T.log (given_in seen)
   pub asked : WasAsked Asked wire wire_then (calls_in seen)
   pub asked_files : (before : List FileCall) → AskedFiles spool before
       → AskedFiles spool_then (before ++ seen.file_calls)

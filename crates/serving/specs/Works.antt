@@ -1,15 +1,14 @@
 -- The words of a turn's work for its clients: which links come, when a link had its turn, what is
--- offered to it, which sessions end, and why a connection goes. Why a link stays unread is in
--- specs/KeptBack, what is seen of calls in specs/Calls, and of events in specs/Given; specs/Turns
--- puts all together.
-use Rattle.std.specs.Prelude.{◌≡◌, ◌⊎◌, ⊤, ℕ, Bool, true, false, not, ◌&&◌, ◌||◌, nat_le, min}
+-- offered to it, and why a connection goes. Which sessions end is in specs/InOrder, why a link
+-- stays unread in specs/KeptBack, what is seen of calls in specs/Calls, and of events in
+-- specs/Given; specs/Turns puts all together.
+use Rattle.std.specs.Prelude.{◌≡◌, ◌⊎◌, ⊤, ℕ, Bool, true, not, ◌&&◌, ◌||◌, nat_le, min}
 use Rattle.std.specs.Prelude.{if◌then◌else◌, List, ◌++◌, length, filter, Option, Some, None}
 use Rattle.std.specs.List.{All, Contains, list_any}
 use Rattle.vault.specs.Records.{Records}
 use Rattle.office.specs.Events.{Event, EventTag, Log, Trace}
 use Rattle.office.specs.Events as event
-use Rattle.office.specs.Trace.{history, is_open, rest, most_lent}
-use Rattle.office.specs.Sessions.{live}
+use Rattle.office.specs.Trace.{is_open, rest, most_lent}
 use Rattle.office.specs.Taken.{trace_of}
 pub use Rattle.serving.specs.Calls.{wait_of, waits, arrival_of, arrivals, tells_none, none_waited}
 pub use Rattle.serving.specs.Calls.{closing_of, closings, is_admin, most_at_once, is_read_of}
@@ -89,24 +88,6 @@ abbrev pub had_its_turn : (share : ℕ) (poll_now : Bool) → Link → List Call
 had_its_turn share poll_now link calls =
     (list_any (is_read_of link) calls || list_any (is_later_of link) calls)
     || (poll_now && is_written_out share link calls)
-
--- ---- sessions that end
-
--- A connection's session ended by these events: it lived after some of them, and no more after
--- the next ones.
-pub record HasEnded (B : Records) (older given : Log) (c : ℕ) : Type 0 where
-  pub later : Log
-  pub ending : Log
-  pub front : Log
-  pub is : given ≡ later ++ (ending ++ front)
-  pub lived : live (history (trace_of B (front ++ older))) c ≡ true
-  pub ended : live (history (trace_of B (ending ++ (front ++ older)))) c ≡ false
-
--- that of one of these seats did
-pub record HasReleasedLock (B : Records) (older given : Log) (seats : List Seat) : Type 0 where
-  pub seat : Seat
-  pub among : Contains seats seat
-  pub session : HasEnded B older given seat.connection
 
 -- ---- what is offered to a link
 

@@ -1,7 +1,7 @@
 //! What a turn does for the clients whose links are open: it writes what they are owed, and reads
 //! what comes.
 ghost use Rattle.std.specs.Prelude.{◌≡◌, ◌≤◌, ◌==◌, ◌||◌, not, true, false};
-ghost use Rattle.std.specs.Prelude.{◌∷◌, [], length, if◌then◌else◌};
+ghost use Rattle.std.specs.Prelude.{[], length, if◌then◌else◌};
 ghost use Rattle.office.specs.Events.{Trace};
 ghost use Rattle.office.specs.Trace.{history};
 ghost use Rattle.office.specs.Sessions.{live};
@@ -12,7 +12,7 @@ ghost use Rattle.serving.specs.Parts.{Does, KeepsServing, KeepsServingOne, Also,
 ghost use Rattle.serving.specs.Parts.{KeepsSeats, ReleasesMore, ReleasesLock};
 ghost use Rattle.serving.specs.Settings.{settings_of};
 ghost use Rattle.serving.specs.ClientParts.{IsWritten, IsWrittenOut, IsReadOnce, IsReadPiece};
-ghost use Rattle.serving.specs.ClientParts.{HadTurns, WereServed, may_keep, may_at, way_at};
+ghost use Rattle.serving.specs.ClientParts.{HadOwnTurn, WereServed, may_keep, may_at, way_at};
 ghost use Rattle.serving.specs.Works.{share_by, reads_by_line};
 ghost use Rattle.arrayvec.specs.ArrayVec.{array_vec_len};
 
@@ -78,7 +78,7 @@ impl<V: Vault, W: Wire, L: Listener> Server<V, W, L> {
         ensures serves { KeepsServingOne V.Vault W.Wire seat self.old self.new }
         ensures works { Does V.Vault W.Wire L.Listener self.old self.new
             (IsWritten V.holds V.is_clean self.old.office self.new.office seat
-            (if result == 0 then 0 else 1) result (not (result == 0))) }
+            (if result == 0 then 0 else 1) 1 result (not (result == 0))) }
     {
         let lent = self.office.owed(seat.connection);
         if lent.is_empty() {
@@ -209,9 +209,9 @@ impl<V: Vault, W: Wire, L: Listener> Server<V, W, L> {
         ensures lock_released { clients.new.lock_released ≡ clients.old.lock_released }
         ensures settles { Settles now seat.connection clients.old clients.new }
         ensures works { Does V.Vault W.Wire L.Listener self.old self.new
-            (Also (HadTurns V.holds V.is_clean self.old.office self.new.office
+            (Also (HadOwnTurn V.holds V.is_clean self.old.office self.new.office
             (way_at now clients.old (clients.new.poll_now || result))
-            clients.new.newcomers.newcomers.items (seat ∷ []) (seat ∷ []))
+            clients.new.newcomers.newcomers.items seat)
             (PollsBy clients.old.poll_now (clients.new.poll_now || result))) }
     {
         let share = share_of(clients);
@@ -233,9 +233,9 @@ impl<V: Vault, W: Wire, L: Listener> Server<V, W, L> {
             clients.old clients.new seat.connection }
         ensures settles { Settles now seat.connection clients.old clients.new }
         ensures works { Does V.Vault W.Wire L.Listener self.old self.new
-            (Also (HadTurns V.holds V.is_clean self.old.office self.new.office
+            (Also (HadOwnTurn V.holds V.is_clean self.old.office self.new.office
             (way_at now clients.old clients.new.poll_now) clients.new.newcomers.newcomers.items
-            (seat ∷ []) (seat ∷ []))
+            seat)
             (PollsBy (clients.old.poll_now || clients.new.lock_released) clients.new.poll_now)) }
     {
         let was_logged_in = self.office.is_logged_in(seat.connection);

@@ -196,7 +196,7 @@ fn report_end<L: Listener>(listener: &mut L, command: &AdminCommand, account: &A
 }
 
 /// Gives a command to the office, makes the response, and tells the listener.
-fn command<V: Vault, L: Listener>(
+fn run_command<V: Vault, L: Listener>(
     alloc: Global,
     office: &mut Office<V>,
     listener: &mut L,
@@ -294,7 +294,7 @@ fn respond_to<V: Vault, L: Listener>(
         Got::More => None,
         Got::Bad(refusal) => Some(refuse(alloc, listener, link, read, refusal)),
         Got::BadPolicy(fault) => Some(refuse_policy(alloc, listener, link, &fault)),
-        Got::Command(asked) => Some(command(alloc, office, listener, link, &asked)),
+        Got::Command(asked) => Some(run_command(alloc, office, listener, link, &asked)),
         Got::NoMemory => Some(refuse(alloc, listener, link, read, Refusal::OutOfMemory)),
     }
 }
@@ -408,7 +408,7 @@ fn write_response<W: Wire, L: Listener>(
 impl<V: Vault, W: Wire, L: Listener> Server<V, W, L> {
     /// Accepts a link of the administration; or closes it, if eight are open or memory for it was
     /// refused. Returns whether one came.
-    fn accept_request(&mut self, requests: &mut Requests, now: u64) -> bool
+    fn accept_admin_link(&mut self, requests: &mut Requests, now: u64) -> bool
         ensures few { length requests.old.exchanges.items ≤ most_exchanges
             → length requests.new.exchanges.items ≤ most_exchanges }
         ensures works { AsksApart W.Wire L.Listener self.old self.new
@@ -431,7 +431,7 @@ impl<V: Vault, W: Wire, L: Listener> Server<V, W, L> {
     }
 
     /// Accepts the links of the administration that came, at most so many.
-    pub(crate) fn accept_requests(&mut self, requests: &mut Requests, most: usize, now: u64)
+    pub(crate) fn accept_admin_links(&mut self, requests: &mut Requests, most: usize, now: u64)
         ensures few { length requests.old.exchanges.items ≤ most_exchanges
             → length requests.new.exchanges.items ≤ most_exchanges }
         ensures works { (has_more : Bool) × AsksApart W.Wire L.Listener self.old self.new
@@ -441,7 +441,7 @@ impl<V: Vault, W: Wire, L: Listener> Server<V, W, L> {
             self.new.wire requests.new.exchanges.items }
     {
         for _times in 0..most {
-            if !self.accept_request(requests, now) {
+            if !self.accept_admin_link(requests, now) {
                 return;
             }
         }

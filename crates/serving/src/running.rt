@@ -36,8 +36,7 @@ pub trait Clock {
 impl<V: Vault, W: Wire, L: Listener> Server<V, W, L> {
     /// Has the store do what it has put off, if the next turn waits.
     fn maintain_if_idle(&mut self, links: &Links)
-        ensures maintains { Maintains V.holds V.faults V.is_clean V.is_up V.may_leave links.now
-            self.old.office self.new.office }
+        ensures maintains { Maintains V.Vault links.now self.old.office self.new.office }
         ensures stands { OfEachTrace V.Vault self.old.office self.new.office (λ T.
             StandsFor V.holds self.new.office T) }
         ensures wire { self.new.wire ≡ self.old.wire }
@@ -74,8 +73,7 @@ impl<V: Vault, W: Wire, L: Listener> Server<V, W, L> {
             links.new.clients.seats.items links.new.requests.exchanges.items links.new.site }
         ensures clean { V.is_clean (vault_of self.new.office)
             → V.is_clean (vault_of self.old.office) }
-        ensures runs { HasRun V.holds V.is_clean V.faults V.is_up V.may_leave
-            W.asked S.asked L.heard C.gave most
+        ensures runs { HasRun V.Vault W.asked S.asked L.heard C.gave most
             links.old self.old.office self.old.wire spool.old self.old.listener clock.old
             links.new self.new.office self.new.wire spool.new self.new.listener clock.new }
         ensures few { AreFew links.old → AreFew links.new }

@@ -69,7 +69,7 @@ impl<V: Vault, W: Wire, L: Listener> Server<V, W, L> {
             → V.is_clean (vault_of self.old.office) }
         ensures works { (T : Trace) → StandsFor V.holds self.old.office T
             → V.is_clean (vault_of self.new.office)
-            → Works V.holds V.faults V.is_up V.may_leave W.asked S.asked L.heard T now
+            → Works V.Vault W.asked S.asked L.heard T now
             links.old self.old.office self.old.wire spool.old self.old.listener
             self.new.office links.new self.new.wire spool.new self.new.listener }
         ensures ongoing { AllGoOn now links.new }
@@ -99,7 +99,7 @@ impl<V: Vault, W: Wire, L: Listener> Server<V, W, L> {
             → WasAsked W.asked wire self.old.wire (Waited (millis_of links.old) ∷ [])
             → (T : Trace) → StandsFor V.holds self.old.office T
             → V.is_clean (vault_of self.new.office)
-            → Works V.holds V.faults V.is_up V.may_leave W.asked S.asked L.heard T now
+            → Works V.Vault W.asked S.asked L.heard T now
             links.old self.old.office wire spool.old self.old.listener
             self.new.office links.new self.new.wire spool.new self.new.listener }
         ensures left { LeavesAsFound now links.old links.new }
@@ -108,7 +108,7 @@ impl<V: Vault, W: Wire, L: Listener> Server<V, W, L> {
         self.tick(now);
         report_idle_ones(&self.office, &mut self.listener, &links.clients);
         self.accept_links(&mut links.clients, now);
-        self.accept_requests(&mut links.requests, MOST_LINKS, now);
+        self.accept_admin_links(&mut links.requests, MOST_LINKS, now);
         self.serve_links(&mut links.clients, now);
         let site = &links.site;
         self.serve_requests(&mut links.requests, site, now);

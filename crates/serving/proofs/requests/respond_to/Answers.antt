@@ -77,10 +77,10 @@ returns-in-NoMemory-clause-works g c =
 
 pub returns-in-Command-clause-asked : goal.returns-in-Command-clause-asked
 returns-in-Command-clause-asked g c = λ B L stands clean.
-    c.command.ensures.asked c.args.site.now B L c.args.read.now stands
+    c.run_command.ensures.asked c.args.site.now B L c.args.read.now stands
     (as_opened c.args.site.now L c.args.read.now _ _ (c.admin_access.ensures (trace_of B L) stands) c.in-Command.ensures) clean
 
 pub returns-in-Command-clause-works : goal.returns-in-Command-clause-works
 returns-in-Command-clause-works g c =
-    c.command.ensures.works c.args.site.now c.args.read.now
+    c.run_command.ensures.works c.args.site.now c.args.read.now
     (λ B L stands. as_opened c.args.site.now L c.args.read.now _ _ (c.admin_access.ensures (trace_of B L) stands) c.in-Command.ensures)

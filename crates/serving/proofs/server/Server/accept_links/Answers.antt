@@ -1,4 +1,4 @@
-use Rattle.std.proofs.Common.{rules, ◌≡◌, ◌≤◌, ◌+◌, true, false, subst}
+use Rattle.std.proofs.Common.{rules, arith, ◌≡◌, ◌≤◌, ◌<◌, ◌+◌, true, false, subst}
 use Rattle.serving.specs.Parts.{Does}
 use Rattle.serving.specs.ClientParts.{AreAccepted}
 use Rattle.serving.proofs.Composing.{does_none, does_so, does_then}
@@ -44,13 +44,14 @@ returns-then-not-accept_link-clause-works g c =
     let k = c.loop-times in
     let x = c.accept_link in
     let goes : x.result ≡ false = search rules in
+    let room : k._times < 64 = search rules in
     let seats = c.args.clients.now.seats.items in
     let seats1 = k.clients.seats.items in
     let seats2 = x.new.clients.seats.items in
     let once = subst (λ b. Does g.V.Vault g.W.Wire g.L.Listener k.self x.new.self (AreAccepted Holds IsClean k.self.office x.new.self.office seats1 seats2 1 b)) goes x.ensures.works in (
       false,
       does_then g.V.Vault g.W.Wire g.L.Listener s k.self x.new.self _ _ _
-          (λ g1 g2 c1 c2 wa wb a b. accepted_ended g.V.Vault s.office x.new.self.office seats seats2 (k._times + 1) 64 _ _
+          (λ g1 g2 c1 c2 wa wb a b. accepted_ended g.V.Vault s.office x.new.self.office seats seats2 (k._times + 1) 64 _ _ (omega (arith, room))
           (accepted_then g.V.Vault s.office k.self.office x.new.self.office seats seats1 seats2 k._times false g1 g2 c1 c2 wa wb a b))
           k.invariant.works once,
     )
@@ -58,11 +59,12 @@ returns-then-not-accept_link-clause-works g c =
 pub returns-clause-works : goal.returns-clause-works
 returns-clause-works g c =
     let k = c.loop-times in
-    let h : 64 ≤ k._times = search rules in (
+    let h : 64 ≤ k._times = search rules in
+    let less : k._times ≤ 64 = search rules in (
       true,
       does_so g.V.Vault g.W.Wire g.L.Listener c.args.self.now k.self _ _
           (λ gv cl wa a. accepted_all g.V.Vault c.args.self.now.office
-          k.self.office c.args.clients.now.seats.items k.clients.seats.items k._times 64 gv cl h a) k.invariant.works,
+          k.self.office c.args.clients.now.seats.items k.clients.seats.items k._times 64 gv cl less h a) k.invariant.works,
     )
 
 pub returns-then-not-accept_link-clause-comers : goal.returns-then-not-accept_link-clause-comers

@@ -6,6 +6,7 @@ use Rattle.serving.specs.Works.{reads_by_line, is_moving}
 use Rattle.serving.specs.Parts.{PollsBy}
 use Rattle.serving.proofs.Composing.{does_none}
 use Rattle.serving.proofs.Offering.{unwritten_look}
+use Rattle.serving.proofs.Ordered.{looked_served}
 use Rattle.serving.proofs.Turns.{read_none, read_unread, read_asked, read_after, read_part}
 use Rattle.serving.proofs.Unread.{may_so, line_so, looked_quiet, unread_so}
 use Rattle.serving.proofs.Hearing.{heard_on}
@@ -81,7 +82,7 @@ returns-then-part-eq0-clause-works g c =
     (PollsBy links.poll_now (links.poll_now || false)) a.calls a.was_asked
     (read_unread g.V.Vault links.wait lines may noted o seat a.calls
     (unwritten_look Holds o seat pace refusals part.result.count part.result.login a.calls a.facts) (looked_quiet Holds o seat pace refusals part.result.count part.result.login a.calls a.facts)
-    unread) (polled_quiet links.poll_now a.calls))
+    (looked_served Holds o seat pace refusals part.result.count part.result.login a.calls a.facts) unread) (polled_quiet links.poll_now a.calls))
 
 pub returns-then-not-read_once-clause-works : goal.returns-then-not-read_once-clause-works
 returns-then-not-read_once-clause-works g c =

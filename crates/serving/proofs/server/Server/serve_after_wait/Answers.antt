@@ -44,8 +44,8 @@ returns-clause-serves g c = λ T s clean.
     let late_clean = clean_same IsClean c.end_late_ones.new.self.office c.close_links.new.self.office c.close_links.ensures.works.office shut_clean in
     let asked_clean = c.end_late_ones.ensures.works.part.was_given.clean late_clean in
     let links_clean = c.serve_requests.ensures.works.was_given.clean asked_clean in
-    let same = c.accept_requests.ensures.works.1.office in
-    let accepted_clean = clean_same IsClean c.accept_links.new.self.office c.accept_requests.new.self.office same (c.serve_links.ensures.works.was_given.clean links_clean) in
+    let same = c.accept_admin_links.ensures.works.1.office in
+    let accepted_clean = clean_same IsClean c.accept_links.new.self.office c.accept_admin_links.new.self.office same (c.serve_links.ensures.works.was_given.clean links_clean) in
     let passed_clean = c.accept_links.ensures.works.1.was_given.clean accepted_clean in
     let seats0 = c.args.links.now.clients.seats.items in
     let seats1 = c.accept_links.new.clients.seats.items in
@@ -53,7 +53,7 @@ returns-clause-serves g c = λ T s clean.
     let seats3 = c.end_late_ones.new.clients.seats.items in
     let seats4 = c.close_links.new.clients.seats.items in
     let held0 = c.args.links.now.requests.exchanges.items in
-    let held1 = c.accept_requests.new.requests.exchanges.items in
+    let held1 = c.accept_admin_links.new.requests.exchanges.items in
     let held2 = c.serve_requests.new.requests.exchanges.items in
     so_far_tried Holds IsClean Tells Files T site spool c.close_links.new.self.office c.serve_spool.new.self.office c.close_links.new.self.wire c.serve_spool.new.self.wire
     c.serve_spool.new.spool seats4 c.serve_spool.new.clients.seats.items held2 c.taken_is_sent.ensures c.serve_spool.ensures.works.wire
@@ -64,10 +64,10 @@ returns-clause-serves g c = λ T s clean.
     seats2 [] seats3 [] held2 c.end_late_ones.ensures.serves late_clean
     (so_far_asked Holds IsClean Tells Files T site spool c.serve_links.new.self.office c.serve_requests.new.self.office c.serve_links.new.self.wire c.serve_requests.new.self.wire
     seats2 held1 held2 c.serve_requests.ensures.asked asked_clean
-    (so_far_served Holds IsClean Tells Files T site spool c.accept_requests.new.self.office c.serve_links.new.self.office c.accept_requests.new.self.wire c.serve_links.new.self.wire
+    (so_far_served Holds IsClean Tells Files T site spool c.accept_admin_links.new.self.office c.serve_links.new.self.office c.accept_admin_links.new.self.wire c.serve_links.new.self.wire
     seats1 [] seats2 [] held1 c.serve_links.ensures.serves links_clean
-    (so_far_came Holds IsClean Tells Files T site spool c.accept_links.new.self.office c.accept_requests.new.self.office c.accept_links.new.self.wire c.accept_requests.new.self.wire
-    seats1 held0 held1 same c.accept_requests.ensures.answers
+    (so_far_came Holds IsClean Tells Files T site spool c.accept_links.new.self.office c.accept_admin_links.new.self.office c.accept_links.new.self.wire c.accept_admin_links.new.self.wire
+    seats1 held0 held1 same c.accept_admin_links.ensures.answers
     (so_far_served Holds IsClean Tells Files T site spool c.tick.new.self.office c.accept_links.new.self.office c.tick.new.self.wire c.accept_links.new.self.wire
     seats0 [] seats1 [] held0 c.accept_links.ensures.serves accepted_clean
     (so_far_served Holds IsClean Tells Files T site spool c.args.self.now.office c.tick.new.self.office c.args.self.now.wire c.tick.new.self.wire
@@ -79,7 +79,7 @@ returns-clause-clean g c = λ clean.
     (let IsClean = g.V.Vault.is_clean in
     let late_clean = clean_same IsClean _ _ c.close_links.ensures.works.office (c.serve_spool.ensures.works.part.was_given.clean clean) in
     let links_clean = c.serve_requests.ensures.works.was_given.clean (c.end_late_ones.ensures.works.part.was_given.clean late_clean) in
-    let accepted_clean = clean_same IsClean _ _ c.accept_requests.ensures.works.1.office (c.serve_links.ensures.works.was_given.clean links_clean) in
+    let accepted_clean = clean_same IsClean _ _ c.accept_admin_links.ensures.works.1.office (c.serve_links.ensures.works.was_given.clean links_clean) in
     c.tick.ensures.works.was_given.clean (c.accept_links.ensures.works.1.was_given.clean accepted_clean))
 
 pub returns-clause-works : goal.returns-clause-works
@@ -87,7 +87,7 @@ returns-clause-works g c = λ wire asked T s clean.
     (let Holds = g.V.Vault.holds in
     let IsClean = g.V.Vault.is_clean in
     let Asked = g.W.Wire.asked in
-    let same = c.accept_requests.ensures.works.1.office in
+    let same = c.accept_admin_links.ensures.works.1.office in
     let late_clean = clean_same IsClean _ _ c.close_links.ensures.works.office (c.serve_spool.ensures.works.part.was_given.clean clean) in
     let links_clean = c.serve_requests.ensures.works.was_given.clean (c.end_late_ones.ensures.works.part.was_given.clean late_clean) in
     let passed_clean = c.accept_links.ensures.works.1.was_given.clean (clean_same IsClean _ _ same (c.serve_links.ensures.works.was_given.clean links_clean)) in
@@ -104,7 +104,7 @@ returns-clause-works g c = λ wire asked T s clean.
     let o4 = c.serve_requests.new.self.office in
     let o5 = c.end_late_ones.new.self.office in
     let w1 = c.tick.new.self.wire in
-    let w3 = c.accept_requests.new.self.wire in
+    let w3 = c.accept_admin_links.new.self.wire in
     let w4 = c.serve_links.new.self.wire in
     let w5 = c.serve_requests.new.self.wire in
     let w6 = c.serve_spool.new.self.wire in
@@ -114,7 +114,7 @@ returns-clause-works g c = λ wire asked T s clean.
     let l = c.args.self.now.listener in
     let l0 = c.tick.new.self.listener in
     let l1 = c.report_idle_ones.new.listener in
-    let l2 = c.accept_requests.new.self.listener in
+    let l2 = c.accept_admin_links.new.self.listener in
     let l3 = c.serve_links.new.self.listener in
     let l4 = c.serve_requests.new.self.listener in
     let l5 = c.end_late_ones.new.self.listener in
@@ -184,10 +184,10 @@ returns-clause-works g c = λ wire asked T s clean.
     (record { clients = c.serve_spool.new.clients; requests = c.serve_requests.new.requests; site = c.args.links.now.site })
     c.args.self.now.office o1 o2 o3 o4 o5 c.serve_spool.new.self.office
     wire w1 c.accept_links.new.self.wire w3 w4 w5 w6 c.args.spool.now c.serve_spool.new.spool c.args.self.now.listener l1 l2 l3 l4 l6
-    seats2 a.0 c.accept_requests.new.requests.exchanges.items c.accept_requests.ensures.works.0 served.lock_released served.poll_now
+    seats2 a.0 c.accept_admin_links.new.requests.exchanges.items c.accept_admin_links.ensures.works.0 served.lock_released served.poll_now
     c.close_links.new.clients.poll_now came.newcomers.newcomers.items served.newcomers.newcomers.items ended.newcomers.newcomers.items passed
-    (λ U su. hears_then Heard l l0 l1 [] (idle_ends U old.seats.items) untold (c.report_idle_ones.ensures U su)) accepted c.accept_requests.ensures.works.1.part
-    (hears_same Heard l1 l2 (λ h q. c.accept_requests.ensures.works.1.unheard h (c.accept_links.ensures.heard h q))) turned c.serve_links.ensures.releases
+    (λ U su. hears_then Heard l l0 l1 [] (idle_ends U old.seats.items) untold (c.report_idle_ones.ensures U su)) accepted c.accept_admin_links.ensures.works.1.part
+    (hears_same Heard l1 l2 (λ h q. c.accept_admin_links.ensures.works.1.unheard h (c.accept_links.ensures.heard h q))) turned c.serve_links.ensures.releases
     (λ e. c.close_links.ensures.closes.keeps.polled (c.end_late_ones.ensures.ends.poll_now ∙ e)) c.serve_requests.ensures.works waited keeps newly late forgets
     (λ U su.
     subst (λ w. Asking Asked w w6 (λ calls. AreClosed U seats2 c.serve_spool.new.clients.seats.items calls
@@ -226,6 +226,6 @@ returns-clause-left g c = record {
   pacing = λ h.
       subst (λ gs. ArePacing gs.refusals.items) (sym c.serve_spool.ensures.keeps.guesses)
       (c.close_links.ensures.closes.keeps.pacing (c.end_late_ones.ensures.keeps.keeps.pacing (c.serve_links.ensures.keeps.keeps.pacing (c.accept_links.ensures.comers.keeps.pacing h))));
-  few = λ h. (let a = c.accept_requests.ensures.few h in let b = c.serve_requests.ensures.no_more in omega (arith, a, b));
+  few = λ h. (let a = c.accept_admin_links.ensures.few h in let b = c.serve_requests.ensures.no_more in omega (arith, a, b));
   ongoing = c.serve_requests.ensures.stay;
 }

@@ -57,11 +57,14 @@ returns-clause-works g c =
     let now = c.args.now in
     let seat = c.args.seat in
     does_so g.V.Vault g.W.Wire g.L.Listener s s1 _ _ (λ gv cl wa a. (
-      served_so g.V.Vault s.office s1.office
-          (way_at now clients (x.new.clients.poll_now || x.result)) (way_at now clients n.poll_now) n.newcomers.newcomers.items (seat ∷ [])
-          (seat ∷ []) gv cl refl refl (λ e. e) (λ i d within e. e) c.note_release.ensures.keeps.keeps.polled
-          (subst (λ m. HadTurns Holds IsClean s.office s1.office (way_at now clients (x.new.clients.poll_now || x.result)) m.newcomers.items (seat ∷ []) (seat ∷ []) gv cl)
-          (sym c.note_release.ensures.newcomers) a.0),
+      record {
+        turns = served_so g.V.Vault s.office s1.office
+            (way_at now clients (x.new.clients.poll_now || x.result)) (way_at now clients n.poll_now) n.newcomers.newcomers.items (seat ∷ [])
+            (seat ∷ []) gv cl refl refl (λ e. e) (λ i d within e. e) c.note_release.ensures.keeps.keeps.polled
+            (subst (λ m. HadTurns Holds IsClean s.office s1.office (way_at now clients (x.new.clients.poll_now || x.result)) m.newcomers.items (seat ∷ []) (seat ∷ []) gv cl)
+            (sym c.note_release.ensures.newcomers) a.0.turns);
+        served = a.0.served;
+      },
       client_polled clients.poll_now (x.new.clients.poll_now || x.result) n.lock_released n.poll_now cl a.1 c.note_release.ensures.poll_now,
     )) x.ensures.works
 

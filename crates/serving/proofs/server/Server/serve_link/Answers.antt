@@ -1,6 +1,8 @@
-use Rattle.std.proofs.Common.{rules, ◌≡◌, ◌∷◌, [], true, false, ◌||◌, ◌∙◌, length, refl, ap, subst}
+use Rattle.std.proofs.Common.{rules, arith, ◌≡◌, ◌∷◌, [], ◌+◌, true, false, ◌||◌, ◌∙◌, length, refl, ap, subst}
 use Rattle.serving.specs.Parts.{Does, Also, PollsBy}
 use Rattle.serving.specs.ClientParts.{IsWrittenOut, HadTurns, way_at}
+use Rattle.serving.specs.InOrder.{ServesSeat}
+use Rattle.serving.proofs.Ordered.{serves_then, serves_less}
 use Rattle.serving.proofs.Composing.{does_so, does_then}
 use Rattle.serving.proofs.Working.{or_true}
 use Rattle.serving.proofs.Turns.{served_written, served_one, served_then}
@@ -21,8 +23,11 @@ returns-then-write_owed-clause-works g c =
     let out = subst (λ b. Does g.V.Vault g.W.Wire g.L.Listener s s1 (IsWrittenOut Holds IsClean s.office s1.office c.args.seat way.share b)) goes
     (subst (λ n. Does g.V.Vault g.W.Wire g.L.Listener s s1 (IsWrittenOut Holds IsClean s.office s1.office c.args.seat n x.result)) c.share_of-share.ensures x.ensures.works) in
     does_so g.V.Vault g.W.Wire g.L.Listener s s1 _ _ (λ gv cl wa a. (
-      served_written g.V.Vault s.office s1.office way c.settle.new.self.newcomers.items c.args.seat gv cl (or_true clients.poll_now)
-          (not_unread c.args.seat.connection c.args.now clients.newcomers.newcomers.items c.settle.new.self.newcomers.items c.settle.ensures.newcomers) a,
+      record {
+        turns = served_written g.V.Vault s.office s1.office way c.settle.new.self.newcomers.items c.args.seat gv cl (or_true clients.poll_now)
+            (not_unread c.args.seat.connection c.args.now clients.newcomers.newcomers.items c.settle.new.self.newcomers.items c.settle.ensures.newcomers) a;
+        served = serves_less c.args.seat 0 64 1 128 gv cl (omega arith) (omega arith) a.served;
+      },
       polled_moved clients.poll_now (clients.poll_now || true) cl (shared_moved c.args.seat.link (length clients.seats.items) cl (a.goes_on refl)),
     )) out
 
@@ -44,7 +49,10 @@ returns-then-not-read_piece-clause-works g c =
     (subst (λ n. Does g.V.Vault g.W.Wire g.L.Listener s s1 (IsWrittenOut Holds IsClean s.office s1.office c.args.seat n x.result)) c.share_of-share.ensures x.ensures.works) in
     does_then g.V.Vault g.W.Wire g.L.Listener s s1 s2 _ _ _
     (λ g1 g2 c1 c2 wa wb a b. (
-      served_one g.V.Vault s.office s1.office s2.office way noted.newcomers.newcomers.items c.args.seat g1 g2 c1 c2 wa wb a b.0,
+      record {
+        turns = served_one g.V.Vault s.office s1.office s2.office way noted.newcomers.newcomers.items c.args.seat g1 g2 c1 c2 wa wb a b.0;
+        served = serves_less c.args.seat (0 + 1) (64 + 0) 1 128 _ _ (omega arith) (omega arith) (serves_then c.args.seat 0 64 1 0 g1 g2 c1 c2 a.served b.0.served);
+      },
       polled_behind clients.poll_now (noted.poll_now || y.result) (noted.poll_now || false) c1 c2 (λ e. ap (λ b. noted.poll_now || b) none ∙ e) b.1,
     )) out y.ensures.works
 
@@ -67,16 +75,23 @@ returns-clause-works g c =
     let out = subst (λ b. Does g.V.Vault g.W.Wire g.L.Listener s s1 (IsWrittenOut Holds IsClean s.office s1.office c.args.seat way.share b)) ends
     (subst (λ n. Does g.V.Vault g.W.Wire g.L.Listener s s1 (IsWrittenOut Holds IsClean s.office s1.office c.args.seat n x.result)) c.share_of-share.ensures x.ensures.works) in
     let first : Does g.V.Vault g.W.Wire g.L.Listener s s2
-    (Also (HadTurns Holds IsClean s.office s2.office way noted.newcomers.newcomers.items (c.args.seat ∷ []) (c.args.seat ∷ [])) (PollsBy clients.poll_now true)) =
+    (Also (λ gv cl. HadTurns Holds IsClean s.office s2.office way noted.newcomers.newcomers.items (c.args.seat ∷ []) (c.args.seat ∷ []) gv cl × ServesSeat c.args.seat (0 + 1) (64 + 0) gv cl)
+    (PollsBy clients.poll_now true)) =
     does_then g.V.Vault g.W.Wire g.L.Listener s s1 s2 _ _ _
     (λ g1 g2 c1 c2 wa wb a b. (
-      served_one g.V.Vault s.office s1.office s2.office way noted.newcomers.newcomers.items c.args.seat g1 g2 c1 c2 wa wb a b.0,
+      (
+        served_one g.V.Vault s.office s1.office s2.office way noted.newcomers.newcomers.items c.args.seat g1 g2 c1 c2 wa wb a b.0,
+        serves_then c.args.seat 0 64 1 0 g1 g2 c1 c2 a.served b.0.served,
+      ),
       polled_behind clients.poll_now (noted.poll_now || y.result) true c1 c2 (λ e. is_right noted.poll_now y.result came) b.1,
     )) out y.ensures.works in
     does_then g.V.Vault g.W.Wire g.L.Listener s s2 s3 _ _ _
     (λ g1 g2 c1 c2 wa wb a b. (
-      served_then g.V.Vault s.office s2.office s3.office way noted.newcomers.newcomers.items
-          c.args.seat g1 g2 c1 c2 wa wb a.0 b.of_seat b.offered,
+      record {
+        turns = served_then g.V.Vault s.office s2.office s3.office way noted.newcomers.newcomers.items
+            c.args.seat g1 g2 c1 c2 wa wb a.0.0 b.of_seat b.offered;
+        served = serves_less c.args.seat (1 + 0) (64 + 64) 1 128 _ _ (omega arith) (omega arith) (serves_then c.args.seat 1 64 0 64 g1 g2 c1 c2 a.0.1 b.served);
+      },
       polled_then clients.poll_now true (noted.poll_now || z.result) c1 c2 a.1 (λ e. refl),
     )) first z.ensures.works
 

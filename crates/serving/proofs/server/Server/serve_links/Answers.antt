@@ -5,6 +5,7 @@ use Rattle.serving.specs.Newcomers.{Settles}
 use Rattle.serving.specs.Parts.{ReleasesLock}
 use Rattle.serving.specs.Settings.{settings_of}
 use Rattle.serving.specs.ClientParts.{way_at}
+use Rattle.serving.specs.InOrder.{ServesSeat}
 use Rattle.serving.proofs.Seating.{contained}
 use Rattle.serving.proofs.Composing.{seats_then, does_none, does_so, does_then}
 use Rattle.serving.proofs.Turns.{served_at}
@@ -67,10 +68,11 @@ loop-place-preserved g c =
           (λ g1 g2 c1 c2 wa wb a b. (
             were_next g.V.Vault s.office s1.office s2.office
                 (settings_of old) c.args.now old.newcomers.newcomers.items served.newcomers.newcomers.items old.seats.items k.clients served.lock_released served.poll_now k.place no_seat g1 g2 c1 c2
-                k.invariant.keeps.keeps.set same within releases.more.still polled releases.is releases.more.waits
+                k.invariant.keeps.keeps.set same within releases.more.still polled releases.is
                 (unread_before _ lies.lies c.args.now k.clients.newcomers.newcomers.items served.newcomers.newcomers.items lies.is) k.invariant.touched wa wb a.0
                 (served_at g.V.Vault s1.office s2.office
-                (way_at c.args.now k.clients served.poll_now) served.newcomers.newcomers.items seats ys k.place _ g2 c2 c.deref.ensures.0 within b.0 no_seat),
+                (way_at c.args.now k.clients served.poll_now) served.newcomers.newcomers.items seats ys k.place _ g2 c2 c.deref.ensures.0 within b.0.turns no_seat)
+                (at_place seats ys k.place _ (λ q. ServesSeat q 1 128 g2 c2) c.deref.ensures.0 within b.0.served no_seat),
             clients_polled old.poll_now k.clients.poll_now served.poll_now k.clients.lock_released served.lock_released c1 c2 releases.more.still a.1 b.1,
           ))
           k.invariant.works x.ensures.works;

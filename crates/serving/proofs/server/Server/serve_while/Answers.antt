@@ -13,7 +13,7 @@ loop-turn-init g c = record {
   turned = (
     [],
     refl,
-    turned_none g.V.Vault.holds g.V.Vault.is_clean g.V.Vault.faults g.V.Vault.is_up g.V.Vault.may_leave g.W.Wire.asked g.S.Spool.asked
+    turned_none g.V.Vault g.W.Wire.asked g.S.Spool.asked
         g.L.Listener.heard g.C.Clock.gave c.args.links.now c.args.self.now.office c.args.self.now.wire c.args.spool.now c.args.self.now.listener c.args.clock.now,
   );
   few = λ a. a;
@@ -38,7 +38,7 @@ loop-turn-preserved g c =
     let kept = y.ensures.maintains in
     let o2 = x.new.self.office in
     let o3 = y.new.self.office in
-    let clean2 = maintained_clean g.V.Vault.holds g.V.Vault.faults g.V.Vault.is_clean g.V.Vault.is_up g.V.Vault.may_leave x.new.links o2 o3 kept in
+    let clean2 = maintained_clean g.V.Vault x.new.links o2 o3 kept in
     record {
       serves = λ T s clean.
           subst (λ w. Serves g.V.Vault.holds g.W.Wire.tells g.S.Spool.tells T o3 w x.new.spool x.new.links.clients.seats.items x.new.links.requests.exchanges.items x.new.links.site)
@@ -53,15 +53,15 @@ loop-turn-preserved g c =
       turned = (
         m.0 ++ now ∷ [],
         one_longer m.0 now k._turn m.1,
-        subst (λ w. HasTurned g.V.Vault.holds g.V.Vault.is_clean g.V.Vault.faults g.V.Vault.is_up g.V.Vault.may_leave g.W.Wire.asked g.S.Spool.asked g.L.Listener.heard g.C.Clock.gave false
+        subst (λ w. HasTurned g.V.Vault g.W.Wire.asked g.S.Spool.asked g.L.Listener.heard g.C.Clock.gave false
             (m.0 ++ now ∷ [])
             c.args.links.now c.args.self.now.office c.args.self.now.wire c.args.spool.now c.args.self.now.listener c.args.clock.now x.new.links o3 w
             x.new.spool y.new.self.listener c.moment.new.self) (sym y.ensures.wire)
-            (subst (λ h. HasTurned g.V.Vault.holds g.V.Vault.is_clean g.V.Vault.faults g.V.Vault.is_up g.V.Vault.may_leave g.W.Wire.asked g.S.Spool.asked g.L.Listener.heard g.C.Clock.gave false
+            (subst (λ h. HasTurned g.V.Vault g.W.Wire.asked g.S.Spool.asked g.L.Listener.heard g.C.Clock.gave false
             (m.0 ++ now ∷ [])
             c.args.links.now c.args.self.now.office c.args.self.now.wire c.args.spool.now c.args.self.now.listener c.args.clock.now x.new.links o3 x.new.self.wire x.new.spool h c.moment.new.self)
             (sym y.ensures.listener)
-            (turned_more g.V.Vault.holds g.V.Vault.is_clean g.V.Vault.faults g.V.Vault.is_up g.V.Vault.may_leave g.W.Wire.asked g.S.Spool.asked
+            (turned_more g.V.Vault g.W.Wire.asked g.S.Spool.asked
             g.L.Listener.heard g.C.Clock.gave c.args.links.now c.args.self.now.office c.args.self.now.wire c.args.spool.now c.args.self.now.listener c.args.clock.now
             m.0 k.links k.self.office k.self.wire k.spool k.self.listener k.clock now x.new.links o2 x.new.self.wire x.new.spool x.new.self.listener o3 c.moment.new.self m.2
             c.in-Some.ensures.called x.ensures.clean (x.ensures.works w0 waited) left kept y.ensures.stands)),
@@ -95,7 +95,7 @@ returns-in_default-clause-runs g c =
       moments = m.0;
       stopped = true;
       wire_left = k.self.wire;
-      turned = turned_stopped g.V.Vault.holds g.V.Vault.is_clean g.V.Vault.faults g.V.Vault.is_up g.V.Vault.may_leave g.W.Wire.asked g.S.Spool.asked
+      turned = turned_stopped g.V.Vault g.W.Wire.asked g.S.Spool.asked
           g.L.Listener.heard g.C.Clock.gave c.args.links.now c.args.self.now.office c.args.self.now.wire c.args.spool.now c.args.self.now.listener c.args.clock.now
           m.0 k.links k.self.office k.self.wire k.spool k.self.listener k.clock c.moment.new.self m.2 c.in_default.ensures.called;
       last = waited_for g.W.Wire.asked k.self.wire c.wait.new.self k.links c.millis_for.result c.millis_for.ensures c.wait.ensures.called;

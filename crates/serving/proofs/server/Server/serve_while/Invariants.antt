@@ -18,7 +18,7 @@ invariant-loop-turn g l = record {
       → Serves g.V.Vault.holds g.W.Wire.tells g.S.Spool.tells T l.self.office l.self.wire l.spool l.links.clients.seats.items l.links.requests.exchanges.items l.links.site;
   clean : g.V.Vault.is_clean (vault_of l.self.office) → g.V.Vault.is_clean (vault_of l.fn.self.office);
   turned : (moments : List ℕ) × (length moments ≡ l._turn)
-      × HasTurned g.V.Vault.holds g.V.Vault.is_clean g.V.Vault.faults g.V.Vault.is_up g.V.Vault.may_leave g.W.Wire.asked g.S.Spool.asked g.L.Listener.heard g.C.Clock.gave false moments
+      × HasTurned g.V.Vault g.W.Wire.asked g.S.Spool.asked g.L.Listener.heard g.C.Clock.gave false moments
       l.fn.links l.fn.self.office l.fn.self.wire l.fn.spool l.fn.self.listener l.fn.clock l.links l.self.office l.self.wire l.spool l.self.listener l.clock;
   few : AreFew l.fn.links → AreFew l.links;
   seated : AllHaveSeats l.fn.links → AllHaveSeats l.links;

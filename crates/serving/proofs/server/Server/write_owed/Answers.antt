@@ -1,4 +1,4 @@
-use Rattle.std.proofs.Common.{rules, ◌≡◌, ◌≤◌, ◌==◌, ℕ, not, true, false, arith, ◌+◌, ap, subst}
+use Rattle.std.proofs.Common.{rules, ◌≡◌, ◌≤◌, ◌<◌, ◌==◌, ℕ, not, true, false, arith, ◌+◌, ap, subst}
 use Rattle.std.specs.Bool.{if◌then◌else◌}
 use Rattle.serving.specs.Parts.{Does}
 use Rattle.serving.specs.ClientParts.{IsWritten}
@@ -31,16 +31,16 @@ loop-times-preserved g c =
     let sum = c.saturating_add-written.result in
     let fits : sum ≤ k.written + n = search rules in
     let once_more = subst (λ b. Does g.V.Vault g.W.Wire g.L.Listener k.self x.new.self
-    (IsWritten Holds IsClean k.self.office x.new.self.office c.args.seat (if n == 0 then 0 else 1) n b)) goes x.ensures.works in
+    (IsWritten Holds IsClean k.self.office x.new.self.office c.args.seat (if n == 0 then 0 else 1) 1 n b)) goes x.ensures.works in
     record {
       serves = λ seats these has before T elsewhere s clean. x.ensures.serves seats these has before T elsewhere
           (k.invariant.serves seats these has before T elsewhere s (x.ensures.works.was_given.clean clean)) clean;
       works = does_then g.V.Vault g.W.Wire g.L.Listener s k.self x.new.self _ _ _
           (λ g1 g2 c1 c2 wa wb a b.
           written_less g.V.Vault s.office x.new.self.office c.args.seat
-          (k._times + (if n == 0 then 0 else 1)) (k._times + 1) (k.written + n) sum true _ _ (omega (arith, one)) fits
+          (k._times + (if n == 0 then 0 else 1)) (k._times + 1) (k._times + 1) (k.written + n) sum true _ _ (omega (arith, one)) fits
           (written_then g.V.Vault s.office k.self.office x.new.self.office c.args.seat k._times
-          (if n == 0 then 0 else 1) k.written n true g1 g2 c1 c2 wa wb a b)) k.invariant.works once_more;
+          (if n == 0 then 0 else 1) k._times 1 k.written n true g1 g2 c1 c2 wa wb a b)) k.invariant.works once_more;
     }
 
 pub returns-then-count-eq0-clause-works : goal.returns-then-count-eq0-clause-works
@@ -54,12 +54,13 @@ returns-then-count-eq0-clause-works g c =
     let none : (n == 0) ≡ true = search rules in
     let ends : not (n == 0) ≡ false = ap not none in
     let once_more = subst (λ b. Does g.V.Vault g.W.Wire g.L.Listener k.self x.new.self
-    (IsWritten Holds IsClean k.self.office x.new.self.office c.args.seat (if n == 0 then 0 else 1) n b)) ends x.ensures.works in
+    (IsWritten Holds IsClean k.self.office x.new.self.office c.args.seat (if n == 0 then 0 else 1) 1 n b)) ends x.ensures.works in
+    let room : k._times < 64 = search rules in
     does_then g.V.Vault g.W.Wire g.L.Listener s k.self x.new.self _ _ _
     (λ g1 g2 c1 c2 wa wb a b.
-    written_ended g.V.Vault s.office x.new.self.office c.args.seat (k._times + (if n == 0 then 0 else 1)) (k.written + n) c.args.share _ _
+    written_ended g.V.Vault s.office x.new.self.office c.args.seat (k._times + (if n == 0 then 0 else 1)) (k._times + 1) (k.written + n) c.args.share _ _ (omega (arith, room))
     (written_then g.V.Vault s.office k.self.office x.new.self.office c.args.seat k._times
-    (if n == 0 then 0 else 1) k.written n false g1 g2 c1 c2 wa wb a b)) k.invariant.works once_more
+    (if n == 0 then 0 else 1) k._times 1 k.written n false g1 g2 c1 c2 wa wb a b)) k.invariant.works once_more
 
 pub returns-then-written-share-clause-works : goal.returns-then-written-share-clause-works
 returns-then-written-share-clause-works g c =
@@ -72,18 +73,20 @@ returns-then-written-share-clause-works g c =
     let sum = c.saturating_add-written.result in
     let fits : sum ≤ k.written + n = search rules in
     let enough : c.args.share ≤ sum = search rules in
+    let room : k._times < 64 = search rules in
     does_then g.V.Vault g.W.Wire g.L.Listener s k.self x.new.self _ _ _
     (λ g1 g2 c1 c2 wa wb a b.
     written_share g.V.Vault s.office x.new.self.office c.args.seat
-    (k._times + (if n == 0 then 0 else 1)) (k.written + n) c.args.share _ _ _ (omega (arith, fits, enough))
+    (k._times + (if n == 0 then 0 else 1)) (k._times + 1) (k.written + n) c.args.share _ _ _ (omega (arith, room)) (omega (arith, fits, enough))
     (written_then g.V.Vault s.office k.self.office x.new.self.office c.args.seat k._times
-    (if n == 0 then 0 else 1) k.written n _ g1 g2 c1 c2 wa wb a b)) k.invariant.works x.ensures.works
+    (if n == 0 then 0 else 1) k._times 1 k.written n _ g1 g2 c1 c2 wa wb a b)) k.invariant.works x.ensures.works
 
 pub returns-clause-works : goal.returns-clause-works
 returns-clause-works g c =
     let k = c.loop-times in
     let o = c.args.self.now.office in
     let h : 64 ≤ k._times = search rules in
+    let few : k._times ≤ 64 = search rules in
     does_so g.V.Vault g.W.Wire g.L.Listener c.args.self.now k.self _ _
-    (λ gv cl wa a. written_all g.V.Vault o k.self.office c.args.seat k._times k.written c.args.share true gv cl h a)
+    (λ gv cl wa a. written_all g.V.Vault o k.self.office c.args.seat k._times k._times k.written c.args.share true gv cl few h a)
     k.invariant.works

@@ -7,7 +7,7 @@ use Rattle.std.proofs.Common.{None, Some, [], ◌∷◌, arith}
 use Rattle.serving.specs.declared.wire.Port.TheVariants.{Admin}
 use Rattle.serving.specs.Calls.{Accepted, Closed}
 use Rattle.serving.specs.HttpWorks.{NoMore, IsKept, IsTurnedAway, WantsMemory, HasAcceptedForAdmin}
-use Rattle.serving.proofs.server.Server.accept_request.Goals as goal
+use Rattle.serving.proofs.server.Server.accept_admin_link.Goals as goal
 
 pub returns-in-Ok-true-clause-answers : goal.returns-in-Ok-true-clause-answers
 returns-in-Ok-true-clause-answers g c = λ x B start L pop s.
@@ -56,7 +56,7 @@ returns-in_default-clause-works g c =
       unheard = λ h q. q;
       part =
           asks_one g.W.Wire.asked c.args.self.now.wire c.accept.new.self (Accepted Admin None) (HasAcceptedForAdmin c.args.now 1 false xs xs) (quiet_accepted None)
-          (record { came = 0; arrivals = []; come = NoMore xs; calls_are = refl; enough = λ e. cc }) c.in_default.ensures.called;
+          (record { came = 0; arrivals = []; come = NoMore xs; calls_are = refl; enough = λ e. cc; few = omega arith }) c.in_default.ensures.called;
     }
 
 pub returns-in-Ok-true-clause-works : goal.returns-in-Ok-true-clause-works
@@ -76,6 +76,7 @@ returns-in-Ok-true-clause-works g c =
                 IsKept link xs ys ys 0 [] (c.in-Ok-true.ensures.kept (search rules)) (NoMore ys);
             calls_are = refl;
             enough = λ e. omega arith;
+            few = omega arith;
           }) c.in-Some.ensures.called;
     }
 
@@ -92,7 +93,14 @@ returns-in-Ok-false-clause-works g c =
           asks_two g.W.Wire.asked c.args.self.now.wire c.accept.new.self c.close_link.new.wire (Accepted Admin (Some link)) (Closed Admin link)
           (HasAcceptedForAdmin c.args.now 1 true xs ys) (quiet_accepted (Some link)) (quiet_closed link)
           (subst (λ l. HasAcceptedForAdmin c.args.now 1 true xs l calls) (sym (c.in-Ok-false.ensures.turned_away (search rules)))
-          (record { came = 1; arrivals = calls; come = IsTurnedAway link xs xs 0 [] (c.in-Ok-false.ensures.full (search rules)) (NoMore xs); calls_are = refl; enough = λ e. omega arith }))
+          (record {
+            came = 1;
+            arrivals = calls;
+            come = IsTurnedAway link xs xs 0 [] (c.in-Ok-false.ensures.full (search rules)) (NoMore xs);
+            calls_are = refl;
+            enough = λ e. omega arith;
+            few = omega arith;
+          }))
           c.in-Some.ensures.called c.close_link.ensures.called;
     }
 
@@ -109,6 +117,6 @@ returns-in-Err-clause-works g c =
           asks_two g.W.Wire.asked c.args.self.now.wire c.accept.new.self c.close_link-in-Err.new.wire (Accepted Admin (Some link)) (Closed Admin link)
           (HasAcceptedForAdmin c.args.now 1 true xs ys) (quiet_accepted (Some link)) (quiet_closed link)
           (subst (λ l. HasAcceptedForAdmin c.args.now 1 true xs l calls) (sym c.in-Err.ensures.refused)
-          (record { came = 1; arrivals = calls; come = WantsMemory link xs xs 0 [] (NoMore xs); calls_are = refl; enough = λ e. omega arith }))
+          (record { came = 1; arrivals = calls; come = WantsMemory link xs xs 0 [] (NoMore xs); calls_are = refl; enough = λ e. omega arith; few = omega arith }))
           c.in-Some.ensures.called c.close_link-in-Err.ensures.called;
     }

@@ -11,7 +11,7 @@ use Rattle.serving.proofs.Quieting.{gives_command}
 use Rattle.office.specs.Events as event
 use Rattle.office.specs.Outcomes.{event_tag_of}
 use Rattle.serving.proofs.Working.{given_one}
-use Rattle.serving.proofs.requests.command.Goals as goal
+use Rattle.serving.proofs.requests.run_command.Goals as goal
 
 pub returns-clause-asked : goal.returns-clause-asked
 returns-clause-asked g c = λ site B L read stands asks clean.

@@ -2,7 +2,7 @@ use Rattle.std.proofs.Common.{◌≤◌, length, true}
 use Rattle.serving.specs.Requests.{AllStillAnswer}
 use Rattle.serving.specs.HttpParts.{AsksApart}
 use Rattle.serving.specs.HttpWorks.{HasAcceptedForAdmin}
-use Rattle.serving.proofs.server.Server.accept_requests.Given as goal
+use Rattle.serving.proofs.server.Server.accept_admin_links.Given as goal
 
 abbrev pub invariant-loop-times : goal.invariant-loop-times
 invariant-loop-times g l = record {
