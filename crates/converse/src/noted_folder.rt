@@ -1,6 +1,6 @@
 //! Any folder as one that tells which files it took.
-ghost use Rattle.std.specs.Prelude.{◌≡◌, [], Some, map};
-ghost use Rattle.converse.specs.Exported.{noted_file};
+ghost use Rattle.std.specs.Prelude.{◌≡◌, ◌∷◌, [], Some, map, OnOk, OnErr};
+ghost use Rattle.converse.specs.Exported.{noted_file, Takes};
 
 use crate::folder::Folder;
 use notes::Notes;
@@ -36,7 +36,12 @@ impl<F: Folder> Folder for NotedFolder<F> {
 
     ghost faults = { λ n. F.faults n.inner };
 
-    fn put(&mut self, name: &str, octets: &[u8]) -> io::Result<()> {
+    fn put(&mut self, name: &str, octets: &[u8]) -> io::Result<()>
+        ensures inside { OnOk result (Takes (F.files self.old.inner) (F.files self.new.inner)
+            (record { name = name.now; octets = octets.now } ∷ [])) }
+        ensures inside_refused { OnErr result
+            (Takes (F.files self.old.inner) (F.files self.new.inner) []) }
+    {
         match self.inner.put(name, octets) {
             Ok(()) => {
                 let file = (Notes::of(name.as_bytes()), Notes::of(octets));
@@ -47,7 +52,9 @@ impl<F: Folder> Folder for NotedFolder<F> {
         }
     }
 
-    fn settle(&mut self) -> io::Result<()> {
+    fn settle(&mut self) -> io::Result<()>
+        ensures inside { Takes (F.files self.old.inner) (F.files self.new.inner) [] }
+    {
         self.inner.settle()
     }
 }
