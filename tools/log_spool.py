@@ -3,12 +3,14 @@
 import contextlib
 import ctypes
 import os
+import re
 import shutil
 import threading
 import time
 
 from clients import SPOOL, stopped
 from logged import (
+    MOMENT,
     PASSWORD,
     POLICY,
     Mail,
@@ -69,6 +71,9 @@ def what_lies_in_the_spool(program, folder):
     for name in ("orders.note.n-1.eml.bad", "orders.note.n-1.eml.bad.2"):
         shutil.copy(f"{folder}/spool/new.tmp", f"{folder}/spool/{name}")
         os.utime(f"{folder}/spool/{name}", (1_000_000_000, 1_000_000_000))
+    # Other names of that ending are told.
+    shutil.copy(f"{folder}/spool/orders.note.n-1.eml.bad", f"{folder}/spool/chair.bad")
+    os.utime(f"{folder}/spool/chair.bad", (1_000_000_000, 1_000_000_000))
     os.rename(f"{folder}/spool/new.tmp", f"{folder}/twice")
     os.link(f"{folder}/twice", f"{folder}/spool/orders.note.n-4.eml")
     with open(f"{folder}/spool/orders.note.+.eml", "w", encoding="utf-8") as file:
@@ -76,6 +81,7 @@ def what_lies_in_the_spool(program, folder):
     form = "isn't 1 to 32 of a-z, 0-9 and -"
     reasons = {
         "a chair.eml": "its name isn't MAILDROP.CLASS.ID.eml",
+        "chair.bad": "its name isn't MAILDROP.CLASS.ID.eml",
         "orders.note.n_1.n.eml": "its name isn't MAILDROP.CLASS.ID.eml",
         f"orders.{forty}.n-1.eml": f"its CLASS {form}",
         "orders.note.+.eml": "its ID isn't 1 to 64 of a-z, A-Z, 0-9, - and _",
@@ -104,6 +110,8 @@ def what_lies_in_the_spool(program, folder):
     told = [it.split(" ", 1)[1] for it in text.splitlines() if "done=left" in it]
     wanted = [f'event=spool file="{it}" done=left reason="{why}"' for it, why in reasons.items()]
     differs = [] if sorted(told) == sorted(wanted) else [f"left are told {told}, where {wanted} are"]
+    # With --verbose too nothing but the log's lines is there.
+    differs += [it for it in text.splitlines() if not re.match(f"{MOMENT} event=", it)]
     removed = "event=removed connection=1 clerk=ann maildrop=orders uids=note.1"
     return differs + ([] if removed in text else [f"{removed!r} isn't told"])
 
