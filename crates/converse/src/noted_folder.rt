@@ -1,6 +1,17 @@
 //! Any folder as one that tells which files it took.
-ghost use Rattle.std.specs.Prelude.{◌≡◌, ◌∷◌, [], Some, map, OnOk, OnErr};
-ghost use Rattle.converse.specs.Exported.{noted_file, Takes};
+ghost use Rattle.std.specs.Prelude.{
+  ◌≡◌,
+  ◌∷◌,
+  [],
+  true,
+  false,
+  Some,
+  map,
+  IsOk,
+  OnOk,
+  OnErr,
+};
+ghost use Rattle.converse.specs.Exported.{noted_file, CountsRefusal, Takes};
 
 use crate::folder::Folder;
 use notes::Notes;
@@ -37,6 +48,14 @@ impl<F: Folder> Folder for NotedFolder<F> {
     ghost faults = { λ n. F.faults n.inner };
 
     fn put(&mut self, name: &str, octets: &[u8]) -> io::Result<()>
+        ensures put { OnOk result (Takes (Some (map noted_file self.old.taken.items))
+            (Some (map noted_file self.new.taken.items))
+            (record { name = name.now; octets = octets.now } ∷ [])) }
+        ensures refused { OnErr result (Takes (Some (map noted_file self.old.taken.items))
+            (Some (map noted_file self.new.taken.items)) []) }
+        ensures unsettled { IsOk result → F.is_settled self.new.inner ≡ false }
+        ensures counted { CountsRefusal (F.faults self.old.inner) (F.faults self.new.inner)
+            result }
         ensures inside { OnOk result (Takes (F.files self.old.inner) (F.files self.new.inner)
             (record { name = name.now; octets = octets.now } ∷ [])) }
         ensures inside_refused { OnErr result
@@ -53,6 +72,11 @@ impl<F: Folder> Folder for NotedFolder<F> {
     }
 
     fn settle(&mut self) -> io::Result<()>
+        ensures kept { Takes (Some (map noted_file self.old.taken.items))
+            (Some (map noted_file self.new.taken.items)) [] }
+        ensures settled { IsOk result → F.is_settled self.new.inner ≡ true }
+        ensures counted { CountsRefusal (F.faults self.old.inner) (F.faults self.new.inner)
+            result }
         ensures inside { Takes (F.files self.old.inner) (F.files self.new.inner) [] }
     {
         self.inner.settle()
