@@ -1,11 +1,8 @@
 -- What a store keeps before and after `popbox serve`.
-use Rattle.std.proofs.Common.{ℕ, [], None}
+use Rattle.std.proofs.Common.{[], None}
 use Rattle.vault.specs.Changes.{Contents}
 use Rattle.office.specs.Events.{Trace}
-use Rattle.office.specs.Stands.{Keeps, StandsFor}
-use Rattle.office.specs.declared.office.Office.{Office}
-use Rattle.serving.proofs.Going.{unserved}
-use Rattle.popbox.specs.Served.{WasServedBySome}
+use Rattle.office.specs.Stands.{Keeps}
 use Rattle.recent.specs.Recalling.{HoldsFitting}
 
 -- a store keeps what another one kept, if it holds what that one held
@@ -15,7 +12,3 @@ keeps_so Holds Holds1 T so k = record { contents = k.contents; held = so k.conte
 -- what is held, if nothing of it is kept beside it
 pub fits_none : (Holds : Contents → Type 0) (c : Contents) → Holds c → HoldsFitting Holds [] None c
 fits_none Holds c held = record { inside = held; fits = tt; sums = tt }
-
--- an office that was given nothing
-pub served_by_none : {V : Type 0} (Holds : V → Contents → Type 0) (Faults : V → ℕ) (T : Trace) (o : Office V) → StandsFor Holds o T → WasServedBySome Holds Faults T o o
-served_by_none Holds Faults T o stands = record { given = []; served = unserved Holds Faults T o stands }

@@ -3,6 +3,8 @@
 //! A new option of a subcommand is an argument in `command_line`, where its default stands, a field
 //! here, and a line of that struct's `read`. An option of `serve` that a server's start logs is a
 //! field of the journal's `Settings` too, and a line of `settings`.
+ghost use Rattle.std.specs.Prelude.{◌≡◌};
+ghost use Rattle.popbox.specs.Served.{site_by};
 
 use crate::version::IS_PROVED;
 use causes::STANDARD_INPUT;
@@ -214,7 +216,9 @@ impl<'a> ServeOptions<'a> {
 
     /// The administration's site, if there is one. Its fault is `BadHost`: the name isn't of the
     /// form of a host's.
-    pub fn site(&self) -> Result<Option<HostName>, Fault> {
+    pub fn site(&self) -> Result<Option<HostName>, Fault>
+        ensures { result ≡ site_by self.now.admin_site }
+    {
         let Some(name) = self.admin_site else {
             return Ok(None);
         };

@@ -1,9 +1,13 @@
 //! `popbox serve`: clients over the network.
-ghost use Rattle.std.specs.Prelude.{◌≡◌, IfSome};
+ghost use Rattle.std.specs.Prelude.{◌≡◌, ◌↔◌, [], true, Option, None};
+ghost use Rattle.std.specs.Prelude.{IfSome, IsSome, IfOk, IfErr};
 ghost use Rattle.vault.specs.Changes.{Contents};
 ghost use Rattle.office.specs.Events.{Trace};
 ghost use Rattle.office.specs.Stands.{Keeps, StandsFor, vault_of};
-ghost use Rattle.popbox.specs.Served.{IsServed, WasServedBySome, limits_by};
+ghost use Rattle.converse.specs.declared.fault.Fault.TheVariants.{NoClock};
+ghost use Rattle.popbox.specs.Served.{IsServed, WasServedBySome, limits_by, IsIdleTime};
+ghost use Rattle.popbox.specs.Served.{HasGiven, HasServed, HasServedAnew, HasServedLinks};
+ghost use Rattle.popbox.specs.Served.{HasListened, HasKept, IsStatus};
 
 use crate::options::ServeOptions;
 use crate::version::{IS_PROVED, SLOW};
@@ -12,18 +16,34 @@ use journal::{
     FileId, Folder, GuardedSpool, Journal, LoggedSpool, LoggedVault, Loss, NotedWatch, Shared,
     StoreWatch, note_end, note_loss, note_opening, note_start,
 };
+use notes::Notes;
 use office::{AdminAccess, Limits, Office};
 use proxy::ProxiedWire;
 use recent::Recent;
 use serving::{
-    Clock, FolderSpool, Listener, NotedClock, NotedListener, NotedSpool, NotedWire, Server,
-    SocketWire, Spool, Wire,
+    Clock, FolderSpool, Listener, NotedListener, NotedSpool, NotedWire, Server, SocketWire, Spool,
+    Wire,
 };
 use std::io;
 use std::io::Write;
 use std::net::{Ipv4Addr, SocketAddr};
 use std::time::Instant;
 use vault::{Total, Vault, VaultFault};
+
+/// The sockets of a server, which are noted.
+type Sockets = NotedWire<SocketWire>;
+
+/// The same, if each client's link is a proxy's.
+type Proxied<'a> = ProxiedWire<Sockets, &'a HostRuntime>;
+
+/// A watch over the store's files, which is noted.
+type WatchOf<'a> = NotedWatch<&'a StoreWatch<'a>>;
+
+/// The spool of a server, whose files are noted right around the folder.
+type ServedSpool<'a> = GuardedSpool<
+    LoggedSpool<'a, NotedSpool<FolderSpool<'a, HostRuntime>>>,
+    WatchOf<'a>,
+>;
 
 /// Notes, if there is a log, that the store is about to be opened, and how large its files are.
 pub fn note_store(rt: &HostRuntime, options: &ServeOptions<'_>) {
@@ -35,7 +55,8 @@ pub fn note_store(rt: &HostRuntime, options: &ServeOptions<'_>) {
 /// The office's limits by the options; `None` if idle connections are to end sooner or later than
 /// an office can.
 fn limits_of(options: &ServeOptions<'_>) -> Option<Limits>
-    ensures { IfSome result (λ limits. limits ≡ limits_by options.now) }
+    ensures valid { IsSome result ↔ IsIdleTime options.now.idle }
+    ensures value { IfSome result (λ limits. limits ≡ limits_by options.now) }
 {
     let limits = Limits::new(options.idle)?.with_removals(options.removals);
     Some(limits.with_access(AdminAccess {
@@ -56,6 +77,11 @@ pub fn serve_over<V: Vault, E: Write>(
 ) -> (Result<u8, Fault>, V)
     ensures served { (T : Trace) → Keeps (V.holds vault) T → V.is_clean result.1 → (U : Trace)
         × IsServed options.now boot T U × Keeps (V.holds result.1) U }
+    ensures did { (T : Trace) → Keeps (V.holds vault) T → V.is_clean result.1 → (U : Trace)
+        × HasKept ⟦<LoggedVault<'static, Recent<V>> as Vault>⟧ ⟦<Sockets as Wire>⟧
+        ⟦<Proxied<'static> as Wire>⟧ ⟦<ServedSpool<'static> as Spool>⟧
+        ⟦<NotedListener<Journal<'static>> as Listener>⟧ options.now boot T result.0 U
+        × Keeps (V.holds result.1) U }
     ensures clean { V.is_clean result.1 → V.is_clean vault }
 {
     let Some(limits) = limits_of(options) else {
@@ -110,7 +136,9 @@ fn listen(
     rt: &HostRuntime,
     at: SocketAddr,
     admin: u16,
-) -> Result<(NotedWire<SocketWire>, u16, u16), (SocketAddr, io::Error)> {
+) -> Result<(Sockets, u16, u16), (SocketAddr, io::Error)>
+    ensures { IfOk result (λ listening. ⟦<Sockets as Wire>⟧.asked listening.0 []) }
+{
     let (mut wire, port) = SocketWire::bind(rt, rt.alloc(), at).map_err(|error| (at, error))?;
     let admin_at = SocketAddr::from((Ipv4Addr::LOCALHOST, admin));
     let bound = wire.bind_admin(rt, admin_at);
@@ -119,7 +147,9 @@ fn listen(
 }
 
 /// Prints that the system refused to listen at an address. Gives the exit status.
-fn tell_refused<E: Write>(err: &mut E, is_verbose: bool, at: SocketAddr, error: &io::Error) -> u8 {
+fn tell_refused<E: Write>(err: &mut E, is_verbose: bool, at: SocketAddr, error: &io::Error) -> u8
+    ensures { result ≡ 1 }
+{
     let _ = writeln!(err, "popbox: cannot listen");
     if is_verbose {
         let _ = writeln!(err, "why: {at}: {error}");
@@ -182,7 +212,9 @@ fn serve<'a, V: Vault, E: Write>(
 ) -> (Result<u8, Fault>, Office<V>)
     ensures clean { V.is_clean (vault_of result.1) → V.is_clean (vault_of office) }
     ensures served { (T : Trace) → StandsFor V.holds office T → V.is_clean (vault_of result.1)
-        → WasServedBySome V.holds V.faults T office result.1 }
+        → WasServedBySome V.Vault T office result.1 (HasListened V.Vault
+        ⟦<Sockets as Wire>⟧ ⟦<Proxied<'a> as Wire>⟧ ⟦<ServedSpool<'a> as Spool>⟧
+        ⟦<NotedListener<Journal<'a>> as Listener>⟧ T options.now office result.0 result.1) }
 {
     let (wire, port, admin_port) = match listen(rt, at, options.admin_port) {
         Ok(listening) => listening,
@@ -196,18 +228,54 @@ fn serve<'a, V: Vault, E: Write>(
     if let Err(fault) = said {
         return (Err(fault), office);
     }
-    let (served, office) = if options.proxy_protocol {
-        let wire = ProxiedWire::new(rt.alloc(), wire, rt);
-        serve_turns(rt, office, wire, spool, options, journal, watch)
-    } else {
-        serve_turns(rt, office, wire, spool, options, journal, watch)
-    };
-    let status = match (served, watch.loss()) {
-        (Ok(_), Some(loss)) => Ok(tell_loss(err, options.is_verbose, &journal, watch, loss)),
-        (served, _) => served,
-    };
+    let (served, office) = serve_links(rt, office, wire, spool, options, journal, watch);
+    let status = status_of(err, options.is_verbose, &journal, watch, served);
     note_end(&journal);
     (status, office)
+}
+
+/// Serves what comes over sockets, each client's link as a proxy's if that is asked for. Gives the
+/// office back.
+fn serve_links<'a, V: Vault>(
+    rt: &'a HostRuntime,
+    office: Office<V>,
+    wire: Sockets,
+    spool: &'a str,
+    options: &ServeOptions<'_>,
+    journal: Journal<'a>,
+    watch: &'a StoreWatch<'a>,
+) -> (Result<u8, Fault>, Office<V>)
+    ensures clean { V.is_clean (vault_of result.1) → V.is_clean (vault_of office) }
+    ensures served { ⟦<Sockets as Wire>⟧.asked wire [] → (T : Trace) → StandsFor V.holds office T
+        → V.is_clean (vault_of result.1) → WasServedBySome V.Vault T office result.1
+        (HasServedLinks V.Vault ⟦<Sockets as Wire>⟧ ⟦<Proxied<'a> as Wire>⟧
+        ⟦<ServedSpool<'a> as Spool>⟧ ⟦<NotedListener<Journal<'a>> as Listener>⟧ T options.now
+        office wire result.0 result.1) }
+{
+    if options.proxy_protocol {
+        let wire = ProxiedWire::new(rt.alloc(), wire, rt);
+        return serve_turns(rt, office, wire, spool, options, journal, watch);
+    }
+    serve_turns(rt, office, wire, spool, options, journal, watch)
+}
+
+/// The exit status of a server whose loop ended so: if the store was lost, that is printed.
+fn status_of<E: Write>(
+    err: &mut E,
+    is_verbose: bool,
+    journal: &Journal<'_>,
+    watch: &StoreWatch<'_>,
+    served: Result<u8, Fault>,
+) -> Result<u8, Fault>
+    ensures { IsStatus served result }
+{
+    match served {
+        Ok(status) => match watch.loss() {
+            Some(loss) => Ok(tell_loss(err, is_verbose, journal, watch, loss)),
+            None => Ok(status),
+        },
+        Err(fault) => Err(fault),
+    }
 }
 
 /// Prints that the store's files aren't those any more that the server has open. Gives the exit
@@ -218,7 +286,9 @@ fn tell_loss<E: Write>(
     journal: &Journal<'_>,
     watch: &StoreWatch<'_>,
     loss: Loss,
-) -> u8 {
+) -> u8
+    ensures { result ≡ 1 }
+{
     note_loss(journal, watch.path(), loss);
     let status = tell_fault(err, Fault::from(VaultFault::Store));
     if is_verbose {
@@ -229,7 +299,7 @@ fn tell_loss<E: Write>(
 
 /// The moments of a server's turns: the seconds since its start, until its store is lost. A turn
 /// asks after its wait, and then this looks at the store's files: once it sees that they are lost
-/// nothing more is read or answered. What it gave is known by the `NotedClock` around it.
+/// nothing more is read or answered.
 #[derive(Drop)]
 struct ServerClock<'a> {
     rt: &'a HostRuntime,
@@ -237,11 +307,16 @@ struct ServerClock<'a> {
     watch: &'a StoreWatch<'a>,
     /// The system gave no time.
     is_broken: bool,
+    /// What it gave, in the proofs alone.
+    notes: Notes<Option<u64>>,
 }
 
 impl<'a> ServerClock<'a> {
     /// The clock of a server that starts now.
-    fn start(rt: &'a HostRuntime, watch: &'a StoreWatch<'a>) -> Result<ServerClock<'a>, Fault> {
+    fn start(rt: &'a HostRuntime, watch: &'a StoreWatch<'a>) -> Result<ServerClock<'a>, Fault>
+        ensures fresh { IfOk result (λ clock. HasGiven clock.is_broken clock.notes.items []) }
+        ensures err { IfErr result (λ fault. fault ≡ NoClock) }
+    {
         let Ok(start) = Instant::now(rt) else {
             return Err(Fault::NoClock);
         };
@@ -250,14 +325,15 @@ impl<'a> ServerClock<'a> {
             start,
             watch,
             is_broken: false,
+            notes: Notes::new(),
         })
     }
-}
 
-impl Clock for ServerClock<'_> {
-    ghost gave = { λ _ _. ⊥ };
-
-    fn moment(&mut self) -> Option<u64> {
+    /// The moment by the system's clock, unless the store is lost.
+    fn find(&mut self) -> Option<u64>
+        ensures broken { self.new.is_broken ≡ true → result ≡ None }
+        ensures notes { self.new.notes ≡ self.old.notes }
+    {
         self.watch.look();
         if self.watch.is_lost() {
             return None;
@@ -265,6 +341,16 @@ impl Clock for ServerClock<'_> {
         let elapsed = self.start.elapsed(self.rt);
         self.is_broken = elapsed.is_err();
         Some(elapsed.ok()?.as_secs())
+    }
+}
+
+impl Clock for ServerClock<'_> {
+    ghost gave = { λ clock answers. HasGiven clock.is_broken clock.notes.items answers };
+
+    fn moment(&mut self) -> Option<u64> {
+        let moment = self.find();
+        self.notes.note(&moment);
+        moment
     }
 }
 
@@ -281,7 +367,9 @@ fn serve_turns<'a, V: Vault, W: Wire + Drop>(
 ) -> (Result<u8, Fault>, Office<V>)
     ensures clean { V.is_clean (vault_of result.1) → V.is_clean (vault_of office) }
     ensures served { (T : Trace) → StandsFor V.holds office T → V.is_clean (vault_of result.1)
-        → WasServedBySome V.holds V.faults T office result.1 }
+        → WasServedBySome V.Vault T office result.1 (HasServedAnew V.Vault W.Wire
+        ⟦<ServedSpool<'a> as Spool>⟧ ⟦<NotedListener<Journal<'a>> as Listener>⟧ T options.now
+        office wire result.0 result.1) }
 {
     let mut server = Server {
         office,
@@ -310,7 +398,10 @@ fn serve_until<V: Vault, W: Wire, S: Spool, L: Listener>(
         → V.is_clean (vault_of server.old.office) }
     ensures served { (T : Trace) → StandsFor V.holds server.old.office T
         → V.is_clean (vault_of server.new.office)
-        → WasServedBySome V.holds V.faults T server.old.office server.new.office }
+        → WasServedBySome V.Vault T server.old.office server.new.office
+        (HasServed V.Vault W.Wire S.Spool L.Listener T options.now
+        server.old.office server.old.wire spool.old server.old.listener
+        result server.new.office server.new.wire spool.new server.new.listener) }
 {
     let mut links = server.begin(rt.alloc(), spool);
     links.set_wait(u64::from(options.wait));
@@ -318,10 +409,10 @@ fn serve_until<V: Vault, W: Wire, S: Spool, L: Listener>(
     links.set_full_house_seconds(u64::from(options.full_house_seconds));
     links.set_slow_guesses(options.slow_guesses);
     links.set_site(options.site()?);
-    let mut clock = NotedClock::new(ServerClock::start(rt, watch)?);
+    let mut clock = ServerClock::start(rt, watch)?;
     let turns = options.turns.unwrap_or(u64::MAX);
     server.serve_while(&mut links, spool, &mut clock, turns);
-    if clock.clock.is_broken {
+    if clock.is_broken {
         return Err(Fault::NoClock);
     }
     Ok(0)

@@ -1,7 +1,7 @@
-use Rattle.std.proofs.Common.{ap, subst, sym, ◌∙◌, ◌++◌}
+use Rattle.std.proofs.Common.{ap, subst, sym, ◌∙◌, ◌++◌, true≢false}
 use Rattle.office.specs.Taken.{trace_of}
 use Rattle.recent.specs.Recalling.{HoldsFitting}
-use Rattle.popbox.specs.Served.{NotOpened, Opened, opened_by}
+use Rattle.popbox.specs.Served.{NotOpened, Opened, opened_by, HasNoLimits, LacksMemory, IsNotOpened, IsOpened}
 use Rattle.popbox.proofs.Keeping.{keeps_so, fits_none}
 use Rattle.popbox.proofs.serve.serve_over.Goals as goal
 
@@ -38,7 +38,7 @@ returns-clause-served g c = λ T k clean.
     let clean_served = subst g.V.Vault.is_clean back clean in
     let clean_open = c.serve-served.ensures.clean clean_served in
     let clean_old = c.in-Ok-open.ensures.clean clean_open in
-    let stands = rw c.in-Some.ensures at (c.in-Ok-open.ensures.opened T
+    let stands = rw c.in-Some.ensures.value at (c.in-Ok-open.ensures.opened T
     (keeps_so (g.V.Vault.holds c.args.vault) _ T
     (λ b h. c.totals_of-totals.ensures.held b
     (subst (λ r. HoldsFitting (g.V.Vault.holds r.vault) r.kept r.totals b) (sym fresh) (fits_none (g.V.Vault.holds c.args.vault) b h)) clean_old) k)
@@ -47,5 +47,50 @@ returns-clause-served g c = λ T k clean.
     let w = c.serve-served.ensures.served opened stands clean_served in (
       trace_of T.base (w.given ++ opened.log),
       Opened w.given w.served.admitted,
+      keeps_so _ _ (trace_of T.base (w.given ++ opened.log)) (λ b h. subst (λ v. g.V.Vault.holds v b) (sym back) h.inside) w.served.stands.keeps,
+    ))
+
+pub returns-in_default-clause-did : goal.returns-in_default-clause-did
+returns-in_default-clause-did g c = λ T k clean. (T, HasNoLimits (λ idle. true≢false (sym (c.in_default.ensures.valid.1 idle))), k)
+
+pub returns-in_default-from_str-clause-did : goal.returns-in_default-from_str-clause-did
+returns-in_default-from_str-clause-did g c = λ T k clean. (T, LacksMemory, k)
+
+pub returns-in_default-from_str-2-clause-did : goal.returns-in_default-from_str-2-clause-did
+returns-in_default-from_str-2-clause-did g c = λ T k clean. (T, LacksMemory, k)
+
+pub returns-in-Err-clause-did : goal.returns-in-Err-clause-did
+returns-in-Err-clause-did g c = λ T k clean.
+    (let fresh = c.new-vault.ensures.vault ∙ c.new.ensures in
+    let back = c.into_vault-in-Err.ensures ∙ ap (λ x. x.vault) c.into_vault.ensures in
+    let clean_err = subst g.V.Vault.is_clean back clean in
+    let clean_old = c.in-Err.ensures.clean clean_err in (
+      T,
+      rw c.from.ensures (IsNotOpened c.in-Err.fault c.in-Err.ensures.host),
+      keeps_so (g.V.Vault.holds c.args.vault) _ T
+          (λ b h. subst (λ v. g.V.Vault.holds v b) (sym back)
+          (c.in-Err.ensures.kept b
+          (c.totals_of-totals.ensures.held b
+          (subst (λ r. HoldsFitting (g.V.Vault.holds r.vault) r.kept r.totals b) (sym fresh) (fits_none (g.V.Vault.holds c.args.vault) b h)) clean_old)
+          clean_err).inside) k,
+    ))
+
+pub returns-clause-did : goal.returns-clause-did
+returns-clause-did g c = λ T k clean.
+    (let fresh = c.new-vault.ensures.vault ∙ c.new.ensures in
+    let back = c.into_vault-in-Ok-open-3.ensures
+    ∙ ap (λ x. x.vault) (c.into_vault-in-Ok-open-2.ensures ∙ ap (λ x. x.vault) c.into_vault-in-Ok-open.ensures) in
+    let clean_served = subst g.V.Vault.is_clean back clean in
+    let clean_open = c.serve-served.ensures.clean clean_served in
+    let clean_old = c.in-Ok-open.ensures.clean clean_open in
+    let stands = rw c.in-Some.ensures.value at (c.in-Ok-open.ensures.opened T
+    (keeps_so (g.V.Vault.holds c.args.vault) _ T
+    (λ b h. c.totals_of-totals.ensures.held b
+    (subst (λ r. HoldsFitting (g.V.Vault.holds r.vault) r.kept r.totals b) (sym fresh) (fits_none (g.V.Vault.holds c.args.vault) b h)) clean_old) k)
+    clean_open) in
+    let opened = opened_by c.args.options.now c.args.boot T in
+    let w = c.serve-served.ensures.served opened stands clean_served in (
+      trace_of T.base (w.given ++ opened.log),
+      IsOpened c.in-Ok-open.office c.serve-served.result.1 c.serve-served.result.0 w.given stands w.served w.did,
       keeps_so _ _ (trace_of T.base (w.given ++ opened.log)) (λ b h. subst (λ v. g.V.Vault.holds v b) (sym back) h.inside) w.served.stands.keeps,
     ))
