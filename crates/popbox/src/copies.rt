@@ -1,5 +1,6 @@
 //! A copy of a store that is read into memory, so that no file is changed or created.
 
+use crate::store_file::path_beside;
 use causes::tell_tables;
 use converse::{Fault, read_fault, tell_fault};
 use jobs::open_fault;
@@ -33,9 +34,9 @@ pub enum CopyFault {
     Refused(Error),
 }
 
-/// Whether a file exists whose name is that of the store with this ending.
+/// Whether a file lies beside that of the store whose name is the store's with this ending.
 fn has_file(rt: &HostRuntime, path: &str, ending: &str) -> bool {
-    match format!(in rt.alloc(); "{path}{ending}") {
+    match path_beside(rt, path, ending) {
         Ok(name) => fs::symlink_metadata(rt, name.as_str()).is_ok(),
         Err(_) => false,
     }
@@ -98,7 +99,7 @@ fn read_into_memory(rt: &HostRuntime, path: &str) -> io::Result<Memory> {
 fn read_files(rt: &HostRuntime, path: &str) -> io::Result<Files<Memory>> {
     let alloc: Global = rt.alloc();
     let db = read_into_memory(rt, path)?;
-    let log = format!(in alloc; "{path}-wal")?;
+    let log = path_beside(rt, path, "-wal")?;
     let log = match read_into_memory(rt, log.as_str()) {
         Ok(log) => log,
         Err(error) if error.kind() == ErrorKind::NotFound => Memory::new(alloc),

@@ -1,5 +1,6 @@
 //! The file of a store: who may read it.
 
+use std::alloc::AllocError;
 use std::fs;
 use std::fs::OpenOptions;
 use std::io::Write;
@@ -14,9 +15,18 @@ const OTHERS_READ: u32 = 0o044;
 /// How many octets a log has at most that has no page of a store: a page has 512 at least.
 const WITHOUT_PAGES: u64 = 512;
 
+/// The path of what SQLite puts beside a store's file: the file's own path, wherever links to it
+/// are, with this ending. If the file isn't there, it is the path that was given with the ending.
+pub fn path_beside(rt: &HostRuntime, path: &str, ending: &str) -> Result<String, AllocError> {
+    match fs::canonicalize(rt, path) {
+        Ok(real) => format!(in rt.alloc(); "{}{ending}", real.as_str()),
+        Err(_) => format!(in rt.alloc(); "{path}{ending}"),
+    }
+}
+
 /// How many octets the log beside a store's file has; 0 if there is none.
 pub fn log_octets(rt: &HostRuntime, path: &str) -> u64 {
-    let Ok(log) = format!(in rt.alloc(); "{path}-wal") else {
+    let Ok(log) = path_beside(rt, path, "-wal") else {
         return 0;
     };
     match fs::metadata(rt, log.as_str()) {
@@ -51,7 +61,7 @@ pub fn make_file(rt: &HostRuntime, path: &str) {
 /// Prints if others than the owner may read the file of a store, or its log.
 pub fn tell_readers<E: Write>(rt: &HostRuntime, err: &mut E, path: &str) {
     tell_readers_of(rt, err, path);
-    if let Ok(log) = format!(in rt.alloc(); "{path}-wal") {
+    if let Ok(log) = path_beside(rt, path, "-wal") {
         tell_readers_of(rt, err, log.as_str());
     }
 }
