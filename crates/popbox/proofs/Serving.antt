@@ -47,9 +47,9 @@ set_by options l0 l5 set site same few short = record {
 pub ran_by : {V W S H C : Type 0} (vault : a_vault.Ghosts V) (wires : a_wire.Ghosts W) (spools : a_spool.Ghosts S) (listeners : a_listener.Ghosts H) (Gave : C → List (Option ℕ) → Type 0)
     (T : Trace) (options : ServeOptions) (most : ℕ) (links : Links) (office : Office V) (wire : W) (spool : S) (listener : H) (clock : C)
     (links_then : Links) (office_then : Office V) (wire_then : W) (spool_then : S) (listener_then : H) (clock_then : C) → AreSetBy options links → most ≡ turns_by options.turns
-    → (run : HasRun vault.holds vault.is_clean vault.faults vault.is_up vault.may_leave wires.asked spools.asked listeners.heard Gave most
+    → (run : HasRun vault wires.asked spools.asked listeners.heard Gave most
     links office wire spool listener clock links_then office_then wire_then spool_then listener_then clock_then)
-    → (gone : HasGoneOn vault.holds vault.is_clean vault.faults vault.is_up vault.may_leave wires.asked spools.asked listeners.heard T run.moments
+    → (gone : HasGoneOn vault wires.asked spools.asked listeners.heard T run.moments
     links office wire spool listener links_then office_then run.wire_left spool_then listener_then)
     → HasRunBy vault wires spools listeners T options office wire spool listener run.stopped office_then wire_then spool_then listener_then gone.given
 ran_by vault wires spools listeners Gave T options most links office wire spool listener clock links_then office_then wire_then spool_then listener_then clock_then begun is run gone = record {
