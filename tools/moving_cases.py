@@ -210,6 +210,12 @@ def an_import_says_what_is_left(place):
     found = take_in(place, "orders", box, program=stops(place, 99))
     wants(found, (1, "orders: 0 new, 6 known, 1 left\n", told))
     wants(listed(place, "orders"), BY_AGE)
+    # A name that no line can have.
+    os.remove(f"{box}/new/{first}")
+    write_message(f"{box}/new/{AT}\n.M9P7.h", "note", 60)
+    told = f"import-maildir: {box}/new/{AT}\\n.M9P7.h: its path has a line feed\n"
+    wants(take_in(place, "orders", box), (1, "orders: 0 new, 6 known, 1 left\n", told))
+    wants(listed(place, "orders"), BY_AGE)
 
 
 def stops(place, count=3):
