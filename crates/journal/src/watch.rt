@@ -81,8 +81,8 @@ fn is_absence(kind: ErrorKind) -> bool {
     matches!(kind, ErrorKind::NotFound | ErrorKind::NotADirectory)
 }
 
-/// The path of a store's log, which lies beside the file itself, wherever links to it are; `None` if
-/// the file isn't there.
+/// The path of a store's log, which lies beside the file itself, wherever links to it are. `None`
+/// if the file isn't there.
 pub(crate) fn log_path(rt: &HostRuntime, path: &str) -> Option<String> {
     let real = fs::canonicalize(rt, path).ok()?;
     format!(in rt.alloc(); "{}-wal", real.as_str()).ok()
