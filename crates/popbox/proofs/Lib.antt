@@ -1,2 +1,2 @@
 mod Keeping
-mod Serving
+mod ByOptions

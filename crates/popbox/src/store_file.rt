@@ -15,13 +15,14 @@ const OTHERS_READ: u32 = 0o044;
 /// How many octets a log has at most that has no page of a store: a page has 512 at least.
 const WITHOUT_PAGES: u64 = 512;
 
-/// The path of what SQLite puts beside a store's file: the file's own path, wherever links to it
-/// are, with this ending. If the file isn't there, it is the path that was given with the ending.
+/// The path of what SQLite puts beside a store's file: the file's path with this ending. If the path
+/// that is given is a link, it is that of the file to which it leads.
 pub fn path_beside(rt: &HostRuntime, path: &str, ending: &str) -> Result<String, AllocError> {
-    match fs::canonicalize(rt, path) {
-        Ok(real) => format!(in rt.alloc(); "{}{ending}", real.as_str()),
-        Err(_) => format!(in rt.alloc(); "{path}{ending}"),
+    let is_link = fs::symlink_metadata(rt, path).is_ok_and(|found| found.is_symlink());
+    if is_link && let Ok(real) = fs::canonicalize(rt, path) {
+        return format!(in rt.alloc(); "{}{ending}", real.as_str());
     }
+    format!(in rt.alloc(); "{path}{ending}")
 }
 
 /// How many octets the log beside a store's file has; 0 if there is none.

@@ -2,7 +2,7 @@ use Rattle.std.proofs.Common.{[], Ok, Err, sym, ◌∙◌, ap, subst}
 use Rattle.serving.proofs.Going.{unserved}
 use Rattle.converse.specs.declared.fault.Fault.TheVariants.{NoClock}
 use Rattle.popbox.specs.Served.{HasNoSite, HasNoClock, HasEnded, HasLostTime, HasServed, HasRunBy}
-use Rattle.popbox.proofs.Serving.{set_so, set_by, ran_by, err_is, has_stopped}
+use Rattle.popbox.proofs.ByOptions.{set_so, set_by, ran_by, err_is, has_stopped}
 use Rattle.popbox.proofs.serve.serve_until.Goals as goal
 
 pub returns-in_err-site-clause-served : goal.returns-in_err-site-clause-served
