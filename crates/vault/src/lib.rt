@@ -1,4 +1,5 @@
-//! What a mail store keeps (clerks, maildrops, messages, deposits and the policy), its calls (the trait `Vault`), and a store in memory.
+//! What a mail store keeps (clerks, maildrops, messages, deposits and the policy), its fifteen
+//! calls (the trait `Vault`), and a store in memory.
 #![tactic(auto)]
 
 mod answer;
