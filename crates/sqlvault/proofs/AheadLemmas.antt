@@ -51,14 +51,14 @@ CommitsInside {S} store old new Done answered = Commits
 
 -- ---- what is held where no removal is under way
 
-held_none : {S : Type 0} {store : Ghosts S} {v : Prepared S} {c : Contents}
+held_none : {S : Type 0} (store : Ghosts S) (v : Prepared S) (c : Contents)
     → v.under_way ≡ None → holds_in store v c → Holds (state store v.vault.conn) c
-held_none {store = store} {v = v} {c = c} none h =
+held_none store v c none h =
     subst (λ u. HoldsBeside (state store v.vault.conn) u c) none h
 
-held_in_none : {S : Type 0} {store : Ghosts S} {v : Prepared S} {c : Contents}
+held_in_none : {S : Type 0} (store : Ghosts S) (v : Prepared S) (c : Contents)
     → v.under_way ≡ None → Holds (state store v.vault.conn) c → holds_in store v c
-held_in_none {store = store} {v = v} {c = c} none h =
+held_in_none store v c none h =
     subst (λ u. HoldsBeside (state store v.vault.conn) u c) (sym none) h
 
 -- a stop leaves just what is held, also if a removal is under way
@@ -68,21 +68,6 @@ leaves_beside s None c law up h = leaves_last s c law up h
 leaves_beside s (Some r) c law up h = h.within.stop
 
 -- ---- one call, which gave a removal up before
-
--- no call
-pub looks_idle_in : {S A : Type 0} (store : Ghosts S) {old was : Prepared S} (x : A) → was ≡ old
-    → LeavesLast (state store old.vault.conn)
-    → (let r : Result A VaultFault = Ok x in LooksIn store old was r)
-looks_idle_in {S} {A} store {old = old} {was = was} x e law =
-    subst (λ (v : Prepared S). let r : Result A VaultFault = Ok x in LooksIn store old v r) (sym e)
-    (record {
-      counted = record { kept = omega arith; cause = λ is. absurd (true≢false (ap is_ok is)) };
-      clean = λ clean. clean;
-      held = λ c clean held. held;
-      up = λ c clean held up own. up;
-      stop = λ c clean up held left may.
-          settled_beside (state store old.vault.conn) old.under_way c held up law left may;
-    })
 
 -- a step of a removal
 pub looks_prepared : {S A : Type 0} (store : Ghosts S) {old new : Prepared S} (was : Opened S)
@@ -131,12 +116,13 @@ looks_then_in store {old = old} {mid = mid} {new = new} a b = record {
 pub looks_inside : {S A : Type 0} (store : Ghosts S) {was new : Prepared S}
     {answered : Result A VaultFault} → was.under_way ≡ None → new.under_way ≡ None
     → LooksInside store was.vault new.vault answered → LooksIn store was new answered
-looks_inside store none still b = record {
+looks_inside store {was = was} {new = new} none still b = record {
   counted = b.counted;
   clean = b.clean;
-  held = λ c clean h. held_in_none still (b.held c clean (held_none none h));
-  up = λ c clean h up own. b.up c clean (held_none none h) up own;
-  stop = λ c clean up h. b.stop c clean up (held_none none h);
+  held = λ c clean h. held_in_none store new c still
+      (b.held c clean (held_none store was c none h));
+  up = λ c clean h up own. b.up c clean (held_none store was c none h) up own;
+  stop = λ c clean up h. b.stop c clean up (held_none store was c none h);
 }
 
 pub looks_after : {S A : Type 0} (store : Ghosts S) {old mid was new : Prepared S} {u : Unit {0}}
@@ -169,29 +155,29 @@ commits_after {S} store {old = old} {was = was} {new = new} {u = u} Done e first
             a.counted.kept (b.counted.cause is);
       };
       clean = λ clean. a.clean (b.clean clean);
-      up = λ c clean h up own. b.up c clean (held_none none2 (a.held c (b.clean clean) h))
+      up = λ c clean h up own. b.up c clean (held_none store was c none2 (a.held c (b.clean clean) h))
           (a.up c (b.clean clean) h up tt) own;
       stop = λ c clean up h. b.stop c clean (a.up c (b.clean clean) h up tt)
-          (held_none none2 (a.held c (b.clean clean) h));
+          (held_none store was c none2 (a.held c (b.clean clean) h));
     }
 
 -- what it answers and leaves
-pub done_after : {S : Type 0} (store : Ghosts S) {old mid was new : Prepared S} {u : Unit {0}}
-    (Done : (Contents → Type 0) → Type 0) (c : Contents) → was ≡ mid
+pub done_after : {S : Type 0} (store : Ghosts S) {old mid was : Prepared S} (new : Prepared S)
+    {u : Unit {0}} (Done : (Contents → Type 0) → Type 0) (c : Contents) → was ≡ mid
     → (let r : Result (Unit {0}) VaultFault = Ok u in LooksIn store old mid r)
     → mid.under_way ≡ None → new.under_way ≡ was.under_way
     → (HasCleanDisk (state store new.vault.conn) → HasCleanDisk (state store was.vault.conn))
     → (Holds (state store was.vault.conn) c → HasCleanDisk (state store new.vault.conn)
     → Done (Holds (state store new.vault.conn)))
     → holds_in store old c → clean_in store new → Done (holds_in store new)
-done_after {S} store {old = old} {was = was} {new = new} {u = u} Done c e first none same before done h
+done_after {S} store {old = old} {was = was} new {u = u} Done c e first none same before done h
     clean =
     let none2 : was.under_way ≡ None = ap (λ (v : Prepared S). v.under_way) e ∙ none in
     let a = subst (λ (v : Prepared S). let r : Result (Unit {0}) VaultFault = Ok u in
     LooksIn store old v r) (sym e) first in
     subst (λ (under : Option Removal). Done (λ k. HoldsBeside (state store new.vault.conn) under k))
     (sym (same ∙ none2))
-    (done (held_none none2 (a.held c (before clean) h)) clean)
+    (done (held_none store was c none2 (a.held c (before clean) h)) clean)
 
 -- ---- a removal couldn't be given up
 
@@ -272,13 +258,13 @@ of_these store {old = old} {new = new} it d keys r e f a =
     subst (λ ks. Finishes store old new it (λ c Held x. AreRemoved Held c d ks x) r) f
     (subst (λ n. Finishes store old new it (λ c Held x. AreRemoved Held c n it.keys x) r) e a)
 
-pub finish_done : {S : Type 0} (store : Ghosts S) {old new : Prepared S} (was : Opened S)
+pub finish_done : {S : Type 0} (store : Ghosts S) (old new : Prepared S) (was : Opened S)
     (it : Removal) (d keys : List ℕ) (r : Result (Unit {0}) VaultFault)
     → was ≡ old.vault → old.under_way ≡ Some it → new.under_way ≡ None
     → Finishes store was.conn new.vault.conn it (λ c Held a. AreRemoved Held c d keys a) r
     → (c : Contents) → holds_in store old c → clean_in store new
     → AreRemoved (holds_in store new) c d keys r
-finish_done {S} store {old = old} {new = new} was it d keys r e f g a c h clean =
+finish_done {S} store old new was it d keys r e f g a c h clean =
     let at = subst (λ (v : Opened S). Finishes store v.conn new.vault.conn it
     (λ k Held x. AreRemoved Held k d keys x) r) e a in
     let under : HoldsUnder (state store old.vault.conn) it c =
@@ -309,12 +295,12 @@ finish_commits {S} store {old = old} {new = new} was it d keys r e f counted a =
 -- ---- steps of a removal, as calls
 
 -- a step that answered a fault, which has another type
-pub prepares_refused : {S A : Type 0} {store : Ghosts S} {old new : Held S}
+pub prepares_refused : {S : Type 0} (A : Type 0) {store : Ghosts S} {old new : Held S}
     {before after : Option Removal} (e : VaultFault)
     → (let r : Result (Unit {0}) VaultFault = Ok tt in IsRefusal r e)
     → (let r : Result (Unit {0}) VaultFault = Err e in Prepares store old new before after (IsOwn r))
     → (let r : Result A VaultFault = Err e in Prepares store old new before after (IsOwn r))
-prepares_refused {A = A} e is it =
+prepares_refused A e is it =
     prepares_own (λ own. absurd (refusal_not_own A e is own)) it
 
 -- faults are counted by a step that is done, and then by another

@@ -138,11 +138,7 @@ impl<S: Alter> Ahead<S> {
     }
 
     /// Begins a removal and does a piece of it, where none is under way.
-    fn start(
-        &mut self,
-        maildrop: &Name,
-        keys: &[MessageKey],
-    ) -> Result<Progress, VaultFault>
+    fn start(&mut self, maildrop: &Name, keys: &[MessageKey]) -> Result<Progress, VaultFault>
         ensures prepares { self.old.under_way ≡ None → Prepares S.Store self.old.vault.conn
             self.new.vault.conn None self.new.under_way (IsOwn result) }
         ensures counted { CountsFaults self.old.vault.faults self.new.vault.faults result }

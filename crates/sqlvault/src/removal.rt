@@ -99,7 +99,11 @@ pub(crate) fn remove_piece<S: Alter>(
     ensures answer { IsAnswer (Ok tt) (answer_of result) }
 {
     let from = removing.left.saturating_sub(PIECE);
-    match remove_all(conn, &removing.maildrop, &removing.keys[from..removing.left]) {
+    match remove_all(
+        conn,
+        &removing.maildrop,
+        &removing.keys[from..removing.left],
+    ) {
         Ok(()) => {}
         Err(error) => return Err(Refusal::Met(undo(conn, error))),
     }

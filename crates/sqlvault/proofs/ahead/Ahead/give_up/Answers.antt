@@ -16,9 +16,9 @@ returns-in-None-clause-looks g c =
 pub returns-in-Some-clause-looks : goal.returns-in-Some-clause-looks
 returns-in-Some-clause-looks g c =
     looks_prepared g.S.Store {old = c.args.self.now} {new = record { vault = c.give_up_removal.new.self; under_way = c.take.new.self }}
-    c.self.inside.vault (Some c.in-Some.field-0) None c.give_up_removal.result
+    c.self.inside.vault (Some c.in-Some._removing) None c.give_up_removal.result
     (ap (λ (v : Prepared g.row.S.Denot). v.vault) c.self.view_is)
     (sym (ap (λ (v : Prepared g.row.S.Denot). v.under_way) c.self.view_is) ∙ sym c.in-Some.ensures.value)
     c.in-Some.ensures.after c.give_up_removal.ensures.counted
-    (c.give_up_removal.ensures.prepares c.in-Some.field-0)
+    (c.give_up_removal.ensures.prepares c.in-Some._removing)
     (λ db o m. g.met.S.Store.settled c.args.self.now.vault.conn.store db o m)

@@ -5,7 +5,7 @@ use Rattle.sqlvault.proofs.ahead.AheadVault.add_maildrop.Goals as goal
 
 pub returns-in-Ok-clause-done : goal.returns-in-Ok-clause-done
 returns-in-Ok-clause-done g c k h clean =
-    done_after g.S.Store {new = record { vault = c.add_maildrop.new.self; under_way = c.self.inside.removing }}
+    done_after g.S.Store (record { vault = c.add_maildrop.new.self; under_way = c.self.inside.removing })
     (λ Held. IsMaildropAdded Held k c.args.maildrop.now c.add_maildrop.result)
     k c.self.view_is c.in-Ok.ensures.looks c.in-Ok.ensures.none refl c.add_maildrop.ensures.commits.clean (c.add_maildrop.ensures.done k) h clean
 

@@ -7,7 +7,7 @@ use Rattle.sqlvault.proofs.ahead.AheadVault.clerks.Goals as goal
 
 pub returns-in-Ok-clause-done : goal.returns-in-Ok-clause-done
 returns-in-Ok-clause-done g c k h clean =
-    done_after g.S.Store {new = record { vault = c.clerks.new.self; under_way = c.self.inside.removing }}
+    done_after g.S.Store (record { vault = c.clerks.new.self; under_way = c.self.inside.removing })
     (λ Held. AreClerkKinds Held k (seen_as c.clerks.result (λ (v : Vec ClerkKind Global). v.items)))
     k c.self.view_is c.in-Ok.ensures.looks c.in-Ok.ensures.none refl c.clerks.ensures.looks.clean (c.clerks.ensures.done k) h clean
 

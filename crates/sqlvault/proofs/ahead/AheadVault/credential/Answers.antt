@@ -5,7 +5,7 @@ use Rattle.sqlvault.proofs.ahead.AheadVault.credential.Goals as goal
 
 pub returns-in-Ok-clause-done : goal.returns-in-Ok-clause-done
 returns-in-Ok-clause-done g c k h clean =
-    done_after g.S.Store {new = record { vault = c.credential.new.self; under_way = c.self.inside.removing }}
+    done_after g.S.Store (record { vault = c.credential.new.self; under_way = c.self.inside.removing })
     (λ Held. IsCredential Held k c.args.clerk.now c.credential.result)
     k c.self.view_is c.in-Ok.ensures.looks c.in-Ok.ensures.none refl c.credential.ensures.looks.clean (c.credential.ensures.done k) h clean
 

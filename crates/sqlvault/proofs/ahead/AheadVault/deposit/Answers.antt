@@ -5,7 +5,7 @@ use Rattle.sqlvault.proofs.ahead.AheadVault.deposit.Goals as goal
 
 pub returns-in-Ok-clause-done : goal.returns-in-Ok-clause-done
 returns-in-Ok-clause-done g c k h clean =
-    done_after g.S.Store {new = record { vault = c.deposit.new.self; under_way = c.self.inside.removing }}
+    done_after g.S.Store (record { vault = c.deposit.new.self; under_way = c.self.inside.removing })
     (λ Held. IsDeposited Held k c.args.maildrop.now c.args.class.now c.args.id.now c.args.text.now c.deposit.result)
     k c.self.view_is c.in-Ok.ensures.looks c.in-Ok.ensures.none refl c.deposit.ensures.commits.clean (c.deposit.ensures.done k) h clean
 

@@ -5,7 +5,7 @@ use Rattle.sqlvault.proofs.ahead.AheadVault.drop_clerk.Goals as goal
 
 pub returns-in-Ok-clause-done : goal.returns-in-Ok-clause-done
 returns-in-Ok-clause-done g c k h clean =
-    done_after g.S.Store {new = record { vault = c.drop_clerk.new.self; under_way = c.self.inside.removing }}
+    done_after g.S.Store (record { vault = c.drop_clerk.new.self; under_way = c.self.inside.removing })
     (λ Held. IsClerkDropped Held k c.args.clerk.now c.drop_clerk.result)
     k c.self.view_is c.in-Ok.ensures.looks c.in-Ok.ensures.none refl c.drop_clerk.ensures.commits.clean (c.drop_clerk.ensures.done k) h clean
 

@@ -5,7 +5,7 @@ use Rattle.sqlvault.proofs.ahead.AheadVault.drop_maildrop.Goals as goal
 
 pub returns-in-Ok-clause-done : goal.returns-in-Ok-clause-done
 returns-in-Ok-clause-done g c k h clean =
-    done_after g.S.Store {new = record { vault = c.drop_maildrop.new.self; under_way = c.self.inside.removing }}
+    done_after g.S.Store (record { vault = c.drop_maildrop.new.self; under_way = c.self.inside.removing })
     (λ Held. IsMaildropDropped Held k c.args.maildrop.now c.drop_maildrop.result)
     k c.self.view_is c.in-Ok.ensures.looks c.in-Ok.ensures.none refl c.drop_maildrop.ensures.commits.clean (c.drop_maildrop.ensures.done k) h clean
 

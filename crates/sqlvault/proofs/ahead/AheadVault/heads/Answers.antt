@@ -6,7 +6,7 @@ use Rattle.sqlvault.proofs.ahead.AheadVault.heads.Goals as goal
 
 pub returns-in-Ok-clause-done : goal.returns-in-Ok-clause-done
 returns-in-Ok-clause-done g c k h clean =
-    done_after g.S.Store {new = record { vault = c.heads.new.self; under_way = c.self.inside.removing }}
+    done_after g.S.Store (record { vault = c.heads.new.self; under_way = c.self.inside.removing })
     (λ Held. AreHeads Held k c.args.maildrop.now (seen_as c.heads.result (λ (v : Vec Head Global). v.items)))
     k c.self.view_is c.in-Ok.ensures.looks c.in-Ok.ensures.none refl c.heads.ensures.looks.clean (c.heads.ensures.done k) h clean
 

@@ -6,7 +6,7 @@ use Rattle.sqlvault.proofs.ahead.AheadVault.maildrops.Goals as goal
 
 pub returns-in-Ok-clause-done : goal.returns-in-Ok-clause-done
 returns-in-Ok-clause-done g c k h clean =
-    done_after g.S.Store {new = record { vault = c.maildrops.new.self; under_way = c.self.inside.removing }}
+    done_after g.S.Store (record { vault = c.maildrops.new.self; under_way = c.self.inside.removing })
     (λ Held. AreTotals Held k (seen_as c.maildrops.result (λ (v : Vec Total Global). v.items)))
     k c.self.view_is c.in-Ok.ensures.looks c.in-Ok.ensures.none refl c.maildrops.ensures.looks.clean (c.maildrops.ensures.done k) h clean
 

@@ -5,7 +5,7 @@ use Rattle.sqlvault.proofs.ahead.AheadVault.page.Goals as goal
 
 pub returns-in-Ok-clause-done : goal.returns-in-Ok-clause-done
 returns-in-Ok-clause-done g c k h clean =
-    done_after g.S.Store {new = record { vault = c.page.new.self; under_way = c.self.inside.removing }}
+    done_after g.S.Store (record { vault = c.page.new.self; under_way = c.self.inside.removing })
     (λ Held. IsPaged Held k c.args.key c.args.from c.page.new.buffer c.page.result)
     k c.self.view_is c.in-Ok.ensures.looks c.in-Ok.ensures.none refl c.page.ensures.looks.clean (c.page.ensures.done k) h clean
 

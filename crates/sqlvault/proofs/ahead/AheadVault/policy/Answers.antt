@@ -5,7 +5,7 @@ use Rattle.sqlvault.proofs.ahead.AheadVault.policy.Goals as goal
 
 pub returns-in-Ok-clause-done : goal.returns-in-Ok-clause-done
 returns-in-Ok-clause-done g c k h clean =
-    done_after g.S.Store {new = record { vault = c.policy.new.self; under_way = c.self.inside.removing }}
+    done_after g.S.Store (record { vault = c.policy.new.self; under_way = c.self.inside.removing })
     (λ Held. IsPolicy Held k c.policy.result)
     k c.self.view_is c.in-Ok.ensures.looks c.in-Ok.ensures.none refl c.policy.ensures.looks.clean (c.policy.ensures.done k) h clean
 

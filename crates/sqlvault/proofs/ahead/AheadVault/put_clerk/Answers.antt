@@ -5,7 +5,7 @@ use Rattle.sqlvault.proofs.ahead.AheadVault.put_clerk.Goals as goal
 
 pub returns-in-Ok-clause-done : goal.returns-in-Ok-clause-done
 returns-in-Ok-clause-done g c k h clean =
-    done_after g.S.Store {new = record { vault = c.put_clerk.new.self; under_way = c.self.inside.removing }}
+    done_after g.S.Store (record { vault = c.put_clerk.new.self; under_way = c.self.inside.removing })
     (λ Held. IsClerkPut Held k c.args.clerk.now c.args.credential.now c.put_clerk.result)
     k c.self.view_is c.in-Ok.ensures.looks c.in-Ok.ensures.none refl c.put_clerk.ensures.commits.clean (c.put_clerk.ensures.done k) h clean
 

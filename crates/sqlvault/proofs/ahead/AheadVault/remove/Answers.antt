@@ -7,7 +7,7 @@ use Rattle.sqlvault.proofs.ahead.AheadVault.remove.Goals as goal
 
 pub returns-in-Some-clause-done : goal.returns-in-Some-clause-done
 returns-in-Some-clause-done g c =
-    finish_done g.S.Store {old = c.args.self.now} {new = record { vault = c.finish_removal.new.self; under_way = c.self.inside.removing }}
+    finish_done g.S.Store c.args.self.now (record { vault = c.finish_removal.new.self; under_way = c.self.inside.removing })
     c.self.inside.vault c.in-Some.removing c.args.maildrop.now c.args.keys.now c.finish_removal.result
     (ap (λ (v : Prepared g.row.S.Denot). v.vault) c.self.view_is ∙ c.in-Some.ensures.same) c.in-Some.ensures.taken.0
     (ap (λ (v : Prepared g.row.S.Denot). v.under_way) c.self.view_is ∙ c.in-Some.ensures.taken.1)
@@ -25,7 +25,7 @@ returns-in-Some-clause-commits g c =
 
 pub returns-clause-done : goal.returns-clause-done
 returns-clause-done g c k h clean =
-    done_after g.S.Store {new = record { vault = c.remove.new.self; under_way = c.self.inside.removing }}
+    done_after g.S.Store (record { vault = c.remove.new.self; under_way = c.self.inside.removing })
     (λ Held. AreRemoved Held k c.args.maildrop.now c.args.keys.now c.remove.result)
     k c.self.view_is (looks_from g.S.Store (Ok c.in-Ok.field-0) c.in_default.ensures.none c.in-Ok.ensures.looks)
     c.in-Ok.ensures.none refl c.remove.ensures.commits.clean (c.remove.ensures.done k) h clean

@@ -5,7 +5,7 @@ use Rattle.sqlvault.proofs.ahead.AheadVault.set_policy.Goals as goal
 
 pub returns-in-Ok-clause-done : goal.returns-in-Ok-clause-done
 returns-in-Ok-clause-done g c k h clean =
-    done_after g.S.Store {new = record { vault = c.set_policy.new.self; under_way = c.self.inside.removing }}
+    done_after g.S.Store (record { vault = c.set_policy.new.self; under_way = c.self.inside.removing })
     (λ Held. IsPolicySet Held k c.args.policy.now c.set_policy.result)
     k c.self.view_is c.in-Ok.ensures.looks c.in-Ok.ensures.none refl c.set_policy.ensures.commits.clean (c.set_policy.ensures.done k) h clean
 
