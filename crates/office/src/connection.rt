@@ -275,7 +275,7 @@ impl Connection {
             return false;
         }
         let mut cutter = self.cutter.copied();
-        let _ = cutter.feed(piece);
+        let _fed = cutter.feed(piece);
         let Some(cut) = cutter.line() else {
             return false;
         };

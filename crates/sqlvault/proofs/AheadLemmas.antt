@@ -16,7 +16,7 @@ use Rattle.sqlvault.specs.Opened.{Opened}
 use Rattle.sqlvault.specs.Stands.{Holds}
 use Rattle.sqlvault.specs.Stops.{MayHold, LeavesHeld, LeavesLast, leaves_last}
 use Rattle.sqlvault.specs.Removals.{Removal, Prepared, Prepares, Finishes, HoldsBeside, HoldsUnder}
-use Rattle.sqlvault.specs.Removals.{holds_in, clean_in, up_in, leave_in, faults_in, settled_beside}
+use Rattle.sqlvault.specs.Removals.{holds_in, clean_in, up_in, leave_in, faults_in}
 use Rattle.sqlvault.proofs.StopLemmas.{left_as, left_done}
 use Rattle.sqlvault.proofs.RemovalLemmas.{prepares_own}
 
@@ -346,3 +346,22 @@ none_told {S} e none = ap (λ (v : Prepared S). v.under_way) e ∙ none
 pub looks_from : {S A : Type 0} (store : Ghosts S) {old was new : Prepared S}
     (r : Result A VaultFault) → was ≡ old → LooksIn store was new r → LooksIn store old new r
 looks_from {S} store {new = new} r e it = subst (λ (v : Prepared S). LooksIn store v new r) e it
+
+-- ---- the vault inside, given back once a removal was given up
+
+module _ {S : Type 0} (store : Ghosts S) {old mid was : Prepared S} (r : Result (Unit {0}) VaultFault)
+    (e : was ≡ mid) (gave_up : LooksIn store old mid r) where
+  back : LooksIn store old was r
+  back = subst (λ (v : Prepared S). LooksIn store old v r) (sym e) gave_up
+
+  -- it holds what was held
+  pub given_back : mid.under_way ≡ None → (c : Contents) → holds_in store old c
+      → HasCleanDisk (state store was.vault.conn) → Holds (state store was.vault.conn) c
+  given_back none c h clean =
+      held_none store was c (none_told e none) (back.held c clean h)
+
+  pub given_back_clean : HasCleanDisk (state store was.vault.conn) → clean_in store old
+  given_back_clean clean = back.clean clean
+
+  pub given_back_counted : faults_in old ≤ was.vault.faults
+  given_back_counted = back.counted.kept

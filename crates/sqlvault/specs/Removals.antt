@@ -1,6 +1,7 @@
 -- A removal in parts, in one open transaction. Nothing of it is committed before its end, so that
 -- the store holds what it held, and a stop leaves just this.
-use Rattle.std.specs.Prelude.{ℕ, List, length, drop, IsTrue, Option, Some, None, Result, Ok, Err, refl}
+use Rattle.std.specs.Prelude.{ℕ, List, length, drop, IsTrue, Option, Some, None}
+use Rattle.std.specs.Prelude.{Result, Ok, Err, refl}
 use Rattle.std.specs.Coded.{Coded, code_by, coded×, coded_ℕ, coded_list, coded_option}
 use Rattle.sqlite_trees.specs.declared.store.Store.{Ghosts}
 use Rattle.sqlite.specs.Held.{Held, state}
@@ -81,11 +82,16 @@ pub record Prepared (S : Type 0) : Type 0 where
 
 -- how a removal is coded: as its maildrop, its keys and what is left of them
 abbrev pub removal_code : Coded Removal
-removal_code = code_by ((List ℕ × List ℕ) × ℕ) (coded× (coded× (coded_list coded_ℕ) (coded_list coded_ℕ)) coded_ℕ) (λ r. ((r.maildrop, r.keys), r.left)) (λ p. record { maildrop = p.0.0; keys = p.0.1; left = p.1 }) (λ _. refl)
+removal_code = code_by ((List ℕ × List ℕ) × ℕ)
+    (coded× (coded× (coded_list coded_ℕ) (coded_list coded_ℕ)) coded_ℕ)
+    (λ r. ((r.maildrop, r.keys), r.left))
+    (λ p. record { maildrop = p.0.0; keys = p.0.1; left = p.1 }) (λ _. refl)
 
 -- how such a store is coded
 abbrev pub prepared_code : {S : Type 0} → Coded S → Coded (Prepared S)
-prepared_code {S} store = code_by (Opened S × Option Removal) (coded× (opened_code store) (coded_option removal_code)) (λ v. (v.vault, v.under_way)) (λ p. record { vault = p.0; under_way = p.1 }) (λ _. refl)
+prepared_code {S} store = code_by (Opened S × Option Removal)
+    (coded× (opened_code store) (coded_option removal_code)) (λ v. (v.vault, v.under_way))
+    (λ p. record { vault = p.0; under_way = p.1 }) (λ _. refl)
 
 -- no removal is under way
 abbrev pub nothing_prepared : {S : Type 0} → Opened S → Prepared S

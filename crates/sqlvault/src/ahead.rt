@@ -17,9 +17,9 @@ use vault::{ClerkKind, Deposited, Head, MessageKey, Progress, Total, Vault, Vaul
 /// After how many removals that were given up the next one is done at once.
 const MOST_GIVEN_UP: u8 = 3;
 
-/// A vault over tables that does a removal in parts, if it is asked to prepare it: a piece for each
-/// time that it is asked, in one transaction, which the removal itself then finishes. Any other call
-/// gives the removal up before it does its work. After three removals that were given up none is
+/// A vault over tables that does a removal in parts, if it is asked to prepare it: a piece each
+/// time that it is asked, in one transaction, which the removal itself then finishes. Any other
+/// call gives the removal up before it does its work. After three that were given up, none is
 /// prepared until one was done.
 ///
 /// Contracts see the vault inside and the removal that is under way.

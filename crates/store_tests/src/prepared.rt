@@ -1,5 +1,5 @@
-//! What no clause says of `Ahead`: how much of a removal is done each time that it is prepared, when
-//! it is given up, and that it is then done at once.
+//! What no clause says of `Ahead`: how much of a removal is done each time that it is prepared,
+//! when it is given up, and that it is then done at once.
 use creds::{DepositId, Name};
 use mailtext::canon;
 use sqlite::MemStore;

@@ -4,7 +4,8 @@ ghost use Rattle.vault.specs.Changes.{Contents};
 ghost use Rattle.vault.specs.Call.{Looks, Commits};
 ghost use Rattle.vault.specs.Calls.{seen_as, IsAnswer, IsDeposited, AreHeads, IsPaged, AreRemoved};
 ghost use Rattle.vault.specs.Calls.{IsCredential, IsClerkPut, IsClerkDropped, IsMaildropAdded};
-ghost use Rattle.vault.specs.Calls.{IsMaildropDropped, IsPrepared, AreTotals, IsPolicy, IsPolicySet};
+ghost use Rattle.vault.specs.Calls.{IsMaildropDropped, IsPrepared, AreTotals, IsPolicy};
+ghost use Rattle.vault.specs.Calls.{IsPolicySet};
 ghost use Rattle.vault.specs.Clerks.{AreClerkKinds};
 ghost use Rattle.vault.specs.Refusals.{refusing_call, is_next, one_more, faults_of, over, IsInTurn};
 

@@ -5,7 +5,8 @@ ghost use Rattle.vault.specs.Stops.{SaySame};
 ghost use Rattle.vault.specs.Call.{Looks, Commits};
 ghost use Rattle.vault.specs.Calls.{seen_as, IsAnswer, IsDeposited, AreHeads, IsPaged, AreRemoved};
 ghost use Rattle.vault.specs.Calls.{IsCredential, IsClerkPut, IsClerkDropped, IsMaildropAdded};
-ghost use Rattle.vault.specs.Calls.{IsMaildropDropped, IsPrepared, AreTotals, IsPolicy, IsPolicySet};
+ghost use Rattle.vault.specs.Calls.{IsMaildropDropped, IsPrepared, AreTotals, IsPolicy};
+ghost use Rattle.vault.specs.Calls.{IsPolicySet};
 ghost use Rattle.vault.specs.Clerks.{AreClerkKinds};
 
 use crate::answer::{ClerkKind, Deposited, Head, Progress, Total};

@@ -1,4 +1,4 @@
-use Rattle.std.proofs.Common.{Ok, Err, Some, None, sym, ap, ◌∙◌, refl}
+use Rattle.std.proofs.Common.{Ok, Some, None, sym, ap, ◌∙◌, refl}
 use Rattle.sqlvault.specs.Removals.{Prepared}
 use Rattle.sqlvault.proofs.RemovalLemmas.{prepares_none}
 use Rattle.sqlvault.proofs.AheadLemmas.{looks_prepared, counts_none}

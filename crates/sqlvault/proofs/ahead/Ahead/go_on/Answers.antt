@@ -1,4 +1,4 @@
-use Rattle.std.proofs.Common.{Ok, Err, Some, None, refl}
+use Rattle.std.proofs.Common.{Err}
 use Rattle.sqlvault.proofs.AheadLemmas.{prepares_refused, step_told, counts_told, none_told, counts_as}
 use Rattle.vault.specs.declared.answer.Progress.{Progress}
 use Rattle.sqlvault.proofs.ahead.Ahead.go_on.Goals as goal

@@ -1,7 +1,6 @@
-use Rattle.std.proofs.Common.{Ok, Err, Some, None, [], refl}
-use Rattle.sqlvault.proofs.RemovalLemmas.{prepares_none, prepares_then}
+use Rattle.std.proofs.Common.{Err, Some, [], ap}
+use Rattle.sqlvault.proofs.RemovalLemmas.{prepares_then}
 use Rattle.sqlvault.proofs.AheadLemmas.{prepares_refused, step_told, counts_told, none_told, counts_as}
-use Rattle.sqlvault.proofs.AheadLemmas.{counts_none, counts_then}
 use Rattle.vault.specs.declared.answer.Progress.{Progress}
 use Rattle.sqlvault.proofs.ahead.Ahead.start.Goals as goal
 
@@ -14,3 +13,10 @@ pub returns-in-Err-clause-counted : goal.returns-in-Err-clause-counted
 returns-in-Err-clause-counted g c =
     counts_told c.begin_removal.new.self.faults (Err c.in-Err.fault) c.self.view_is
     (counts_as c.self.inside.vault.faults c.begin_removal.new.self.faults c.in-Err.fault c.in-Err.ensures.counted)
+
+pub returns-clause-prepares : goal.returns-clause-prepares
+returns-clause-prepares g c none =
+    prepares_then
+    (step_told g.S.Store (Some c.in-Some.removing) c.self.view_is (ap Some c.in-Some.ensures)
+    (c.in-Ok.ensures.prepares c.args.maildrop.now c.args.keys.now))
+    (c.go_on.ensures.prepares (none_told c.self.view_is none))

@@ -25,15 +25,15 @@ returns-in-Some-clause-commits g c =
 
 pub returns-clause-done : goal.returns-clause-done
 returns-clause-done g c k h clean =
-    done_after g.S.Store (record { vault = c.remove.new.self; under_way = c.self.inside.removing })
+    done_after g.S.Store (record { vault = c.remove.new.self; under_way = c.self-2.inside.removing })
     (λ Held. AreRemoved Held k c.args.maildrop.now c.args.keys.now c.remove.result)
-    k c.self.view_is (looks_from g.S.Store (Ok c.in-Ok.field-0) c.in_default.ensures.none c.in-Ok.ensures.looks)
+    k c.self-2.view_is (looks_from g.S.Store (Ok c.in-Ok.field-0) c.in_default.ensures.none c.in-Ok.ensures.looks)
     c.in-Ok.ensures.none refl c.remove.ensures.commits.clean (c.remove.ensures.done k) h clean
 
 pub returns-clause-commits : goal.returns-clause-commits
 returns-clause-commits g c =
-    commits_after g.S.Store {new = record { vault = c.remove.new.self; under_way = c.self.inside.removing }}
-    _ c.self.view_is (looks_from g.S.Store (Ok c.in-Ok.field-0) c.in_default.ensures.none c.in-Ok.ensures.looks)
+    commits_after g.S.Store {new = record { vault = c.remove.new.self; under_way = c.self-2.inside.removing }}
+    _ c.self-2.view_is (looks_from g.S.Store (Ok c.in-Ok.field-0) c.in_default.ensures.none c.in-Ok.ensures.looks)
     c.in-Ok.ensures.none c.remove.ensures.commits
 
 pub returns-in-Err-clause-done : goal.returns-in-Err-clause-done
