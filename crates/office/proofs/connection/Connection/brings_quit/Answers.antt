@@ -14,10 +14,10 @@ returns c =
     let k : Kept = c.args.self.now in
     let x = cut_seen c.in-Some.cut in
     let held = c.copied-cutter.ensures ∙ ap (λ (k : Kept). k.held) v in
-    let fed_is = c.feed.ensures.held ∙ ap (λ (h : Held). fed h p) held in
+    let fed_is = c.feed-fed.ensures.held ∙ ap (λ (h : Held). fed h p) held in
     let live : is_some k.session ≡ true = search rules in
-    let there = has_line k c.feed.new.self p x fed_is c.in-Some.ensures in
-    let same = is_line k c.feed.new.self p x fed_is c.in-Some.ensures in
+    let there = has_line k c.feed-fed.new.self p x fed_is c.in-Some.ensures in
+    let same = is_line k c.feed-fed.new.self p x fed_is c.in-Some.ensures in
     c.is_quit.ensures ∙ (ap (λ y. is_quit (reading y)) c.read.ensures ∙ quit_line k p live x there same)
 
 pub returns-in_default : goal.returns-in_default
@@ -26,7 +26,7 @@ returns-in_default c =
     let p = c.args.piece.now in
     let k : Kept = c.args.self.now in
     let held = c.copied-cutter.ensures ∙ ap (λ (k : Kept). k.held) v in
-    let fed_is = c.feed.ensures.held ∙ ap (λ (h : Held). fed h p) held in
+    let fed_is = c.feed-fed.ensures.held ∙ ap (λ (h : Held). fed h p) held in
     let live : is_some k.session ≡ true = search rules in
-    let none = no_line k c.feed.new.self p fed_is c.in_default.ensures in
+    let none = no_line k c.feed-fed.new.self p fed_is c.in_default.ensures in
     quit_none k p live none

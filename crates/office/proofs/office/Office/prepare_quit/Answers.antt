@@ -1,7 +1,6 @@
 -- The store holds what it held, and nothing else changes.
 use Rattle.std.proofs.Common.{◌≡◌, true, false, sym, ◌∙◌, true≢false}
 use Rattle.vault.proofs.CallLemmas.{looks_self}
-use Rattle.office.specs.Quitting.{brings_quit}
 use Rattle.office.proofs.office.Office.prepare_quit.Goals as goal
 
 pub returns-then-not-brings_quit-clause-stands : goal.returns-then-not-brings_quit-clause-stands
