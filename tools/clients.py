@@ -232,7 +232,7 @@ def office(program, folder, *words, **how):
 
 
 def log_in(client, *texts, first=b""):
-    """Logs in to the maildrop `orders`, which has these texts, behind what is sent `first`."""
+    """Logs in to the maildrop `orders`, which has these texts, after sending `first`."""
     reply = b"+OK maildrop has %d messages (%d octets)\r\n" % (len(texts), sum(map(len, texts)))
     client.asks(first + b"USER ann/orders\r\nPASS s3 cret\r\n", b"+OK send PASS\r\n" + reply)
 

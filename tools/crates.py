@@ -1,6 +1,9 @@
-"""What tools/build and tools/check-edits share: which crate stands on which, and the free memory."""
+"""What tools share: which crate stands on which, the free memory, and the tree of a commit."""
 
+import contextlib
 import os
+import subprocess
+import tempfile
 
 TOP = os.path.dirname(os.path.dirname(os.path.realpath(__file__)))
 # Where a control group says how much memory it may have.
@@ -33,3 +36,13 @@ def free_memory():
                 word = limit.read().strip()
             free = min(free, int(word) // 1024) if word.isdecimal() else free
     return free
+
+
+@contextlib.contextmanager
+def tree_of(commit):
+    """A folder with the repository's files as of a commit."""
+    with tempfile.TemporaryDirectory() as folder:
+        words = ["git", "-C", TOP, "archive", commit]
+        files = subprocess.run(words, check=True, stdout=subprocess.PIPE).stdout
+        subprocess.run(["tar", "-x", "-C", folder], check=True, input=files)
+        yield folder

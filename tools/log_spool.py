@@ -67,11 +67,11 @@ def what_lies_in_the_spool(program, folder):
         with open(f"{folder}/spool/{name}", "w", encoding="utf-8") as file:
             file.write("Subject: a chair\n\nA chair.\n")
     os.symlink("/etc/passwd", f"{folder}/spool/orders.note.n-2.eml")
-    # What stands aside isn't told, however old it is.
+    # What stands aside isn't logged, however old it is.
     for name in ("orders.note.n-1.eml.bad", "orders.note.n-1.eml.bad.2"):
         shutil.copy(f"{folder}/spool/new.tmp", f"{folder}/spool/{name}")
         os.utime(f"{folder}/spool/{name}", (1_000_000_000, 1_000_000_000))
-    # Other names of that ending are told.
+    # Other names of that ending are logged.
     shutil.copy(f"{folder}/spool/orders.note.n-1.eml.bad", f"{folder}/spool/chair.bad")
     os.utime(f"{folder}/spool/chair.bad", (1_000_000_000, 1_000_000_000))
     os.rename(f"{folder}/spool/new.tmp", f"{folder}/twice")
