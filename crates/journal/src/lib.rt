@@ -11,6 +11,7 @@
 mod account_text;
 mod administrators;
 mod asked_text;
+mod beside;
 mod client;
 mod counts;
 mod denials;
@@ -27,6 +28,7 @@ mod spool;
 mod store;
 mod watch;
 
+pub use beside::path_beside;
 pub use guarded::{GuardedSpool, folder_was_asked};
 pub use journal::{Journal, Shared};
 pub use left::Folder;

@@ -1,7 +1,8 @@
 //! A server's start and its end, and its store's size.
+use super::beside::path_beside;
 use super::journal::{Journal, quoted};
 use super::settings::{Settings, settings_text};
-use super::watch::{Loss, log_path};
+use super::watch::Loss;
 use std::alloc::{AllocError, Global};
 use std::fs;
 use std::net::SocketAddr;
@@ -26,10 +27,7 @@ fn octets_of(rt: &HostRuntime, path: &str) -> u64 {
 
 /// The line of an opening.
 fn opening_text(alloc: Global, rt: &HostRuntime, store: &str) -> Result<String, AllocError> {
-    let log = match log_path(rt, store) {
-        Some(log) => log,
-        None => format!(in alloc; "{store}-wal")?,
-    };
+    let log = path_beside(rt, store, "-wal")?;
     let (file, log) = (octets_of(rt, store), octets_of(rt, log.as_str()));
     let store = quoted(alloc, store.as_bytes())?;
     format!(in alloc; "event=open store={store} file={file} log={log}")

@@ -1,6 +1,7 @@
 //! Whether the store's files are still those that a server has open.
 ghost use Rattle.std.specs.Prelude.{◌≡◌, ◌++◌, ◌∷◌, [], Bool, List, ⊤};
 
+use super::beside::path_beside;
 use notes::Notes;
 use std::cell::Cell;
 use std::fmt::{Display, Formatter, Write};
@@ -81,13 +82,6 @@ fn is_absence(kind: ErrorKind) -> bool {
     matches!(kind, ErrorKind::NotFound | ErrorKind::NotADirectory)
 }
 
-/// The path of a store's log, which lies beside the file itself, wherever links to it are. `None`
-/// if the file isn't there.
-pub(crate) fn log_path(rt: &HostRuntime, path: &str) -> Option<String> {
-    let real = fs::canonicalize(rt, path).ok()?;
-    format!(in rt.alloc(); "{}-wal", real.as_str()).ok()
-}
-
 /// How many milliseconds lie between two looks at least.
 const BETWEEN_LOOKS: u128 = 100;
 
@@ -110,7 +104,7 @@ impl<'a> StoreWatch<'a> {
     /// opened; without it what stands there now is taken for the file that is open. A path at which
     /// nothing stands isn't watched.
     pub fn new(rt: &'a HostRuntime, path: &'a str, before: Option<FileId>) -> StoreWatch<'a> {
-        let log_path = log_path(rt, path);
+        let log_path = path_beside(rt, path, "-wal").ok();
         let log = match &log_path {
             Some(log_path) => FileId::at(rt, log_path.as_str()),
             None => None,

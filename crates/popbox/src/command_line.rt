@@ -5,6 +5,10 @@ use clap::builder::ValueParser;
 use clap::{Arg, ArgAction, Command, value_parser};
 use std::alloc::{AllocError, Global};
 
+/// The end of `review-policy --help`: which rules it reports.
+const NEVER_DECIDES: &str = "A rule is reported as one that never decides only if one earlier rule \
+                             covers it, and not if several do together";
+
 /// `--NAME VALUE`.
 fn option<'a>(alloc: Global, name: &'a str, value: &'a str, help: &'a str) -> Arg<'a> {
     Arg::new(alloc, name)
@@ -127,7 +131,8 @@ fn review_policy<'a>(alloc: Global) -> Result<Command<'a>, AllocError> {
         file.required(true),
     ]?;
     let about = "Prints who may do what, what a change changes, and which rules never decide";
-    subcommand(alloc, "review-policy", about, arguments)
+    let command = subcommand(alloc, "review-policy", about, arguments)?;
+    Ok(command.after_help(NEVER_DECIDES))
 }
 
 /// `--NAME`, which takes no value.

@@ -1,9 +1,9 @@
 //! A copy of a store that is read into memory, so that no file is changed or created.
 
-use crate::store_file::path_beside;
 use causes::tell_tables;
 use converse::{Fault, read_fault, tell_fault};
 use jobs::open_fault;
+use journal::path_beside;
 use sqlite::{Connection, Error, ErrorCode, FileStore, Files, Options};
 use sqlite_disk::{Disk, Memory};
 use sqlvault::let_go;

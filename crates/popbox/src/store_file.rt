@@ -1,6 +1,6 @@
 //! The file of a store: who may read it.
 
-use std::alloc::AllocError;
+use journal::path_beside;
 use std::fs;
 use std::fs::OpenOptions;
 use std::io::Write;
@@ -14,16 +14,6 @@ const OTHERS_READ: u32 = 0o044;
 
 /// How many octets a log has at most that has no page of a store: a page has 512 at least.
 const WITHOUT_PAGES: u64 = 512;
-
-/// The path of what SQLite puts beside a store's file: the file's path with this ending. If a link
-/// is given, it is the path of the file to which it leads, with the ending.
-pub fn path_beside(rt: &HostRuntime, path: &str, ending: &str) -> Result<String, AllocError> {
-    let is_link = fs::symlink_metadata(rt, path).is_ok_and(|found| found.is_symlink());
-    if is_link && let Ok(real) = fs::canonicalize(rt, path) {
-        return format!(in rt.alloc(); "{}{ending}", real.as_str());
-    }
-    format!(in rt.alloc(); "{path}{ending}")
-}
 
 /// How many octets the log beside a store's file has; 0 if there is none.
 pub fn log_octets(rt: &HostRuntime, path: &str) -> u64 {
