@@ -61,7 +61,7 @@ abbrev pub last_line : List Total → (clerks rules : ℕ) → List ℕ
 last_line ts clerks rules =
     counts_line (length ts) (counted (sum_by (λ (t : Total). t.messages) ts)) (counted (sum_by (λ (t : Total). t.octets) ts)) clerks rules
 
--- at the end: the last line or, where messages differ, a line for each of them
+-- at the end: the last line or, if messages differ, a line for each of them
 abbrev pub end_text : (differing : List Keyed) → List Total → (clerks rules : ℕ) → List ℕ
 end_text [] ts clerks rules = last_line ts clerks rules
 end_text (x ∷ xs) ts clerks rules = flat_map differs_line (x ∷ xs)

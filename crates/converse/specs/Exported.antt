@@ -51,7 +51,7 @@ CountsRefusal before now answer = (before ≤ now) × OnErr answer (has_grown be
 abbrev pub export_line : ℕ → List ℕ
 export_line n = codes "ok, " ++ decimal n ++ codes " messages\n"
 
--- or, where messages were left out, a line for each of them
+-- or, if messages were left out, a line for each of them
 abbrev pub export_text : (count : ℕ) → (differing : List Keyed) → List ℕ
 export_text n [] = export_line n
 export_text n (x ∷ xs) = flat_map differs_line (x ∷ xs)

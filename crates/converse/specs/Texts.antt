@@ -20,7 +20,7 @@ use Rattle.vault.specs.Records.{is_receipt_for}
 use Rattle.converse.specs.declared.texts.Texts.{Texts}
 use Rattle.converse.specs.declared.texts.Texts.TheVariants.{Taken, Compared}
 
--- the deposits whose digests texts are held against; `None` where each text is taken as it is
+-- the deposits whose digests texts are held against; `None` if each text is taken as it is
 abbrev pub against : Texts → Option (List Receipt)
 against Taken = None
 against (Compared receipts) = Some receipts.items

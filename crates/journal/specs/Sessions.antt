@@ -251,7 +251,7 @@ holder_text None name = []
 holder_text (Some n) None = []
 holder_text (Some n) (Some name) = held_text n name
 
--- those of the one who is in a maildrop, where one is
+-- those of the one who is in a maildrop, if one is
 abbrev pub holder_of : Option Client → List ℕ
 holder_of None = []
 holder_of (Some client) = holder_text client.number client.heard.name
@@ -275,7 +275,7 @@ abbrev pub connected_of : (connection : ℕ) → Option Client → List ℕ
 connected_of connection None = []
 connected_of connection (Some client) = connect_of (with_number connection client)
 
--- for how many seconds a login waited, where it was one or more
+-- for how many seconds a login waited, if it was one or more
 abbrev pub waited_text : (seconds : ℕ) → List ℕ
 waited_text zero = []
 waited_text (suc seconds) = codes " waited=" ++ decimal (suc seconds)

@@ -37,7 +37,7 @@ pub(crate) struct Client {
     heard: Heard,
     /// Which of its denials have a line.
     denials: Denials,
-    /// Since when the line that is next has lain unread; `None` where none lies so.
+    /// Since when the line that is next has lain unread; `None` if none does.
     unread: Option<Instant>,
     /// For how many seconds the line that was read last had lain unread.
     waited: u64,
@@ -79,7 +79,7 @@ fn held_text(alloc: Global, number: u64, name: &LoginName) -> Result<String, All
     Ok(text)
 }
 
-/// For how many seconds a login waited, as a value of its line; empty where it didn't wait.
+/// For how many seconds a login waited, as a value of its line; empty if it didn't wait.
 fn waited_text(alloc: Global, seconds: u64) -> Result<String, AllocError>
     ensures { IfOk result (λ text. string_bytes text ≡ waited_text seconds) }
 {
@@ -149,8 +149,8 @@ impl Client {
         self.heard.take(account);
     }
 
-    /// Keeps why it ends, as its line tells it, where that wasn't heard before. Without memory it
-    /// isn't kept.
+    /// Keeps why it ends, as its line says it, if that wasn't heard before. Without memory it isn't
+    /// kept.
     fn end_by(&mut self, alloc: Global, cause: &str)
         ensures same { (self.new.heard ≡ self.old.heard) × (self.new.number ≡ self.old.number)
             × (self.new.link ≡ self.old.link) × (self.new.address ≡ self.old.address) }
@@ -223,7 +223,7 @@ impl Client {
         }
     }
 
-    /// An account's line, where it has one. If `reads`, a RETR has one.
+    /// An account's line, if it has one. If `reads`, a RETR has one.
     fn line(
         &mut self,
         alloc: Global,
@@ -249,7 +249,7 @@ impl Client {
         }
     }
 
-    /// Takes an account. Its line, where it has one. If `reads`, a RETR has one.
+    /// Takes an account. Its line, if it has one. If `reads`, a RETR has one.
     fn hear(
         &mut self,
         alloc: Global,
@@ -391,7 +391,7 @@ impl Clients {
         self.clients[at].unread = None;
     }
 
-    /// Keeps why a link ends, as its line tells it, where that wasn't heard before.
+    /// Keeps why a link ends, as its line says it, if that wasn't heard before.
     pub fn end_by(&mut self, alloc: Global, link: Link, cause: &str) {
         if let Some(at) = self.place_at(link) {
             self.clients[at].end_by(alloc, cause);
@@ -419,7 +419,7 @@ impl Clients {
         Some(connect_text(alloc, &self.clients[at]))
     }
 
-    /// Takes an account of a connection. Its line, where it has one. If `reads`, a RETR has one.
+    /// Takes an account of a connection. Its line, if it has one. If `reads`, a RETR has one.
     pub fn hear(
         &mut self,
         alloc: Global,
@@ -495,8 +495,7 @@ fn leave(clients: &mut [Client], maildrop: &Name)
     }
 }
 
-/// Where an account says that a login was accepted, the session that is kept in its maildrop is
-/// over.
+/// If an account says that a login was accepted, the session that is kept in its maildrop is over.
 fn leave_by(clients: &mut [Client], account: &Account)
     ensures { clients.new ≡ left_by account.now clients.old }
 {

@@ -91,7 +91,7 @@ impl Heard {
         }
     }
 
-    /// A login was judged so: where it was accepted its session begins, without a mark.
+    /// A login was judged so: if it was accepted its session begins, without a mark.
     fn judge(&mut self, name: LoginName, verdict: Verdict)
         ensures { self.new ≡ judged_so name verdict self.old }
     {

@@ -64,7 +64,7 @@ fn answer_text(
     }
 }
 
-/// The Message-ID of a mail, as a value of a line; empty where its head doesn't tell it plainly.
+/// The Message-ID of a mail, as a value of a line; empty if its head doesn't have it plainly.
 fn message_id_text(alloc: Global, text: &MailText) -> Result<String, AllocError> {
     match message_id(text.top(0)) {
         Some(id) => match str::from_utf8(id) {
@@ -172,7 +172,7 @@ impl<'a, V: Vault> LoggedVault<'a, V> {
         }
     }
 
-    /// The Message-ID of a mail, as a value of its deposit's line; empty where it isn't logged.
+    /// The Message-ID of a mail, as a value of its deposit's line; empty if it isn't logged.
     fn message_id_text(&self, text: &MailText) -> Result<String, AllocError> {
         let alloc = self.journal.alloc();
         if !self.message_ids || !self.journal.is_on() {

@@ -58,9 +58,9 @@ abbrev pub is_read : Call → Bool
 is_read (Read port link room io octets) = true
 is_read _ = false
 
--- A read that gave no octet outside has read on the link's first line: at least once, each time an
--- octet but if the link is over, and nothing after that line. It gave that the link ended or is
--- broken exactly if one of these calls did, or closed it.
+-- An outer read that returned nothing consumed only octets of the link's first line: it read at
+-- least once, an octet each time unless the link is over, and nothing after that line. It said that
+-- the link ended or is broken exactly if one of these calls did, or closed it.
 pub record ReadsLine (link : Link) (io : Io) (before taken : List Call) : Type 0 where
   pub awaited : IsLineAwaited link.number before
   pub own : AreOnLine link (if is_fault io then 0 else 1) taken

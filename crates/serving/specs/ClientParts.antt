@@ -54,7 +54,7 @@ abbrev pub IsOpening : Event × EventTag → Type 0
 IsOpening (event.Connect, m) = ⊤
 IsOpening _ = ⊥
 
--- where a seat's login is noted as lying unread, it does
+-- if a seat's login is noted as lying unread, it does
 abbrev pub IsNotedSo : (noted : List Newcomer) (B : Records) (older given : Log)
     (calls : List Call) (wait : ℕ) (may : ℕ → Bool) (seats : List Seat) → Seat → Type 0
 IsNotedSo noted B older given calls wait may seats s =
@@ -137,7 +137,7 @@ pub record IsPaceAt (links : Clients) (c now : ℕ) (pace : Pace) : Type 0 where
   pub moment : pace.now ≡ now
   pub waited : pace.waited ≡ waited_of now (newcomer c links.newcomers.newcomers.items)
 
--- What comes next on a link was looked at, where lines are read one at a time, and so many octets
+-- What comes next on a link was looked at, if lines are read one at a time, and so many octets
 -- are to be read: as many as there is room for, or a part of the piece that was shown, whose next
 -- line would log in somebody.
 pub data HasLooked {V : Type 0} (Holds : V → Contents → Type 0) (office : Office V) (seat : Seat)

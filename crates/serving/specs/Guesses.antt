@@ -94,9 +94,9 @@ ArePacing refusals = All IsPacing refusals
 abbrev pub AllArePacing : Links → Type 0
 AllArePacing links = ArePacing links.clients.guesses.refusals.items
 
--- What becomes of the refusals behind a line of a client that counts by an origin: where it was a
--- login that was refused, one more under its name; where the client is logged in by it, none of its
--- origin and name. Else they stay.
+-- What becomes of the refusals after a line of a client that counts by an origin: if it was a login
+-- that was refused, one more under its name; if the client is logged in by it, none of its origin
+-- and name. Else they stay.
 abbrev pub AreNotedSo : (now : ℕ) (origin : Option ℕ) (login : Option LoginName)
     (was_refused is_logged_in : Bool) (old new : List Refusal) → Type 0
 AreNotedSo now None login was_refused is_logged_in old new = new ≡ old

@@ -51,11 +51,11 @@ pub record LiesUnread (B : Records) (older given : Log) (calls : List Call) (wai
   pub is : seat.connection ≡ c
   pub unread : StaysUnread B older given calls wait may seat
 
--- lines are read one at a time before a login: where logins wait for a lock, or may be kept back
+-- lines are read one at a time before a login: if logins wait for a lock, or may be kept back
 abbrev pub reads_by_line : (wait : ℕ) (may : Bool) → Bool
 reads_by_line wait may = may || not (wait == 0)
 
--- what a link showed was read by its first line, where lines are read one at a time
+-- what a link showed was read by its first line, if lines are read one at a time
 pub record IsReadByLine (calls : List Call) (by_line : Bool) (s : Seat) : Type 0 where
   pub piece : List ℕ
   pub io : Io

@@ -54,7 +54,7 @@ module _ (T : Trace) (now : ℕ) (links links_then : Links) (t : Seen) where
       → is_open (trace_after T t) s.connection ≡ true
       → CountsFrom now (newcomer s.connection (noted_by links_then)) ⊎ LoggedIn s.connection
 
-  -- Where its seconds stand still as the turn ends, its login was put off, or it logged in.
+  -- If its seconds stand still as the turn ends, its login was put off, or it logged in.
   abbrev pub IsCountedOn : Seat → Type 0
   IsCountedOn s = lies_unread (newcomer s.connection (noted_by links_then)) ≡ true
       → is_open (trace_after T t) s.connection ≡ true

@@ -161,7 +161,7 @@ pub record Settles (now connection : ℕ) (links links_then : Clients) : Type 0 
 abbrev pub CountsFrom : (now : ℕ) → Option Newcomer → Type 0
 CountsFrom now noted = (n : Newcomer) × (noted ≡ Some n) × (n.since ≡ now)
 
--- that of a seat's connection does, where it wasn't noted before
+-- that of a seat's connection does, if it wasn't noted before
 abbrev pub IsComer : (now : ℕ) → (newcomers newcomers_then : List Newcomer) → Seat → Type 0
 IsComer now newcomers newcomers_then s = newcomer s.connection newcomers ≡ None
     → CountsFrom now (newcomer s.connection newcomers_then)

@@ -14,7 +14,7 @@ use Rattle.serving.specs.declared.pace.Pace.{Pace}
 abbrev pub reads_lines : (wait : ℕ) (lock_released : Bool) (origin : Option ℕ) → Bool
 reads_lines wait lock_released origin = (not (wait == 0) || lock_released) || is_some origin
 
--- a login of an origin is kept back behind a refusal of the same name; none where no origin counts
+-- a login of an origin is kept back after a refusal of the same name; none if no origin counts
 abbrev pub is_paced : (now : ℕ) → (origin : Option ℕ) → LoginName → List Refusal → Bool
 is_paced now None name refusals = false
 is_paced now (Some origin) name refusals = holds_back now (refusal_of origin name refusals)
@@ -47,7 +47,7 @@ line_by (Some at) all = suc at
 abbrev pub first_line : List ℕ → ℕ
 first_line piece = line_by (position (λ b. b == 10) piece) (length piece)
 
--- how many octets of a piece are read: none where it is held, and else its first line
+-- how many octets of a piece are read: none if it is held, and else its first line
 abbrev pub part_by : (is_held : Bool) → (piece : List ℕ) → ℕ
 part_by true piece = 0
 part_by false piece = first_line piece

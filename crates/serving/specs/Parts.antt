@@ -39,7 +39,7 @@ use Rattle.serving.specs.Stopping.{Outlasts}
 
 -- ---- what it gives and asks
 
--- where the next turn doesn't wait by these calls, it didn't before, or something moved
+-- these calls set it, so that the next turn doesn't wait, only if something moved
 abbrev pub PollsBy : (polled polled_then : Bool) → List Call → Type 0
 PollsBy polled polled_then calls =
     polled_then ≡ true → (polled || has_moved calls) ≡ true

@@ -9,7 +9,7 @@ pub record Settings : Type 0 where
   pub wait : ℕ
   -- how many seconds a client has for its login; 0, if that has no limit of its own
   pub login_seconds : ℕ
-  -- the same while the house is full; 0, where that changes nothing
+  -- the same while the house is full; 0, if that changes nothing
   pub full_house_seconds : ℕ
   -- logins are kept back after refused ones
   pub slow_guesses : Bool

@@ -23,7 +23,7 @@ pub(crate) struct Newcomer {
     /// From which moment on its seconds count: that at which its link was accepted, and later by as
     /// many seconds as its logins lay unread.
     pub(crate) since: u64,
-    /// Since when a login of it lies unread, where one does.
+    /// Since when a login of it lies unread, if one does.
     pub(crate) held: Option<u64>,
 }
 
@@ -38,7 +38,7 @@ impl Newcomer {
         }
     }
 
-    /// For how many seconds its login has lain unread at this moment; 0 where none does.
+    /// For how many seconds its login has lain unread at this moment; 0 if none does.
     fn waited(&self, now: u64) -> u64
         ensures { result ≡ waited_by now self.now }
     {
@@ -83,7 +83,7 @@ fn since_at(held: Option<u64>, since: u64, now: u64) -> u64
     }
 }
 
-/// Settles a newcomer, where it is of this connection.
+/// Settles a newcomer, if it is of this connection.
 fn settle_if(it: &mut Newcomer, connection: u64, lies_unread: bool, now: u64)
     ensures { it.new ≡ settled_if connection lies_unread now it.old }
 {
@@ -122,11 +122,11 @@ fn first_of(newcomers: &[Newcomer], connection: u64) -> Option<&Newcomer>
 }
 
 /// The clients that haven't logged in, in the order in which they were accepted: as many as there
-/// are seats at most, so that to note one takes no memory. Where there are no login seconds, one
-/// that logs in stays noted until its link is closed.
+/// are seats at most, so that to note one takes no memory. If there are no login seconds, one that
+/// logs in stays noted until its link is closed.
 #[derive(Drop)]
 pub(crate) struct Newcomers {
-    /// How many seconds each has for its login; 0 where that has no limit of its own.
+    /// How many seconds each has for its login; 0 if that has no limit of its own.
     pub(crate) seconds: u64,
     /// The same while the house is full; 0 if that changes nothing.
     pub(crate) full_house_seconds: u64,
@@ -203,7 +203,7 @@ impl Newcomers {
         }
     }
 
-    /// For how many seconds the login of a connection has lain unread at this moment; 0 where none
+    /// For how many seconds the login of a connection has lain unread at this moment; 0 if none
     /// does.
     pub(crate) fn waited(&self, connection: u64, now: u64) -> u64
         ensures { result ≡ waited_of now (newcomer connection self.now.newcomers.items) }

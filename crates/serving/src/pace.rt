@@ -43,9 +43,9 @@ pub(crate) struct Pace {
 /// How much of what comes on a link is read, and whom its next line would log in.
 #[derive(Drop)]
 pub(crate) struct Part {
-    /// How many octets are read; 0 where what came stays unread.
+    /// How many octets are read; 0 if what came stays unread.
     pub(crate) count: usize,
-    /// `None` where nothing was looked at.
+    /// `None` if nothing was looked at.
     pub(crate) login: Option<LoginName>,
 }
 
@@ -74,7 +74,7 @@ fn origin_at<V: Vault, W: Wire>(
     }
 }
 
-/// Whether lines are read one at a time before a login: where one may be kept back.
+/// Whether lines are read one at a time before a login: if one may be kept back.
 fn reads_lines(wait: u64, lock_released: bool, origin: Option<u64>) -> bool
     ensures { result ≡ reads_lines_by wait lock_released origin }
 {
@@ -179,7 +179,7 @@ fn first_line(piece: &[u8]) -> usize
     }
 }
 
-/// How much of a piece that came is read: its first line, or nothing where it stays unread.
+/// How much of a piece that came is read: its first line, or nothing if it stays unread.
 fn part_of_piece<V: Vault>(
     office: &Office<V>,
     guesses: &Guesses,
@@ -206,7 +206,7 @@ fn part_of_piece<V: Vault>(
     }
 }
 
-/// How much is read of what comes next on a link, 4,096 octets at most. Where nothing may be kept
+/// How much is read of what comes next on a link, 4,096 octets at most. If nothing may be kept
 /// back, nothing is looked at.
 pub(crate) fn next_part<V: Vault, W: Wire>(
     office: &Office<V>,
@@ -237,9 +237,9 @@ pub(crate) fn next_part<V: Vault, W: Wire>(
     }
 }
 
-/// Notes how the login went that a line brought which was read of a client that hadn't logged in
-/// before: whether it was refused, where so many refusals were before, or the client has logged in.
-/// A line that brought none changes nothing.
+/// Updates the guesses after a line of a client that hadn't logged in: if its refusals rose above
+/// `before`, logins of its origin and name are kept back; once it has logged in, its refusals are
+/// forgotten. A line that brought no login changes nothing.
 pub(crate) fn note_guess<V: Vault>(
     office: &Office<V>,
     clients: &mut Clients,

@@ -40,7 +40,7 @@ pub(crate) fn millis_for(links: &Links) -> u32
 }
 
 impl<V: Vault, W: Wire, L: Listener> Server<V, W, L> {
-    /// Tells the office the moment.
+    /// Sends the office a Tick of this moment, in seconds.
     fn tick(&mut self, now: u64)
         ensures serves { (seats these : List declared.Seat)
             → KeepsServing V.Vault W.Wire self.old self.new seats these seats [] }

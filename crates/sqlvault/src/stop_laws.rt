@@ -15,7 +15,7 @@ use vault::VaultFault;
 /// Adopts a connection that was just opened after a stop of `stopped`, and that found our tables
 /// with rows that the stop may leave. The new store holds contents that the stop may leave: if
 /// `stopped` was between two calls, with its connection open, just those that it held. In that
-/// case, and wherever the stop can't leave just any contents, the only errors are `NoMemory` and
+/// case, and if at least one state is impossible after the stop, the only errors are `NoMemory` and
 /// `Store`.
 pub fn adopt_again<S: Alter, T: Alter>(
     alloc: Global,

@@ -1,4 +1,4 @@
-//! What no clause says: that a store in memory enough is opened twice.
+//! What no clause says: that `open_twice` succeeds, given memory.
 use creds::Name;
 use jobs::open_twice;
 use office::{AdminCommand, Answer, Event, Limits, Outcome};
