@@ -38,10 +38,10 @@ use Rattle.std.specs.List.Sorted.{IsPermutation}
 use Rattle.std.proofs.lemmas.Bool.{and_from}
 use Rattle.std.proofs.lemmas.Cmp.{tied_itself}
 use Rattle.std.proofs.lemmas.List.Sorted.{IsPermutation-sym}
-use Rattle.mailsql.specs.Rows.{AreKeyed, AreKept, is_carried, rows_in, message_of, sheet_of, group_of, member_of, same_int}
+use Rattle.mailsql.specs.Rows.{Rows, AreKeyed, AreKept, is_carried, rows_in, message_of, sheet_of, group_of, member_of, same_int}
 use Rattle.mailsql.proofs.WithoutLemmas.{without_all_filters, filter_same, bool_same, tie, has_mapped, mapped_has, has_permuted}
 use Rattle.mailsql.proofs.KeptLemmas.{applied_kept}
-use Rattle.mailsql.proofs.FrameLemmas.{Frame, framed, frame_none, not_mail, not_bodies, mail_apart}
+use Rattle.mailsql.proofs.FrameLemmas.{Frame, framed, frame_none, not_mail, mail_apart, sheets_alone, groups_alone, members_alone, mail_alone}
 use Rattle.mailsql.proofs.EqualLemmas.{int_equal, null_unequal, same_itself}
 use Rattle.mailsql.proofs.FindLemmas.{and_true}
 use Rattle.mailsql.specs.Tables.{schema_of, mail_tree, mail_at, sheets_at, groups_at, members_at, plain_order}
@@ -274,33 +274,17 @@ module _ (carried : Bool) (table child : Table) (parent : List ℕ) (acting : Ac
 pub messages_swept : (db mid next : Trees) → Frame (is_carried db) (mail_tree (is_carried db)) db mid → Frame (is_carried db) 15 mid next
     → rows_in next ≡ record (rows_in db) { messages = map message_of (next (mail_tree (is_carried db))); sheets = map sheet_of (next 15) }
 messages_swept db mid next a b =
-    let same : is_carried next ≡ is_carried db = b.same ∙ a.same in
-    let meta : next 0 ≡ db 0 = b.meta (λ e. absurd (omega arith)) ∙ a.meta (mail_apart (is_carried db) 0 (λ e. absurd (omega arith)) (λ e. absurd (omega arith))) in
-    let clerks : next 2 ≡ db 2 = b.clerks (λ e. absurd (omega arith)) ∙ a.clerks (mail_apart (is_carried db) 2 (λ e. absurd (omega arith)) (λ e. absurd (omega arith))) in
-    let maildrops : next 4 ≡ db 4 = b.maildrops (λ e. absurd (omega arith)) ∙ a.maildrops (mail_apart (is_carried db) 4 (λ e. absurd (omega arith)) (λ e. absurd (omega arith))) in
-    let counts : next 6 ≡ db 6 = b.counts (λ e. absurd (omega arith)) ∙ a.counts (mail_apart (is_carried db) 6 (λ e. absurd (omega arith)) (λ e. absurd (omega arith))) in
-    let deposits : next 8 ≡ db 8 = b.deposits (λ e. absurd (omega arith)) ∙ a.deposits (mail_apart (is_carried db) 8 (λ e. absurd (omega arith)) (λ e. absurd (omega arith))) in
-    let rules : next 13 ≡ db 13 = b.rules (λ e. absurd (omega arith)) ∙ a.rules (mail_apart (is_carried db) 13 (λ e. absurd (omega arith)) (λ e. absurd (omega arith))) in
-    let groups : next 17 ≡ db 17 = b.groups (λ e. absurd (omega arith)) ∙ a.groups (mail_apart (is_carried db) 17 (λ e. absurd (omega arith)) (λ e. absurd (omega arith))) in
-    let members : next 19 ≡ db 19 = b.members (λ e. absurd (omega arith)) ∙ a.members (mail_apart (is_carried db) 19 (λ e. absurd (omega arith)) (λ e. absurd (omega arith))) in
-    let bodies = b.bodies (λ c e. absurd (omega arith)) ∙ a.bodies (not_bodies (is_carried db)) in
-    rw (same, meta, clerks, maildrops, counts, deposits, rules, groups, members, bodies)
+    sheets_alone mid next (subst (λ c. Frame c 15 mid next) (sym a.same) b)
+    ∙ ap (λ (r : Rows). let x : Rows = record r { sheets = map sheet_of (next 15) } in x) (mail_alone db mid a)
+    ∙ ap (λ l. let x : Rows = record (rows_in db) { messages = map message_of l; sheets = map sheet_of (next 15) } in x)
+    (sym (b.mail (not_mail (is_carried db) 15 (λ e. absurd (omega arith)) (λ e. absurd (omega arith)))))
 
 pub groups_swept : (db mid next : Trees) → Frame (is_carried db) 17 db mid → Frame (is_carried db) 19 mid next
     → rows_in next ≡ record (rows_in db) { groups = map group_of (next 17); members = map member_of (next 19) }
 groups_swept db mid next a b =
-    let same : is_carried next ≡ is_carried db = b.same ∙ a.same in
-    let meta : next 0 ≡ db 0 = b.meta (λ e. absurd (omega arith)) ∙ a.meta (λ e. absurd (omega arith)) in
-    let clerks : next 2 ≡ db 2 = b.clerks (λ e. absurd (omega arith)) ∙ a.clerks (λ e. absurd (omega arith)) in
-    let maildrops : next 4 ≡ db 4 = b.maildrops (λ e. absurd (omega arith)) ∙ a.maildrops (λ e. absurd (omega arith)) in
-    let counts : next 6 ≡ db 6 = b.counts (λ e. absurd (omega arith)) ∙ a.counts (λ e. absurd (omega arith)) in
-    let deposits : next 8 ≡ db 8 = b.deposits (λ e. absurd (omega arith)) ∙ a.deposits (λ e. absurd (omega arith)) in
-    let rules : next 13 ≡ db 13 = b.rules (λ e. absurd (omega arith)) ∙ a.rules (λ e. absurd (omega arith)) in
-    let sheets : next 15 ≡ db 15 = b.sheets (λ e. absurd (omega arith)) ∙ a.sheets (λ e. absurd (omega arith)) in
-    let mail : next (mail_tree (is_carried db)) ≡ db (mail_tree (is_carried db)) = b.mail (not_mail (is_carried db) 19 (λ e. absurd (omega arith)) (λ e. absurd (omega arith)))
-    ∙ a.mail (not_mail (is_carried db) 17 (λ e. absurd (omega arith)) (λ e. absurd (omega arith))) in
-    let bodies = b.bodies (λ c e. absurd (omega arith)) ∙ a.bodies (λ c e. absurd (omega arith)) in
-    rw (same, meta, clerks, maildrops, counts, deposits, rules, sheets, mail, bodies)
+    members_alone mid next (subst (λ c. Frame c 19 mid next) (sym a.same) b)
+    ∙ ap (λ (r : Rows). let x : Rows = record r { members = map member_of (next 19) } in x) (groups_alone db mid a)
+    ∙ ap (λ l. let x : Rows = record (rows_in db) { groups = map group_of l; members = map member_of (next 19) } in x) (sym (b.groups (λ e. absurd (omega arith))))
 
 -- ---- the children of a row
 

@@ -1,7 +1,8 @@
 -- The tables that an edit leaves.
-use Rattle.std.proofs.Common.{◌≡◌, ◌≢◌, ℕ, Bool, true, false, List, map, refl, sym, ap, subst, arith, true≢false}
-use Rattle.std.specs.Prelude.{◌&&◌, bytes_eq, codes}
+use Rattle.std.proofs.Common.{◌≡◌, ◌≢◌, ◌∙◌, ℕ, Bool, true, false, cond, List, map, refl, sym, ap, subst, arith, true≢false}
+use Rattle.std.specs.Prelude.{◌&&◌, ◌==◌, bytes_eq, codes}
 use Rattle.std.specs.List.{AllByRecursion, list_any}
+use Rattle.std.proofs.lemmas.Bool.Decides.{nat_tests}
 use Rattle.sqlite_value.specs.Order.{Row}
 use Rattle.sqlite_trees.specs.Objects.{catalog_tree}
 use Rattle.sqlite_catalog.specs.Listing.{is_table_row}
@@ -12,7 +13,8 @@ use Rattle.sqlite_schema.specs.declared.schema.Keys.TheVariants.{Enforced}
 use Rattle.sqlite_rules.specs.Edit.{Edit, Applies, IsNoIndex}
 use Rattle.mailsql.specs.Tables.{schema_of, mail_tree, last_indexes}
 use Rattle.mailsql.specs.Columns.{is_carried}
-use Rattle.mailsql.specs.Rows.{rows_in, IsKept, AreKept, text_at, meta_row_of, clerk_of, maildrop_of, count_of, deposit_of, rule_of, sheet_of, group_of, member_of, body_of, bodies_at}
+use Rattle.mailsql.specs.Rows.{Rows, Body, rows_in, IsKept, AreKept, text_at, bodies_at}
+use Rattle.mailsql.specs.Rows.{meta_row_of, clerk_of, maildrop_of, count_of, deposit_of, message_of, rule_of, sheet_of, group_of, member_of, body_of}
 
 -- another tree than mail's
 pub not_mail : (carried : Bool) (at : ℕ) → at ≢ 10 → at ≢ 22 → mail_tree carried ≢ at
@@ -129,143 +131,94 @@ kept_framed db next after is same all =
     let kept : IsKept it = (ap schema_of (sym same), subst (λ c. AreKept (schema_of c).tables next) (sym same) all) in
     subst IsKept (sym is) kept
 
+-- ---- what an edit of one table makes of the rows
+
+-- a tree's rows, if they may be others only if it is the one at `at`
+abbrev tree_at : (n at : ℕ) (db next : Trees) → List Row
+tree_at n at db next = cond (n == at) (next n) (db n)
+
+stays : (n at : ℕ) (db next : Trees) → (n ≢ at → next n ≡ db n) → next n ≡ tree_at n at db next
+stays n at db next same = by (n == at) refl
+  where
+  by : (b : Bool) → (n == at) ≡ b → next n ≡ cond b (next n) (db n)
+  by true e = refl
+  by false e = same (λ is. true≢false (sym (subst (λ m. (n == m) ≡ true) is (grind (arith, nat_tests))) ∙ e))
+
+-- the rows with those of the tree at `at`, these messages, and these of version 1
+abbrev rows_with : (at : ℕ) (db next : Trees) → List Row → List Body → Rows
+rows_with at db next mail bodies = record {
+  meta_rows = map meta_row_of (tree_at 0 at db next);
+  clerks = map clerk_of (tree_at 2 at db next);
+  maildrops = map maildrop_of (tree_at 4 at db next);
+  counts = map count_of (tree_at 6 at db next);
+  deposits = map deposit_of (tree_at 8 at db next);
+  messages = map message_of mail;
+  rules = map rule_of (tree_at 13 at db next);
+  sheets = map sheet_of (tree_at 15 at db next);
+  groups = map group_of (tree_at 17 at db next);
+  members = map member_of (tree_at 19 at db next);
+  bodies = bodies;
+}
+
+rows_edited : (at : ℕ) (db next : Trees) (mail : List Row) (bodies : List Body) → next (mail_tree (is_carried db)) ≡ mail → bodies_at (is_carried db) next ≡ bodies
+    → Frame (is_carried db) at db next → rows_in next ≡ rows_with at db next mail bodies
+rows_edited at db next mail bodies mailed embodied h =
+    let messages = ap (λ c. next (mail_tree c)) h.same ∙ mailed in
+    let old = ap (λ c. bodies_at c next) h.same ∙ embodied in
+    λ i. record {
+      meta_rows = map meta_row_of (stays 0 at db next h.meta i);
+      clerks = map clerk_of (stays 2 at db next h.clerks i);
+      maildrops = map maildrop_of (stays 4 at db next h.maildrops i);
+      counts = map count_of (stays 6 at db next h.counts i);
+      deposits = map deposit_of (stays 8 at db next h.deposits i);
+      messages = map message_of (messages i);
+      rules = map rule_of (stays 13 at db next h.rules i);
+      sheets = map sheet_of (stays 15 at db next h.sheets i);
+      groups = map group_of (stays 17 at db next h.groups i);
+      members = map member_of (stays 19 at db next h.members i);
+      bodies = old i;
+    }
+
+-- an edit of another table than those of messages
+pub edited_alone : (at : ℕ) (db next : Trees) → at ≢ 10 → at ≢ 22 → Frame (is_carried db) at db next
+    → rows_in next ≡ rows_with at db next (db (mail_tree (is_carried db))) (bodies_at (is_carried db) db)
+edited_alone at db next a b h = rows_edited at db next _ _ (h.mail (not_mail (is_carried db) at a b)) (h.bodies (λ c e. a (sym e))) h
+
 pub meta_rows_alone : (db next : Trees) → Frame (is_carried db) 0 db next → rows_in next ≡ record (rows_in db) { meta_rows = map meta_row_of (next 0) }
-meta_rows_alone db next h =
-    let clerks : next 2 ≡ db 2 = h.clerks (λ e. absurd (omega arith)) in
-    let maildrops : next 4 ≡ db 4 = h.maildrops (λ e. absurd (omega arith)) in
-    let counts : next 6 ≡ db 6 = h.counts (λ e. absurd (omega arith)) in
-    let deposits : next 8 ≡ db 8 = h.deposits (λ e. absurd (omega arith)) in
-    let mail = h.mail (not_mail (is_carried db) 0 (λ e. absurd (omega arith)) (λ e. absurd (omega arith))) in
-    let rules : next 13 ≡ db 13 = h.rules (λ e. absurd (omega arith)) in
-    let sheets : next 15 ≡ db 15 = h.sheets (λ e. absurd (omega arith)) in
-    let groups : next 17 ≡ db 17 = h.groups (λ e. absurd (omega arith)) in
-    let members : next 19 ≡ db 19 = h.members (λ e. absurd (omega arith)) in
-    let bodies = h.bodies (λ c e. absurd (omega arith)) in
-    rw (h.same, clerks, maildrops, counts, deposits, mail, rules, sheets, groups, members, bodies)
+meta_rows_alone db next = edited_alone 0 db next (λ e. absurd (omega arith)) (λ e. absurd (omega arith))
 
 pub clerks_alone : (db next : Trees) → Frame (is_carried db) 2 db next → rows_in next ≡ record (rows_in db) { clerks = map clerk_of (next 2) }
-clerks_alone db next h =
-    let meta : next 0 ≡ db 0 = h.meta (λ e. absurd (omega arith)) in
-    let maildrops : next 4 ≡ db 4 = h.maildrops (λ e. absurd (omega arith)) in
-    let counts : next 6 ≡ db 6 = h.counts (λ e. absurd (omega arith)) in
-    let deposits : next 8 ≡ db 8 = h.deposits (λ e. absurd (omega arith)) in
-    let mail = h.mail (not_mail (is_carried db) 2 (λ e. absurd (omega arith)) (λ e. absurd (omega arith))) in
-    let rules : next 13 ≡ db 13 = h.rules (λ e. absurd (omega arith)) in
-    let sheets : next 15 ≡ db 15 = h.sheets (λ e. absurd (omega arith)) in
-    let groups : next 17 ≡ db 17 = h.groups (λ e. absurd (omega arith)) in
-    let members : next 19 ≡ db 19 = h.members (λ e. absurd (omega arith)) in
-    let bodies = h.bodies (λ c e. absurd (omega arith)) in
-    rw (h.same, meta, maildrops, counts, deposits, mail, rules, sheets, groups, members, bodies)
+clerks_alone db next = edited_alone 2 db next (λ e. absurd (omega arith)) (λ e. absurd (omega arith))
 
 pub maildrops_alone : (db next : Trees) → Frame (is_carried db) 4 db next → rows_in next ≡ record (rows_in db) { maildrops = map maildrop_of (next 4) }
-maildrops_alone db next h =
-    let meta : next 0 ≡ db 0 = h.meta (λ e. absurd (omega arith)) in
-    let clerks : next 2 ≡ db 2 = h.clerks (λ e. absurd (omega arith)) in
-    let counts : next 6 ≡ db 6 = h.counts (λ e. absurd (omega arith)) in
-    let deposits : next 8 ≡ db 8 = h.deposits (λ e. absurd (omega arith)) in
-    let mail = h.mail (not_mail (is_carried db) 4 (λ e. absurd (omega arith)) (λ e. absurd (omega arith))) in
-    let rules : next 13 ≡ db 13 = h.rules (λ e. absurd (omega arith)) in
-    let sheets : next 15 ≡ db 15 = h.sheets (λ e. absurd (omega arith)) in
-    let groups : next 17 ≡ db 17 = h.groups (λ e. absurd (omega arith)) in
-    let members : next 19 ≡ db 19 = h.members (λ e. absurd (omega arith)) in
-    let bodies = h.bodies (λ c e. absurd (omega arith)) in
-    rw (h.same, meta, clerks, counts, deposits, mail, rules, sheets, groups, members, bodies)
+maildrops_alone db next = edited_alone 4 db next (λ e. absurd (omega arith)) (λ e. absurd (omega arith))
 
 pub counts_alone : (db next : Trees) → Frame (is_carried db) 6 db next → rows_in next ≡ record (rows_in db) { counts = map count_of (next 6) }
-counts_alone db next h =
-    let meta : next 0 ≡ db 0 = h.meta (λ e. absurd (omega arith)) in
-    let clerks : next 2 ≡ db 2 = h.clerks (λ e. absurd (omega arith)) in
-    let maildrops : next 4 ≡ db 4 = h.maildrops (λ e. absurd (omega arith)) in
-    let deposits : next 8 ≡ db 8 = h.deposits (λ e. absurd (omega arith)) in
-    let mail = h.mail (not_mail (is_carried db) 6 (λ e. absurd (omega arith)) (λ e. absurd (omega arith))) in
-    let rules : next 13 ≡ db 13 = h.rules (λ e. absurd (omega arith)) in
-    let sheets : next 15 ≡ db 15 = h.sheets (λ e. absurd (omega arith)) in
-    let groups : next 17 ≡ db 17 = h.groups (λ e. absurd (omega arith)) in
-    let members : next 19 ≡ db 19 = h.members (λ e. absurd (omega arith)) in
-    let bodies = h.bodies (λ c e. absurd (omega arith)) in
-    rw (h.same, meta, clerks, maildrops, deposits, mail, rules, sheets, groups, members, bodies)
+counts_alone db next = edited_alone 6 db next (λ e. absurd (omega arith)) (λ e. absurd (omega arith))
 
 pub deposits_alone : (db next : Trees) → Frame (is_carried db) 8 db next → rows_in next ≡ record (rows_in db) { deposits = map deposit_of (next 8) }
-deposits_alone db next h =
-    let meta : next 0 ≡ db 0 = h.meta (λ e. absurd (omega arith)) in
-    let clerks : next 2 ≡ db 2 = h.clerks (λ e. absurd (omega arith)) in
-    let maildrops : next 4 ≡ db 4 = h.maildrops (λ e. absurd (omega arith)) in
-    let counts : next 6 ≡ db 6 = h.counts (λ e. absurd (omega arith)) in
-    let mail = h.mail (not_mail (is_carried db) 8 (λ e. absurd (omega arith)) (λ e. absurd (omega arith))) in
-    let rules : next 13 ≡ db 13 = h.rules (λ e. absurd (omega arith)) in
-    let sheets : next 15 ≡ db 15 = h.sheets (λ e. absurd (omega arith)) in
-    let groups : next 17 ≡ db 17 = h.groups (λ e. absurd (omega arith)) in
-    let members : next 19 ≡ db 19 = h.members (λ e. absurd (omega arith)) in
-    let bodies = h.bodies (λ c e. absurd (omega arith)) in
-    rw (h.same, meta, clerks, maildrops, counts, mail, rules, sheets, groups, members, bodies)
+deposits_alone db next = edited_alone 8 db next (λ e. absurd (omega arith)) (λ e. absurd (omega arith))
 
 pub rules_alone : (db next : Trees) → Frame (is_carried db) 13 db next → rows_in next ≡ record (rows_in db) { rules = map rule_of (next 13) }
-rules_alone db next h =
-    let meta : next 0 ≡ db 0 = h.meta (λ e. absurd (omega arith)) in
-    let clerks : next 2 ≡ db 2 = h.clerks (λ e. absurd (omega arith)) in
-    let maildrops : next 4 ≡ db 4 = h.maildrops (λ e. absurd (omega arith)) in
-    let counts : next 6 ≡ db 6 = h.counts (λ e. absurd (omega arith)) in
-    let deposits : next 8 ≡ db 8 = h.deposits (λ e. absurd (omega arith)) in
-    let mail = h.mail (not_mail (is_carried db) 13 (λ e. absurd (omega arith)) (λ e. absurd (omega arith))) in
-    let sheets : next 15 ≡ db 15 = h.sheets (λ e. absurd (omega arith)) in
-    let groups : next 17 ≡ db 17 = h.groups (λ e. absurd (omega arith)) in
-    let members : next 19 ≡ db 19 = h.members (λ e. absurd (omega arith)) in
-    let bodies = h.bodies (λ c e. absurd (omega arith)) in
-    rw (h.same, meta, clerks, maildrops, counts, deposits, mail, sheets, groups, members, bodies)
+rules_alone db next = edited_alone 13 db next (λ e. absurd (omega arith)) (λ e. absurd (omega arith))
 
 pub sheets_alone : (db next : Trees) → Frame (is_carried db) 15 db next → rows_in next ≡ record (rows_in db) { sheets = map sheet_of (next 15) }
-sheets_alone db next h =
-    let meta : next 0 ≡ db 0 = h.meta (λ e. absurd (omega arith)) in
-    let clerks : next 2 ≡ db 2 = h.clerks (λ e. absurd (omega arith)) in
-    let maildrops : next 4 ≡ db 4 = h.maildrops (λ e. absurd (omega arith)) in
-    let counts : next 6 ≡ db 6 = h.counts (λ e. absurd (omega arith)) in
-    let deposits : next 8 ≡ db 8 = h.deposits (λ e. absurd (omega arith)) in
-    let mail = h.mail (not_mail (is_carried db) 15 (λ e. absurd (omega arith)) (λ e. absurd (omega arith))) in
-    let rules : next 13 ≡ db 13 = h.rules (λ e. absurd (omega arith)) in
-    let groups : next 17 ≡ db 17 = h.groups (λ e. absurd (omega arith)) in
-    let members : next 19 ≡ db 19 = h.members (λ e. absurd (omega arith)) in
-    let bodies = h.bodies (λ c e. absurd (omega arith)) in
-    rw (h.same, meta, clerks, maildrops, counts, deposits, mail, rules, groups, members, bodies)
+sheets_alone db next = edited_alone 15 db next (λ e. absurd (omega arith)) (λ e. absurd (omega arith))
 
 pub groups_alone : (db next : Trees) → Frame (is_carried db) 17 db next → rows_in next ≡ record (rows_in db) { groups = map group_of (next 17) }
-groups_alone db next h =
-    let meta : next 0 ≡ db 0 = h.meta (λ e. absurd (omega arith)) in
-    let clerks : next 2 ≡ db 2 = h.clerks (λ e. absurd (omega arith)) in
-    let maildrops : next 4 ≡ db 4 = h.maildrops (λ e. absurd (omega arith)) in
-    let counts : next 6 ≡ db 6 = h.counts (λ e. absurd (omega arith)) in
-    let deposits : next 8 ≡ db 8 = h.deposits (λ e. absurd (omega arith)) in
-    let mail = h.mail (not_mail (is_carried db) 17 (λ e. absurd (omega arith)) (λ e. absurd (omega arith))) in
-    let rules : next 13 ≡ db 13 = h.rules (λ e. absurd (omega arith)) in
-    let sheets : next 15 ≡ db 15 = h.sheets (λ e. absurd (omega arith)) in
-    let members : next 19 ≡ db 19 = h.members (λ e. absurd (omega arith)) in
-    let bodies = h.bodies (λ c e. absurd (omega arith)) in
-    rw (h.same, meta, clerks, maildrops, counts, deposits, mail, rules, sheets, members, bodies)
+groups_alone db next = edited_alone 17 db next (λ e. absurd (omega arith)) (λ e. absurd (omega arith))
 
 pub members_alone : (db next : Trees) → Frame (is_carried db) 19 db next → rows_in next ≡ record (rows_in db) { members = map member_of (next 19) }
-members_alone db next h =
-    let meta : next 0 ≡ db 0 = h.meta (λ e. absurd (omega arith)) in
-    let clerks : next 2 ≡ db 2 = h.clerks (λ e. absurd (omega arith)) in
-    let maildrops : next 4 ≡ db 4 = h.maildrops (λ e. absurd (omega arith)) in
-    let counts : next 6 ≡ db 6 = h.counts (λ e. absurd (omega arith)) in
-    let deposits : next 8 ≡ db 8 = h.deposits (λ e. absurd (omega arith)) in
-    let mail = h.mail (not_mail (is_carried db) 19 (λ e. absurd (omega arith)) (λ e. absurd (omega arith))) in
-    let rules : next 13 ≡ db 13 = h.rules (λ e. absurd (omega arith)) in
-    let sheets : next 15 ≡ db 15 = h.sheets (λ e. absurd (omega arith)) in
-    let groups : next 17 ≡ db 17 = h.groups (λ e. absurd (omega arith)) in
-    let bodies = h.bodies (λ c e. absurd (omega arith)) in
-    rw (h.same, meta, clerks, maildrops, counts, deposits, mail, rules, sheets, groups, bodies)
+members_alone db next = edited_alone 19 db next (λ e. absurd (omega arith)) (λ e. absurd (omega arith))
+
+-- an edit of mail
+pub mail_alone : (db next : Trees) → Frame (is_carried db) (mail_tree (is_carried db)) db next → rows_in next ≡ record (rows_in db) { messages = map message_of (next (mail_tree (is_carried db))) }
+mail_alone db next h = by (is_carried db) refl
+  where
+  by : (c : Bool) → is_carried db ≡ c → rows_in next ≡ record (rows_in db) { messages = map message_of (next (mail_tree (is_carried db))) }
+  by false e = rows_edited 10 db next _ _ refl (h.bodies (not_bodies (is_carried db))) (subst (λ c. Frame (is_carried db) (mail_tree c) db next) e h)
+  by true e = rows_edited 22 db next _ _ refl (h.bodies (not_bodies (is_carried db))) (subst (λ c. Frame (is_carried db) (mail_tree c) db next) e h)
 
 -- an edit of the messages of version 1
 pub bodies_alone : (db next : Trees) → is_carried db ≡ true → Frame (is_carried db) 10 db next → rows_in next ≡ record (rows_in db) { bodies = bodies_at (is_carried db) next }
-bodies_alone db next is h =
-    let meta : next 0 ≡ db 0 = h.meta (λ e. absurd (omega arith)) in
-    let clerks : next 2 ≡ db 2 = h.clerks (λ e. absurd (omega arith)) in
-    let maildrops : next 4 ≡ db 4 = h.maildrops (λ e. absurd (omega arith)) in
-    let counts : next 6 ≡ db 6 = h.counts (λ e. absurd (omega arith)) in
-    let deposits : next 8 ≡ db 8 = h.deposits (λ e. absurd (omega arith)) in
-    let mail = h.mail (λ e. not_bodies (is_carried db) is (sym e)) in
-    let rules : next 13 ≡ db 13 = h.rules (λ e. absurd (omega arith)) in
-    let sheets : next 15 ≡ db 15 = h.sheets (λ e. absurd (omega arith)) in
-    let groups : next 17 ≡ db 17 = h.groups (λ e. absurd (omega arith)) in
-    let members : next 19 ≡ db 19 = h.members (λ e. absurd (omega arith)) in
-    rw (h.same, meta, clerks, maildrops, counts, deposits, mail, rules, sheets, groups, members)
+bodies_alone db next is h = rows_edited 10 db next _ _ (h.mail (λ e. not_bodies (is_carried db) is (sym e))) refl h

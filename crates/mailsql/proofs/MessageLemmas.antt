@@ -32,7 +32,7 @@ use Rattle.mailsql.specs.Rows.{Name, Rows, Message, is_carried, rows_in, message
 use Rattle.mailsql.specs.Changes.{AddsMessage, AddsKeyed, Arrives}
 use Rattle.mailsql.proofs.KeptLemmas.{applied_kept}
 use Rattle.mailsql.proofs.WriteLemmas.{went, same_value, plain_mode, task_of, nothing_acts}
-use Rattle.mailsql.proofs.FrameLemmas.{Frame, framed, frame_none, not_mail, not_bodies, mail_apart, kept_framed}
+use Rattle.mailsql.proofs.FrameLemmas.{Frame, framed, frame_none, not_mail, kept_framed, edited_alone, mail_alone}
 use Rattle.mailsql.proofs.HeadLemmas.{mail_keyed}
 use Rattle.sqlite_rules.specs.Edit.{at_least}
 use Rattle.mailsql.proofs.RowLemmas.{put_last, next_last, next_above, appended}
@@ -160,19 +160,7 @@ message_tail maildrop class k octets = Null ∷ Text maildrop ∷ Text class ∷
 message_alone : (db mid next : Trees) → Frame (is_carried db) (mail_tree (is_carried db)) db mid → Frame (is_carried db) 12 mid next
     → rows_in next ≡ record (rows_in db) { messages = map message_of (mid (mail_tree (is_carried db))) }
 message_alone db mid next a b =
-    let same : is_carried next ≡ is_carried db = b.same ∙ a.same in
-    let meta : next 0 ≡ db 0 = b.meta (λ e. absurd (omega arith)) ∙ a.meta (mail_apart (is_carried db) 0 (λ e. absurd (omega arith)) (λ e. absurd (omega arith))) in
-    let clerks : next 2 ≡ db 2 = b.clerks (λ e. absurd (omega arith)) ∙ a.clerks (mail_apart (is_carried db) 2 (λ e. absurd (omega arith)) (λ e. absurd (omega arith))) in
-    let maildrops : next 4 ≡ db 4 = b.maildrops (λ e. absurd (omega arith)) ∙ a.maildrops (mail_apart (is_carried db) 4 (λ e. absurd (omega arith)) (λ e. absurd (omega arith))) in
-    let counts : next 6 ≡ db 6 = b.counts (λ e. absurd (omega arith)) ∙ a.counts (mail_apart (is_carried db) 6 (λ e. absurd (omega arith)) (λ e. absurd (omega arith))) in
-    let deposits : next 8 ≡ db 8 = b.deposits (λ e. absurd (omega arith)) ∙ a.deposits (mail_apart (is_carried db) 8 (λ e. absurd (omega arith)) (λ e. absurd (omega arith))) in
-    let rules : next 13 ≡ db 13 = b.rules (λ e. absurd (omega arith)) ∙ a.rules (mail_apart (is_carried db) 13 (λ e. absurd (omega arith)) (λ e. absurd (omega arith))) in
-    let sheets : next 15 ≡ db 15 = b.sheets (λ e. absurd (omega arith)) ∙ a.sheets (mail_apart (is_carried db) 15 (λ e. absurd (omega arith)) (λ e. absurd (omega arith))) in
-    let groups : next 17 ≡ db 17 = b.groups (λ e. absurd (omega arith)) ∙ a.groups (mail_apart (is_carried db) 17 (λ e. absurd (omega arith)) (λ e. absurd (omega arith))) in
-    let members : next 19 ≡ db 19 = b.members (λ e. absurd (omega arith)) ∙ a.members (mail_apart (is_carried db) 19 (λ e. absurd (omega arith)) (λ e. absurd (omega arith))) in
-    let mail : next (mail_tree (is_carried db)) ≡ mid (mail_tree (is_carried db)) = b.mail (not_mail (is_carried db) 12 (λ e. absurd (omega arith)) (λ e. absurd (omega arith))) in
-    let bodies = b.bodies (λ c e. absurd (omega arith)) ∙ a.bodies (not_bodies (is_carried db)) in
-    rw (same, meta, clerks, maildrops, counts, deposits, rules, sheets, groups, members, mail, bodies)
+    edited_alone 12 mid next (λ e. absurd (omega arith)) (λ e. absurd (omega arith)) (subst (λ c. Frame c 12 mid next) (sym a.same) b) ∙ mail_alone db mid a
 
 all_above : (key : ℤ) (rows : List Row) → AllByRecursion (λ r. id_in (rowid r) <ℤ key) rows → AllByRecursion (λ (m : Message). m.key <ℤ key) (map message_of rows)
 all_above key [] all = tt
