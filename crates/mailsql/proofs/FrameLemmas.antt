@@ -140,9 +140,9 @@ tree_at n at db next = cond (n == at) (next n) (db n)
 stays : (n at : ℕ) (db next : Trees) → (n ≢ at → next n ≡ db n) → next n ≡ tree_at n at db next
 stays n at db next same = by (n == at) refl
   where
-  by : (b : Bool) → (n == at) ≡ b → next n ≡ cond b (next n) (db n)
-  by true e = refl
-  by false e = same (λ is. true≢false (sym (subst (λ m. (n == m) ≡ true) is (grind (arith, nat_tests))) ∙ e))
+    by : (b : Bool) → (n == at) ≡ b → next n ≡ cond b (next n) (db n)
+    by true e = refl
+    by false e = same (λ is. true≢false (sym (subst (λ m. (n == m) ≡ true) is (grind (arith, nat_tests))) ∙ e))
 
 -- the rows with those of the tree at `at`, these messages, and these of version 1
 abbrev rows_with : (at : ℕ) (db next : Trees) → List Row → List Body → Rows
@@ -215,9 +215,9 @@ members_alone db next = edited_alone 19 db next (λ e. absurd (omega arith)) (λ
 pub mail_alone : (db next : Trees) → Frame (is_carried db) (mail_tree (is_carried db)) db next → rows_in next ≡ record (rows_in db) { messages = map message_of (next (mail_tree (is_carried db))) }
 mail_alone db next h = by (is_carried db) refl
   where
-  by : (c : Bool) → is_carried db ≡ c → rows_in next ≡ record (rows_in db) { messages = map message_of (next (mail_tree (is_carried db))) }
-  by false e = rows_edited 10 db next _ _ refl (h.bodies (not_bodies (is_carried db))) (subst (λ c. Frame (is_carried db) (mail_tree c) db next) e h)
-  by true e = rows_edited 22 db next _ _ refl (h.bodies (not_bodies (is_carried db))) (subst (λ c. Frame (is_carried db) (mail_tree c) db next) e h)
+    by : (c : Bool) → is_carried db ≡ c → rows_in next ≡ record (rows_in db) { messages = map message_of (next (mail_tree (is_carried db))) }
+    by false e = rows_edited 10 db next _ _ refl (h.bodies (not_bodies (is_carried db))) (subst (λ c. Frame (is_carried db) (mail_tree c) db next) e h)
+    by true e = rows_edited 22 db next _ _ refl (h.bodies (not_bodies (is_carried db))) (subst (λ c. Frame (is_carried db) (mail_tree c) db next) e h)
 
 -- an edit of the messages of version 1
 pub bodies_alone : (db next : Trees) → is_carried db ≡ true → Frame (is_carried db) 10 db next → rows_in next ≡ record (rows_in db) { bodies = bodies_at (is_carried db) next }
