@@ -1,5 +1,5 @@
 -- What comes of a server's options, and of its clock.
-use Rattle.std.proofs.Common.{◌≡◌, ℕ, Bool, true, false, ◌||◌, List, [], ◌∷◌, ◌++◌, map, min, length, ◌≤◌, Option, Some, None, Result, Ok, Err, IsErrAnd, refl, sym, ◌∙◌, ap, subst, true≢false}
+use Rattle.std.proofs.Common.{◌≡◌, ℕ, Bool, true, false, ◌||◌, List, [], ◌∷◌, map, min, length, ◌≤◌, Option, Some, Result, Ok, Err, IsErrAnd, IfErr, refl, sym, ◌∙◌, ap, subst, true≢false}
 use Rattle.std.specs.Prelude.{is_none}
 use Rattle.std.specs.List.{list_any}
 use Rattle.std.proofs.lemmas.List.Folds.{list_any-append}
@@ -70,6 +70,11 @@ pub err_is : (r : Result ℕ Fault) (f : Fault) → IsErrAnd r (λ e. e ≡ f) �
 err_is (Err e) f h = ap (λ x. Err x) h
 err_is (Ok n) f h = absurd h
 
+-- a fault that was handed on is so, if the fault was
+pub err_so : {A : Type 0} (r : Result A Fault) (f : Fault) (Is : Fault → Type 0) → IsErrAnd r (λ e. e ≡ f) → Is f → IfErr r Is
+err_so (Err e) f Is same is = subst Is (sym same) is
+err_so (Ok n) f Is same is = absurd same
+
 -- ---- the clock
 
 no_none : (moments : List ℕ) → list_any is_none (map (λ m. Some m) moments) ≡ false
@@ -82,16 +87,3 @@ has_stopped is_broken notes true moments given broken = refl
 has_stopped is_broken notes false moments given broken =
     absurd (true≢false (sym (given.broken broken)
     ∙ (list_any-append is_none (map (λ m. Some m) moments) [] ∙ ap (λ b. b || false) (no_none moments))))
-
-or_true : (b : Bool) → (b || true) ≡ true
-or_true true = refl
-or_true false = refl
-
--- it gave one moment more, or none
-pub gave_more : (is_broken is_broken_then : Bool) (notes : List (Option ℕ)) (before : List (Option ℕ)) (moment : Option ℕ) → HasGiven is_broken notes before
-    → (is_broken_then ≡ true → moment ≡ None) → HasGiven is_broken_then (notes ++ moment ∷ []) (before ++ moment ∷ [])
-gave_more is_broken is_broken_then notes before moment given broken = record {
-  is = ap (λ b. b ++ moment ∷ []) given.is;
-  broken = λ e. subst (λ m. list_any is_none (before ++ m ∷ []) ≡ true) (sym (broken e))
-      (list_any-append is_none before (None ∷ []) ∙ or_true (list_any is_none before));
-}

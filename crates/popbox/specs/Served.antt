@@ -6,6 +6,7 @@ use Rattle.std.specs.Borrow.{Bor}
 use Rattle.std.specs.List.{list_any}
 use Rattle.std.specs.Option.{unwrap_or}
 use Rattle.creds.specs.Names.{host_of, is_host}
+use Rattle.vault.specs.Calls.{has_grown}
 use Rattle.vault.specs.declared.vault.Vault as a_vault
 use Rattle.office.specs.History.{Done}
 use Rattle.office.specs.Events.{Tagged, Limits, Log, Trace, given}
@@ -15,7 +16,7 @@ use Rattle.office.specs.Stands.{StandsFor}
 use Rattle.office.specs.declared.office.Office.{Office}
 use Rattle.office.specs.declared.office.OpenFault.{OpenFault}
 use Rattle.office.specs.declared.office.OpenFault.TheVariants as opening
-use Rattle.serving.specs.Given.{AreNewlyAdmitted}
+use Rattle.serving.specs.Given.{AreNewlyAdmitted, is_failed, moments}
 use Rattle.serving.specs.HttpTurns.{AreFew, AreShort}
 use Rattle.serving.specs.Running.{AreTurns, WaitsOnceMore, WasServed}
 use Rattle.serving.specs.Settings.{Settings, settings}
@@ -174,6 +175,12 @@ pub data IsStatus : (answer status : Result ℕ Fault) → Type 0 where
   IsAsAnswered : (answer : Result ℕ Fault) → IsStatus answer answer
   IsLost : (answer : ℕ) → IsStatus (Ok answer) (Ok 1)
 
+-- Why a start can't be said: standard output takes no more, or the site's name isn't of the form of
+-- a host's.
+pub data IsUnsaid (options : ServeOptions) : Fault → Type 0 where
+  IsUnwritten : IsUnsaid options fault.CannotWrite
+  IsNoSite : (met : Fault) → site_by options.admin_site ≡ Err met → IsUnsaid options met
+
 -- What a server did, by its status and the events that its office was given.
 pub data HasListened {V W P S H : Type 0} (vault : a_vault.Ghosts V) (sockets : a_wire.Ghosts W)
     (proxied : a_wire.Ghosts P) (spools : a_spool.Ghosts S) (listeners : a_listener.Ghosts H)
@@ -182,7 +189,7 @@ pub data HasListened {V W P S H : Type 0} (vault : a_vault.Ghosts V) (sockets : 
   -- the system refused to listen
   WasRefused : HasListened vault sockets proxied spools listeners T options office (Ok 1) office []
   -- it listened, and couldn't say so
-  WasUnsaid : (met : Fault)
+  WasUnsaid : (met : Fault) → IsUnsaid options met
       → HasListened vault sockets proxied spools listeners T options office (Err met) office []
   -- it served what came over its sockets, of which nothing was asked before
   WasEnded : (wire : W) (answer status : Result ℕ Fault) (office_then : Office V) (given : Log)
@@ -222,3 +229,38 @@ pub data IsServed (options : ServeOptions) (boot : ℕ) (T : Trace) : Trace → 
   NotOpened : IsServed options boot T T
   Opened : (log : Log) → AreNewlyAdmitted T.base (opened_by options boot T).log log
       → IsServed options boot T (trace_of T.base (log ++ (opened_by options boot T).log))
+
+-- ---- a server as a job over a store, which can't name its office
+
+-- With which status it may end after these events: 0 or 1; since its clock couldn't be read; or for
+-- a fault before its loop, and then there was no event.
+pub data IsStatusAfter (options : ServeOptions) : (status : Result ℕ Fault) → (given : Log)
+    → Type 0 where
+  HasCome : (status : ℕ) (given : Log) → status ≤ 1 → IsStatusAfter options (Ok status) given
+  HasNoTime : (given : Log) → IsStatusAfter options (Err fault.NoClock) given
+  HasNotBegun : (met : Fault) → IsUnsaid options met → IsStatusAfter options (Err met) []
+
+-- It ended so after these events, in as many turns as the options name or fewer: each has one Tick.
+pub record HasEndedBy (options : ServeOptions) (status : Result ℕ Fault) (given : Log)
+    : Type 0 where
+  pub within : length (moments given) ≤ turns_by options.turns
+  pub ended : IsStatusAfter options status given
+
+-- What became of a trace that the store kept, by the status, and the store's count of faults before
+-- and after: it is as it was, for a cause; or an office was opened, and given these events, each
+-- with a tag that it may have, and none failed unless the count grew.
+pub data HasServedStore (options : ServeOptions) (boot : ℕ) (T : Trace) (first last : ℕ)
+    : (status : Result ℕ Fault) → Trace → Type 0 where
+  WithoutLimits : (IsIdleTime options.idle → ⊥)
+      → HasServedStore options boot T first last (Ok 2) T
+  WithoutMemory : HasServedStore options boot T first last (Err fault.OutOfMemory) T
+  WithoutOffice : (why : OpenFault)
+      → ((why ≡ opening.BadHost) ↔ (is_host options.host.now ≡ false))
+      → (why ≡ opening.Store → has_grown first last ≡ true)
+      → HasServedStore options boot T first last (Err (of_opening why)) T
+  WithOffice : (status : Result ℕ Fault) (given : Log)
+      → AreNewlyAdmitted T.base (opened_by options boot T).log given
+      → (list_any is_failed given ≡ true → has_grown first last ≡ true)
+      → HasEndedBy options status given
+      → HasServedStore options boot T first last
+      status (trace_of T.base (given ++ (opened_by options boot T).log))

@@ -464,13 +464,14 @@ struct Serving<'a, 'w> {
 
 impl Job for Serving<'_, '_> {
     ghost use Rattle.std.specs.Prelude.{⊤};
-    ghost use Rattle.popbox.specs.Served.{IsServed};
+    ghost use Rattle.popbox.specs.Served.{HasServedStore};
 
     type Answer = Result<u8, Fault>;
 
     ghost tells = { λ _. ⊤ };
 
-    ghost does = { λ job T U first last answer. IsServed job.options.now job.boot T U };
+    ghost does = { λ job T U first last answer. HasServedStore job.options.now job.boot T
+        first last answer U };
 
     fn run<V: Vault>(self, vault: V) -> (Result<u8, Fault>, V) {
         let Serving {

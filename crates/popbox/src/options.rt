@@ -3,7 +3,7 @@
 //! A new option of a subcommand is an argument in `command_line`, where its default stands, a field
 //! here, and a line of that struct's `read`. An option of `serve` that a server's start logs is a
 //! field of the journal's `Settings` too, and a line of `settings`.
-ghost use Rattle.std.specs.Prelude.{◌≡◌};
+ghost use Rattle.std.specs.Prelude.{◌≡◌, Err, IfErr};
 ghost use Rattle.popbox.specs.Served.{site_by};
 
 use crate::version::IS_PROVED;
@@ -231,7 +231,9 @@ impl<'a> ServeOptions<'a> {
     /// What a start's line of the log says: whether this popbox is proved, and the options that
     /// say how clients are served, what is logged, and what the administration lists. Its fault is
     /// that of `site`.
-    pub fn settings(&self) -> Result<Settings, Fault> {
+    pub fn settings(&self) -> Result<Settings, Fault>
+        ensures err { IfErr result (λ met. site_by self.now.admin_site ≡ Err met) }
+    {
         let admin_site = self.site()?;
         Ok(Settings {
             is_proved: IS_PROVED,

@@ -1,11 +1,14 @@
 //! `popbox serve`: clients over the network.
-ghost use Rattle.std.specs.Prelude.{◌≡◌, ◌↔◌, [], true, Option, None};
+ghost use Rattle.std.specs.Prelude.{◌≡◌, ◌≤◌, ◌↔◌, [], true, Option, None, Err};
 ghost use Rattle.std.specs.Prelude.{IfSome, IsSome, IfOk, IfErr};
 ghost use Rattle.vault.specs.Changes.{Contents};
 ghost use Rattle.office.specs.Events.{Trace};
 ghost use Rattle.office.specs.Stands.{Keeps, StandsFor, vault_of};
-ghost use Rattle.converse.specs.declared.fault.Fault.TheVariants.{NoClock};
+ghost use Rattle.serving.specs.HttpTurns.{AreFew, AreShort};
+ghost use Rattle.serving.specs.Settings.{settings, none_set};
+ghost use Rattle.converse.specs.declared.fault.Fault.TheVariants.{CannotWrite, NoClock};
 ghost use Rattle.popbox.specs.Served.{IsServed, WasServedBySome, limits_by, IsIdleTime};
+ghost use Rattle.popbox.specs.Served.{AreSetBy, site_by, HasServedStore, IsUnsaid};
 ghost use Rattle.popbox.specs.Served.{HasGiven, HasServed, HasServedAnew, HasServedLinks};
 ghost use Rattle.popbox.specs.Served.{HasListened, HasKept, IsStatus};
 
@@ -21,8 +24,8 @@ use office::{AdminAccess, Limits, Office};
 use proxy::ProxiedWire;
 use recent::Recent;
 use serving::{
-    Clock, FolderSpool, Listener, NotedListener, NotedSpool, NotedWire, Server, SocketWire, Spool,
-    Wire,
+    Clock, FolderSpool, Links, Listener, NotedListener, NotedSpool, NotedWire, Server, SocketWire,
+    Spool, Wire,
 };
 use std::io;
 use std::io::Write;
@@ -82,6 +85,9 @@ pub fn serve_over<V: Vault, E: Write>(
         ⟦<Proxied<'static> as Wire>⟧ ⟦<ServedSpool<'static> as Spool>⟧
         ⟦<NotedListener<Journal<'static>> as Listener>⟧ options.now boot T result.0 U
         × Keeps (V.holds result.1) U }
+    ensures done { (T : Trace) → Keeps (V.holds vault) T → V.is_clean result.1 → (U : Trace)
+        × HasServedStore options.now boot T (V.faults vault) (V.faults result.1) result.0 U
+        × Keeps (V.holds result.1) U }
     ensures clean { V.is_clean result.1 → V.is_clean vault }
 {
     let Some(limits) = limits_of(options) else {
@@ -123,6 +129,7 @@ fn totals_of<V: Vault>(vault: &mut V, journal: &Journal<'_>) -> Option<Vec<Total
     ensures held { (c : Contents) → V.holds vault.old c → V.is_clean vault.new
         → V.holds vault.new c }
     ensures clean { V.is_clean vault.new → V.is_clean vault.old }
+    ensures counted { V.faults vault.old ≤ V.faults vault.new }
 {
     if !journal.is_on() {
         return None;
@@ -164,6 +171,20 @@ fn tell_slow<E: Write>(err: &mut E) {
     }
 }
 
+/// Prints at which ports the server listens.
+fn say_ports(rt: &HostRuntime, at: SocketAddr, ports: (u16, u16)) -> Result<(), Fault>
+    ensures { IfErr result (λ fault. fault ≡ CannotWrite) }
+{
+    let (port, admin_port) = ports;
+    let mut out = io::writer(rt);
+    let is_said = writeln!(out, "pop on {}:{}", at.ip(), port).is_ok()
+        && writeln!(out, "admin on 127.0.0.1:{admin_port}").is_ok();
+    if !is_said {
+        return Err(Fault::CannotWrite);
+    }
+    Ok(())
+}
+
 /// Says at which ports the server listens, on standard output and in the log.
 fn say_start<E: Write>(
     rt: &HostRuntime,
@@ -175,23 +196,16 @@ fn say_start<E: Write>(
     watch: &StoreWatch<'_>,
     totals: &Option<Vec<Total>>,
     err: &mut E,
-) -> Result<(), Fault> {
-    let (port, admin_port) = ports;
-    let mut out = io::writer(rt);
-    writeln!(out, "pop on {}:{}", at.ip(), port).map_err(|_| Fault::CannotWrite)?;
-    writeln!(out, "admin on 127.0.0.1:{admin_port}").map_err(|_| Fault::CannotWrite)?;
+) -> Result<(), Fault>
+    ensures { IfErr result (IsUnsaid options.now) }
+{
+    say_ports(rt, at, ports)?;
     tell_slow(err);
-    let pop = SocketAddr::from((at.ip(), port));
     let settings = options.settings()?;
-    note_start(
-        journal,
-        rt,
-        pop,
-        admin_port,
-        watch.path(),
-        totals,
-        &settings,
-    );
+    let (port, admin_port) = ports;
+    let pop = SocketAddr::from((at.ip(), port));
+    let path = watch.path();
+    note_start(journal, rt, pop, admin_port, path, totals, &settings);
     if options.is_verbose && !journal.is_on() {
         Folder::new(rt, spool).tell_left(err);
     }
@@ -386,6 +400,21 @@ fn serve_turns<'a, V: Vault, W: Wire + Drop>(
     (served, server.office)
 }
 
+/// Sets links with which a loop begins as the options say. Its fault is that of the site's name.
+fn set_links(links: &mut Links, options: &ServeOptions<'_>) -> Result<(), Fault>
+    ensures err { IfErr result (λ met. site_by options.now.admin_site ≡ Err met) }
+    ensures set { IfOk result (λ _. settings links.old ≡ none_set → AreFew links.old
+        → AreShort links.old → AreSetBy options.now links.new) }
+{
+    let site = options.site()?;
+    links.set_wait(u64::from(options.wait));
+    links.set_login_seconds(u64::from(options.login_seconds));
+    links.set_full_house_seconds(u64::from(options.full_house_seconds));
+    links.set_slow_guesses(options.slow_guesses);
+    links.set_site(site);
+    Ok(())
+}
+
 /// Serves a spool, until so many turns are over, or the store is lost.
 fn serve_until<V: Vault, W: Wire, S: Spool, L: Listener>(
     rt: &HostRuntime,
@@ -404,11 +433,7 @@ fn serve_until<V: Vault, W: Wire, S: Spool, L: Listener>(
         result server.new.office server.new.wire spool.new server.new.listener) }
 {
     let mut links = server.begin(rt.alloc(), spool);
-    links.set_wait(u64::from(options.wait));
-    links.set_login_seconds(u64::from(options.login_seconds));
-    links.set_full_house_seconds(u64::from(options.full_house_seconds));
-    links.set_slow_guesses(options.slow_guesses);
-    links.set_site(options.site()?);
+    set_links(&mut links, options)?;
     let mut clock = ServerClock::start(rt, watch)?;
     let turns = options.turns.unwrap_or(u64::MAX);
     server.serve_while(&mut links, spool, &mut clock, turns);

@@ -14,7 +14,7 @@ pub returns-in-Err-said-clause-served : goal.returns-in-Err-said-clause-served
 returns-in-Err-said-clause-served g c = λ T s clean. record {
   given = [];
   served = unserved g.V.Vault.holds g.V.Vault.faults T c.args.office s;
-  did = WasUnsaid c.in-Err-said.fault;
+  did = WasUnsaid c.in-Err-said.fault c.in-Err-said.ensures;
 }
 
 pub returns-clause-served : goal.returns-clause-served

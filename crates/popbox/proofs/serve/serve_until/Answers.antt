@@ -1,17 +1,17 @@
-use Rattle.std.proofs.Common.{[], Ok, Err, sym, ◌∙◌, ap, subst}
+use Rattle.std.proofs.Common.{[], Err, sym, ◌∙◌, ap, subst}
 use Rattle.serving.proofs.Going.{unserved}
 use Rattle.converse.specs.declared.fault.Fault.TheVariants.{NoClock}
 use Rattle.popbox.specs.Served.{HasNoSite, HasNoClock, HasEnded, HasLostTime, HasServed, HasRunBy}
-use Rattle.popbox.proofs.ByOptions.{set_so, set_by, ran_by, err_is, has_stopped}
+use Rattle.popbox.proofs.ByOptions.{ran_by, err_is, has_stopped}
 use Rattle.popbox.proofs.serve.serve_until.Goals as goal
 
-pub returns-in_err-site-clause-served : goal.returns-in_err-site-clause-served
-returns-in_err-site-clause-served g c = λ T s clean. record {
+pub returns-in_err-set_links-clause-served : goal.returns-in_err-set_links-clause-served
+returns-in_err-set_links-clause-served g c = λ T s clean. record {
   given = [];
   served = unserved g.V.Vault.holds g.V.Vault.faults T c.args.server.now.office s;
   did = subst (λ r. HasServed g.V.Vault g.W.Wire g.S.Spool g.L.Listener T c.args.options.now c.args.server.now.office c.args.server.now.wire c.args.spool.now c.args.server.now.listener
       r c.args.server.now.office c.args.server.now.wire c.args.spool.now c.args.server.now.listener [])
-      (sym (err_is c.from_residual.result c.in_err-site.field-0.0 c.from_residual.ensures.1)) (HasNoSite c.in_err-site.field-0.0 (sym c.in_err-site.ensures));
+      (sym (err_is c.from_residual.result c.in_err-set_links.field-0.0 c.from_residual.ensures.1)) (HasNoSite c.in_err-set_links.field-0.0 c.in_err-set_links.ensures.err);
 }
 
 pub returns-in_err-clock-clause-served : goal.returns-in_err-clock-clause-served
@@ -27,15 +27,7 @@ pub returns-then-clock-clause-served : goal.returns-then-clock-clause-served
 returns-then-clock-clause-served g c = λ T s clean.
     (let run = c.serve_while.ensures.runs in
     let gone = run.turned.each T s clean in
-    let begun = set_by c.args.options.now c.begin-links.result c.set_site.new.self
-    (set_so c.args.options.now c.from.result c.from-2.result c.from-3.result
-    c.begin-links.result c.set_wait.new.self c.set_login_seconds.new.self c.set_full_house_seconds.new.self c.set_slow_guesses.new.self c.set_site.new.self
-    c.from.ensures c.from-2.ensures c.from-3.ensures c.begin-links.ensures.settings c.set_wait.ensures.settings c.set_login_seconds.ensures.settings
-    c.set_full_house_seconds.ensures.settings c.set_slow_guesses.ensures.settings c.set_site.ensures.clients)
-    (sym c.in_ok-site.ensures ∙ ap (λ site. Ok site) (sym c.set_site.ensures.site))
-    (c.set_site.ensures.requests
-    ∙ (c.set_slow_guesses.ensures.requests ∙ (c.set_full_house_seconds.ensures.requests ∙ (c.set_login_seconds.ensures.requests ∙ c.set_wait.ensures.requests))))
-    c.begin-links.ensures.few c.begin-links.ensures.short in
+    let begun = c.in_ok-set_links.ensures.set c.begin-links.ensures.settings c.begin-links.ensures.few c.begin-links.ensures.short in
     let stopped = has_stopped c.serve_while.new.clock.is_broken c.serve_while.new.clock.notes.items run.stopped run.moments
     (run.turned.gave [] c.in_ok-clock.ensures.fresh) c.if-clock.true in
     record {
@@ -51,15 +43,7 @@ pub returns-clause-served : goal.returns-clause-served
 returns-clause-served g c = λ T s clean.
     (let run = c.serve_while.ensures.runs in
     let gone = run.turned.each T s clean in
-    let begun = set_by c.args.options.now c.begin-links.result c.set_site.new.self
-    (set_so c.args.options.now c.from.result c.from-2.result c.from-3.result
-    c.begin-links.result c.set_wait.new.self c.set_login_seconds.new.self c.set_full_house_seconds.new.self c.set_slow_guesses.new.self c.set_site.new.self
-    c.from.ensures c.from-2.ensures c.from-3.ensures c.begin-links.ensures.settings c.set_wait.ensures.settings c.set_login_seconds.ensures.settings
-    c.set_full_house_seconds.ensures.settings c.set_slow_guesses.ensures.settings c.set_site.ensures.clients)
-    (sym c.in_ok-site.ensures ∙ ap (λ site. Ok site) (sym c.set_site.ensures.site))
-    (c.set_site.ensures.requests
-    ∙ (c.set_slow_guesses.ensures.requests ∙ (c.set_full_house_seconds.ensures.requests ∙ (c.set_login_seconds.ensures.requests ∙ c.set_wait.ensures.requests))))
-    c.begin-links.ensures.few c.begin-links.ensures.short in
+    let begun = c.in_ok-set_links.ensures.set c.begin-links.ensures.settings c.begin-links.ensures.few c.begin-links.ensures.short in
     record {
       given = gone.given;
       served = gone.served;
