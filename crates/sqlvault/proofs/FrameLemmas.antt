@@ -584,7 +584,7 @@ looks_undone {store = store} {old = old} {first = first} {last = last} {new = ne
     }
 
 -- the end of one that shows the rows of these contents: it was committed, or an error came
-ends_held : {S : Type 0} {store : Ghosts S} {last new : Held S} (r : Result (Unit {0}) Error)
+pub ends_held : {S : Type 0} {store : Ghosts S} {last new : Held S} (r : Result (Unit {0}) Error)
     → Ends store last new r → (base after : Contents) (rows : Rows) → HasCleanDisk (state store new)
     → Within (state store last) base rows → Keeps rows after
     → IsEnded base after (state store new) r
@@ -595,7 +595,7 @@ ends_held {store = store} {last = last} {new = new} (Err e) ends base after rows
     (ends.err last clean (goes_still (state store last) base rows w)) w
 
 -- a stop in it leaves the one or the other
-ends_leaves : {S : Type 0} {store : Ghosts S} {last new : Held S} {r : Result (Unit {0}) Error}
+pub ends_leaves : {S : Type 0} {store : Ghosts S} {last new : Held S} {r : Result (Unit {0}) Error}
     → Ends store last new r → (base after : Contents) (rows : Rows) → HasCleanDisk (state store new)
     → Within (state store last) base rows → Keeps rows after
     → Leaves (state store new) (λ left. Keeps left base ⊎ Keeps left after)
@@ -604,13 +604,13 @@ ends_leaves ends base after rows clean w keeps db may = elim (ends.stop clean db
   | inr made ↦ inr (subst (λ r. Keeps r after) (sym (ap rows_in made ∙ w.rows_are)) keeps)
 ]
 
-ends_up : {S : Type 0} {store : Ghosts S} {last new : Held S} (r : Result (Unit {0}) Error)
+pub ends_up : {S : Type 0} {store : Ghosts S} {last new : Held S} (r : Result (Unit {0}) Error)
     → Ends store last new r → HasCleanDisk (state store new) → IsOk r
     → IsTrue (state store new).is_open
 ends_up (Ok x) ends clean own = (ends.ok clean).is_open
 ends_up (Err e) ends clean own = absurd own
 
-made_or : (Made : (Contents → Type 0) → Type 0) (s : State) (c after : Contents)
+pub made_or : (Made : (Contents → Type 0) → Type 0) (s : State) (c after : Contents)
     (r : Result (Unit {0}) Error) → ((Held : Contents → Type 0) → Held after → Made Held)
     → IsEnded c after s r → MadeOr r Made c (Holds s)
 made_or Made s c after (Ok x) say held = say (Holds s) held
@@ -646,11 +646,11 @@ abbrev pub met_as : Result (Unit {0}) Error → Result (Unit {0}) VaultFault
 met_as (Ok x) = Ok x
 met_as (Err e) = Err (fault_of e)
 
-own_ok : (r : Result (Unit {0}) Error) → IsOwn (met_as r) → IsOk r
+pub own_ok : (r : Result (Unit {0}) Error) → IsOwn (met_as r) → IsOk r
 own_ok (Ok x) own = tt
 own_ok (Err e) own = absurd (not_own (Unit {0}) e own)
 
-met_done : (Held : Contents → Type 0) (c after : Contents) (r : Result (Unit {0}) Error)
+pub met_done : (Held : Contents → Type 0) (c after : Contents) (r : Result (Unit {0}) Error)
     → MadeOr r (λ H. H after) c Held → IsDone Held c after (Ok tt) (met_as r)
 met_done Held c after (Ok x) held = record { answer = refl; held = held }
 met_done Held c after (Err e) held = refused Held c after (Ok tt) e held

@@ -13,6 +13,7 @@ pub mod HeadLemmas
 pub mod PageLemmas
 pub mod CopyLemmas
 pub mod RemoveLemmas
+pub mod RemovalLemmas
 pub mod GroupLemmas
 pub mod RuleLemmas
 pub mod TotalLemmas
@@ -41,4 +42,5 @@ pub mod OlderLemmas
 pub mod AgainLemmas
 pub mod VersionLemmas
 pub mod CallLemmas
+pub mod AheadLemmas
 pub mod CloseLemmas

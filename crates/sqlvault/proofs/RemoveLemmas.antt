@@ -174,7 +174,7 @@ one_removed d key rows after fits change c keeps =
     })
 
 -- what some keys named is gone, and what others named was gone before
-removed_both : (d keys done : List ℕ) (rows : Rows) (c : Contents) → Keeps rows (with_messages (without_keys d keys (without_keys d done c.messages)) c)
+pub removed_both : (d keys done : List ℕ) (rows : Rows) (c : Contents) → Keeps rows (with_messages (without_keys d keys (without_keys d done c.messages)) c)
     → Keeps rows (with_messages (without_keys d (keys ++ done) c.messages) c)
 removed_both d keys done rows c keeps =
     let p : Keyed → Bool = λ x. not (bytes_eq x.message.maildrop d && is_named done x.key) in

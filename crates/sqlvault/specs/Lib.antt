@@ -1,4 +1,5 @@
 pub mod Frame
+pub mod Removals
 pub mod Keeps
 pub mod Clerks
 pub mod Receipts

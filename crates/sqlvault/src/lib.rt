@@ -3,6 +3,7 @@
 #![tactic(auto)]
 
 mod adopt;
+mod ahead;
 mod carry;
 mod checkpoint;
 mod clerks;
@@ -15,6 +16,7 @@ mod pages;
 mod part;
 mod receipts;
 mod refusal;
+mod removal;
 mod rules;
 mod sound_clerks;
 mod sound_deposits;
@@ -27,6 +29,7 @@ mod transaction;
 pub mod uses;
 mod version;
 
+pub use ahead::Ahead;
 pub use part::{Part, unsound_part};
 pub use refusal::Refusal;
 pub use sql_vault::{SqlVault, let_go};

@@ -121,7 +121,7 @@ pub(crate) fn heads<S: Alter>(
 
 /// Removes each of the messages, inside a transaction, the last one first: so what is left of a
 /// page of the store needn't move.
-fn remove_all<S: Alter>(
+pub(crate) fn remove_all<S: Alter>(
     conn: &mut Connection<S>,
     maildrop: &Name,
     keys: &[MessageKey],

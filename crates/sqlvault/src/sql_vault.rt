@@ -11,6 +11,7 @@ ghost use Rattle.sqlvault.specs.Refusals.{answer_of, count_after, open_fault};
 
 use crate::adopt::settle;
 use crate::refusal::{Refusal, fault_of, tell};
+use crate::removal::{self, Removing};
 use crate::{checkpoint, clerks, deposit, mail, maildrops, pages, receipts, rules, totals};
 use creds::{Credential, DepositId, Name};
 use mailtext::MailText;
@@ -19,7 +20,7 @@ use sqlite::{Alter, Connection, Error, ErrorCode, FileFrom, FileStore, Files, Me
 use sqlite_disk::Disk;
 use std::alloc::Global;
 use std::marker::Model;
-use vault::{ClerkKind, Deposited, Head, MessageKey, Receipt, Total, Vault, VaultFault};
+use vault::{ClerkKind, Deposited, Head, MessageKey, Progress, Receipt, Total, Vault, VaultFault};
 
 /// The octets of a page of the database, of which the log keeps copies.
 const PAGE: u64 = 4_096;
@@ -204,8 +205,10 @@ impl<D: Disk + Drop> SqlVault<FileStore<D>> {
 }
 
 impl<S: Alter> SqlVault<S> {
-    ghost use Rattle.std.specs.Prelude.{true, Err};
+    ghost use Rattle.std.specs.Prelude.{true, Err, ℕ, List, Some, None};
     ghost use Rattle.vault.specs.declared.fault.VaultFault.TheVariants.{NotOurs};
+    ghost use Rattle.vault.specs.Calls.{AreRemoved};
+    ghost use Rattle.sqlvault.specs.Removals.{Removal, Prepares, Finishes, removal_of, under_way};
     ghost use Rattle.mailsql.specs.Names.{is_taken, has_meta_rows};
     ghost use Rattle.sqlvault.specs.Adopts.{Adopts, StaysAs, IsVersionRefused};
     ghost use Rattle.sqlvault.specs.Carries.{CarriesOver};
@@ -342,6 +345,56 @@ impl<S: Alter> SqlVault<S> {
         self.told(answer)
     }
 
+    /// Where it allocates.
+    pub(crate) fn allocator(&self) -> Global {
+        self.alloc
+    }
+
+    /// Begins a removal in parts, in a transaction that is open until the removal is finished or
+    /// given up. Until then no call but the three that follow may be made.
+    pub(crate) fn begin_removal(&mut self) -> Result<(), VaultFault>
+        ensures prepares { (d keys : List ℕ) → Prepares S.Store self.old.conn self.new.conn None
+            (under_way result (removal_of d keys)) (IsOwn result) }
+        ensures counted { CountsFaults self.old.faults self.new.faults result }
+        ensures answer { IsAnswer (Ok tt) result }
+    {
+        let answer = removal::begin_removal(&mut self.conn);
+        self.told(answer)
+    }
+
+    /// Does some more of a removal. After a fault none is under way, and nothing is removed.
+    pub(crate) fn remove_piece(&mut self, removing: &mut Removing) -> Result<(), VaultFault>
+        ensures prepares { Prepares S.Store self.old.conn self.new.conn (Some removing.old)
+            (under_way result removing.new) (IsOwn result) }
+        ensures counted { CountsFaults self.old.faults self.new.faults result }
+        ensures answer { IsAnswer (Ok tt) result }
+    {
+        let answer = removal::remove_piece(&mut self.conn, removing);
+        self.told(answer)
+    }
+
+    /// Does the rest of a removal, and commits it. After a fault nothing is removed.
+    pub(crate) fn finish_removal(&mut self, removing: &Removing) -> Result<(), VaultFault>
+        ensures finishes { Finishes S.Store self.old.conn self.new.conn removing.now
+            (λ c Held. AreRemoved Held c removing.now.maildrop removing.now.keys) result }
+        ensures counted { CountsFaults self.old.faults self.new.faults result }
+    {
+        let octets = removing.len().saturating_mul(PAGE);
+        let answer = removal::finish_removal(&mut self.conn, removing);
+        self.written(octets, answer)
+    }
+
+    /// Gives a removal up, also if it answers a fault.
+    pub(crate) fn give_up_removal(&mut self) -> Result<(), VaultFault>
+        ensures prepares { (r : Removal) → Prepares S.Store self.old.conn self.new.conn (Some r)
+            None (IsOwn result) }
+        ensures counted { CountsFaults self.old.faults self.new.faults result }
+        ensures answer { IsAnswer (Ok tt) result }
+    {
+        let answer = removal::give_up_removal(&mut self.conn);
+        self.told(answer)
+    }
+
     /// The answer with its refusal as the vault's fault, which is counted if it is `Store`.
     fn told<T: Drop>(&mut self, answer: Result<T, Refusal>) -> Result<T, VaultFault>
         ensures answer { result ≡ answer_of answer }
@@ -431,6 +484,16 @@ impl<S: Alter> Vault for SqlVault<S> {
     fn remove(&mut self, maildrop: &Name, keys: &[MessageKey]) -> Result<(), VaultFault> {
         let answer = mail::remove(&mut self.conn, maildrop, keys);
         self.written((keys.len() as u64).saturating_mul(PAGE), answer)
+    }
+
+    /// There is nothing to prepare: a removal is one transaction. [`crate::Ahead`] does it in
+    /// parts.
+    fn prepare_removal(
+        &mut self,
+        _maildrop: &Name,
+        _keys: &[MessageKey],
+    ) -> Result<Progress, VaultFault> {
+        Ok(Progress::Ready)
     }
 
     fn credential(&mut self, clerk: &Name) -> Result<Option<Credential>, VaultFault> {

@@ -9,6 +9,8 @@ mod older_stores;
 #[cfg(test)]
 mod opened_twice;
 #[cfg(test)]
+mod prepared;
+#[cfg(test)]
 mod recents;
 #[cfg(test)]
 mod refusals;

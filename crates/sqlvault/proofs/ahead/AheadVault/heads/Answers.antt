@@ -1,0 +1,24 @@
+use Rattle.std.proofs.Common.{refl, Vec, Global}
+use Rattle.vault.specs.declared.answer.Head.{Head}
+use Rattle.vault.specs.Calls.{AreHeads, seen_as}
+use Rattle.sqlvault.proofs.AheadLemmas.{done_after, done_refused, looks_after, looks_refused}
+use Rattle.sqlvault.proofs.ahead.AheadVault.heads.Goals as goal
+
+pub returns-in-Ok-clause-done : goal.returns-in-Ok-clause-done
+returns-in-Ok-clause-done g c k h clean =
+    done_after g.S.Store (record { vault = c.heads.new.self; under_way = c.self.inside.removing })
+    (λ Held. AreHeads Held k c.args.maildrop.now (seen_as c.heads.result (λ (v : Vec Head Global). v.items)))
+    k c.self.view_is c.in-Ok.ensures.looks c.in-Ok.ensures.none refl c.heads.ensures.looks.clean (c.heads.ensures.done k) h clean
+
+pub returns-in-Err-clause-done : goal.returns-in-Err-clause-done
+returns-in-Err-clause-done g c k h clean =
+    done_refused g.S.Store {new = c.give_up.new.self} k _ _ c.in-Err.fault c.in-Err.ensures.answer c.in-Err.ensures.looks h clean
+
+pub returns-in-Ok-clause-looks : goal.returns-in-Ok-clause-looks
+returns-in-Ok-clause-looks g c =
+    looks_after g.S.Store {new = record { vault = c.heads.new.self; under_way = c.self.inside.removing }}
+    c.self.view_is c.in-Ok.ensures.looks c.in-Ok.ensures.none refl c.heads.ensures.looks
+
+pub returns-in-Err-clause-looks : goal.returns-in-Err-clause-looks
+returns-in-Err-clause-looks g c =
+    looks_refused g.S.Store c.in-Err.fault c.in-Err.ensures.answer c.in-Err.ensures.looks
