@@ -1,6 +1,6 @@
 -- That turns, one after the other, go on from any trace, and what a turn's wait changes.
 use Rattle.vault.specs.declared.vault.Vault.{Ghosts}
-use Rattle.std.proofs.Common.{◌≡◌, ◌≤◌, ◌||◌, ℕ, true, false, List, [], ◌∷◌, ◌++◌, map, sym, ◌∙◌, ap, arith, Some, None, Option, ⊎_elim, subst, append_assoc, length, ◌+◌, length-append}
+use Rattle.std.proofs.Common.{◌≡◌, ◌≤◌, ◌||◌, ℕ, Bool, true, false, List, [], ◌∷◌, ◌++◌, map, sym, ◌∙◌, ap, arith, Some, None, Option, ⊎_elim, subst, append_assoc, length, ◌+◌, length-append}
 use Rattle.std.specs.Bool.{if◌then◌else◌}
 use Rattle.std.specs.List.{list_any}
 use Rattle.std.proofs.lemmas.Bool.{or_cases}
@@ -25,7 +25,7 @@ use Rattle.serving.specs.ClientParts.{IsPassed}
 use Rattle.serving.specs.declared.links.Seat.{Seat}
 use Rattle.serving.specs.declared.requests.Exchange.{Exchange}
 use Rattle.adminhttp.specs.Sites.{Site}
-use Rattle.serving.specs.Running.{NoTurn, OneMore, HasGoneOn, LeavesAsFound, Maintains, Maintained, Deferred, answers, HasTurned, WasServed}
+use Rattle.serving.specs.Running.{NoTurn, OneMore, HasGoneOn, LeavesAsFound, Maintains, Maintained, Prepared, Deferred, answers, HasTurned, WasServed}
 use Rattle.serving.specs.declared.links.Links.{Links}
 use Rattle.serving.proofs.Working.{newly_then, grown_more, asked_then}
 
@@ -92,13 +92,15 @@ pub waits_idle : (links : Links) → (links.clients.poll_now || links.requests.p
 waits_idle links none = ap (λ more. if more then 0 else 1000) none
 
 -- a maintenance counts faults on, and makes no store clean
-module _ {V : Type 0} (vault : Ghosts V) (l : Links) (o o1 : Office V) where
-  maintained_more : Maintains vault l o o1 → vault.faults (vault_of o) ≤ vault.faults (vault_of o1)
+module _ {V : Type 0} (vault : Ghosts V) (p : Bool) (l : Links) (o o1 : Office V) where
+  maintained_more : Maintains vault p l o o1 → vault.faults (vault_of o) ≤ vault.faults (vault_of o1)
   maintained_more (Maintained answer idle looks) = looks.counted.kept
+  maintained_more (Prepared answer preparing looks) = looks.counted.kept
   maintained_more (Deferred busy same) = subst (λ x. vault.faults (vault_of o) ≤ vault.faults (vault_of x)) (sym same) (omega arith)
 
-  pub maintained_clean : Maintains vault l o o1 → vault.is_clean (vault_of o1) → vault.is_clean (vault_of o)
+  pub maintained_clean : Maintains vault p l o o1 → vault.is_clean (vault_of o1) → vault.is_clean (vault_of o)
   maintained_clean (Maintained answer idle looks) = looks.clean
+  maintained_clean (Prepared answer preparing looks) = looks.clean
   maintained_clean (Deferred busy same) = λ k. subst (λ x. vault.is_clean (vault_of x)) same k
 
 -- an office that was given nothing
@@ -112,13 +114,13 @@ module _ {V W S H : Type 0} (vault : Ghosts V) (Asked : W → List Call → Type
   gone_more : (moments : List ℕ) (l : Links) (o : Office V) (w : W) (s : S) (h : H) (l1 : Links) (o1 : Office V) (w1 : W) (s1 : S) (h1 : H) (now : ℕ)
       (l2 : Links) (o2 : Office V) (w2 : W) (s2 : S) (h2 : H) (o3 : Office V)
       → (a : HasGoneOn vault Asked AskedFiles Heard T moments l o w s h l1 o1 w1 s1 h1)
-      → Works vault Asked AskedFiles Heard (trace_of T.base (a.given ++ T.log)) now l1 o1 w1 s1 h1 o2 l2 w2 s2 h2
+      → (turn : Works vault Asked AskedFiles Heard (trace_of T.base (a.given ++ T.log)) now l1 o1 w1 s1 h1 o2 l2 w2 s2 h2)
       → LeavesAsFound now l1 l2
-      → Maintains vault l2 o2 o3
+      → Maintains vault turn.seen.is_preparing l2 o2 o3
       → ((U : Trace) → StandsFor vault.holds o2 U → StandsFor vault.holds o3 U)
       → HasGoneOn vault Asked AskedFiles Heard T (moments ++ now ∷ []) l o w s h l2 o3 w2 s2 h2
   gone_more moments l o w s h l1 o1 w1 s1 h1 now l2 o2 w2 s2 h2 o3 a turn left kept still =
-      let more : vault.faults (vault_of o2) ≤ vault.faults (vault_of o3) = maintained_more vault l2 o2 o3 kept in
+      let more : vault.faults (vault_of o2) ≤ vault.faults (vault_of o3) = maintained_more vault turn.seen.is_preparing l2 o2 o3 kept in
       record {
         given = given_in turn.seen ++ a.given;
         turns = OneMore moments a.given l1 o1 w1 s1 h1 now l2 o2 w2 s2 h2 o3 a.turns turn left kept;
@@ -148,22 +150,24 @@ module _ {V W S H C : Type 0} (vault : Ghosts V) (Asked : W → List Call → Ty
   }
 
   pub turned_more : (moments : List ℕ) (l1 : Links) (o1 : Office V) (w1 : W) (s1 : S) (h1 : H) (k1 : C) (now : ℕ)
-      (l2 : Links) (o2 : Office V) (w2 : W) (s2 : S) (h2 : H) (o3 : Office V) (k2 : C)
+      (l2 : Links) (o2 : Office V) (w2 : W) (s2 : S) (h2 : H) (p : Bool) (o3 : Office V) (k2 : C)
       → HasTurned vault Asked AskedFiles Heard Gave false moments l o w s h k l1 o1 w1 s1 h1 k1
       → ((before : List (Option ℕ)) → Gave k1 before → Gave k2 (before ++ Some now ∷ []))
       → (vault.is_clean (vault_of o2) → vault.is_clean (vault_of o1))
-      → ((T : Trace) → StandsFor vault.holds o1 T → vault.is_clean (vault_of o2) → Works vault Asked AskedFiles Heard T now l1 o1 w1 s1 h1 o2 l2 w2 s2 h2)
+      → ((T : Trace) → StandsFor vault.holds o1 T → vault.is_clean (vault_of o2)
+      → (turn : Works vault Asked AskedFiles Heard T now l1 o1 w1 s1 h1 o2 l2 w2 s2 h2) × (turn.seen.is_preparing ≡ p))
       → LeavesAsFound now l1 l2
-      → Maintains vault l2 o2 o3
+      → Maintains vault p l2 o2 o3
       → ((U : Trace) → StandsFor vault.holds o2 U → vault.is_clean (vault_of o3) → StandsFor vault.holds o3 U)
       → HasTurned vault Asked AskedFiles Heard Gave false (moments ++ now ∷ []) l o w s h k l2 o3 w2 s2 h2 k2
-  turned_more moments l1 o1 w1 s1 h1 k1 now l2 o2 w2 s2 h2 o3 k2 a called clean works left kept still = record {
+  turned_more moments l1 o1 w1 s1 h1 k1 now l2 o2 w2 s2 h2 p o3 k2 a called clean works left kept still = record {
     gave = λ before g. subst (Gave k2) (one_more before moments now) (called (before ++ answers false moments) (a.gave before g));
     each = λ T stands z.
-        (let z2 = maintained_clean vault l2 o2 o3 kept z in
+        (let z2 = maintained_clean vault p l2 o2 o3 kept z in
         let g = a.each T stands (clean z2) in
+        let turn = works (trace_of T.base (g.given ++ T.log)) g.served.stands z2 in
         gone_more vault Asked AskedFiles Heard T moments l o w s h l1 o1 w1 s1 h1 now l2 o2 w2 s2 h2 o3 g
-        (works (trace_of T.base (g.given ++ T.log)) g.served.stands z2) left kept (λ U st. still U st z));
+        turn.0 left (subst (λ b. Maintains vault b l2 o2 o3) (sym turn.1) kept) (λ U st. still U st z));
   }
 
   pub turned_stopped : (moments : List ℕ) (l1 : Links) (o1 : Office V) (w1 : W) (s1 : S) (h1 : H) (k1 k2 : C)

@@ -5,6 +5,7 @@ use Rattle.std.specs.List.{list_any}
 use Rattle.vault.specs.Call.{Looks}
 use Rattle.vault.specs.Calls.{has_grown}
 use Rattle.vault.specs.Changes.{Contents}
+use Rattle.vault.specs.declared.answer.Progress.{Progress}
 use Rattle.vault.specs.declared.fault.VaultFault.{VaultFault}
 use Rattle.vault.specs.declared.vault.Vault.{Ghosts}
 use Rattle.office.specs.Events.{Log, Trace}
@@ -34,17 +35,22 @@ pub record LeavesAsFound (now : ℕ) (links links_then : Links) : Type 0 where
   pub few : AreFew links → AreFew links_then
   pub ongoing : AllGoOn now links_then
 
--- After a turn: if the next one waits, the store did nothing but look, whatever it answered; else
--- nothing was done. That the store was asked to do what it has put off is seen in no value: the
--- tests of `maintenance.rt` (turn_tests) count the calls.
-pub data Maintains {V : Type 0} (vault : Ghosts V) (links : Links)
+-- After a turn: if the next one waits, or a QUIT stays unread, the store did nothing but look,
+-- whatever it answered; else nothing was done. That the store was asked to do what it has put off,
+-- or to prepare what the QUIT removes, is seen in no value: the tests of `maintenance.rt` and
+-- `long_quits.rt` (turn_tests) count the calls.
+pub data Maintains {V : Type 0} (vault : Ghosts V) (is_preparing : Bool) (links : Links)
     (office office_then : Office V) : Type 0 where
   Maintained : (answer : Result ⊤ VaultFault) → millis_of links ≡ 1000
       → Looks vault.holds vault.faults vault.is_clean vault.is_up vault.may_leave
       (vault_of office) (vault_of office_then) answer
-      → Maintains vault links office office_then
+      → Maintains vault is_preparing links office office_then
+  Prepared : (answer : Result Progress VaultFault) → is_preparing ≡ true
+      → Looks vault.holds vault.faults vault.is_clean vault.is_up vault.may_leave
+      (vault_of office) (vault_of office_then) answer
+      → Maintains vault is_preparing links office office_then
   Deferred : millis_of links ≡ 0 → office_then ≡ office
-      → Maintains vault links office office_then
+      → Maintains vault is_preparing links office office_then
 
 -- The turns of these moments were done, the oldest first, and gave these events: each turn works,
 -- from the trace with the events of those before it; and after each the store is maintained.
@@ -63,7 +69,7 @@ pub data AreTurns {V W S H : Type 0} (vault : Ghosts V)
       → (turn : Works vault Asked AskedFiles Heard (trace_of T.base (given ++ T.log)) now
       links1 office1 wire1 spool1 listener1 office2 links2 wire2 spool2 listener2)
       → LeavesAsFound now links1 links2
-      → Maintains vault links2 office2 office3
+      → Maintains vault turn.seen.is_preparing links2 office2 office3
       → AreTurns vault Asked AskedFiles Heard T links office wire spool listener
       (moments ++ now ∷ []) (given_in turn.seen ++ given) links2 office3 wire2 spool2 listener2
 

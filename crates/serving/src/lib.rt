@@ -27,6 +27,7 @@ mod noted_spool;
 mod noted_wire;
 mod octets;
 mod pace;
+mod quits;
 mod requests;
 mod running;
 mod script_links;

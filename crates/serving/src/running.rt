@@ -12,11 +12,12 @@ ghost use Rattle.serving.specs.Running.{HasRun, Maintains};
 
 use crate::links::Links;
 use crate::listener::Listener;
+use crate::quits::Quits;
 use crate::server::Server;
 use crate::spool::Spool;
 use crate::turn::millis_for;
 use crate::wire::Wire;
-use vault::Vault;
+use vault::{Progress, Vault};
 
 /// Gives a server the moment of each turn, once the turn has waited, and tells it when to stop.
 ///
@@ -33,15 +34,25 @@ pub trait Clock {
             → gave self.new (a ++ result ∷ []) };
 }
 
+/// The line of a QUIT, as it ends a session.
+const QUIT_LINE: &[u8] = b"QUIT\r\n";
+
 impl<V: Vault, W: Wire, L: Listener> Server<V, W, L> {
-    /// Has the store do what it has put off, if the next turn waits.
-    fn maintain_if_idle(&mut self, links: &Links)
-        ensures maintains { Maintains V.Vault links.now self.old.office self.new.office }
+    /// Has the store prepare a part of what a QUIT removes, if one stays unread; otherwise do what
+    /// it has put off, if the next turn waits.
+    fn use_pause(&mut self, links: &Links, quits: &mut Quits)
+        ensures maintains { Maintains V.Vault quits.old.is_preparing links.now
+            self.old.office self.new.office }
         ensures stands { OfEachTrace V.Vault self.old.office self.new.office (λ T.
             StandsFor V.holds self.new.office T) }
         ensures wire { self.new.wire ≡ self.old.wire }
         ensures listener { self.new.listener ≡ self.old.listener }
     {
+        if let Some(connection) = quits.next() {
+            let prepared = self.office.prepare_quit(connection, QUIT_LINE);
+            quits.note_progress(matches!(prepared, Ok(Progress::More)));
+            return;
+        }
         if links.poll_now() {
             return;
         }
@@ -51,7 +62,9 @@ impl<V: Vault, W: Wire, L: Listener> Server<V, W, L> {
     /// Does one turn after the other, until so many were done. Each waits, and then asks the clock
     /// for its moment. If the clock gives none it ends there: it accepts, reads and writes nothing
     /// more, and the office is told nothing. After a turn that has nothing more to do, the store
-    /// does what it has put off.
+    /// does what it has put off. A QUIT that removes many messages stays unread at first: before
+    /// each further turn the store prepares a part of what it removes, while the turns serve
+    /// others. The QUIT is read once no more can be prepared, or the store refuses.
     ///
     /// What held before the first turn holds before each: the settings and the site are the same,
     /// all who haven't logged in have seats, and a refusal keeps a login back for 1 to 15 seconds.
@@ -84,13 +97,14 @@ impl<V: Vault, W: Wire, L: Listener> Server<V, W, L> {
         ensures settings { settings links.new ≡ settings links.old }
         ensures site { links.new.site ≡ links.old.site }
     {
+        let mut quits = Quits::new();
         for _turn in 0..most {
             self.wire.wait(millis_for(links));
             let Some(now) = clock.moment() else {
                 return;
             };
-            self.serve_after_wait(links, spool, now);
-            self.maintain_if_idle(links);
+            self.serve_after_wait(links, spool, &mut quits, now);
+            self.use_pause(links, &mut quits);
         }
     }
 }

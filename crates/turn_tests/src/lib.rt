@@ -17,6 +17,8 @@ mod kept_back;
 #[cfg(test)]
 mod late;
 #[cfg(test)]
+mod long_quits;
+#[cfg(test)]
 mod maintenance;
 #[cfg(test)]
 mod opened;

@@ -9,8 +9,8 @@ returns-clause-serves g c = λ T s clean.
 
 pub returns-clause-works : goal.returns-clause-works
 returns-clause-works g c = λ T s clean.
-    c.serve_after_wait.ensures.works c.args.self.now.wire
-    (waited_for g.W.Wire.asked c.args.self.now.wire c.wait.new.self c.args.links.now c.millis_for.result c.millis_for.ensures c.wait.ensures.called) T s clean
+    (c.serve_after_wait.ensures.works c.args.self.now.wire
+    (waited_for g.W.Wire.asked c.args.self.now.wire c.wait.new.self c.args.links.now c.millis_for.result c.millis_for.ensures c.wait.ensures.called) T s clean).0
 
 pub returns-clause-short : goal.returns-clause-short
 returns-clause-short g c = λ T s clean short.

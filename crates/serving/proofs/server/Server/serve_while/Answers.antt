@@ -34,11 +34,12 @@ loop-turn-preserved g c =
     let w1 = c.wait.new.self in
     let waited = waited_for g.W.Wire.asked w0 w1 k.links c.millis_for.result c.millis_for.ensures c.wait.ensures.called in
     let left = x.ensures.left in
-    let y = c.maintain_if_idle in
+    let y = c.use_pause in
+    let p = x.new.quits.is_preparing in
     let kept = y.ensures.maintains in
     let o2 = x.new.self.office in
     let o3 = y.new.self.office in
-    let clean2 = maintained_clean g.V.Vault x.new.links o2 o3 kept in
+    let clean2 = maintained_clean g.V.Vault p x.new.links o2 o3 kept in
     record {
       serves = λ T s clean.
           subst (λ w. Serves g.V.Vault.holds g.W.Wire.tells g.S.Spool.tells T o3 w x.new.spool x.new.links.clients.seats.items x.new.links.requests.exchanges.items x.new.links.site)
@@ -63,7 +64,7 @@ loop-turn-preserved g c =
             (sym y.ensures.listener)
             (turned_more g.V.Vault g.W.Wire.asked g.S.Spool.asked
             g.L.Listener.heard g.C.Clock.gave c.args.links.now c.args.self.now.office c.args.self.now.wire c.args.spool.now c.args.self.now.listener c.args.clock.now
-            m.0 k.links k.self.office k.self.wire k.spool k.self.listener k.clock now x.new.links o2 x.new.self.wire x.new.spool x.new.self.listener o3 c.moment.new.self m.2
+            m.0 k.links k.self.office k.self.wire k.spool k.self.listener k.clock now x.new.links o2 x.new.self.wire x.new.spool x.new.self.listener p o3 c.moment.new.self m.2
             c.in-Some.ensures.called x.ensures.clean (x.ensures.works w0 waited) left kept y.ensures.stands)),
       );
       few = λ a. left.few (k.invariant.few a);
@@ -73,7 +74,7 @@ loop-turn-preserved g c =
           (let before = x.ensures.clean (clean2 clean) in
           let gone = m.2.each T s before in
           let trace = trace_of T.base (gone.given ++ T.log) in
-          let w = x.ensures.works w0 waited trace gone.served.stands (clean2 clean) in
+          let w = (x.ensures.works w0 waited trace gone.served.stands (clean2 clean)).0 in
           all_short trace now k.links x.new.links w.seen w.accepts w.admin (k.invariant.short T s before a));
       settings = left.set ∙ k.invariant.settings;
       site = left.site ∙ k.invariant.site;
