@@ -9,12 +9,12 @@ use Rattle.serving.proofs.Composing.{does_none, does_call}
 use Rattle.serving.proofs.Looking.{serving_seen}
 use Rattle.serving.proofs.server.Server.keeps_quit.Goals as goal
 
-pub returns-in-Count-then-not-is_long_quit-clause-serves : goal.returns-in-Count-then-not-is_long_quit-clause-serves
-returns-in-Count-then-not-is_long_quit-clause-serves g c = λ seats these has before T elsewhere s clean.
+pub returns-then-not-is_long_quit-clause-serves : goal.returns-then-not-is_long_quit-clause-serves
+returns-then-not-is_long_quit-clause-serves g c = λ seats these has before T elsewhere s clean.
     serving_seen g.V.Vault.holds g.W.Wire.tells T elsewhere _ _ _ seats these c.look.ensures.told s
 
-pub returns-in-Count-clause-serves : goal.returns-in-Count-clause-serves
-returns-in-Count-clause-serves g c = λ seats these has before T elsewhere s clean.
+pub returns-else-not-is_long_quit-clause-serves : goal.returns-else-not-is_long_quit-clause-serves
+returns-else-not-is_long_quit-clause-serves g c = λ seats these has before T elsewhere s clean.
     serving_seen g.V.Vault.holds g.W.Wire.tells T elsewhere _ _ _ seats these c.look.ensures.told s
 
 pub returns-in_default-clause-serves : goal.returns-in_default-clause-serves
@@ -27,15 +27,15 @@ returns-then-not-may_keep-clause-works g c = does_none g.V.Vault g.W.Wire g.L.Li
 pub returns-then-not-may_quit_long-clause-works : goal.returns-then-not-may_quit_long-clause-works
 returns-then-not-may_quit_long-clause-works g c = does_none g.V.Vault g.W.Wire g.L.Listener c.args.self.now _ NotLooked
 
-pub returns-in-Count-then-not-is_long_quit-clause-works : goal.returns-in-Count-then-not-is_long_quit-clause-works
-returns-in-Count-then-not-is_long_quit-clause-works g c =
+pub returns-then-not-is_long_quit-clause-works : goal.returns-then-not-is_long_quit-clause-works
+returns-then-not-is_long_quit-clause-works g c =
     let s = c.args.self.now in
     let io = Count c.in-Count.count in
     let piece = take c.in-Count.count c.look.new.buffer in
     does_call g.V.Vault g.W.Wire g.L.Listener s.office s.listener s.wire c.look.new.self (Looked Pop c.args.seat.link io piece) _ c.in-Count.ensures.called (NotKept io piece)
 
-pub returns-in-Count-clause-works : goal.returns-in-Count-clause-works
-returns-in-Count-clause-works g c =
+pub returns-else-not-is_long_quit-clause-works : goal.returns-else-not-is_long_quit-clause-works
+returns-else-not-is_long_quit-clause-works g c =
     let s = c.args.self.now in
     let io = Count c.in-Count.count in
     let piece = take c.in-Count.count c.look.new.buffer in
@@ -56,8 +56,8 @@ returns-then-not-may_keep-clause-prepares g c = prepares_same c.args.quits.now.i
 pub returns-then-not-may_quit_long-clause-prepares : goal.returns-then-not-may_quit_long-clause-prepares
 returns-then-not-may_quit_long-clause-prepares g c = prepares_same c.args.quits.now.is_preparing false
 
-pub returns-in-Count-then-not-is_long_quit-clause-prepares : goal.returns-in-Count-then-not-is_long_quit-clause-prepares
-returns-in-Count-then-not-is_long_quit-clause-prepares g c = prepares_same c.args.quits.now.is_preparing false
+pub returns-then-not-is_long_quit-clause-prepares : goal.returns-then-not-is_long_quit-clause-prepares
+returns-then-not-is_long_quit-clause-prepares g c = prepares_same c.args.quits.now.is_preparing false
 
 pub returns-in_default-clause-prepares : goal.returns-in_default-clause-prepares
 returns-in_default-clause-prepares g c = prepares_same c.args.quits.now.is_preparing false

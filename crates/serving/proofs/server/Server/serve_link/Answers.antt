@@ -49,7 +49,7 @@ returns-then-keeps_quit-clause-works g c =
     let ends : x.result ≡ false = search rules in
     let preparing : q.new.quits.is_preparing ≡ true = q.ensures.kept kept in
     let clients = c.args.clients.now in
-    let noted = c.settle-2.new.self.newcomers.items in
+    let noted = c.settle-then-keeps_quit.new.self.newcomers.items in
     let way = way_at c.args.now clients q.new.quits.is_preparing (clients.poll_now || true) in
     let out = subst (λ b. Does g.V.Vault g.W.Wire g.L.Listener s s1 (IsWrittenOut Holds IsClean s.office s1.office seat way.share b)) ends
     (subst (λ n. Does g.V.Vault g.W.Wire g.L.Listener s s1 (IsWrittenOut Holds IsClean s.office s1.office seat n x.result)) c.share_of-share.ensures x.ensures.works) in
@@ -57,7 +57,7 @@ returns-then-keeps_quit-clause-works g c =
     (λ g1 g2 c1 c2 wa wb a b. (
       record {
         turns = served_kept g.V.Vault s.office s1.office s2.office seat way.share way noted g1 g2 c1 c2 q.result kept preparing
-            (not_unread seat.connection c.args.now clients.newcomers.newcomers.items noted c.settle-2.ensures.newcomers) wa wb.clean a b;
+            (not_unread seat.connection c.args.now clients.newcomers.newcomers.items noted c.settle-then-keeps_quit.ensures.newcomers) wa wb.clean a b;
         served = serves_less seat 0 64 1 128 (g2 ++ g1) (c1 ++ c2) (omega arith) (omega arith)
             (written_looked g.V.Vault s.office s1.office s2.office seat way.share g1 g2 c1 c2 q.result wb.clean a b).served;
         awaits = λ e. inr (awaits_own g.V.Vault s.office s1.office s2.office seat way.share g1 g2 c1 c2 q.result kept wa wb.clean a b);
@@ -172,7 +172,7 @@ returns-clause-prepares g c =
     prepares_polled c.args.quits.now.is_preparing q.new.quits.is_preparing q.result _ (λ e. absurd (true≢false (sym e ∙ unkept))) q.ensures.prepares
 
 pub returns-then-keeps_quit-clause-settles : goal.returns-then-keeps_quit-clause-settles
-returns-then-keeps_quit-clause-settles g c = record { lies = false; is = c.settle-2.ensures.newcomers }
+returns-then-keeps_quit-clause-settles g c = record { lies = false; is = c.settle-then-keeps_quit.ensures.newcomers }
 
 pub returns-then-write_owed-clause-settles : goal.returns-then-write_owed-clause-settles
 returns-then-write_owed-clause-settles g c = record { lies = false; is = c.settle.ensures.newcomers }
