@@ -32,8 +32,8 @@ impl<V: Vault> Office<V> {
         connection.brings_quit(piece)
     }
 
-    /// Whether connection `c` is in session with a view of more than 128 messages: only then may its
-    /// QUIT be worth preparing. It looks at no mark.
+    /// Whether connection `c` is in session with a view of more than 128 messages: only then may
+    /// its QUIT be worth preparing. It looks at no mark.
     pub fn sees_many(&self, c: u64) -> bool
         ensures { (T : Trace) → StandsFor V.holds self.now T → IsTrue result
             → IsTrue (live (history T) c) }
