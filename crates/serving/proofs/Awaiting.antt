@@ -1,7 +1,7 @@
 -- Links that stay unread for a long QUIT.
 use Rattle.vault.specs.declared.vault.Vault.{Ghosts}
-use Rattle.std.proofs.Common.{◌≡◌, ◌⊎◌, ◌||◌, ◌+◌, ◌<◌, ℕ, Bool, true, false, List, [], ◌∷◌, ◌++◌, length, take, suc, get_or, refl, sym, ◌∙◌, subst, arith, ⊎_elim, inl, inr, true≢false}
-use Rattle.std.specs.List.{All, Contains, list_any}
+use Rattle.std.proofs.Common.{◌≡◌, ◌⊎◌, ◌+◌, ◌<◌, ℕ, Bool, true, false, List, [], ◌∷◌, ◌++◌, length, take, suc, get_or, refl, sym, ◌∙◌, subst, arith, ⊎_elim, inl, inr, true≢false}
+use Rattle.std.specs.List.{Contains, list_any}
 use Rattle.std.proofs.lemmas.List.{append-nil}
 use Rattle.std.proofs.lemmas.List.Elements.{All-nil, All-cons, Contains-append_left, Contains-append_right}
 use Rattle.vault.specs.Records.{Records}

@@ -23,7 +23,7 @@ use Rattle.serving.specs.Wires.{is_fault}
 use Rattle.serving.specs.Hearing.{Hearing, WithHeard}
 use Rattle.serving.proofs.Hearing.{unheard}
 use Rattle.serving.specs.Parts.{Also, WasGiven, Part, IsQuietFor}
-use Rattle.serving.specs.Works.{IsOffered, is_read_of, is_later_of, is_taking_of, most_writes, octets_taken, had_its_turn, refusals, HasCause, WasAsked, IsReadByLine, IsHeldBack}
+use Rattle.serving.specs.Works.{IsOffered, is_read_of, is_later_of, is_taking_of, most_writes, octets_taken, had_its_turn, refusals, HasCause, WasAsked, IsReadByLine}
 use Rattle.serving.specs.Works.{reads_by_line, most_at_once, IsKeptBack, StaysUnread, LiesUnread}
 use Rattle.serving.specs.Ways.{Way, HadTurn}
 use Rattle.serving.specs.ClientParts.{is_client_write, AreOffered, OwesNothing, IsWritten, IsWrittenOut, IsNotReady, IsUnread, IsReadPiece, IsReadOnce, NotReady, WasRead, HasLooked}

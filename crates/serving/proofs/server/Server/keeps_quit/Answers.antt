@@ -1,6 +1,6 @@
-use Rattle.std.proofs.Common.{rules, ◌≡◌, ◌∷◌, [], true, false, take, sym, ◌∙◌}
+use Rattle.std.proofs.Common.{rules, ◌≡◌, true, false, take}
 use Rattle.serving.specs.Calls.{Looked}
-use Rattle.serving.specs.ClientParts.{NotLooked, NotKept, QuitKept}
+use Rattle.serving.specs.ClientParts.{NotLooked, NotKept}
 use Rattle.serving.specs.Wires.{counted}
 use Rattle.serving.specs.declared.wire.Io.TheVariants.{Count}
 use Rattle.serving.specs.declared.wire.Port.TheVariants.{Pop}
