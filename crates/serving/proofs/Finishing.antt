@@ -299,150 +299,151 @@ module _ {V W S H : Type 0} (vault : Ghosts V) (Asked : W → List Call → Type
         closes = cx;
         deposits = gs;
         file_calls = spool.calls;
-      } in
-      (record {
-        seen = seen;
-        stands = u4.stands B L s k6;
-        admitted = u4.admitted B L s k6;
-        counted = u4.counted;
-        failed = u4.failed B L s k6;
-        up = u4.outlasts.up B L s k6;
-        stop = u4.outlasts.stop B L s k6;
-        asked =
-            asked_then Asked w w5 w6 ((((cp ++ ca) ++ cq) ++ cl) ++ cr) cx
-            (asked_then Asked w w4 w5 (((cp ++ ca) ++ cq) ++ cl) cr
-            (asked_then Asked w w3 w4 ((cp ++ ca) ++ cq) cl
-            (asked_then Asked w w2 w3 (cp ++ ca) cq (asked_then Asked w w1 w2 cp ca pass.was_asked acc.was_asked) asked.was_asked) served.was_asked) reqs.was_asked) x.was_asked;
-        asked_files = spool.was_asked;
-        heard = subst (λ h. HasHeard Heard l l5 (idle_heard ++ (h ++ late_heard))) (turn_heard B L gp ga gl gr come.only)
-            (hears_then Heard l l1 l5 idle_heard ((links_heard ++ reqs_heard) ++ late_heard) (idle (trace_of B (gp ++ L)) s1)
-            (hears_then Heard l1 l2 l5 [] ((links_heard ++ reqs_heard) ++ late_heard) unheard
-            (hears_then Heard l2 l4 l5 (links_heard ++ reqs_heard) late_heard
-            (hears_then Heard l2 l3 l4 links_heard reqs_heard (served.facts.0.is B (G1 ++ L) s2 k3) (reqs.facts.0.did B (G2 ++ L) s3 k4).0) late.facts.2)));
-        waits = record {
-          first = pass.facts.calls_are;
-          once = only_first _ ((((cp ++ ca) ++ cq) ++ cl) ++ cr) cx waits_x
-              ∙ (seen_first cp ca cq cl cr cx wait_of asked.facts.0.no_waits lq.no_waits rq.no_waits ∙ (only_first wait_of cp ca come.no_waits ∙ waits_p));
-        };
-        ticks = record {
-          event_tag = pass.facts.event_tag;
-          first = pass.facts.given_is;
-          once = only_last moment_of gx G3 (none_joined moment_of gs gz quiet.quiet.no_moments hush.no_moments)
-              ∙ (only_last moment_of gr G2 rq.no_moments ∙ (only_last moment_of gl G1 lq.no_moments ∙ (only_last moment_of ga gp come.no_moments ∙ moments_p)));
-        };
-        accepts = record {
-          enough = accepted_so vault o1 o2 links.clients.seats.items seats2 goes ga ca C5 (seen_second cp ca cq cl cr cx tells_none) acc.facts;
-          few = acc.facts.few;
-          arrived = only_first _ ((((cp ++ ca) ++ cq) ++ cl) ++ cr) cx arrivals_x
-              ∙ (seen_first cp ca cq cl cr cx arrival_of asked.facts.0.no_arrivals lq.no_arrivals rq.no_arrivals ∙ (only_last arrival_of cp ca arrivals_p ∙ come.arrived));
-          opened =
-              (let e5 = count_joined is_opening gs gz in
-              let e4 = count_joined is_opening gx G3 in
-              let e3 = count_joined is_opening gr G2 in
-              let e2 = count_joined is_opening gl G1 in
-              let e1 = count_joined is_opening ga gp in
-              let a = come.opened in
-              let b = quiet.quiet.no_openings in
-              let z = hush.no_openings in
-              let d = rq.no_openings in
-              let f = lq.no_openings in
-              omega (arith, e5, e4, e3, e2, e1, a, b, z, d, f, openings_p));
-          refused =
-              (let e5 = count_joined is_refusal gs gz in
-              let e4 = count_joined is_refusal gx G3 in
-              let e3 = count_joined is_refusal gr G2 in
-              let e2 = count_joined is_refusal gl G1 in
-              let e1 = count_joined is_refusal ga gp in
-              let a = come.refused (trace_of B (gp ++ L)) s1 k2 in
-              let b = quiet.quiet.no_refusals in
-              let z = hush.no_refusals in
-              let d = rq.no_refusals in
-              let f = lq.no_refusals in
-              omega (arith, e5, e4, e3, e2, e1, a, b, z, d, f, refusals_p));
-          seated = come.seated;
-          has_more = more;
-          admin = asked.facts.1;
-        };
-        clients = record {
-          turns = All-weaker (HadTurn way B (G1 ++ L) gl (trace_of B (gl ++ (G1 ++ L))) cl) (HadItsTurn T now links links_then seen)
-              (λ q h here.
-              turned_left way B L G3 gx ((((cp ++ ca) ++ cq) ++ cl) ++ cr) cx q
-              (turned_left way B L G2 gr (((cp ++ ca) ++ cq) ++ cl) cr q (turned_right way B L G1 gl ((cp ++ ca) ++ cq) cl q (h (to_links q.connection here)))))
-              seats2 (had.turns B (G1 ++ L) s2 k3);
-          offered =
-              (let R = IsOffered B L G4 seats2 in
-              let none : (calls : List Call) → list_any is_client_write calls ≡ false → All R calls = λ calls h. none_offered B L G4 seats2 calls h in
-              let of_links : All R cl = All-weaker (IsOffered B (G1 ++ L) gl seats2) R
-              (λ call h. offered_left B L G3 gx seats2 call (offered_left B L G2 gr seats2 call (offered_right B L G1 gl seats2 call h))) cl (had.offered B (G1 ++ L) s2 k3) in
-              let of_reqs : All R cr = none cr (unwritten_turns links.site now B (G2 ++ L) held links_then.requests.exchanges.items gr cr (reqs.facts.0.did B (G2 ++ L) s3 k4).1) in
-              let of_close : All R cx = none cx (ap (list_any is_client_write) x.facts.0.calls_are ∙ unwritten_closings (filter (is_shut_seat trace4) seats2)) in
-              let of_asked : All R cq = none cq (unwritten_accepted now 64 more links.requests.exchanges.items held cq asked.facts.1) in
-              let of_first : All R (cp ++ ca) = All-append R cp ca (none cp (ap (list_any is_client_write) pass.facts.calls_are)) (none ca come.unwritten) in
-              All-append R ((((cp ++ ca) ++ cq) ++ cl) ++ cr) cx
-              (All-append R (((cp ++ ca) ++ cq) ++ cl) cr (All-append R ((cp ++ ca) ++ cq) cl (All-append R (cp ++ ca) cq of_first of_asked) of_links) of_reqs) of_close);
-          in_order = served.facts.1.0.in_order B (G1 ++ L) s2 k3;
-          awaits = λ e.
-              (let some = served.facts.1.0.awaits e B (G1 ++ L) s2 k3 in
-              let q = some.0 in
-              (
-                q,
-                some.1,
-                awaits_left B L q G3 gx ((((cp ++ ca) ++ cq) ++ cl) ++ cr) cx
-                    (awaits_left B L q G2 gr (((cp ++ ca) ++ cq) ++ cl) cr (awaits_right B L q G1 gl ((cp ++ ca) ++ cq) cl some.2)),
-              ));
-          caused = All-append (HasCause seats2 C5) gr (gl ++ ga) caused_r (All-append (HasCause seats2 C5) gl ga caused_l caused_a);
-        };
-        admin = record {
-          served = (reqs.facts.0.did B (G2 ++ L) s3 k4).1;
-          apart = none_of is_admin (cp ++ ca) (cl ++ cx) (none_of is_admin cp ca (ap (list_any is_admin) pass.facts.calls_are) come.apart)
-              (none_of is_admin cl cx served.facts.1.0.turns.of_seats.apart (ap (list_any is_admin) x.facts.0.calls_are ∙ apart_of (filter (is_shut_seat trace4) seats2)));
-        };
-        late = record {
-          gone = late.facts.0;
-          timely = λ i d within is_late_now here.
-              (let q = get_or seats2 i d in
-              ⊎_elim
-              (λ (u : HasLived B (G3 ++ L) gz q.connection). inl (lived_right B L G3 gx q.connection (lived_left B (G3 ++ L) gz gs q.connection u)))
-              (λ (h : lies_unread (newcomer q.connection n1) ≡ true). inr (unread i d within h))
-              (late.facts.1.each B (G3 ++ L) s4 k5 i d within (late_still now seconds newcomers n1 q.connection (keeps q.connection) is_late_now) (sym (same q.connection) ∙ here)));
-          noted = λ c n is here.
-              ⊎_elim
-              (λ (e : newcomer c n2 ≡ newcomer c n1). inl (subst (IsSettled now (Some n)) (sym (forgets trace4 s5 c (sym (same c) ∙ here) ∙ e)) (keeps c n is)))
-              (λ (u : HasLived B (G3 ++ L) gz c). inr (lived_right B L G3 gx c (lived_left B (G3 ++ L) gz gs c u)))
-              (late.facts.1.noted B (G3 ++ L) s4 k5 c);
-          newly = λ h.
-              All-weaker (IsComer now newcomers n1) (IsNotedSince T now links links_then seen)
-              (λ q k none_before here.
-              (let c = q.connection in
-              ⊎_elim
-              (λ (e : newcomer c n2 ≡ newcomer c n1). inl (subst (CountsFrom now) (sym (forgets trace4 s5 c (sym (same c) ∙ here) ∙ e)) (k none_before)))
-              (λ (u : HasLived B (G3 ++ L) gz c). inr (lived_right B L G3 gx c (lived_left B (G3 ++ L) gz gs c u)))
-              (late.facts.1.noted B (G3 ++ L) s4 k5 c)))
-              (filter_map seat_of came) (comers h);
-          counts = λ i d within is_unread here.
-              (let q = get_or seats2 i d in
-              let c = q.connection in
-              ⊎_elim
-              (λ (e : newcomer c n2 ≡ newcomer c n1).
-              inr (unread i d within (ap lies_unread (sym (forgets trace4 s5 c (sym (same c) ∙ here) ∙ e)) ∙ is_unread)))
-              (λ (u : HasLived B (G3 ++ L) gz c). inl (lived_right B L G3 gx c (lived_left B (G3 ++ L) gz gs c u)))
-              (late.facts.1.noted B (G3 ++ L) s4 k5 c));
-        };
-        closes = record {
-          closed = filter_map-append closing_of ((((cp ++ ca) ++ cq) ++ cl) ++ cr) cx
-              ∙ (ap (λ zs. zs ++ closings cx) (seen_first cp ca cq cl cr cx closing_of asked.facts.0.no_closings lq.no_closings rq.no_closings ∙ (only_last closing_of cp ca closings_p ∙ come.closed))
-              ∙ ap (λ zs. filter_map unseated_of came ++ zs) (closings_x ∙ ap (map link_of_seat) shut_same));
-          left = x.facts.0.left ∙ open_same;
-        };
-        file = record { deposits = spool.deposits; tries = filed.0 };
-        next = record {
-          dealt = λ e. no_wait links_then (filed.1 ∙ (ap (λ b. polled || b) e ∙ or_true polled));
-          after_release = λ e. sleeps_not (still (releasing e));
-          while_preparing = λ e. sleeps_not (still (preparing e));
-          after_closing = λ on e. sleeps_not (x.facts.2 on (ap has_moved (x.facts.0.calls_are ∙ ap (map closing) shut_same) ∙ shut_moved after seats2 e));
-          rests = λ m f p d. waits_then links_then (filed.1
-              ∙ rests_so polling (is_preparing || lock_released) polled (has_dealt spool.calls) (has_moved cl) (has_moved cx) (has_moved C5) served.facts.1.1 x.facts.1
-              (λ q. seen_fourth cp ca cq cl cr cx is_moving q) (λ q. any_right is_moving ((((cp ++ ca) ++ cq) ++ cl) ++ cr) cx q) m (or_neither is_preparing lock_released p f) d)
-              (not_true links_then.requests.poll_now (λ e. true≢false (sym (seen_fifth cp ca cq cl cr cx is_moving (reqs.facts.1 e)) ∙ m)));
-        };
-      }, refl)
+      } in (
+        record {
+          seen = seen;
+          stands = u4.stands B L s k6;
+          admitted = u4.admitted B L s k6;
+          counted = u4.counted;
+          failed = u4.failed B L s k6;
+          up = u4.outlasts.up B L s k6;
+          stop = u4.outlasts.stop B L s k6;
+          asked =
+              asked_then Asked w w5 w6 ((((cp ++ ca) ++ cq) ++ cl) ++ cr) cx
+              (asked_then Asked w w4 w5 (((cp ++ ca) ++ cq) ++ cl) cr
+              (asked_then Asked w w3 w4 ((cp ++ ca) ++ cq) cl
+              (asked_then Asked w w2 w3 (cp ++ ca) cq (asked_then Asked w w1 w2 cp ca pass.was_asked acc.was_asked) asked.was_asked) served.was_asked) reqs.was_asked) x.was_asked;
+          asked_files = spool.was_asked;
+          heard = subst (λ h. HasHeard Heard l l5 (idle_heard ++ (h ++ late_heard))) (turn_heard B L gp ga gl gr come.only)
+              (hears_then Heard l l1 l5 idle_heard ((links_heard ++ reqs_heard) ++ late_heard) (idle (trace_of B (gp ++ L)) s1)
+              (hears_then Heard l1 l2 l5 [] ((links_heard ++ reqs_heard) ++ late_heard) unheard
+              (hears_then Heard l2 l4 l5 (links_heard ++ reqs_heard) late_heard
+              (hears_then Heard l2 l3 l4 links_heard reqs_heard (served.facts.0.is B (G1 ++ L) s2 k3) (reqs.facts.0.did B (G2 ++ L) s3 k4).0) late.facts.2)));
+          waits = record {
+            first = pass.facts.calls_are;
+            once = only_first _ ((((cp ++ ca) ++ cq) ++ cl) ++ cr) cx waits_x
+                ∙ (seen_first cp ca cq cl cr cx wait_of asked.facts.0.no_waits lq.no_waits rq.no_waits ∙ (only_first wait_of cp ca come.no_waits ∙ waits_p));
+          };
+          ticks = record {
+            event_tag = pass.facts.event_tag;
+            first = pass.facts.given_is;
+            once = only_last moment_of gx G3 (none_joined moment_of gs gz quiet.quiet.no_moments hush.no_moments)
+                ∙ (only_last moment_of gr G2 rq.no_moments ∙ (only_last moment_of gl G1 lq.no_moments ∙ (only_last moment_of ga gp come.no_moments ∙ moments_p)));
+          };
+          accepts = record {
+            enough = accepted_so vault o1 o2 links.clients.seats.items seats2 goes ga ca C5 (seen_second cp ca cq cl cr cx tells_none) acc.facts;
+            few = acc.facts.few;
+            arrived = only_first _ ((((cp ++ ca) ++ cq) ++ cl) ++ cr) cx arrivals_x
+                ∙ (seen_first cp ca cq cl cr cx arrival_of asked.facts.0.no_arrivals lq.no_arrivals rq.no_arrivals ∙ (only_last arrival_of cp ca arrivals_p ∙ come.arrived));
+            opened =
+                (let e5 = count_joined is_opening gs gz in
+                let e4 = count_joined is_opening gx G3 in
+                let e3 = count_joined is_opening gr G2 in
+                let e2 = count_joined is_opening gl G1 in
+                let e1 = count_joined is_opening ga gp in
+                let a = come.opened in
+                let b = quiet.quiet.no_openings in
+                let z = hush.no_openings in
+                let d = rq.no_openings in
+                let f = lq.no_openings in
+                omega (arith, e5, e4, e3, e2, e1, a, b, z, d, f, openings_p));
+            refused =
+                (let e5 = count_joined is_refusal gs gz in
+                let e4 = count_joined is_refusal gx G3 in
+                let e3 = count_joined is_refusal gr G2 in
+                let e2 = count_joined is_refusal gl G1 in
+                let e1 = count_joined is_refusal ga gp in
+                let a = come.refused (trace_of B (gp ++ L)) s1 k2 in
+                let b = quiet.quiet.no_refusals in
+                let z = hush.no_refusals in
+                let d = rq.no_refusals in
+                let f = lq.no_refusals in
+                omega (arith, e5, e4, e3, e2, e1, a, b, z, d, f, refusals_p));
+            seated = come.seated;
+            has_more = more;
+            admin = asked.facts.1;
+          };
+          clients = record {
+            turns = All-weaker (HadTurn way B (G1 ++ L) gl (trace_of B (gl ++ (G1 ++ L))) cl) (HadItsTurn T now links links_then seen)
+                (λ q h here.
+                turned_left way B L G3 gx ((((cp ++ ca) ++ cq) ++ cl) ++ cr) cx q
+                (turned_left way B L G2 gr (((cp ++ ca) ++ cq) ++ cl) cr q (turned_right way B L G1 gl ((cp ++ ca) ++ cq) cl q (h (to_links q.connection here)))))
+                seats2 (had.turns B (G1 ++ L) s2 k3);
+            offered =
+                (let R = IsOffered B L G4 seats2 in
+                let none : (calls : List Call) → list_any is_client_write calls ≡ false → All R calls = λ calls h. none_offered B L G4 seats2 calls h in
+                let of_links : All R cl = All-weaker (IsOffered B (G1 ++ L) gl seats2) R
+                (λ call h. offered_left B L G3 gx seats2 call (offered_left B L G2 gr seats2 call (offered_right B L G1 gl seats2 call h))) cl (had.offered B (G1 ++ L) s2 k3) in
+                let of_reqs : All R cr = none cr (unwritten_turns links.site now B (G2 ++ L) held links_then.requests.exchanges.items gr cr (reqs.facts.0.did B (G2 ++ L) s3 k4).1) in
+                let of_close : All R cx = none cx (ap (list_any is_client_write) x.facts.0.calls_are ∙ unwritten_closings (filter (is_shut_seat trace4) seats2)) in
+                let of_asked : All R cq = none cq (unwritten_accepted now 64 more links.requests.exchanges.items held cq asked.facts.1) in
+                let of_first : All R (cp ++ ca) = All-append R cp ca (none cp (ap (list_any is_client_write) pass.facts.calls_are)) (none ca come.unwritten) in
+                All-append R ((((cp ++ ca) ++ cq) ++ cl) ++ cr) cx
+                (All-append R (((cp ++ ca) ++ cq) ++ cl) cr (All-append R ((cp ++ ca) ++ cq) cl (All-append R (cp ++ ca) cq of_first of_asked) of_links) of_reqs) of_close);
+            in_order = served.facts.1.0.in_order B (G1 ++ L) s2 k3;
+            awaits = λ e.
+                (let some = served.facts.1.0.awaits e B (G1 ++ L) s2 k3 in
+                let q = some.0 in (
+                  q,
+                  some.1,
+                  awaits_left B L q G3 gx ((((cp ++ ca) ++ cq) ++ cl) ++ cr) cx
+                      (awaits_left B L q G2 gr (((cp ++ ca) ++ cq) ++ cl) cr (awaits_right B L q G1 gl ((cp ++ ca) ++ cq) cl some.2)),
+                ));
+            caused = All-append (HasCause seats2 C5) gr (gl ++ ga) caused_r (All-append (HasCause seats2 C5) gl ga caused_l caused_a);
+          };
+          admin = record {
+            served = (reqs.facts.0.did B (G2 ++ L) s3 k4).1;
+            apart = none_of is_admin (cp ++ ca) (cl ++ cx) (none_of is_admin cp ca (ap (list_any is_admin) pass.facts.calls_are) come.apart)
+                (none_of is_admin cl cx served.facts.1.0.turns.of_seats.apart (ap (list_any is_admin) x.facts.0.calls_are ∙ apart_of (filter (is_shut_seat trace4) seats2)));
+          };
+          late = record {
+            gone = late.facts.0;
+            timely = λ i d within is_late_now here.
+                (let q = get_or seats2 i d in
+                ⊎_elim
+                (λ (u : HasLived B (G3 ++ L) gz q.connection). inl (lived_right B L G3 gx q.connection (lived_left B (G3 ++ L) gz gs q.connection u)))
+                (λ (h : lies_unread (newcomer q.connection n1) ≡ true). inr (unread i d within h))
+                (late.facts.1.each B (G3 ++ L) s4 k5 i d within (late_still now seconds newcomers n1 q.connection (keeps q.connection) is_late_now) (sym (same q.connection) ∙ here)));
+            noted = λ c n is here.
+                ⊎_elim
+                (λ (e : newcomer c n2 ≡ newcomer c n1). inl (subst (IsSettled now (Some n)) (sym (forgets trace4 s5 c (sym (same c) ∙ here) ∙ e)) (keeps c n is)))
+                (λ (u : HasLived B (G3 ++ L) gz c). inr (lived_right B L G3 gx c (lived_left B (G3 ++ L) gz gs c u)))
+                (late.facts.1.noted B (G3 ++ L) s4 k5 c);
+            newly = λ h.
+                All-weaker (IsComer now newcomers n1) (IsNotedSince T now links links_then seen)
+                (λ q k none_before here.
+                (let c = q.connection in
+                ⊎_elim
+                (λ (e : newcomer c n2 ≡ newcomer c n1). inl (subst (CountsFrom now) (sym (forgets trace4 s5 c (sym (same c) ∙ here) ∙ e)) (k none_before)))
+                (λ (u : HasLived B (G3 ++ L) gz c). inr (lived_right B L G3 gx c (lived_left B (G3 ++ L) gz gs c u)))
+                (late.facts.1.noted B (G3 ++ L) s4 k5 c)))
+                (filter_map seat_of came) (comers h);
+            counts = λ i d within is_unread here.
+                (let q = get_or seats2 i d in
+                let c = q.connection in
+                ⊎_elim
+                (λ (e : newcomer c n2 ≡ newcomer c n1).
+                inr (unread i d within (ap lies_unread (sym (forgets trace4 s5 c (sym (same c) ∙ here) ∙ e)) ∙ is_unread)))
+                (λ (u : HasLived B (G3 ++ L) gz c). inl (lived_right B L G3 gx c (lived_left B (G3 ++ L) gz gs c u)))
+                (late.facts.1.noted B (G3 ++ L) s4 k5 c));
+          };
+          closes = record {
+            closed = filter_map-append closing_of ((((cp ++ ca) ++ cq) ++ cl) ++ cr) cx
+                ∙ (ap (λ zs. zs ++ closings cx) (seen_first cp ca cq cl cr cx closing_of asked.facts.0.no_closings lq.no_closings rq.no_closings ∙ (only_last closing_of cp ca closings_p ∙ come.closed))
+                ∙ ap (λ zs. filter_map unseated_of came ++ zs) (closings_x ∙ ap (map link_of_seat) shut_same));
+            left = x.facts.0.left ∙ open_same;
+          };
+          file = record { deposits = spool.deposits; tries = filed.0 };
+          next = record {
+            dealt = λ e. no_wait links_then (filed.1 ∙ (ap (λ b. polled || b) e ∙ or_true polled));
+            after_release = λ e. sleeps_not (still (releasing e));
+            while_preparing = λ e. sleeps_not (still (preparing e));
+            after_closing = λ on e. sleeps_not (x.facts.2 on (ap has_moved (x.facts.0.calls_are ∙ ap (map closing) shut_same) ∙ shut_moved after seats2 e));
+            rests = λ m f p d. waits_then links_then (filed.1
+                ∙ rests_so polling (is_preparing || lock_released) polled (has_dealt spool.calls) (has_moved cl) (has_moved cx) (has_moved C5) served.facts.1.1 x.facts.1
+                (λ q. seen_fourth cp ca cq cl cr cx is_moving q) (λ q. any_right is_moving ((((cp ++ ca) ++ cq) ++ cl) ++ cr) cx q) m (or_neither is_preparing lock_released p f) d)
+                (not_true links_then.requests.poll_now (λ e. true≢false (sym (seen_fifth cp ca cq cl cr cx is_moving (reqs.facts.1 e)) ∙ m)));
+          };
+        },
+        refl,
+      )

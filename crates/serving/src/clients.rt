@@ -248,13 +248,7 @@ impl<V: Vault, W: Wire, L: Listener> Server<V, W, L> {
     /// Writes what the connection is owed until its share is reached. If nothing is owed any more,
     /// reads once, unless a long QUIT stays unread, and writes what that gave. Returns whether more
     /// can be done at once.
-    fn serve_link(
-        &mut self,
-        clients: &mut Clients,
-        quits: &mut Quits,
-        seat: Seat,
-        now: u64,
-    ) -> bool
+    fn serve_link(&mut self, clients: &mut Clients, quits: &mut Quits, seat: Seat, now: u64) -> bool
         ensures serves { KeepsServingOne V.Vault W.Wire seat self.old self.new }
         ensures keeps { KeepsSeats clients.old clients.new }
         ensures lock_released { clients.new.lock_released ≡ clients.old.lock_released }

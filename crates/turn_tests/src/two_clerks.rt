@@ -23,11 +23,7 @@ fn add_maildrop<V: Vault>(office: &mut Office<V>, maildrop: &str) -> Result<(), 
 }
 
 /// Adds a clerk with a password.
-fn add_clerk<V: Vault>(
-    office: &mut Office<V>,
-    clerk: &str,
-    password: &[u8],
-) -> Result<(), Fail> {
+fn add_clerk<V: Vault>(office: &mut Office<V>, clerk: &str, password: &[u8]) -> Result<(), Fail> {
     let clerk = name(clerk)?;
     let credential = Credential::Pass(pass_digest(&clerk, password));
     let _ = office.step(Event::Admin(&AdminCommand::PutClerk(clerk, credential)));
