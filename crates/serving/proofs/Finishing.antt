@@ -429,7 +429,8 @@ module _ {V W S H : Type 0} (vault : Ghosts V) (Asked : W → List Call → Type
           };
           closes = record {
             closed = filter_map-append closing_of ((((cp ++ ca) ++ cq) ++ cl) ++ cr) cx
-                ∙ (ap (λ zs. zs ++ closings cx) (seen_first cp ca cq cl cr cx closing_of asked.facts.0.no_closings lq.no_closings rq.no_closings ∙ (only_last closing_of cp ca closings_p ∙ come.closed))
+                ∙ (ap (λ zs. zs ++ closings cx)
+                (seen_first cp ca cq cl cr cx closing_of asked.facts.0.no_closings lq.no_closings rq.no_closings ∙ (only_last closing_of cp ca closings_p ∙ come.closed))
                 ∙ ap (λ zs. filter_map unseated_of came ++ zs) (closings_x ∙ ap (map link_of_seat) shut_same));
             left = x.facts.0.left ∙ open_same;
           };
