@@ -1,5 +1,5 @@
 -- The calls of a vault that does removals in parts, by those of the vault inside.
-use Rattle.std.proofs.Common.{◌≡◌, ◌≤◌, inl, inr, ℕ, List, true, refl, sym, ap, subst, ◌∙◌, arith, true≢false}
+use Rattle.std.proofs.Common.{◌≡◌, ◌≤◌, inl, ℕ, List, true, sym, ap, subst, ◌∙◌, arith, true≢false}
 use Rattle.std.proofs.Common.{Result, Ok, Err, Some, None}
 use Rattle.std.specs.Prelude.{Option, IsTrue, is_ok}
 use Rattle.sqlite_trees.specs.declared.store.Store.{Ghosts}
@@ -8,8 +8,8 @@ use Rattle.sqlite.specs.State.{State, HasCleanDisk}
 use Rattle.vault.specs.declared.fault.VaultFault.{VaultFault}
 use Rattle.vault.specs.declared.fault.VaultFault.TheVariants as fault
 use Rattle.vault.specs.Changes.{Contents, without_keys, with_messages}
-use Rattle.vault.specs.Calls.{CountsFaults, IsRefusal, IsAnswer, IsDone, AreRemoved, has_grown}
-use Rattle.vault.specs.Stops.{SaySame, IsOwn}
+use Rattle.vault.specs.Calls.{CountsFaults, IsRefusal, IsDone, AreRemoved}
+use Rattle.vault.specs.Stops.{IsOwn}
 use Rattle.vault.specs.Call.{Looks, Commits}
 use Rattle.vault.proofs.CallLemmas.{grown_before}
 use Rattle.sqlvault.specs.Opened.{Opened}

@@ -1,6 +1,6 @@
 -- The steps of a removal in parts.
 use Rattle.std.specs.Prelude.{◌≡◌, ◌≤◌, ◌+◌, ◌-◌, ⊤, Option, Some, None, ℕ, List, drop, take, length}
-use Rattle.std.proofs.Common.{inl, inr, Result, Ok, Err, refl, subst, sym, ap, ◌∙◌, ◌++◌, [], arith}
+use Rattle.std.proofs.Common.{inl, Result, Ok, Err, refl, subst, sym, ap, ◌∙◌, ◌++◌, [], arith}
 use Rattle.std.proofs.lemmas.List.{drop_all, drop-drop, take-append-drop}
 use Rattle.sqlite_trees.specs.declared.store.Store.{Ghosts}
 use Rattle.sqlite.specs.Held.{Held, state}
@@ -14,7 +14,7 @@ use Rattle.mailsql.specs.Rows.{Rows}
 use Rattle.sqlvault.specs.Keeps.{Keeps}
 use Rattle.sqlvault.specs.declared.refusal.Refusal.{Refusal}
 use Rattle.sqlvault.specs.Refusals.{answer_of, fault_of}
-use Rattle.sqlvault.specs.Stands.{Holds, Within, Halted}
+use Rattle.sqlvault.specs.Stands.{Holds}
 use Rattle.sqlvault.specs.Transactions.{Begins, Undoes, Ends}
 use Rattle.sqlvault.specs.Frame.{IsOk, IsMet, Looks, Writes}
 use Rattle.sqlvault.specs.Removals.{Removal, removal_of, with_left, removed_so_far, HoldsUnder}

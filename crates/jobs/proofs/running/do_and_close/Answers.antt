@@ -1,6 +1,5 @@
 use Rattle.sqlite.specs.Files.{file_state}
 use Rattle.sqlvault.specs.Stands.{Holds}
-use Rattle.sqlvault.specs.Removals.{holds_in, nothing_prepared}
 use Rattle.jobs.proofs.JobLemmas.{job_left, job_clean, keeps_on}
 use Rattle.jobs.proofs.running.do_and_close.Goals as goal
 

@@ -1,4 +1,4 @@
-use Rattle.std.proofs.Common.{◌≡◌, ◌≤◌, Ok, Err, Some, subst, arith}
+use Rattle.std.proofs.Common.{◌≤◌, Ok, Err, Some, subst, arith}
 use Rattle.std.specs.Bool.{⊤}
 use Rattle.sqlvault.specs.Removals.{Removal, Prepares, with_left}
 use Rattle.sqlvault.specs.contracts.removal.Removing.{the_view}
