@@ -1,7 +1,8 @@
 -- The calls of a vault that does removals in parts, by those of the vault inside.
-use Rattle.std.proofs.Common.{◌≡◌, ◌≤◌, inl, inr, ℕ, List, true, refl, sym, ap, subst, ◌∙◌, arith, true≢false}
+use Rattle.std.proofs.Common.{◌≡◌, ◌⊎◌, ◌≤◌, inl, inr, ℕ, List, true, refl, sym, ap, subst, ◌∙◌, arith, true≢false}
 use Rattle.std.proofs.Common.{Result, Ok, Err, Some, None}
 use Rattle.std.specs.Prelude.{Option, IsTrue, is_ok}
+use Rattle.std.proofs.lemmas.Bool.Decides.{nat_tests}
 use Rattle.sqlite_trees.specs.declared.store.Store.{Ghosts}
 use Rattle.sqlite.specs.Held.{Held, state}
 use Rattle.sqlite.specs.State.{State, HasCleanDisk}
@@ -17,8 +18,11 @@ use Rattle.sqlvault.specs.Stands.{Holds}
 use Rattle.sqlvault.specs.Stops.{MayHold, LeavesHeld, LeavesLast, leaves_last}
 use Rattle.sqlvault.specs.Removals.{Removal, Prepared, Prepares, Finishes, HoldsBeside, HoldsUnder}
 use Rattle.sqlvault.specs.Removals.{holds_in, clean_in, up_in, leave_in, faults_in}
+use Rattle.sqlvault.specs.Removals.{EndsBeside, GivesUp, removed_so_far}
+use Rattle.sqlvault.specs.Frame.{Sees}
 use Rattle.sqlvault.proofs.StopLemmas.{left_as, left_done}
-use Rattle.sqlvault.proofs.RemovalLemmas.{prepares_own}
+use Rattle.sqlvault.proofs.RemovalLemmas.{prepares_own, prepares_seen, prepares_unseen}
+use Rattle.sqlvault.proofs.RemovalLemmas.{told_under_way, gives_up_own}
 
 -- a call of such a vault that only looks, and one that changes records once
 abbrev pub LooksIn : {S A : Type 0} → Ghosts S → (old new : Prepared S) → Result A VaultFault
@@ -365,3 +369,146 @@ module _ {S : Type 0} (store : Ghosts S) {old mid was : Prepared S} (r : Result 
 
   pub given_back_counted : faults_in old ≤ was.vault.faults
   given_back_counted = back.counted.kept
+
+-- ---- a call beside a removal
+
+module _ {S A : Type 0} {Own : Type 0} {Told : Contents → Type 0} (store : Ghosts S)
+    {old new : Prepared S} (was : Opened S) (r : Removal) (e : was ≡ old.vault)
+    (f : old.under_way ≡ Some r) (law : LeavesLast (state store old.vault.conn)) where
+  -- its queries were answered, and the removal goes on
+  pub looks_beside : (answered : Result A VaultFault) → new.under_way ≡ old.under_way
+      → CountsFaults was.faults new.vault.faults answered
+      → Sees store was.conn new.vault.conn Own Told → Own → LooksIn store old new answered
+  looks_beside answered same counted sees own =
+      looks_prepared store was (Some r) (Some r) answered e f (same ∙ f) counted
+      (prepares_seen r sees own) law
+
+-- what they say of the contents without what is removed so far
+pub told_beside : {S : Type 0} {Own : Type 0} {Told : Contents → Type 0} (store : Ghosts S)
+    {old : Prepared S} {new : Held S} (was : Opened S) (r : Removal) → was ≡ old.vault
+    → old.under_way ≡ Some r → Sees store was.conn new Own Told → (c : Contents)
+    → holds_in store old c → HasCleanDisk (state store new) → Told (removed_so_far r c)
+told_beside {S} {Own} {Told} store {old = old} {new = new} was r e f sees c h clean =
+    told_under_way r c (subst (λ (v : Opened S). Sees store v.conn new Own Told) e sees) clean
+    (subst (λ u. HoldsBeside (state store old.vault.conn) u c) f h)
+
+-- ---- its queries met a fault, and the removal was given up
+
+fault_or : {A : Type 0} → VaultFault → Result A VaultFault → VaultFault
+fault_or f (Ok x) = f
+fault_or f (Err e) = e
+
+-- the same of a call whose answer has another type
+own_of : {A B : Type 0} (e : VaultFault) → (let r : Result A VaultFault = Err e in IsOwn r)
+    → (let r : Result B VaultFault = Err e in IsOwn r)
+own_of fault.Store own = own
+own_of fault.NoMemory own = own
+own_of fault.NoMaildrop own = tt
+own_of fault.Conflict own = tt
+own_of fault.Full own = tt
+own_of fault.NotEmpty own = tt
+own_of fault.NotOurs own = tt
+own_of fault.OldVersion own = tt
+own_of fault.NoClerk own = tt
+
+counts_of : {A B : Type 0} (a n : ℕ) (e : VaultFault)
+    → (let r : Result A VaultFault = Err e in CountsFaults a n r)
+    → (let r : Result B VaultFault = Err e in CountsFaults a n r)
+counts_of {A} a n e it = record {
+  kept = it.kept;
+  cause = λ so. it.cause (ap (λ (x : VaultFault). let r : Result A VaultFault = Err x in r)
+      (ap (fault_or e) so));
+}
+
+module _ {S A : Type 0} {Own : Type 0} {Told : Contents → Type 0} (store : Ghosts S)
+    {old mid new : Prepared S} (r : Removal) (failed answered : VaultFault)
+    (ends : EndsBeside store mid new failed answered) where
+  pub looks_ended : (before : Opened S) → before ≡ old.vault → old.under_way ≡ Some r
+      → (let said : Result A VaultFault = Err failed in
+      CountsFaults before.faults mid.vault.faults said)
+      → Sees store before.conn mid.vault.conn Own Told
+      → LeavesLast (state store old.vault.conn)
+      → (let said : Result A VaultFault = Err answered in LooksIn store old new said)
+  looks_ended before same under counted sees law =
+      looks_prepared store before (Some r) None (Err answered) same under ends.none
+      (counts_of before.faults new.vault.faults answered
+      (ends.counted before.faults (counts_of before.faults mid.vault.faults failed counted)))
+      (prepares_own (own_of answered) (prepares_unseen r sees ends.gives_up)) law
+
+-- the fault is the one expected, or a refusal
+pub told_ended : {A : Type 0} (expected : Result A VaultFault) (failed answered : VaultFault)
+    → (answered ≡ failed) ⊎ (let r : Result (Unit {0}) VaultFault = Ok tt in IsRefusal r answered)
+    → IsRefusal expected failed → IsRefusal expected answered
+told_ended expected failed answered (inl same) is =
+    subst (λ (x : VaultFault). IsRefusal expected x) (sym same) is
+told_ended expected failed answered (inr refusal) is = refusal_any expected answered refusal
+
+-- how many faults are then counted
+grown_more : (a m n : ℕ) → m ≤ n → has_grown a m ≡ true → has_grown a n ≡ true
+grown_more a m n more grown = grind (arith, nat_tests)
+
+pub counts_after : {A : Type 0} (m n : ℕ) (e : VaultFault) {u : Unit {0}}
+    → (let r : Result (Unit {0}) VaultFault = Ok u in CountsFaults m n r) → (a : ℕ)
+    → (let r : Result A VaultFault = Err e in CountsFaults a m r)
+    → (let r : Result A VaultFault = Err e in CountsFaults a n r)
+counts_after m n e more a it = record {
+  kept = omega (arith, it.kept, more.kept);
+  cause = λ so. grown_more a m n more.kept (it.cause so);
+}
+
+pub counts_both : (m n : ℕ) (e : VaultFault)
+    → (let r : Result (Unit {0}) VaultFault = Err e in CountsFaults m n r) → (a : ℕ)
+    → a ≤ m → (let r : Result (Unit {0}) VaultFault = Err e in CountsFaults a n r)
+counts_both m n e it a before = record {
+  kept = omega (arith, before, it.kept);
+  cause = λ so. grown_before a m n before (it.cause so);
+}
+
+-- the vault is so after giving the removal up was done
+pub ended_by : {S : Type 0} (store : Ghosts S) {old : Prepared S} (was new : Prepared S)
+    (failed : VaultFault) {u : Unit {0}} → was ≡ old → new.under_way ≡ None
+    → (let r : Result (Unit {0}) VaultFault = Ok u in
+    GivesUp store was.vault.conn new.vault.conn (IsOwn r))
+    → (let r : Result (Unit {0}) VaultFault = Ok u in
+    CountsFaults was.vault.faults new.vault.faults r)
+    → EndsBeside store old new failed failed
+ended_by {S} store was new failed e none gives counted =
+    subst (λ (v : Prepared S). EndsBeside store v new failed failed) e (record {
+      gives_up = gives_up_own (λ _. tt) gives;
+      none = none;
+      counted = λ n it. counts_after was.vault.faults new.vault.faults failed counted n it;
+      answer = inl refl;
+    })
+
+-- or met a fault
+pub ended_over : {S : Type 0} (store : Ghosts S) {old : Prepared S} (was new : Prepared S)
+    (failed other : VaultFault) → was ≡ old → new.under_way ≡ None
+    → (let r : Result (Unit {0}) VaultFault = Err other in
+    GivesUp store was.vault.conn new.vault.conn (IsOwn r))
+    → (let r : Result (Unit {0}) VaultFault = Err other in
+    CountsFaults was.vault.faults new.vault.faults r)
+    → (let r : Result (Unit {0}) VaultFault = Ok tt in IsRefusal r other)
+    → EndsBeside store old new failed other
+ended_over {S} store was new failed other e none gives counted refusal =
+    subst (λ (v : Prepared S). EndsBeside store v new failed other) e (record {
+      gives_up = gives;
+      none = none;
+      counted = λ n it. counts_both was.vault.faults new.vault.faults other counted n it.kept;
+      answer = inr refusal;
+    })
+
+-- ---- a call that waits until no removal is under way
+
+pub looks_still : {S A : Type 0} (store : Ghosts S) {old : Prepared S} (x : A)
+    → LeavesLast (state store old.vault.conn)
+    → (let r : Result A VaultFault = Ok x in LooksIn store old old r)
+looks_still store {old = old} x law =
+    looks_prepared store old.vault old.under_way old.under_way (Ok x) refl refl refl
+    (counts_none old.vault.faults x)
+    (record {
+      clean = λ clean. clean;
+      held = λ clean c h. h;
+      up = λ clean c h up own. up;
+      stop = λ clean c h up left. left;
+    })
+    law

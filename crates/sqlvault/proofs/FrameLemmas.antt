@@ -22,6 +22,7 @@ use Rattle.sqlvault.specs.Stops.{LeavesHeld, LeavesOr}
 use Rattle.sqlvault.specs.Frame.{IsOk, IsMet, MadeOr, Rests, Looks, Learns, Turns, Acts, Writes}
 use Rattle.sqlvault.proofs.HoldsLemmas.{holds_unchanged, holds_undone, holds_changed, refused}
 use Rattle.sqlvault.proofs.HoldsLemmas.{answered_so}
+use Rattle.sqlvault.proofs.SeesLemmas.{own_met, learns, sees_learnt, sees_then}
 use Rattle.sqlvault.proofs.StayLemmas.{clean_before}
 use Rattle.sqlvault.proofs.StopLemmas.{not_own, or_said}
 use Rattle.sqlvault.proofs.WithinLemmas.{begun, leaves_on, makes, makes_after, step_ok, step_err}
@@ -113,12 +114,6 @@ looks_own less a = record {
       record { held = it.held; up = λ up own. it.up up (less own); stop = it.stop };
 }
 
--- what is own of an answer was met by no error
-pub own_met : {A : Type 0} (r : Result A Refusal) → IsOwn (answer_of r) → IsMet r
-own_met (Ok x) own = tt
-own_met (Err (Answered f)) own = tt
-own_met {A} (Err (Met e)) own = absurd (not_own A e own)
-
 -- a query that tells of what was held what it tells of the rows
 pub learnt : {S A : Type 0} (store : Ghosts S) (old new : Held S) (r : Result A Error)
     (Seen : Rows → A → Type 0) (Told : Contents → A → Type 0)
@@ -131,18 +126,8 @@ pub learnt : {S A : Type 0} (store : Ghosts S) (old new : Held S) (r : Result A 
     → IfOk r (Seen (rows_in (state store old).now.trees)))
     → ((rows : Rows) (c : Contents) (x : A) → Keeps rows c → Seen rows x → Told c x)
     → Learns store old new (IsOk r) (λ c. IfOk r (Told c))
-learnt store old new (Ok x) Seen Told same err s seen tell = record {
-  looks = asked store old new same s;
-  told = λ clean c h own.
-      let here : IsUnchanged (state store old) (state store new) = same clean h.tables in (
-        here.0.is_open,
-        tell (rows_in (state store old).now.trees) c x (h.rows here.0.was_open) (seen clean h.tables),
-      );
-}
-learnt store old new (Err e) Seen Told same err s seen tell = record {
-  looks = failed store old new err s;
-  told = λ clean c h own. absurd own;
-}
+learnt store old new r Seen Told same err s seen tell =
+    learns (sees_learnt store old new r Seen Told same err s seen tell)
 
 -- a look is answered by what it learnt of sound contents
 pub learns_answer : {S A : Type 0} {store : Ghosts S} {old new : Held S} {Told : Contents → Type 0}
@@ -158,14 +143,7 @@ learns_answer {store = store} {new = new} expected answered l c clean h is =
 pub learns_then : {S : Type 0} {Own : Type 0} {store : Ghosts S} {old mid new : Held S}
     {Told More : Contents → Type 0} → Learns store old mid ⊤ Told → Learns store mid new Own More
     → Learns store old new Own (λ c. Told c × More c)
-learns_then a b = record {
-  looks = looks_then a.looks b.looks;
-  told = λ clean c h own.
-      let before = b.looks.clean clean in
-      let first = a.told before c h tt in
-      let second = b.told clean c (a.looks.rests before c h).held own in
-      (second.0, (first.1, second.1));
-}
+learns_then a b = learns (sees_then a.sees b.sees)
 
 -- ---- a call
 

@@ -86,6 +86,10 @@ pub same_answer : {A : Type 0} (r : Result A VaultFault) → IsAnswer r r
 same_answer {A} (Ok x) = refl
 same_answer {A} (Err e) = same_refusal A e
 
+-- an answer that is the expected one
+pub same_so : {A : Type 0} (expected answered : Result A VaultFault) → expected ≡ answered → IsAnswer expected answered
+same_so {A} expected answered is = subst (λ (r : Result A VaultFault). IsAnswer r answered) (sym is) (same_answer answered)
+
 -- so a call is done that is answered as expected, and looks
 pub answered_so : {A : Type 0} (Held : Contents → Type 0) (c : Contents) (expected answered : Result A VaultFault) → expected ≡ answered → Held c → IsDone Held c c expected answered
 answered_so {A} Held c expected (Ok x) is h = record { answer = is; held = h }

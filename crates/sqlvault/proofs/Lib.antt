@@ -1,4 +1,5 @@
 pub mod SmallLemmas
+pub mod SeesLemmas
 pub mod FrameLemmas
 pub mod HoldsLemmas
 pub mod WithinLemmas

@@ -5,25 +5,27 @@ use Rattle.std.proofs.lemmas.List.{drop_all, drop-drop, take-append-drop}
 use Rattle.sqlite_trees.specs.declared.store.Store.{Ghosts}
 use Rattle.sqlite.specs.Held.{Held, state}
 use Rattle.sqlite.specs.declared.error.Error.{Error}
-use Rattle.sqlite.specs.State.{HasCleanDisk}
+use Rattle.sqlite.specs.Effect.{Database}
+use Rattle.sqlite.specs.State.{State, HasCleanDisk, IsUnchanged}
 use Rattle.vault.specs.declared.fault.VaultFault.{VaultFault}
 use Rattle.vault.specs.Stops.{IsOwn}
 use Rattle.vault.specs.Changes.{Contents, without_keys, with_messages}
 use Rattle.vault.specs.Calls.{IsDone, AreRemoved}
-use Rattle.mailsql.specs.Rows.{Rows}
+use Rattle.mailsql.specs.Rows.{Rows, rows_in, IsKept}
 use Rattle.sqlvault.specs.Keeps.{Keeps}
 use Rattle.sqlvault.specs.declared.refusal.Refusal.{Refusal}
 use Rattle.sqlvault.specs.Refusals.{answer_of, fault_of}
-use Rattle.sqlvault.specs.Stands.{Holds, Within, Halted}
+use Rattle.sqlvault.specs.Stands.{Holds, Leaves, Within, Halted}
 use Rattle.sqlvault.specs.Transactions.{Begins, Undoes, Ends}
-use Rattle.sqlvault.specs.Frame.{IsOk, IsMet, Looks, Writes}
+use Rattle.sqlvault.specs.Frame.{IsOk, IsMet, Looks, Sees, Writes}
 use Rattle.sqlvault.specs.Removals.{Removal, removal_of, with_left, removed_so_far, HoldsUnder}
-use Rattle.sqlvault.specs.Removals.{Prepares, Finishes, under_way}
+use Rattle.sqlvault.specs.Removals.{Prepares, Finishes, GivesUp, under_way}
 use Rattle.sqlvault.proofs.HoldsLemmas.{holds_undone, refused}
 use Rattle.sqlvault.proofs.StopLemmas.{not_own, or_said}
-use Rattle.sqlvault.proofs.WithinLemmas.{begun, leaves_on}
+use Rattle.sqlvault.proofs.WithinLemmas.{begun, leaves_on, undone}
 use Rattle.sqlvault.proofs.FrameLemmas.{was_clean, writes_none, looks_committed, ends_held, met_as}
-use Rattle.sqlvault.proofs.FrameLemmas.{own_met, looks_self}
+use Rattle.sqlvault.proofs.FrameLemmas.{looks_self}
+use Rattle.sqlvault.proofs.SeesLemmas.{own_met}
 use Rattle.sqlvault.proofs.FrameLemmas.{ends_leaves, ends_up, made_or, own_ok, met_done}
 use Rattle.sqlvault.proofs.RemoveLemmas.{Removed, none_removed, removed_both}
 
@@ -115,56 +117,133 @@ prepares_undone {store = store} {last = last} {new = new} r part back = record {
 
 -- ---- it is given up
 
--- what is held once it is rolled back
-given_up : {S : Type 0} {store : Ghosts S} {old mid : Held S} (r : Removal) (c : Contents)
-    → Undoes store old mid → HasCleanDisk (state store mid) → HoldsUnder (state store old) r c
-    → Holds (state store mid) c
-given_up r c back clean h = back.holds c clean (inl (record {
-  inside = h.within.inside;
-  under = h.within.under;
-  base_is = h.within.base_is;
-}))
-
 -- then no transaction could be begun
-pub prepares_unbegun : {S : Type 0} {store : Ghosts S} {old mid new : Held S} {e : Error}
-    (r : Removal) → Undoes store old mid → Begins store mid new (Err e)
-    → Prepares store old new (Some r) None ⊥
-prepares_unbegun {store = store} {old = old} {mid = mid} {new = new} r back begins = record {
+pub gives_up_unbegun : {S : Type 0} {store : Ghosts S} {old mid new : Held S} {e : Error}
+    → Undoes store old mid → Begins store mid new (Err e) → GivesUp store old new ⊥
+gives_up_unbegun {store = store} {old = old} {mid = mid} {new = new} back begins = record {
   clean = λ clean. was_clean store old mid back.survives
       (was_clean store mid new begins.survives clean);
   held = λ clean c h.
       let before = was_clean store mid new begins.survives clean in
-      holds_undone (state store mid) (state store new) c (begins.err clean)
-      (given_up r c back before h);
-  up = λ clean c h up own. absurd own;
-  stop = λ clean c h up left.
+      holds_undone (state store mid) (state store new) c (begins.err clean) (back.holds c before h);
+  up = λ clean c h own. absurd own;
+  stop = λ clean c h left.
       let before = was_clean store mid new begins.survives clean in
       leaves_on (λ rows. Keeps rows c) (state store mid) (state store new) clean begins.survives
       (leaves_on (λ rows. Keeps rows c) (state store old) (state store mid) before back.survives left);
 }
 
 -- or one was, and nothing was committed
-pub prepares_closed : {S : Type 0} {store : Ghosts S} {old mid last new : Held S} {x : Unit {0}}
-    (r : Removal) (ended : Result (Unit {0}) Error) → Undoes store old mid
-    → Begins store mid last (Ok x) → Ends store last new ended
-    → Prepares store old new (Some r) None (IsOk ended)
-prepares_closed {store = store} {old = old} {mid = mid} {last = last} {new = new} r ended back begins
+pub gives_up_closed : {S : Type 0} {store : Ghosts S} {old mid last new : Held S} {x : Unit {0}}
+    (ended : Result (Unit {0}) Error) → Undoes store old mid
+    → Begins store mid last (Ok x) → Ends store last new ended → GivesUp store old new (IsOk ended)
+gives_up_closed {store = store} {old = old} {mid = mid} {last = last} {new = new} ended back begins
     ends =
     let look : Looks store mid new (IsOk ended) = looks_committed ended begins
     (writes_none store last (λ from to. to ≡ from) (λ rows. refl))
     (λ c from to keeps same. subst (λ rows. Keeps rows c) (sym same) keeps) ends in
     record {
       clean = λ clean. was_clean store old mid back.survives (look.clean clean);
-      held = λ clean c h. (look.rests clean c (given_up r c back (look.clean clean) h)).held;
-      up = λ clean c h up own.
-          (look.rests clean c (given_up r c back (look.clean clean) h)).up
+      held = λ clean c h. (look.rests clean c (back.holds c (look.clean clean) h)).held;
+      up = λ clean c h own.
+          (look.rests clean c (back.holds c (look.clean clean) h)).up
           (begins.ok (ends.clean clean)).1.was_open own;
-      stop = λ clean c h up left.
-          (look.rests clean c (given_up r c back (look.clean clean) h)).stop
+      stop = λ clean c h left.
+          (look.rests clean c (back.holds c (look.clean clean) h)).stop
           (begins.ok (ends.clean clean)).1.was_open
           (leaves_on (λ rows. Keeps rows c) (state store old) (state store mid) (look.clean clean)
           back.survives left);
     }
+
+-- an answer that is own for less
+pub gives_up_own : {S : Type 0} {Own Less : Type 0} {store : Ghosts S} {old new : Held S}
+    → (Less → Own) → GivesUp store old new Own → GivesUp store old new Less
+gives_up_own less a = record {
+  clean = a.clean;
+  held = a.held;
+  up = λ clean c h own. a.up clean c h (less own);
+  stop = a.stop;
+}
+
+-- a removal under way is a transaction that can be given up
+halted_under : (s : State) (r : Removal) (c : Contents) → HoldsUnder s r c → Halted s c
+halted_under s r c h = inl (record {
+  inside = h.within.inside;
+  under = h.within.under;
+  base_is = h.within.base_is;
+})
+
+pub prepares_given_up : {S : Type 0} {Own : Type 0} {store : Ghosts S} {old new : Held S}
+    (r : Removal) → GivesUp store old new Own → Prepares store old new (Some r) None Own
+prepares_given_up {store = store} {old = old} r it = record {
+  clean = it.clean;
+  held = λ clean c h. it.held clean c (halted_under (state store old) r c h);
+  up = λ clean c h up own. it.up clean c (halted_under (state store old) r c h) own;
+  stop = λ clean c h up left. it.stop clean c (halted_under (state store old) r c h) left;
+}
+
+-- ---- queries inside its transaction
+
+-- the transaction as they left it
+within_on : (old new : State) (c : Contents) (rows : Rows) → IsUnchanged old new
+    → Leaves new (λ left. Keeps left c) → Within old c rows → Within new c rows
+within_on old new c rows same stop w = record {
+  inside = same.0.mode ∙ w.inside;
+  is_open = same.0.is_open;
+  tables = subst IsKept (sym same.0.now_is) w.tables;
+  under = subst IsKept (sym same.0.committed_is) w.under;
+  base_is = subst (λ (d : Database). Keeps (rows_in d.trees) c) (sym same.0.committed_is) w.base_is;
+  rows_are = ap (λ (d : Database). rows_in d.trees) same.0.now_is ∙ w.rows_are;
+  stop = stop;
+}
+
+-- what a stop then leaves
+seen_leaves : {S : Type 0} {Own : Type 0} {store : Ghosts S} {old new : Held S}
+    {Told : Contents → Type 0} (c : Contents) (rows : Rows) → Sees store old new Own Told
+    → HasCleanDisk (state store new) → Within (state store old) c rows
+    → Leaves (state store new) (λ left. Keeps left c)
+seen_leaves c rows a clean w db may = w.stop db (a.stop clean (w.is_open, w.tables) db may)
+
+-- the removal goes on after their answer
+pub prepares_seen : {S : Type 0} {Own Less : Type 0} {store : Ghosts S} {old new : Held S}
+    {Told : Contents → Type 0} (r : Removal) → Sees store old new Own Told → Own
+    → Prepares store old new (Some r) (Some r) Less
+prepares_seen {store = store} {old = old} {new = new} r a own = record {
+  clean = a.clean;
+  held = λ clean c h. record {
+    rows = h.rows;
+    within = within_on (state store old) (state store new) c h.rows
+        (a.same clean (λ _. h.within.tables) own) (seen_leaves c h.rows a clean h.within) h.within;
+    shown = h.shown;
+  };
+  up = λ clean c h up less. (a.same clean (λ _. h.within.tables) own).0.is_open;
+  stop = λ clean c h up left. seen_leaves c h.rows a clean h.within;
+}
+
+-- after a fault it is given up
+pub prepares_unseen : {S : Type 0} {Own Less : Type 0} {store : Ghosts S} {old mid new : Held S}
+    {Told : Contents → Type 0} (r : Removal) → Sees store old mid Own Told
+    → GivesUp store mid new Less → Prepares store old new (Some r) None Less
+prepares_unseen {store = store} {old = old} {mid = mid} r a it =
+    let halted : HasCleanDisk (state store mid) → (c : Contents) → HoldsUnder (state store old) r c
+    → Halted (state store mid) c =
+    λ clean c h. undone (state store old) (state store mid) c h.rows
+    (a.undone clean (λ _. h.within.tables)) h.within in
+    record {
+      clean = λ clean. a.clean (it.clean clean);
+      held = λ clean c h. it.held clean c (halted (it.clean clean) c h);
+      up = λ clean c h up own. it.up clean c (halted (it.clean clean) c h) own;
+      stop = λ clean c h up left. it.stop clean c (halted (it.clean clean) c h)
+          (seen_leaves c h.rows a (it.clean clean) h.within);
+    }
+
+-- what they say is said of what the removal left so far
+pub told_under_way : {S : Type 0} {Own : Type 0} {store : Ghosts S} {old new : Held S}
+    {Told : Contents → Type 0} (r : Removal) (c : Contents) → Sees store old new Own Told
+    → HasCleanDisk (state store new) → HoldsUnder (state store old) r c
+    → Told (removed_so_far r c)
+told_under_way r c a clean h = a.told clean (λ _. h.within.tables) (removed_so_far r c)
+    (λ _. subst (λ rows. Keeps rows (removed_so_far r c)) (sym h.within.rows_are) h.shown)
 
 -- ---- its end
 
@@ -243,6 +322,16 @@ prepares_told {S} {A} store old was new now before after r said e f same a =
     (subst (λ (x : Held S). Prepares store was x before after (IsOwn said)) (sym f)
     (subst (λ (x : Result A VaultFault). Prepares store was now before after (IsOwn x)) (sym same)
     (prepares_own (own_met r) a)))
+
+pub gives_up_told : {S A : Type 0} (store : Ghosts S) (old was new now : Held S)
+    (r : Result A Refusal) (said : Result A VaultFault)
+    → was ≡ old → new ≡ now → said ≡ answer_of r → GivesUp store was now (IsMet r)
+    → GivesUp store old new (IsOwn said)
+gives_up_told {S} {A} store old was new now r said e f same a =
+    subst (λ (x : Held S). GivesUp store x new (IsOwn said)) e
+    (subst (λ (x : Held S). GivesUp store was x (IsOwn said)) (sym f)
+    (subst (λ (x : Result A VaultFault). GivesUp store was now (IsOwn x)) (sym same)
+    (gives_up_own (own_met r) a)))
 
 -- the removal that is under way after a step, as the step's answer is told
 pub told_under : {A : Type 0} (r : Result A Refusal) (said : Result A VaultFault) (it : Removal)

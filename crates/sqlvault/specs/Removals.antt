@@ -1,6 +1,6 @@
 -- A removal in parts, in one open transaction. Nothing of it is committed before its end, so that
 -- the store holds what it held, and a stop leaves just this.
-use Rattle.std.specs.Prelude.{ℕ, List, length, drop, IsTrue, Option, Some, None}
+use Rattle.std.specs.Prelude.{◌≡◌, ◌⊎◌, ℕ, List, length, drop, IsTrue, Option, Some, None}
 use Rattle.std.specs.Prelude.{Result, Ok, Err, refl}
 use Rattle.std.specs.Coded.{Coded, code_by, coded×, coded_ℕ, coded_list, coded_option}
 use Rattle.sqlite_trees.specs.declared.store.Store.{Ghosts}
@@ -8,10 +8,11 @@ use Rattle.sqlite.specs.Held.{Held, state}
 use Rattle.sqlite.specs.State.{State, HasCleanDisk}
 use Rattle.vault.specs.declared.fault.VaultFault.{VaultFault}
 use Rattle.vault.specs.Changes.{Contents, AreSound, without_keys, with_messages}
+use Rattle.vault.specs.Calls.{CountsFaults, IsRefusal}
 use Rattle.vault.specs.Stops.{SaySame, IsOwn}
 use Rattle.mailsql.specs.Rows.{Rows}
 use Rattle.sqlvault.specs.Keeps.{Keeps}
-use Rattle.sqlvault.specs.Stands.{Holds, WasClean, Within}
+use Rattle.sqlvault.specs.Stands.{Holds, WasClean, Within, Halted}
 use Rattle.sqlvault.specs.Stops.{MayHold, LeavesHeld, LeavesLast, settled_at}
 use Rattle.sqlvault.specs.Frame.{Turns}
 use Rattle.sqlvault.specs.Opened.{Opened, opened_code}
@@ -64,6 +65,18 @@ module _ {S : Type 0} (store : Ghosts S) (old new : Held S) where
         → HoldsBeside (state store old) before c → IsTrue (state store old).is_open
         → LeavesHeld (state store old) c → LeavesHeld (state store new) c
 
+  -- A transaction that is under way, or that an error left, is given up: what was last committed is
+  -- held. The connection is open after an answer of the step's own, and a stop leaves what it left
+  -- before.
+  pub record GivesUp (Own : Type 0) : Type 0 where
+    pub clean : WasClean (state store old) (state store new)
+    pub held : HasCleanDisk (state store new) → (c : Contents) → Halted (state store old) c
+        → Holds (state store new) c
+    pub up : HasCleanDisk (state store new) → (c : Contents) → Halted (state store old) c → Own
+        → IsTrue (state store new).is_open
+    pub stop : HasCleanDisk (state store new) → (c : Contents) → Halted (state store old) c
+        → LeavesHeld (state store old) c → LeavesHeld (state store new) c
+
   -- the end of a removal, which changes records once, wholly or not at all, as a call does (`Acts`)
   pub record Finishes {A : Type 0} (r : Removal)
       (Done : Contents → (Contents → Type 0) → Result A VaultFault → Type 0)
@@ -92,6 +105,19 @@ abbrev pub prepared_code : {S : Type 0} → Coded S → Coded (Prepared S)
 prepared_code {S} store = code_by (Opened S × Option Removal)
     (coded× (opened_code store) (coded_option removal_code)) (λ v. (v.vault, v.under_way))
     (λ p. record { vault = p.0; under_way = p.1 }) (λ _. refl)
+
+-- A removal is given up after a query inside its transaction was answered by a fault. That fault is
+-- answered, or a refusal that giving it up met.
+pub record EndsBeside {S : Type 0} (store : Ghosts S) (old new : Prepared S)
+    (fault answered : VaultFault) : Type 0 where
+  pub gives_up : let r : Result (Unit {0}) VaultFault = Err answered in
+      GivesUp store old.vault.conn new.vault.conn (IsOwn r)
+  pub none : new.under_way ≡ None
+  pub counted : (n : ℕ) → (let r : Result (Unit {0}) VaultFault = Err fault in
+      CountsFaults n old.vault.faults r)
+      → (let r : Result (Unit {0}) VaultFault = Err answered in CountsFaults n new.vault.faults r)
+  pub answer : (answered ≡ fault) ⊎ (let r : Result (Unit {0}) VaultFault = Ok tt in
+      IsRefusal r answered)
 
 -- no removal is under way
 abbrev pub nothing_prepared : {S : Type 0} → Opened S → Prepared S

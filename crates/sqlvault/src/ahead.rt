@@ -18,9 +18,10 @@ use vault::{ClerkKind, Deposited, Head, MessageKey, Progress, Total, Vault, Vaul
 const MOST_GIVEN_UP: u8 = 3;
 
 /// A vault over tables that does a removal in parts, if it is asked to prepare it: a piece each
-/// time that it is asked, in one transaction, which the removal itself then finishes. Any other
-/// call gives the removal up before it does its work. After three that were given up, none is
-/// prepared until one was done.
+/// time that it is asked, in one transaction, which the removal itself then finishes. Meanwhile it
+/// answers [`Vault::credential`], [`Vault::page`] of a message that the removal doesn't name, and
+/// [`Vault::heads`] of another maildrop, inside that transaction. Any other call gives the removal
+/// up before it does its work. After three that were given up, none is prepared until one was done.
 ///
 /// Contracts see the vault inside and the removal that is under way.
 #[derive(Drop)]
@@ -41,14 +42,14 @@ impl<S: Alter> Model for Ahead<S> {
 }
 
 impl<S: Alter> Ahead<S> {
-    ghost use Rattle.std.specs.Prelude.{◌≤◌, Some, IfSome, IfNone};
+    ghost use Rattle.std.specs.Prelude.{◌≤◌, Some, IfSome, IfNone, IsTrue, false, bytes_eq};
     ghost use Rattle.sqlite.specs.Held.{state};
     ghost use Rattle.sqlite.specs.State.{HasCleanDisk};
-    ghost use Rattle.vault.specs.Changes.{Contents};
+    ghost use Rattle.vault.specs.Changes.{Contents, is_named};
     ghost use Rattle.vault.specs.Calls.{IsPrepared, CountsFaults};
     ghost use Rattle.vault.specs.Stops.{IsOwn};
     ghost use Rattle.sqlvault.specs.Stands.{Holds};
-    ghost use Rattle.sqlvault.specs.Removals.{Removal, Prepares};
+    ghost use Rattle.sqlvault.specs.Removals.{Removal, Prepares, EndsBeside};
 
     /// A vault around this one, in which no removal is under way. It takes no memory.
     pub fn new(vault: SqlVault<S>) -> Ahead<S>
@@ -92,6 +93,51 @@ impl<S: Alter> Ahead<S> {
             given_up: _,
         } = ahead;
         vault
+    }
+
+    /// Whether a removal from another maildrop is under way.
+    fn is_beside(&self, maildrop: &Name) -> bool
+        ensures { IsTrue result → (r : Removal) × (self.now.under_way ≡ Some r)
+            × (bytes_eq r.maildrop maildrop.now ≡ false) }
+    {
+        match &self.removing {
+            None => false,
+            Some(removing) => !removing.is_in(maildrop),
+        }
+    }
+
+    /// Whether a removal is under way that doesn't name this message.
+    fn spares(&self, key: MessageKey) -> bool
+        ensures { IsTrue result → (r : Removal) × (self.now.under_way ≡ Some r)
+            × (is_named r.keys key ≡ false) }
+    {
+        match &self.removing {
+            None => false,
+            Some(removing) => !removing.names(key),
+        }
+    }
+
+    /// Whether a removal is under way.
+    fn is_removing(&self) -> bool
+        ensures { IsTrue result → (r : Removal) × (self.now.under_way ≡ Some r) }
+    {
+        match &self.removing {
+            None => false,
+            Some(_removing) => true,
+        }
+    }
+
+    /// Gives up the removal that is under way after a query inside its transaction was answered by
+    /// a fault. Answers that fault, or the one that giving it up met.
+    fn end_beside(&mut self, fault: VaultFault) -> VaultFault
+        ensures { EndsBeside S.Store self.old self.new fault result }
+    {
+        let _gone = self.removing.take();
+        self.given_up = self.given_up.saturating_add(1);
+        match self.vault.give_up_removal() {
+            Ok(()) => fault,
+            Err(other) => other,
+        }
     }
 
     /// Takes out the removal that is under way, if it is that of these messages.
@@ -159,7 +205,8 @@ impl<S: Alter> Ahead<S> {
 }
 
 /// Each call as in the vault inside, once the removal that is under way is given up; but a removal
-/// that is under way is gone on with if it is asked for.
+/// that is under way is gone on with if it is asked for, and queries of what it doesn't touch are
+/// answered beside it.
 impl<S: Alter> Vault for Ahead<S> {
     ghost use Rattle.sqlvault.specs.Removals.{sound_beside, settled_beside};
 
@@ -213,6 +260,12 @@ impl<S: Alter> Vault for Ahead<S> {
     }
 
     fn heads(&mut self, maildrop: &Name) -> Result<Vec<Head>, VaultFault> {
+        if self.is_beside(maildrop) {
+            match self.vault.look_up_heads(maildrop) {
+                Ok(heads) => return Ok(heads),
+                Err(fault) => return Err(self.end_beside(fault)),
+            }
+        }
         match self.give_up() {
             Ok(()) => self.vault.heads(maildrop),
             Err(fault) => Err(fault),
@@ -220,6 +273,12 @@ impl<S: Alter> Vault for Ahead<S> {
     }
 
     fn page(&mut self, key: MessageKey, from: u64, buffer: &mut [u8]) -> Result<usize, VaultFault> {
+        if self.spares(key) {
+            match self.vault.look_up_page(key, from, buffer) {
+                Ok(count) => return Ok(count),
+                Err(fault) => return Err(self.end_beside(fault)),
+            }
+        }
         match self.give_up() {
             Ok(()) => self.vault.page(key, from, buffer),
             Err(fault) => Err(fault),
@@ -254,6 +313,12 @@ impl<S: Alter> Vault for Ahead<S> {
     }
 
     fn credential(&mut self, clerk: &Name) -> Result<Option<Credential>, VaultFault> {
+        if self.is_removing() {
+            match self.vault.look_up_credential(clerk) {
+                Ok(found) => return Ok(found),
+                Err(fault) => return Err(self.end_beside(fault)),
+            }
+        }
         match self.give_up() {
             Ok(()) => self.vault.credential(clerk),
             Err(fault) => Err(fault),
@@ -295,10 +360,11 @@ impl<S: Alter> Vault for Ahead<S> {
         }
     }
 
+    /// Nothing while a removal is under way: it isn't given up for this.
     fn maintain(&mut self) -> Result<(), VaultFault> {
-        match self.give_up() {
-            Ok(()) => self.vault.maintain(),
-            Err(fault) => Err(fault),
+        if self.removing.is_some() {
+            return Ok(());
         }
+        self.vault.maintain()
     }
 }

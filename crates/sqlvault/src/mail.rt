@@ -1,18 +1,16 @@
 //! The heads of a maildrop's messages, and their removal.
 ghost use Rattle.std.specs.Prelude.{◌≡◌, ◌<◌, ◌^◌, Some, true, List, [], map, nat_lt, IfOk, IfErr};
 ghost use Rattle.std.specs.List.{list_all};
-ghost use Rattle.sqlite.specs.Held.{state};
-ghost use Rattle.sqlite.specs.State.{HasCleanDisk};
 ghost use Rattle.creds.specs.Names.{is_name};
 ghost use Rattle.mailsql.specs.Errors.{IsWantOfMemory};
 ghost use Rattle.vault.specs.declared.record.Keyed.{Keyed};
-ghost use Rattle.vault.specs.Changes.{Contents, head_of, kept_in, without_keys, with_messages};
-ghost use Rattle.vault.specs.Calls.{seen_as, AreHeads, AreRemoved};
+ghost use Rattle.vault.specs.Changes.{Contents, head_of, kept_in, without_keys};
+ghost use Rattle.vault.specs.Changes.{with_messages};
+ghost use Rattle.vault.specs.Calls.{IsAnswer, seen_as, heads_result, AreRemoved};
 ghost use Rattle.sqlvault.specs.Keeps.{Keeps, message_row};
 ghost use Rattle.sqlvault.specs.Refusals.{answer_of};
 ghost use Rattle.sqlvault.specs.RowForms.{AreMailRows};
-ghost use Rattle.sqlvault.specs.Frame.{IsOk, IsMet, Looks, Learns, Acts, Writes};
-ghost use Rattle.sqlvault.specs.Stands.{Holds};
+ghost use Rattle.sqlvault.specs.Frame.{IsOk, IsMet, Sees, Learns, Acts, Writes};
 
 use crate::maildrops::has_maildrop;
 use crate::refusal::{Refusal, unreadable};
@@ -79,11 +77,9 @@ fn no_heads<S: Alter>(
     conn: &mut Connection<S>,
     maildrop: &Name,
 ) -> Result<Vec<Head>, Refusal>
-    ensures done { (c : Contents) → HasCleanDisk (state S.Store conn.new)
-        → Holds (state S.Store conn.old) c → kept_in maildrop.now c.messages ≡ []
-        → AreHeads (Holds (state S.Store conn.new)) c maildrop.now
-        (seen_as (answer_of result) (λ v. v.items)) }
-    ensures looks { Looks S.Store conn.old conn.new (IsMet result) }
+    ensures { Sees S.Store conn.old conn.new (IsMet result)
+        (λ c. kept_in maildrop.now c.messages ≡ [] → IsAnswer (heads_result maildrop.now c)
+        (seen_as (answer_of result) (λ v. v.items))) }
 {
     match has_maildrop(conn, maildrop) {
         Ok(true) => Ok(Vec::new(alloc)),
@@ -102,10 +98,8 @@ pub(crate) fn heads<S: Alter>(
     conn: &mut Connection<S>,
     maildrop: &Name,
 ) -> Result<Vec<Head>, Refusal>
-    ensures done { (c : Contents) → HasCleanDisk (state S.Store conn.new)
-        → Holds (state S.Store conn.old) c → AreHeads (Holds (state S.Store conn.new)) c
-        maildrop.now (seen_as (answer_of result) (λ v. v.items)) }
-    ensures looks { Looks S.Store conn.old conn.new (IsMet result) }
+    ensures { Sees S.Store conn.old conn.new (IsMet result)
+        (λ c. IsAnswer (heads_result maildrop.now c) (seen_as (answer_of result) (λ v. v.items))) }
 {
     match rows_of(alloc, conn, maildrop) {
         Ok(rows) => {

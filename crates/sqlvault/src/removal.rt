@@ -1,9 +1,10 @@
 //! A removal in parts, in one open transaction.
-ghost use Rattle.std.specs.Prelude.{◌≡◌, ℕ, List, Some, None, Ok, IsTrue, IfSome, OnOk};
+ghost use Rattle.std.specs.Prelude.{◌≡◌, ℕ, List, Some, None, Ok, IsTrue, IfSome, OnOk, bytes_eq};
+ghost use Rattle.vault.specs.Changes.{is_named};
 ghost use Rattle.vault.specs.Calls.{AreRemoved, IsAnswer};
 ghost use Rattle.sqlvault.specs.Frame.{IsMet};
 ghost use Rattle.sqlvault.specs.Refusals.{answer_of};
-ghost use Rattle.sqlvault.specs.Removals.{Removal, Prepares, Finishes, removal_of, under_way};
+ghost use Rattle.sqlvault.specs.Removals.{Prepares, Finishes, GivesUp, removal_of, under_way};
 
 use crate::mail::remove_all;
 use crate::refusal::Refusal;
@@ -58,6 +59,20 @@ impl Removing {
             → (self.now.maildrop ≡ maildrop.now) × (self.now.keys ≡ keys.now) }
     {
         self.maildrop == *maildrop && self.keys.as_slice() == keys
+    }
+
+    /// Whether it is one from this maildrop.
+    pub(crate) fn is_in(&self, maildrop: &Name) -> bool
+        ensures { result ≡ bytes_eq self.now.maildrop maildrop.now }
+    {
+        self.maildrop == *maildrop
+    }
+
+    /// Whether it names this message.
+    pub(crate) fn names(&self, key: MessageKey) -> bool
+        ensures { result ≡ is_named self.now.keys key }
+    {
+        self.keys.iter().any(|named| *named == key)
     }
 
     /// How many messages it names.
@@ -133,12 +148,11 @@ pub(crate) fn finish_removal<S: Alter>(
 }
 
 /// Gives a removal up: what it did is undone. A commit of nothing then tells that the store still
-/// answers.
+/// answers. After an error inside its transaction that may be gone already.
 ///
 /// Answers the error that a statement met; the removal is given up also then.
 pub(crate) fn give_up_removal<S: Alter>(conn: &mut Connection<S>) -> Result<(), Refusal>
-    ensures prepares { (r : Removal) → Prepares S.Store conn.old conn.new (Some r) None
-        (IsMet result) }
+    ensures gives_up { GivesUp S.Store conn.old conn.new (IsMet result) }
     ensures answer { IsAnswer (Ok tt) (answer_of result) }
 {
     let _ = roll_back(conn);

@@ -207,8 +207,9 @@ impl<D: Disk + Drop> SqlVault<FileStore<D>> {
 impl<S: Alter> SqlVault<S> {
     ghost use Rattle.std.specs.Prelude.{true, Err, ℕ, List, Some, None};
     ghost use Rattle.vault.specs.declared.fault.VaultFault.TheVariants.{NotOurs};
-    ghost use Rattle.vault.specs.Calls.{AreRemoved};
-    ghost use Rattle.sqlvault.specs.Removals.{Removal, Prepares, Finishes, removal_of, under_way};
+    ghost use Rattle.vault.specs.Records.{credential_in};
+    ghost use Rattle.vault.specs.Calls.{AreRemoved, IsPageRead, heads_result, text_under};
+    ghost use Rattle.sqlvault.specs.Removals.{Prepares, Finishes, GivesUp, removal_of, under_way};
     ghost use Rattle.mailsql.specs.Names.{is_taken, has_meta_rows};
     ghost use Rattle.sqlvault.specs.Adopts.{Adopts, StaysAs, IsVersionRefused};
     ghost use Rattle.sqlvault.specs.Carries.{CarriesOver};
@@ -218,7 +219,7 @@ impl<S: Alter> SqlVault<S> {
     ghost use Rattle.vault.specs.Stops.{IsOwn};
     ghost use Rattle.sqlvault.specs.Clerks.{AreClerks};
     ghost use Rattle.sqlvault.specs.Receipts.{AreReceipts};
-    ghost use Rattle.sqlvault.specs.Frame.{Looks};
+    ghost use Rattle.sqlvault.specs.Frame.{Looks, Sees};
     ghost use Rattle.sqlvault.specs.Stands.{Holds, WasClean};
 
     /// Makes a connection a mail store.
@@ -384,14 +385,52 @@ impl<S: Alter> SqlVault<S> {
         self.written(octets, answer)
     }
 
-    /// Gives a removal up, also if it answers a fault.
+    /// Gives a removal up, also if it answers a fault, or a query in its transaction met an error.
     pub(crate) fn give_up_removal(&mut self) -> Result<(), VaultFault>
-        ensures prepares { (r : Removal) → Prepares S.Store self.old.conn self.new.conn (Some r)
-            None (IsOwn result) }
+        ensures gives_up { GivesUp S.Store self.old.conn self.new.conn (IsOwn result) }
         ensures counted { CountsFaults self.old.faults self.new.faults result }
         ensures answer { IsAnswer (Ok tt) result }
     {
         let answer = removal::give_up_removal(&mut self.conn);
+        self.told(answer)
+    }
+
+    /// The heads of a maildrop's messages, as [`Vault::heads`] gives them, also inside a
+    /// transaction.
+    pub(crate) fn look_up_heads(&mut self, maildrop: &Name) -> Result<Vec<Head>, VaultFault>
+        ensures sees { Sees S.Store self.old.conn self.new.conn (IsOwn result)
+            (λ c. IsAnswer (heads_result maildrop.now c) (seen_as result (λ v. v.items))) }
+        ensures counted { CountsFaults self.old.faults self.new.faults result }
+    {
+        let answer = mail::heads(self.alloc, &mut self.conn, maildrop);
+        self.told(answer)
+    }
+
+    /// Octets of a message, as [`Vault::page`] gives them, also inside a transaction.
+    pub(crate) fn look_up_page(
+        &mut self,
+        key: MessageKey,
+        from: u64,
+        buffer: &mut [u8],
+    ) -> Result<usize, VaultFault>
+        ensures sees { Sees S.Store self.old.conn self.new.conn (IsOwn result)
+            (λ c. IsPageRead (text_under key c.messages) from buffer.new result) }
+        ensures counted { CountsFaults self.old.faults self.new.faults result }
+    {
+        let answer = pages::page(self.alloc, &mut self.conn, key, from, buffer);
+        self.told(answer)
+    }
+
+    /// The credential of a clerk, as [`Vault::credential`] gives it, also inside a transaction.
+    pub(crate) fn look_up_credential(
+        &mut self,
+        clerk: &Name,
+    ) -> Result<Option<Credential>, VaultFault>
+        ensures sees { Sees S.Store self.old.conn self.new.conn (IsOwn result)
+            (λ c. IsAnswer (Ok (credential_in clerk.now c.clerks)) result) }
+        ensures counted { CountsFaults self.old.faults self.new.faults result }
+    {
+        let answer = clerks::find_credential(self.alloc, &mut self.conn, clerk);
         self.told(answer)
     }
 
@@ -472,13 +511,11 @@ impl<S: Alter> Vault for SqlVault<S> {
     }
 
     fn heads(&mut self, maildrop: &Name) -> Result<Vec<Head>, VaultFault> {
-        let answer = mail::heads(self.alloc, &mut self.conn, maildrop);
-        self.told(answer)
+        self.look_up_heads(maildrop)
     }
 
     fn page(&mut self, key: MessageKey, from: u64, buffer: &mut [u8]) -> Result<usize, VaultFault> {
-        let answer = pages::page(self.alloc, &mut self.conn, key, from, buffer);
-        self.told(answer)
+        self.look_up_page(key, from, buffer)
     }
 
     fn remove(&mut self, maildrop: &Name, keys: &[MessageKey]) -> Result<(), VaultFault> {
@@ -497,8 +534,7 @@ impl<S: Alter> Vault for SqlVault<S> {
     }
 
     fn credential(&mut self, clerk: &Name) -> Result<Option<Credential>, VaultFault> {
-        let answer = clerks::find_credential(self.alloc, &mut self.conn, clerk);
-        self.told(answer)
+        self.look_up_credential(clerk)
     }
 
     fn clerks(&mut self) -> Result<Vec<ClerkKind>, VaultFault> {

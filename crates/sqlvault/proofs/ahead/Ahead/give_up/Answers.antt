@@ -1,6 +1,6 @@
 use Rattle.std.proofs.Common.{Ok, Some, None, sym, ap, ◌∙◌, refl}
 use Rattle.sqlvault.specs.Removals.{Prepared}
-use Rattle.sqlvault.proofs.RemovalLemmas.{prepares_none}
+use Rattle.sqlvault.proofs.RemovalLemmas.{prepares_none, prepares_given_up}
 use Rattle.sqlvault.proofs.AheadLemmas.{looks_prepared, counts_none}
 use Rattle.sqlvault.proofs.ahead.Ahead.give_up.Goals as goal
 
@@ -20,5 +20,5 @@ returns-in-Some-clause-looks g c =
     (ap (λ (v : Prepared g.row.S.Denot). v.vault) c.self.view_is)
     (sym (ap (λ (v : Prepared g.row.S.Denot). v.under_way) c.self.view_is) ∙ sym c.in-Some.ensures.value)
     c.in-Some.ensures.after c.give_up_removal.ensures.counted
-    (c.give_up_removal.ensures.prepares c.in-Some._removing)
+    (prepares_given_up c.in-Some._removing c.give_up_removal.ensures.gives_up)
     (λ db o m. g.met.S.Store.settled c.args.self.now.vault.conn.store db o m)
