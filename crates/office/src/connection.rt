@@ -35,10 +35,13 @@ use crate::waiting::{asks_locked, login_asked};
 use creds::{LoginName, Name};
 use policy::Policy;
 use popline::{Cutter, Reply};
-use session::{Removals, Session};
+use session::{Pick, Removals, Session};
 use std::alloc::{AllocError, Global};
 use std::marker::Model;
 use vault::{Progress, Vault, VaultFault};
+
+/// A QUIT that removes more messages is worth preparing.
+const MANY: u64 = 128;
 
 /// What is kept of a connection. Of its input that is at most 4,096 octets of the last piece, and
 /// 255 of the line that is being cut.
@@ -280,6 +283,26 @@ impl Connection {
             return false;
         };
         CommandLine::read(cut).is_quit()
+    }
+
+    /// Whether somebody is in session with a view of more than [`MANY`] messages.
+    pub fn sees_many(&self) -> bool
+        ensures { IsTrue result → IsTrue (is_some self.now.session) }
+    {
+        match &self.session {
+            None => false,
+            Some(session) => !matches!(session.pick(MANY + 1), Err(Pick::NoSuch)),
+        }
+    }
+
+    /// Whether somebody is in session and has marked more than [`MANY`] messages.
+    pub fn marks_many(&self) -> bool
+        ensures { IsTrue result → IsTrue (is_some self.now.session) }
+    {
+        match &self.session {
+            None => false,
+            Some(session) => session.marked() as u64 > MANY,
+        }
     }
 
     /// Has the vault prepare what a QUIT would remove now.

@@ -11,6 +11,8 @@ mod opened_twice;
 #[cfg(test)]
 mod prepared;
 #[cfg(test)]
+mod prepared_stops;
+#[cfg(test)]
 mod recents;
 #[cfg(test)]
 mod refusals;
