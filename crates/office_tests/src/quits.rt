@@ -143,7 +143,7 @@ fn a_prepared_quit_sends_the_same(rt: HostRuntime) -> Result<(), Fail> {
 
 #[test]
 fn another_reads_while_a_quit_is_prepared(rt: HostRuntime) -> Result<(), Fail> {
-    assert!(rt; is_as_without(rt.alloc(), 1, 1, (1, 1))?);
+    assert!(rt; is_as_without(rt.alloc(), 1, 1, (1, 0))?);
     Ok(())
 }
 

@@ -60,7 +60,7 @@ fn interrupted(
 ) -> Result<(), Fail> {
     for _ in 0..times {
         let _ = vault.prepare_removal(maildrop, keys)?;
-        let _ = vault.credential(maildrop)?;
+        let _ = vault.maildrops()?;
     }
     Ok(())
 }
@@ -93,6 +93,41 @@ fn a_removal_that_was_given_up_begins_anew(rt: HostRuntime) -> Result<(), Fail> 
 #[test]
 fn after_three_that_were_given_up_one_is_done_at_once(rt: HostRuntime) -> Result<(), Fail> {
     assert!(rt; removed_after(rt.alloc(), 3)? == (1, 300, 0));
+    Ok(())
+}
+
+/// How often a removal is asked for, if credentials, heads and pages beside it are asked for after
+/// each piece.
+fn asked_beside(alloc: Global) -> Result<u32, Fail> {
+    let maildrop = Name::read(b"orders").ok_or("a name")?;
+    let other = Name::read(b"billing").ok_or("a name")?;
+    let mut vault = filled(alloc, &maildrop)?;
+    vault.add_maildrop(&other)?;
+    let keys = keys_in(alloc, &mut vault, &maildrop)?;
+    let mut count = 0u32;
+    for _ in 0..10 {
+        count = count.saturating_add(1);
+        if vault.prepare_removal(&maildrop, &keys[1..])? == Progress::Ready {
+            break;
+        }
+        asks_beside(&mut vault, &other, keys[0])?;
+    }
+    Ok(count)
+}
+
+/// Asks for a credential, for the heads of another maildrop, and for a message that stays.
+fn asks_beside(vault: &mut Store, other: &Name, key: MessageKey) -> Result<(), Fail> {
+    let _ = vault.credential(other)?;
+    let _ = vault.heads(other)?;
+    let mut page = [0; 16];
+    let _ = vault.page(key, 0, &mut page)?;
+    vault.maintain()?;
+    Ok(())
+}
+
+#[test]
+fn queries_beside_a_removal_dont_give_it_up(rt: HostRuntime) -> Result<(), Fail> {
+    assert!(rt; asked_beside(rt.alloc())? == 3);
     Ok(())
 }
 
