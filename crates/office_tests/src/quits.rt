@@ -40,12 +40,7 @@ fn takes_all(office: &mut Quitting, c: u64, sent: &mut Vec<u8>) -> Result<(), Al
 }
 
 /// Sends lines on a connection, and takes all that it is owed.
-fn says(
-    office: &mut Quitting,
-    c: u64,
-    lines: &[u8],
-    sent: &mut Vec<u8>,
-) -> Result<(), AllocError> {
+fn says(office: &mut Quitting, c: u64, lines: &[u8], sent: &mut Vec<u8>) -> Result<(), AllocError> {
     let _ = office.step(Event::Bytes(c, lines));
     takes_all(office, c, sent)
 }
@@ -90,7 +85,12 @@ fn begun(alloc: Global, sent: &mut Vec<u8>) -> Result<Quitting, Fail> {
     deposit(&mut office, "billing", b"a bill")?;
     fill(alloc, &mut office)?;
     enters(&mut office, 1, b"USER ann/orders\r\nPASS s3 cret\r\n", sent)?;
-    enters(&mut office, 2, b"USER ann/billing\r\nPASS s3 cret\r\n", sent)?;
+    enters(
+        &mut office,
+        2,
+        b"USER ann/billing\r\nPASS s3 cret\r\n",
+        sent,
+    )?;
     mark_all(alloc, &mut office, sent)?;
     Ok(office)
 }
@@ -121,12 +121,7 @@ fn sent_with(alloc: Global, before: u32, after: u32) -> Result<(Vec<u8>, u32, u3
 
 /// Whether all are sent what they are sent without preparing, so that `orders` is left empty. The
 /// QUIT can be prepared further so often.
-fn is_as_without(
-    alloc: Global,
-    before: u32,
-    after: u32,
-    more: (u32, u32),
-) -> Result<bool, Fail> {
+fn is_as_without(alloc: Global, before: u32, after: u32, more: (u32, u32)) -> Result<bool, Fail> {
     let (without, _, _) = sent_with(alloc, 0, 0)?;
     let (sent, first, second) = sent_with(alloc, before, after)?;
     let is_left_empty = sent
