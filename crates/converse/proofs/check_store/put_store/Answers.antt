@@ -6,16 +6,24 @@ use Rattle.vault.specs.Calls.{has_grown}
 use Rattle.vault.specs.Records.{is_one_of}
 use Rattle.converse.specs.Causes.{IsExportFault, IsRefusedCheck, IsRefusedRead}
 use Rattle.converse.specs.Checked.{AreKnown}
-use Rattle.converse.proofs.Checking.{store_differs, store_whole, does_differ, differs_not, has_asked}
+use Rattle.converse.proofs.Checking.{HasAsked, store_differs, store_whole, does_differ, differs_not, has_asked}
 use Rattle.converse.proofs.Exporting.{cause_still, counts_on, look_refused, refused_since}
 use Rattle.converse.proofs.Refusals.{refused_known, refused_of_since, totals_there}
 use Rattle.converse.proofs.TextWriting.{handed_as}
+use Rattle.converse.proofs.check_store.put_store.Given.{Over}
+use Rattle.converse.proofs.check_store.put_store.Goals.{In_ok-tell_clerks}
 use Rattle.converse.proofs.check_store.put_store.Goals as goal
+
+-- what is known of the store once its clerks are printed
+asked : (g : Over) (c : In_ok-tell_clerks g) → HasAsked g.V.Vault.holds g.V.Vault.is_clean c.args.vault.now c.tell_clerks.new.vault
+    c.args.clerks.now c.in_ok-totals.totals.items c.in_ok-policy.field-0 c.print_front.new.out.items c.tell_clerks.new.text.items
+asked g c =
+    has_asked g.V.Vault.holds g.V.Vault.is_clean c.in_ok-totals.ensures.looks.clean c.in_ok-totals.ensures.done c.in_ok-policy.ensures.looks.clean c.in_ok-policy.ensures.done
+    c.in_ok-tell_clerks.ensures.clean c.in_ok-tell_clerks.ensures.held c.in_ok-tell_clerks.ensures.told
 
 pub returns-in-Ok-print_last-clause-told : goal.returns-in-Ok-print_last-clause-told
 returns-in-Ok-print_last-clause-told g c = λ rs are d h k.
-    let s = has_asked g.V.Vault.holds g.V.Vault.is_clean c.in_ok-totals.ensures.looks.clean c.in_ok-totals.ensures.done c.in_ok-policy.ensures.looks.clean c.in_ok-policy.ensures.done
-    c.in_ok-tell_clerks.ensures.clean c.in_ok-tell_clerks.ensures.held c.in_ok-tell_clerks.ensures.told in
+    let s = asked g (goal.at.returns-in-Ok-print_last-clause-told g c).In_ok-tell_clerks in
     let k3 = c.in_ok-tell_differing.ensures.clean k in
     let all = s.totals_are d h k3 in
     store_whole c.args.file.now d c.args.clerks.now rs c.as_slice.result.now c.as_slice-2.result.now c.as_slice-3.result.now c.len-rules.result
@@ -25,16 +33,14 @@ returns-in-Ok-print_last-clause-told g c = λ rs are d h k.
 
 pub returns-in-Ok-print_last-clause-intact : goal.returns-in-Ok-print_last-clause-intact
 returns-in-Ok-print_last-clause-intact g c = λ rs are d h k.
-    let s = has_asked g.V.Vault.holds g.V.Vault.is_clean c.in_ok-totals.ensures.looks.clean c.in_ok-totals.ensures.done c.in_ok-policy.ensures.looks.clean c.in_ok-policy.ensures.done
-    c.in_ok-tell_clerks.ensures.clean c.in_ok-tell_clerks.ensures.held c.in_ok-tell_clerks.ensures.told in
+    let s = asked g (goal.at.returns-in-Ok-print_last-clause-intact g c).In_ok-tell_clerks in
     let k3 = c.in_ok-tell_differing.ensures.clean k in
     differs_not rs d c.as_slice-2.result.now c.tell_clerks.new.text.items c.tell_differing.new.text.items
     (c.as_slice-2.ensures.value ∙ s.totals_are d h k3) (c.in_ok-tell_differing.ensures.told rs are d (s.held d h k3) k) (omega arith)
 
 pub returns-then-after-before-clause-told : goal.returns-then-after-before-clause-told
 returns-then-after-before-clause-told g c = λ rs are d h k.
-    let s = has_asked g.V.Vault.holds g.V.Vault.is_clean c.in_ok-totals.ensures.looks.clean c.in_ok-totals.ensures.done c.in_ok-policy.ensures.looks.clean c.in_ok-policy.ensures.done
-    c.in_ok-tell_clerks.ensures.clean c.in_ok-tell_clerks.ensures.held c.in_ok-tell_clerks.ensures.told in
+    let s = asked g (goal.at.returns-then-after-before-clause-told g c).In_ok-tell_clerks in
     let k3 = c.in_ok-tell_differing.ensures.clean k in
     let all = s.totals_are d h k3 in
     store_differs c.args.file.now d c.args.clerks.now rs c.as_slice.result.now c.as_slice-2.result.now
@@ -44,8 +50,7 @@ returns-then-after-before-clause-told g c = λ rs are d h k.
 
 pub returns-then-after-before-clause-intact : goal.returns-then-after-before-clause-intact
 returns-then-after-before-clause-intact g c = λ rs are d h k.
-    let s = has_asked g.V.Vault.holds g.V.Vault.is_clean c.in_ok-totals.ensures.looks.clean c.in_ok-totals.ensures.done c.in_ok-policy.ensures.looks.clean c.in_ok-policy.ensures.done
-    c.in_ok-tell_clerks.ensures.clean c.in_ok-tell_clerks.ensures.held c.in_ok-tell_clerks.ensures.told in
+    let s = asked g (goal.at.returns-then-after-before-clause-intact g c).In_ok-tell_clerks in
     let k3 = c.in_ok-tell_differing.ensures.clean k in
     does_differ rs d c.as_slice-2.result.now c.tell_clerks.new.text.items c.tell_differing.new.text.items
     (c.as_slice-2.ensures.value ∙ s.totals_are d h k3) (c.in_ok-tell_differing.ensures.told rs are d (s.held d h k3) k) (omega arith)
@@ -75,8 +80,7 @@ returns-in_err-tell_differing-clause-cause g c =
     let t = c.in_err-tell_differing.ensures in
     let before = c.tell_clerks.new.vault in
     let now = c.tell_differing.new.vault in
-    let s = has_asked g.V.Vault.holds g.V.Vault.is_clean c.in_ok-totals.ensures.looks.clean c.in_ok-totals.ensures.done c.in_ok-policy.ensures.looks.clean c.in_ok-policy.ensures.done
-    c.in_ok-tell_clerks.ensures.clean c.in_ok-tell_clerks.ensures.held c.in_ok-tell_clerks.ensures.told in
+    let s = asked g (goal.at.returns-in_err-tell_differing-clause-cause g c).In_ok-tell_clerks in
     let Read : VaultFault → Type 0 =
     IsRefusedRead g.V.Vault.holds g.V.Vault.is_clean faults before now (λ d. list.All (λ (x : Total). is_one_of x.maildrop d.maildrops ≡ true) c.as_slice-2.result.now) in
     let All : VaultFault → Type 0 = IsRefusedCheck g.V.Vault.holds g.V.Vault.is_clean faults c.args.vault.now now (AreKnown c.args.clerks.now) in

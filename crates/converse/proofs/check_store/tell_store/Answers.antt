@@ -10,7 +10,16 @@ use Rattle.converse.proofs.Checking.{lent_of_each}
 use Rattle.converse.proofs.ExportLemmas.{checks_ill, err_not_ok}
 use Rattle.converse.proofs.Exporting.{cause_still, end_of}
 use Rattle.converse.proofs.TextWriting.{handed_as}
+use Rattle.converse.proofs.check_store.tell_store.Given.{Over}
+use Rattle.converse.proofs.check_store.tell_store.Goals.{After-as_slice}
 use Rattle.converse.proofs.check_store.tell_store.Goals as goal
+
+-- what is handed to be written is what lies in the store
+written : (g : Over) (c : After-as_slice g) (d : Contents) → g.V.Vault.holds c.args.vault.now d → g.V.Vault.is_clean c.put_store.new.vault
+    → c.as_slice.result.now ≡ store_text c.args.file.now d c.args.clerks.now (against c.args.texts.now)
+written g c =
+    lent_of_each g.V.Vault.holds g.V.Vault.is_clean (λ d. store_text c.args.file.now d c.args.clerks.now (against c.args.texts.now))
+    (c.in_ok-are_intact.ensures.told (against c.args.texts.now) c.in_ok-marks.ensures) c.as_slice.ensures.value c.new-text.ensures.items
 
 pub returns-in_err-marks-clause-checks : goal.returns-in_err-marks-clause-checks
 returns-in_err-marks-clause-checks g c = checks_ill _ _ _ _ _ _ _ _ _ _ (err_not_ok c.from_residual.result (search rules)) (inl refl)
@@ -20,17 +29,13 @@ returns-in_err-are_intact-clause-checks g c = checks_ill _ _ _ _ _ _ _ _ _ _ (er
 
 pub returns-in_err-write_text-clause-checks : goal.returns-in_err-write_text-clause-checks
 returns-in_err-write_text-clause-checks g c =
-    let text = λ (d : Contents). store_text c.args.file.now d c.args.clerks.now (against c.args.texts.now) in
-    let put = lent_of_each g.V.Vault.holds g.V.Vault.is_clean text
-    (c.in_ok-are_intact.ensures.told (against c.args.texts.now) c.in_ok-marks.ensures) c.as_slice.ensures.value c.new-text.ensures.items in
+    let put = written g (goal.at.returns-in_err-write_text-clause-checks g c).After-as_slice in
     checks_ill _ _ _ _ _ _ _ _ _ _ (err_not_ok c.from_residual-in_err-write_text.result (search rules))
     (inr (λ d h k. subst (WritesPart (g.W.Sink.seen c.args.out.now) (g.W.Sink.seen c.write_text.new.out)) (put d h k) c.in_err-write_text.ensures.part))
 
 pub returns-then-are_intact-clause-checks : goal.returns-then-are_intact-clause-checks
 returns-then-are_intact-clause-checks g c =
-    let text = λ (d : Contents). store_text c.args.file.now d c.args.clerks.now (against c.args.texts.now) in
-    let put = lent_of_each g.V.Vault.holds g.V.Vault.is_clean text
-    (c.in_ok-are_intact.ensures.told (against c.args.texts.now) c.in_ok-marks.ensures) c.as_slice.ensures.value c.new-text.ensures.items in
+    let put = written g (goal.at.returns-then-are_intact-clause-checks g c).After-as_slice in
     let is : c.in_ok-are_intact.are_intact ≡ true = search rules in
     record {
       told = λ _ d h k. subst (Writes (g.W.Sink.seen c.args.out.now) (g.W.Sink.seen c.write_text.new.out)) (put d h k) c.in_ok-write_text.ensures.ok;
@@ -42,16 +47,12 @@ returns-then-are_intact-clause-checks g c =
 
 pub returns-clause-checks : goal.returns-clause-checks
 returns-clause-checks g c =
-    let text = λ (d : Contents). store_text c.args.file.now d c.args.clerks.now (against c.args.texts.now) in
-    let put = lent_of_each g.V.Vault.holds g.V.Vault.is_clean text
-    (c.in_ok-are_intact.ensures.told (against c.args.texts.now) c.in_ok-marks.ensures) c.as_slice.ensures.value c.new-text.ensures.items in
+    let put = written g (goal.at.returns-clause-checks g c).After-as_slice in
     checks_ill _ _ _ _ _ _ _ _ _ _ false≢true (inr (λ d h k. subst (WritesPart (g.W.Sink.seen c.args.out.now) (g.W.Sink.seen c.write_text.new.out)) (put d h k) c.in_ok-write_text.ensures.part))
 
 pub returns-clause-why : goal.returns-clause-why
 returns-clause-why g c = λ d h k.
-    let text = λ (d : Contents). store_text c.args.file.now d c.args.clerks.now (against c.args.texts.now) in
-    let put = lent_of_each g.V.Vault.holds g.V.Vault.is_clean text
-    (c.in_ok-are_intact.ensures.told (against c.args.texts.now) c.in_ok-marks.ensures) c.as_slice.ensures.value c.new-text.ensures.items in
+    let put = written g (goal.at.returns-clause-why g c).After-as_slice in
     let is : c.in_ok-are_intact.are_intact ≡ false = search rules in (
       subst (λ b. HasNone b (differing (against c.args.texts.now) d)) is (c.in_ok-are_intact.ensures.intact (against c.args.texts.now) c.in_ok-marks.ensures d h k),
       subst (Writes (g.W.Sink.seen c.args.out.now) (g.W.Sink.seen c.write_text.new.out)) (put d h k) c.in_ok-write_text.ensures.ok,
