@@ -9,7 +9,7 @@ returns-clause-left g c = job_left (g.J.Job.tells c.args.job)
     c.run-answer.result.1.vault.faults c.close.result
     (λ tells T k clean.
     let was = c.into_vault-vault.ensures.clean clean in
-    let did = c.run-answer.ensures.done tells T (rw c.new.ensures k) was in
+    let did = rw c.new.ensures at (c.run-answer.ensures.done tells T (rw c.new.ensures k) was) in
     (did.0, did.1, keeps_on _ (Holds (file_state c.into_vault-vault.result.conn)) did.0 (λ x h. c.into_vault-vault.ensures.held x h clean) did.2))
     c.close.ensures.rests c.close.ensures.clean
 
