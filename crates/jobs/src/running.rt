@@ -17,11 +17,12 @@ use crate::opening::{Careful, open};
 use crate::resting::close;
 use sqlite::{Error, FileFrom, FileStore, Files};
 use sqlite_disk::Disk;
-use sqlvault::SqlVault;
+use sqlvault::{Ahead, SqlVault};
 use vault::VaultFault;
 
-/// Does a job over a store in two files, and closes it. Gives the answer, and the files: as `Err`
-/// if the store couldn't be closed, which loses nothing that was done.
+/// Does a job over a store in two files, which may do removals in parts ([`Ahead`]), and closes it.
+/// Gives the answer, and the files: as `Err` if the store couldn't be closed, which loses nothing
+/// that was done.
 pub fn do_and_close<D: Disk + Drop, J: Job>(
     vault: SqlVault<FileStore<D>>,
     job: J,
@@ -32,7 +33,8 @@ pub fn do_and_close<D: Disk + Drop, J: Job>(
     ensures clean { IfOk result.1 (λ files. J.tells job → AreClean D.Disk files.log files.db
         → HasCleanDisk (file_state vault.conn)) }
 {
-    let (answer, vault) = job.run(vault);
+    let (answer, ahead) = job.run(Ahead::new(vault));
+    let vault = ahead.into_vault();
     (answer, close(vault))
 }
 

@@ -37,3 +37,8 @@ module _ {S X : Type 0} (Asked : S → List FileCall → Type 0) (Answered : X �
             subst (λ b. Answered x2 (g.said ++ b ∷ [])) gone (told g.said (still g.said g.answered));
         handed = IsNameKeptBack g.inside g.said a last name g.handed;
       }
+
+  -- a call that is in no record
+  pub file_still : (s s1 : S) (x : X) → ((before : List FileCall) → Asked s before → Asked s1 before)
+      → (a : List FileCall) → AreGuarded Asked Answered s x a → AreGuarded Asked Answered s1 x a
+  file_still s s1 x still a g = record { inside = g.inside; said = g.said; asked = still g.inside g.asked; answered = g.answered; handed = g.handed }

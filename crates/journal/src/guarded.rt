@@ -5,7 +5,7 @@ ghost use Rattle.journal.specs.Guards.{AreFilesHandedOn, AreGuarded};
 
 use super::spool::LoggedSpool;
 use super::watch::{NotedWatch, Watch};
-use serving::{FileName, NotedSpool, Spool};
+use serving::{Coming, FileName, NotedSpool, Spool};
 
 /// A spool that does what the one inside does, but has a watch look before each file. Once that
 /// says that the store is lost, that its files are others than those that are open, it gives none.
@@ -52,6 +52,18 @@ impl<S: Spool, X: Watch> Spool for GuardedSpool<S, X> {
 
     fn rename(&mut self, name: &FileName) -> bool {
         self.spool.rename(name)
+    }
+
+    fn coming(&self) -> Option<&Coming> {
+        self.spool.coming()
+    }
+
+    fn read_on(&mut self) {
+        self.spool.read_on();
+    }
+
+    fn note_prepared(&mut self) {
+        self.spool.note_prepared();
     }
 }
 

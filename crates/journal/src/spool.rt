@@ -3,7 +3,7 @@ ghost use Rattle.std.specs.Prelude.{◌≡◌, []};
 
 use super::journal::{Journal, Told};
 use super::left::{Folder, Looking};
-use serving::{FileName, Spool};
+use serving::{Coming, FileName, Spool};
 use std::alloc::{AllocError, Global};
 
 /// A spool that does what the one inside does, and notes each file that is removed, renamed or
@@ -62,6 +62,14 @@ fn note_file(
     }
 }
 
+/// Whether this file is coming.
+fn is_coming<S: Spool>(spool: &S, name: &FileName) -> bool {
+    match spool.coming() {
+        Some(coming) => coming.name == *name,
+        None => false,
+    }
+}
+
 /// Each call as in the spool inside.
 impl<S: Spool> Spool for LoggedSpool<'_, S> {
     ghost tells = { λ r. S.tells r.spool };
@@ -77,7 +85,7 @@ impl<S: Spool> Spool for LoggedSpool<'_, S> {
 
     fn read(&mut self, name: &FileName) -> Option<Vec<u8>> {
         let text = self.spool.read(name);
-        if text.is_none() {
+        if text.is_none() && !is_coming(&self.spool, name) {
             self.looking.note_left(&self.journal, name);
         }
         text
@@ -107,5 +115,17 @@ impl<S: Spool> Spool for LoggedSpool<'_, S> {
             "not-renamed",
         );
         is_done
+    }
+
+    fn coming(&self) -> Option<&Coming> {
+        self.spool.coming()
+    }
+
+    fn read_on(&mut self) {
+        self.spool.read_on();
+    }
+
+    fn note_prepared(&mut self) {
+        self.spool.note_prepared();
     }
 }

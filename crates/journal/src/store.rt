@@ -7,7 +7,7 @@ use creds::{Credential, DepositId, Name};
 use mailtext::MailText;
 use policy::Policy;
 use std::alloc::{AllocError, Global};
-use vault::{ClerkKind, Deposited, Head, MessageKey, Total, Vault, VaultFault};
+use vault::{ClerkKind, Deposited, Head, MessageKey, Progress, Total, Vault, VaultFault};
 
 /// A vault that does what the one inside does, and notes each deposit and removal with its answer,
 /// and each refusal of the store or of memory with its cause.
@@ -229,6 +229,26 @@ impl<V: Vault> Vault for LoggedVault<'_, V> {
         let answer = self.vault.remove(maildrop, keys);
         note_removal(self.journal, maildrop, keys.len(), &answer);
         answer
+    }
+
+    fn prepare_removal(
+        &mut self,
+        maildrop: &Name,
+        keys: &[MessageKey],
+    ) -> Result<Progress, VaultFault> {
+        let answer = self.vault.prepare_removal(maildrop, keys);
+        told(&self.journal, "prepare_removal", answer)
+    }
+
+    fn prepare_deposit(
+        &mut self,
+        maildrop: &Name,
+        class: &Name,
+        id: &DepositId,
+        text: &MailText,
+    ) -> Result<Progress, VaultFault> {
+        let answer = self.vault.prepare_deposit(maildrop, class, id, text);
+        told(&self.journal, "prepare_deposit", answer)
     }
 
     fn page(&mut self, key: MessageKey, from: u64, buffer: &mut [u8]) -> Result<usize, VaultFault> {

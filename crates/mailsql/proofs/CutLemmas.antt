@@ -1,5 +1,5 @@
 -- The sheets of a text.
-use Rattle.std.proofs.Common.{◌≡◌, ◌⊎◌, inl, inr, ℕ, zero, suc, ◌+◌, ◌*◌, ◌-◌, ◌<◌, ◌≤◌, min, ℤ, pos, ◌<ℤ◌, List, [], ◌∷◌, ◌++◌, length, map, take, drop, Some, Bool, true, false}
+use Rattle.std.proofs.Common.{◌≡◌, ◌⊎◌, inl, inr, ℕ, zero, suc, ◌+◌, ◌*◌, ◌-◌, ◌/◌, ◌%◌, ◌<◌, ◌≤◌, min, ℤ, pos, ◌<ℤ◌, List, [], ◌∷◌, ◌++◌, length, map, take, drop, Some, Bool, true, false}
 use Rattle.std.proofs.Common.{cond, refl, sym, ap, ap₂, ◌∙◌, arith, append_assoc, append-nil, length-take, length-drop, take_all, is_eq}
 use Rattle.std.specs.Prelude.{◌&&◌}
 use Rattle.std.proofs.lemmas.Int.{ints}
@@ -12,13 +12,18 @@ use Rattle.std.proofs.lemmas.Bool.{cases_lt}
 use Rattle.std.proofs.lemmas.List.FromFn.{map-range_with_len_more}
 use Rattle.std.proofs.lemmas.Grind.{div_ceil_times}
 use Rattle.mailsql.specs.Rows.{Sheet, is_sheet, same_int}
-use Rattle.mailsql.specs.Sheets.{sheet_count, octets_at, sheet_at, first_sheets, joined, IsCut, SheetsAreTheText}
+use Rattle.std.proofs.lemmas.List.{drop-take, take-take}
+use Rattle.mailsql.specs.Sheets.{sheet_count, octets_at, sheet_at, first_sheets, sheets_from, sheets_of, joined, IsCut, SheetsAreTheText}
 use Rattle.mailsql.proofs.EqualLemmas.{same_itself}
 
 -- ---- the first sheets
 
-pub first_more : (mail : ℤ) (text : List ℕ) (n : ℕ) → first_sheets (n + 1) mail text ≡ first_sheets n mail text ++ sheet_at mail text n ∷ []
-first_more mail text n = map-range_with_len_more (sheet_at mail text) 0 n n (omega arith)
+-- one more of those from a place on
+pub one_more_from : (mail : ℤ) (text : List ℕ) (from n place : ℕ) → from + n ≡ place → sheets_from from (n + 1) mail text ≡ sheets_from from n mail text ++ sheet_at mail text place ∷ []
+one_more_from mail text from n place at = map-range_with_len_more (sheet_at mail text) from n place at
+
+first_more : (mail : ℤ) (text : List ℕ) (n : ℕ) → first_sheets (n + 1) mail text ≡ first_sheets n mail text ++ sheet_at mail text n ∷ []
+first_more mail text n = one_more_from mail text 0 n n (omega arith)
 
 -- ---- joined
 
@@ -90,3 +95,53 @@ cut mail text =
 
 pub sheets_are_the_text : SheetsAreTheText
 sheets_are_the_text = cut
+
+-- ---- a text that begins with another, whose sheets are all whole
+
+-- the first sheets, and those that follow them
+first_then : (mail : ℤ) (text : List ℕ) (m n : ℕ) → first_sheets m mail text ++ sheets_from m n mail text ≡ first_sheets (m + n) mail text
+first_then mail text m zero =
+    let none : m + 0 ≡ m = omega arith in
+    append-nil (first_sheets m mail text) ∙ ap (λ k. first_sheets k mail text) (sym none)
+first_then mail text m (suc n) =
+    let one : suc n ≡ n + 1 = omega arith in
+    let end : m + n + 1 ≡ m + suc n = omega arith in
+    ap (λ k. first_sheets m mail text ++ sheets_from m k mail text) one
+    ∙ ap (λ l. first_sheets m mail text ++ l) (one_more_from mail text m n (m + n) refl)
+    ∙ sym (append_assoc (first_sheets m mail text) (sheets_from m n mail text) (sheet_at mail text (m + n) ∷ []))
+    ∙ ap (λ l. l ++ sheet_at mail text (m + n) ∷ []) (first_then mail text m n)
+    ∙ sym (first_more mail text (m + n)) ∙ ap (λ k. first_sheets k mail text) end
+
+module _ (mail : ℤ) (put text : List ℕ) (m : ℕ) (long : length put ≡ m * 4096) (begins : take (length put) text ≡ put) where
+  same_octets : (place : ℕ) → place < m → octets_at put place ≡ octets_at text place
+  same_octets place low =
+      let size : length put ≡ place * 4096 + (m * 4096 - place * 4096) = omega (arith, long) in
+      ap (λ l. octets_at l place) (sym begins) ∙ ap (λ k. octets_at (take k text) place) size
+      ∙ ap (take 4096) (drop-take (place * 4096) (m * 4096 - place * 4096) text)
+      ∙ take-take 4096 (m * 4096 - place * 4096) (drop (place * 4096) text) (omega arith)
+
+  same_first : (n : ℕ) → n ≤ m → first_sheets n mail put ≡ first_sheets n mail text
+  same_first zero low = refl
+  same_first (suc n) low =
+      let one : suc n ≡ n + 1 = omega arith in
+      ap (λ k. first_sheets k mail put) one ∙ first_more mail put n
+      ∙ ap₂ (λ (a b : List Sheet). a ++ b) (same_first n (omega (arith, low)))
+      (ap (λ (l : List ℕ). let s : Sheet = record { mail = mail; place = pos n; octets = l } in s ∷ []) (same_octets n (omega (arith, low))))
+      ∙ sym (first_more mail text n) ∙ ap (λ k. first_sheets k mail text) (sym one)
+
+  -- its sheets are those of the text that it begins with, and the rest
+  rest_of : sheets_of mail put ++ sheets_from m (sheet_count text - m) mail text ≡ sheets_of mail text
+  rest_of =
+      let count : sheet_count put ≡ m = omega (arith, ends put, long) in
+      let fits : length put ≤ length text = omega (arith, sym (length-take (length put) text) ∙ ap length begins) in
+      let all : m + (sheet_count text - m) ≡ sheet_count text = omega (arith, ends text, long) in
+      ap (λ k. first_sheets k mail put ++ sheets_from m (sheet_count text - m) mail text) count
+      ∙ ap (λ l. l ++ sheets_from m (sheet_count text - m) mail text) (same_first m (omega arith))
+      ∙ first_then mail text m (sheet_count text - m) ∙ ap (λ k. first_sheets k mail text) all
+
+-- the same, if the number of its sheets is read off its length
+pub rest_of_text : (mail : ℤ) (put text : List ℕ) → length put % 4096 ≡ 0 → take (length put) text ≡ put
+    → sheets_of mail put ++ sheets_from (length put / 4096) (sheet_count text - length put / 4096) mail text ≡ sheets_of mail text
+rest_of_text mail put text whole begins =
+    let long : length put ≡ length put / 4096 * 4096 = omega (arith, whole) in
+    rest_of mail put text (length put / 4096) long begins

@@ -1,8 +1,9 @@
 -- The changes that the statements make, each of one table or two: a new row comes after the others.
-use Rattle.std.specs.Prelude.{◌≡◌, ◌≤◌, ℕ, ℤ, List, [], ◌∷◌, ◌++◌, fold, pos, ◌+ℤ◌, ◌<ℤ◌, bytes_eq, filter, not}
+use Rattle.std.specs.Prelude.{◌≡◌, ◌≤◌, ◌-◌, ◌+ℤ◌, ◌<ℤ◌, ℕ, ℤ, List, [], ◌∷◌, ◌++◌, fold, pos}
+use Rattle.std.specs.Prelude.{bytes_eq, filter, not}
 use Rattle.std.specs.List.{AllByRecursion}
 use Rattle.mailsql.specs.Rows.{Name, MetaRow, Clerk, Count, Deposit, Message, Sheet, Rule, Group, Member, Rows, is_meta_row, is_clerk, is_count, is_message, is_sheet_of}
-use Rattle.mailsql.specs.Sheets.{first_sheets, sheets_of, sheet_count}
+use Rattle.mailsql.specs.Sheets.{first_sheets, sheets_from, sheets_of, sheet_count}
 
 -- adds a row of `meta`
 abbrev pub AddsMetaRow : MetaRow → Rows → Rows → Type 0
@@ -93,6 +94,20 @@ AddsSheets mail text old new = new ≡ record old { sheets = old.sheets ++ sheet
 -- adds some of the sheets of a text, from the first on
 abbrev pub AddsSomeSheets : ℤ → List ℕ → Rows → Rows → Type 0
 AddsSomeSheets mail text old new = (n : ℕ) × (n ≤ sheet_count text) × AddsFirstSheets n mail text old new
+
+-- adds n sheets of a text, from this place on
+abbrev pub AddsSheetsFrom : (from n : ℕ) → ℤ → List ℕ → Rows → Rows → Type 0
+AddsSheetsFrom from n mail text old new =
+    new ≡ record old { sheets = old.sheets ++ sheets_from from n mail text }
+
+-- adds the sheets of a text that are left, from this place on
+abbrev pub AddsRest : (from : ℕ) → ℤ → List ℕ → Rows → Rows → Type 0
+AddsRest from mail text old new = AddsSheetsFrom from (sheet_count text - from) mail text old new
+
+-- adds some of these, from the first on
+abbrev pub AddsSomeRest : (from : ℕ) → ℤ → List ℕ → Rows → Rows → Type 0
+AddsSomeRest from mail text old new =
+    (n : ℕ) × (n ≤ sheet_count text - from) × AddsSheetsFrom from n mail text old new
 
 -- one above the last place
 abbrev pub next_place : List Rule → ℤ

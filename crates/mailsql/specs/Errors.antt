@@ -1,5 +1,5 @@
 -- What an error tells: what the statement itself met, in the state that it found.
-use Rattle.std.specs.Prelude.{◌≡◌, ◌⊎◌, ◌<◌, ℕ, ℤ, pos, Bool, List, [], ◌∷◌, length, Err, Ok}
+use Rattle.std.specs.Prelude.{◌≡◌, ◌⊎◌, ◌+◌, ◌<◌, ℕ, ℤ, pos, Bool, List, [], ◌∷◌, length, Err, Ok}
 use Rattle.std.specs.List.{AllByRecursion}
 use Rattle.sqlite_value.specs.declared.value.Value.TheVariants.{Int, Blob}
 use Rattle.sqlite_trees.specs.declared.store.Store.{Ghosts}
@@ -12,7 +12,7 @@ use Rattle.sqlite.specs.State.{State, Executes, FailsToQuery, Shown, QueriesRow}
 use Rattle.mailsql.specs.Tables.{create_texts, create_text, stage, lacked_texts, lacked_text, old_stage}
 use Rattle.mailsql.specs.Rows.{Rows, Changes, IsBare, GoesOn}
 use Rattle.mailsql.specs.Sheets.{sheet_count, octets_at}
-use Rattle.mailsql.specs.Changes.{AddsFirstSheets}
+use Rattle.mailsql.specs.Changes.{AddsFirstSheets, AddsSheetsFrom}
 use Rattle.mailsql.specs.Statements.{add_sheet_text}
 
 -- there was no memory
@@ -42,6 +42,14 @@ FailsToComplete {S} g carried old new e =
 abbrev pub FailsToAddSheets : {S : Type 0} → Ghosts S → ℤ → List ℕ → Held S → Held S → Error → Type 0
 FailsToAddSheets g mail text old new e =
     (place : ℕ) × (place < sheet_count text) × FailsAfter g (AddsFirstSheets place mail text) add_sheet_text (Int mail ∷ Int (pos place) ∷ Blob (octets_at text place) ∷ []) old new e
+
+-- one of the sheets from this place on met this error, after those before it were added
+abbrev pub FailsToAddRest : {S : Type 0} → Ghosts S → ℤ → List ℕ → (from : ℕ)
+    → Held S → Held S → Error → Type 0
+FailsToAddRest g mail text from old new e =
+    (n : ℕ) × (from + n < sheet_count text)
+    × FailsAfter g (AddsSheetsFrom from n mail text) add_sheet_text
+    (Int mail ∷ Int (pos (from + n)) ∷ Blob (octets_at text (from + n)) ∷ []) old new e
 
 -- the query met this error, or showed rows for whose records there was no memory
 abbrev pub FailsToRead : List ℕ → Row → State → State → Error → Type 0

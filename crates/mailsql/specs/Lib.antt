@@ -1,4 +1,5 @@
 pub mod Tables
+pub mod OlderVersions
 pub mod Columns
 pub mod Rows
 pub mod Sheets

@@ -26,6 +26,10 @@ sheet_at mail text place = record { mail = mail; place = pos place; octets = oct
 abbrev pub first_sheets : ℕ → ℤ → List ℕ → List Sheet
 first_sheets n mail text = map (sheet_at mail text) (range_with_len 0 n)
 
+-- n sheets of a text, from this place on
+abbrev pub sheets_from : (from n : ℕ) → ℤ → List ℕ → List Sheet
+sheets_from from n mail text = map (sheet_at mail text) (range_with_len from n)
+
 -- all sheets of a text
 abbrev pub sheets_of : ℤ → List ℕ → List Sheet
 sheets_of mail text = first_sheets (sheet_count text) mail text

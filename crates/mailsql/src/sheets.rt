@@ -12,7 +12,8 @@ ghost use Rattle.mailsql.specs.Rows.{IsHalted, rows_in};
 ghost use Rattle.mailsql.specs.Sheets as cut;
 ghost use Rattle.mailsql.specs.Sheets.{SheetsAreTheText};
 ghost use Rattle.sqlite_value.specs.declared.value.Value.TheVariants.{Int, Blob};
-ghost use Rattle.mailsql.specs.Errors.{FailsToRun, FailsToAddSheets, FailsToRead, FailsToCount};
+ghost use Rattle.mailsql.specs.Errors.{FailsToRun, FailsToAddSheets, FailsToAddRest};
+ghost use Rattle.mailsql.specs.Errors.{FailsToRead, FailsToCount};
 ghost use Rattle.mailsql.specs.Statements.{add_sheet_text, find_sheet_text, sheets_between_text};
 ghost use Rattle.mailsql.specs.Statements.{sheet_count_text};
 
@@ -89,6 +90,38 @@ fn add_sheet_at<S: Alter>(
     add_sheet(conn, mail, place as i64, &text[start..end])
 }
 
+/// Adds the sheets of a text that are left, from this place on, to a message that is there: pieces
+/// of `SHEET_OCTETS` octets, the last of 1 to `SHEET_OCTETS`; none if the text has no more. It runs
+/// a statement for each sheet: call it inside a transaction, so that an error between them can be
+/// rolled back. Outside one, an error or a stop leaves the sheets added before it.
+pub fn add_rest<S: Alter>(
+    conn: &mut Connection<S>,
+    mail: i64,
+    text: &[u8],
+    from: usize,
+) -> Result<(), Error>
+    ensures ok { HasCleanDisk (state S.Store conn.new) → IsReady (state S.Store conn.old)
+        → OnOk result (Changes (changes.AddsRest from mail text.now) (state S.Store conn.old)
+        (state S.Store conn.new)) }
+    ensures err { HasCleanDisk (state S.Store conn.new) → IsReady (state S.Store conn.old)
+        → IsTrue (state S.Store conn.old).in_transaction
+        → OnErr result (IsHalted (state S.Store conn.old) (state S.Store conn.new)) }
+    ensures cause { HasCleanDisk (state S.Store conn.new) → IsReady (state S.Store conn.old)
+        → IfErr result (FailsToAddRest S.Store mail text.now from conn.old conn.new) }
+    ensures survives { Survives (state S.Store conn.old) (state S.Store conn.new)
+        (MayLeave (changes.AddsSomeRest from mail text.now) (state S.Store conn.old)) }
+{
+    // For the proof: whether a transaction is open is known.
+    let _settled = conn.is_autocommit();
+    for place in from..count_sheets(text) {
+        match add_sheet_at(conn, mail, text, place) {
+            Ok(()) => {}
+            Err(error) => return Err(error),
+        }
+    }
+    Ok(())
+}
+
 /// Adds the sheets of a text to a message that is there and has none: pieces of `SHEET_OCTETS`
 /// octets, the last of 1 to `SHEET_OCTETS`, at places counted from 0; none for an empty text. It
 /// runs a statement for each sheet: call it inside a transaction, so that an error between them can
@@ -105,15 +138,7 @@ pub fn add_sheets<S: Alter>(conn: &mut Connection<S>, mail: i64, text: &[u8]) ->
     ensures survives { Survives (state S.Store conn.old) (state S.Store conn.new)
         (MayLeave (changes.AddsSomeSheets mail text.now) (state S.Store conn.old)) }
 {
-    // For the proof: whether a transaction is open is known.
-    let _settled = conn.is_autocommit();
-    for place in 0..count_sheets(text) {
-        match add_sheet_at(conn, mail, text, place) {
-            Ok(()) => {}
-            Err(error) => return Err(error),
-        }
-    }
-    Ok(())
+    add_rest(conn, mail, text, 0)
 }
 
 /// The sheet of the message at this place, if there is one.

@@ -4,6 +4,7 @@ ghost use Rattle.std.specs.Prelude.{◌≡◌, ◌<◌, length, IfErr, OnOk, OnE
 ghost use Rattle.sqlite.specs.Held.{state};
 ghost use Rattle.sqlite.specs.State.{HasCleanDisk, Survives};
 ghost use Rattle.mailsql.specs.Tables.{create_text as text_at, lacked_text, lacked_texts};
+ghost use Rattle.mailsql.specs.OlderVersions.{is_first};
 ghost use Rattle.mailsql.specs.Rows.{IsBegun, IsBegunOn, IsHalted, MakesTables, CompletesTables};
 ghost use Rattle.mailsql.specs.Rows.{is_carried};
 ghost use Rattle.mailsql.specs.Errors.{FailsToCreate, FailsToComplete};
@@ -11,6 +12,15 @@ ghost use Rattle.mailsql.specs.Errors.{FailsToCreate, FailsToComplete};
 use sqlite::{Alter, Connection, Error};
 
 const TABLES: usize = 10;
+
+/// A version of the layout of the tables before the newest one.
+#[derive(Clone, Copy)]
+pub enum OlderVersion {
+    /// Version 1: one table has the messages and their texts, and there are no groups.
+    First,
+    /// Version 2: there are no groups.
+    Second,
+}
 
 /// The text that makes table number `at`, counted from 0 in the order of making.
 fn create_text(at: usize) -> &'static str
@@ -61,55 +71,60 @@ pub fn create_tables<S: Alter>(conn: &mut Connection<S>) -> Result<(), Error>
     Ok(())
 }
 
-/// How many tables an older store lacks: four over version 1 (`is_first`), two over version 2.
-fn lacked(is_first: bool) -> usize
-    ensures { result ≡ length (lacked_texts is_first) }
+/// How many tables a store of an older version lacks.
+fn lacked(version: OlderVersion) -> usize
+    ensures { result ≡ length (lacked_texts (is_first version)) }
 {
-    if is_first { 4 } else { 2 }
+    match version {
+        OlderVersion::First => 4,
+        OlderVersion::Second => 2,
+    }
 }
 
 /// The number, among all the tables, of lacked table number `at`; both count from 0.
-fn lacked_place(is_first: bool, at: usize) -> usize
-    requires { at < length (lacked_texts is_first) }
+fn lacked_place(version: OlderVersion, at: usize) -> usize
+    requires { at < length (lacked_texts (is_first version)) }
     ensures low { result < TABLES }
-    ensures text { text_at result ≡ lacked_text is_first at }
+    ensures text { text_at result ≡ lacked_text (is_first version) at }
 {
-    if is_first {
-        match at {
+    match version {
+        OlderVersion::First => match at {
             0 => 7,
             1 => 8,
             2 => 9,
             _ => 5,
-        }
-    } else {
-        match at {
+        },
+        OlderVersion::Second => match at {
             0 => 8,
             _ => 9,
-        }
+        },
     }
 }
 
-/// Makes the tables that an older store lacks: `groups` and `members`, and over version 1, if
-/// `is_first` must be true, `sheets` and `mail` too. Call it inside a transaction. The other tables
-/// stay as they are. After an error the transaction is still under way, or gone with all that it
-/// wrote.
-pub fn complete_tables<S: Alter>(conn: &mut Connection<S>, is_first: bool) -> Result<(), Error>
+/// Makes the tables that a store of an older version lacks: `groups` and `members`, and over
+/// version 1 `sheets` and `mail` too. Call it inside a transaction, with the version that the store
+/// has. The other tables stay as they are. After an error the transaction is still under way, or
+/// gone with all that it wrote.
+pub fn complete_tables<S: Alter>(
+    conn: &mut Connection<S>,
+    version: OlderVersion,
+) -> Result<(), Error>
     ensures ok { HasCleanDisk (state S.Store conn.new) → IsBegunOn (state S.Store conn.old)
-        → is_carried (state S.Store conn.old).now.trees ≡ is_first
+        → is_carried (state S.Store conn.old).now.trees ≡ is_first version
         → OnOk result (CompletesTables (state S.Store conn.old) (state S.Store conn.new)) }
     ensures err { HasCleanDisk (state S.Store conn.new) → IsBegunOn (state S.Store conn.old)
-        → is_carried (state S.Store conn.old).now.trees ≡ is_first
+        → is_carried (state S.Store conn.old).now.trees ≡ is_first version
         → OnErr result (IsHalted (state S.Store conn.old) (state S.Store conn.new)) }
     ensures cause { HasCleanDisk (state S.Store conn.new) → IsBegunOn (state S.Store conn.old)
-        → is_carried (state S.Store conn.old).now.trees ≡ is_first
-        → IfErr result (FailsToComplete S.Store is_first conn.old conn.new) }
+        → is_carried (state S.Store conn.old).now.trees ≡ is_first version
+        → IfErr result (FailsToComplete S.Store (is_first version) conn.old conn.new) }
     ensures survives { Survives (state S.Store conn.old) (state S.Store conn.new)
         (λ _. IsBegunOn (state S.Store conn.old)
-        → is_carried (state S.Store conn.old).now.trees ≡ is_first → ⊥) }
+        → is_carried (state S.Store conn.old).now.trees ≡ is_first version → ⊥) }
 {
-    let count = lacked(is_first);
+    let count = lacked(version);
     for at in 0..count {
-        match conn.execute(create_text(lacked_place(is_first, at)), &[]) {
+        match conn.execute(create_text(lacked_place(version, at)), &[]) {
             Ok(_) => {}
             Err(error) => return Err(error),
         }

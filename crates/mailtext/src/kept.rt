@@ -1,6 +1,7 @@
 //! A message in its kept form: its lines, each followed by CRLF, and what POP3 asks of it.
 
-ghost use Rattle.std.specs.Prelude.{◌≡◌, ◌<◌, ◌↔◌, [], true, length, take, IfOk};
+ghost use Rattle.std.specs.Prelude.{◌≡◌, ◌<◌, ◌↔◌, ◌+◌, ◌++◌, [], true, length, take};
+ghost use Rattle.std.specs.Prelude.{IfOk, OnOk, OnErr};
 ghost use Rattle.mailtext.specs.Text.{kept_form, lines_of, ended, top_part, header_len};
 ghost use Rattle.mailtext.specs.MailText.{IsMailText, most_octets};
 ghost use Rattle.mailtext.specs.declared.kept.TextFault.TheVariants.{NoMemory};
@@ -132,6 +133,23 @@ impl MailText {
         ensures kept { IsMailText self.now }
     {
         self.octets.len()
+    }
+
+    /// Adds the lines of another text after its own.
+    ///
+    /// Answers [`TextFault::TooLarge`] if both together have more than [`MAX_OCTETS`] octets, else
+    /// [`TextFault::NoMemory`] if memory was refused. After an error it is as it was.
+    pub fn append(&mut self, more: &MailText) -> Result<(), TextFault>
+        ensures ok { OnOk result (self.new ≡ self.old ++ more.now) }
+        ensures err { OnErr result (self.new ≡ self.old) }
+        ensures too_large { (result ≡ Err TextFault.TooLarge) ↔
+            (most_octets < length self.old + length more.now) }
+    {
+        if self.octets() + more.octets() > MAX_OCTETS {
+            return Err(TextFault::TooLarge);
+        }
+        self.octets.extend_from_slice(&more.octets)?;
+        Ok(())
     }
 
     /// How many lines it has.

@@ -11,7 +11,7 @@ use Rattle.popline.specs.Cutting.{through_newline, has_newline}
 use Rattle.popline.proofs.Cuts.{coming-fed}
 use Rattle.vault.specs.Changes.{Contents}
 use Rattle.session.specs.Session.{Session}
-use Rattle.office.specs.Connections.{reading}
+use Rattle.office.specs.Connections.{reading, is_quit}
 use Rattle.office.specs.Sessions.{holder}
 use Rattle.office.specs.Events.{Trace}
 use Rattle.office.specs.Log.{clock, moment}
@@ -24,6 +24,7 @@ use Rattle.office.specs.Stands.{Seen, Matches, IsSession, seen, untaken_of}
 use Rattle.office.specs.Waiting.{login_asked, is_held_for, coming_login, next_login, meets_lock, waits}
 use Rattle.office.specs.Waiting.{line_with, kept_waits}
 use Rattle.office.specs.Logins.{login_brought}
+use Rattle.office.specs.Quitting.{coming_quit, next_is_quit, brings_quit}
 use Rattle.office.proofs.Hearing.{at_drop, at_end, pieces_none}
 use Rattle.office.proofs.Owing.{none_owed}
 
@@ -50,6 +51,20 @@ module _ (k : Kept) (p : List ℕ) (out : is_some k.session ≡ false) where
   pub comes_none : has_newline p ≡ false
       → None ≡ coming_login (is_some k.session) k.state.user (line_with k p)
   comes_none h = ap asked (sym h) ∙ authorization
+
+-- whether it is a QUIT: in a session the line alone counts
+module _ (k : Kept) (p : List ℕ) (live : is_some k.session ≡ true) where
+  in_session : coming_quit true (line_with k p) ≡ coming_quit (is_some k.session) (line_with k p)
+  in_session = ap (λ (b : Bool). coming_quit b (line_with k p)) (sym live)
+
+  pub quit_line : (x : Cut) → has_newline p ≡ true → x ≡ line_after k p
+      → is_quit (reading x) ≡ coming_quit (is_some k.session) (line_with k p)
+  quit_line x h e = ap (λ y. coming_quit true (Some y)) e
+      ∙ (ap (λ (b : Bool). coming_quit true (line_if b k p)) (sym h) ∙ in_session)
+
+  pub quit_none : has_newline p ≡ false
+      → false ≡ coming_quit (is_some k.session) (line_with k p)
+  quit_none h = ap (λ (b : Bool). coming_quit true (line_if b k p)) (sym h) ∙ in_session
 
 -- ---- by the trace
 
@@ -118,6 +133,16 @@ module _ (c : Contents) (T : Trace) (n : ℕ) (p : List ℕ) (k : Kept) (m : Mat
   pub brought_so : coming_by_kept ≡ login_brought T n p
   brought_so =
       login_so ∙ sym (ap (λ (b : Bool). if b then next_login T n p else None) ready)
+
+  -- whether it is a QUIT of a session
+  pub quit_so : coming_quit (is_some k.session) (line_with k p) ≡ brings_quit T n p
+  quit_so =
+      let s = seen T n in
+      let next : line_with k p ≡ next_line T.log (history T) n p =
+      next_is c s k p m o (has_newline p) refl in
+      let live = session_live c s k.session m.session in
+      ap₂ (λ b x. coming_quit b x) live next
+      ∙ sym (ap (λ (b : Bool). if b then next_is_quit T n p else false) ready)
 
   -- whether it waits
   pub waits_so : (locks : BTreeMap (List ℕ) ℕ)

@@ -50,3 +50,4 @@ pub mod LongLine
 pub mod Accounts
 pub mod AfterEvent
 pub mod AfterLine
+pub mod Quitting

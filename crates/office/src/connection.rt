@@ -5,7 +5,8 @@ ghost use Rattle.std.specs.Prelude.{IsOkAnd, IsTrue, drop, length, string_bytes}
 ghost use Rattle.popline.specs.Replies.{Greeting, bytes_of, timestamp};
 ghost use Rattle.popline.specs.Cutting.{has_newline, nothing_held};
 ghost use Rattle.vault.specs.Changes.{Contents};
-ghost use Rattle.vault.specs.Calls.{has_grown};
+ghost use Rattle.vault.specs.Call.{Looks};
+ghost use Rattle.vault.specs.Calls.{has_grown, IsPrepared};
 ghost use Rattle.vault.specs.Parts.{OnlyLooks};
 ghost use Rattle.office.specs.Stopping.{WasDone, ActsOnce};
 ghost use Rattle.office.specs.Replying.{is_empty};
@@ -21,6 +22,7 @@ ghost use Rattle.office.specs.Expected.{most_in_a_piece};
 ghost use Rattle.office.specs.Answered.{is_locked_by, HasTransaction, LocksFollow, held_if};
 ghost use Rattle.office.specs.AfterLine.{AfterNext, NothingDone, cut_through, line_of};
 ghost use Rattle.office.specs.Waiting.{is_held_for, coming_login, line_with};
+ghost use Rattle.office.specs.Quitting.{coming_quit};
 
 use crate::account::{Account, LineReport};
 use crate::command_line::CommandLine;
@@ -28,14 +30,18 @@ use crate::lines;
 use crate::locks::Locks;
 use crate::login_state::{LineContext, LineOutcome, LoginState};
 use crate::output::{Output, Source};
+use crate::quit::prepare;
 use crate::waiting::{asks_locked, login_asked};
 use creds::{LoginName, Name};
 use policy::Policy;
 use popline::{Cutter, Reply};
-use session::{Removals, Session};
+use session::{Pick, Removals, Session};
 use std::alloc::{AllocError, Global};
 use std::marker::Model;
-use vault::Vault;
+use vault::{Progress, Vault, VaultFault};
+
+/// A QUIT that removes more messages is worth preparing.
+const MANY: u64 = 128;
 
 /// What is kept of a connection. Of its input that is at most 4,096 octets of the last piece, and
 /// 255 of the line that is being cut.
@@ -261,6 +267,58 @@ impl Connection {
             return None;
         };
         login_asked(&CommandLine::read(cut), self.state.user)
+    }
+
+    /// Whether the line that is whole with this piece is a QUIT without arguments, and somebody is
+    /// in session. The piece isn't taken.
+    pub fn brings_quit(&self, piece: &[u8]) -> bool
+        ensures { result ≡ coming_quit (is_some self.now.session) (line_with self.now piece.now) }
+    {
+        if self.session.is_none() {
+            return false;
+        }
+        let mut cutter = self.cutter.copied();
+        let _fed = cutter.feed(piece);
+        let Some(cut) = cutter.line() else {
+            return false;
+        };
+        CommandLine::read(cut).is_quit()
+    }
+
+    /// Whether somebody is in session with a view of more than [`MANY`] messages.
+    pub fn sees_many(&self) -> bool
+        ensures { IsTrue result → IsTrue (is_some self.now.session) }
+    {
+        match &self.session {
+            None => false,
+            Some(session) => !matches!(session.pick(MANY + 1), Err(Pick::NoSuch)),
+        }
+    }
+
+    /// Whether somebody is in session and has marked more than [`MANY`] messages.
+    pub fn marks_many(&self) -> bool
+        ensures { IsTrue result → IsTrue (is_some self.now.session) }
+    {
+        match &self.session {
+            None => false,
+            Some(session) => session.marked() as u64 > MANY,
+        }
+    }
+
+    /// Has the vault prepare what a QUIT would remove now.
+    pub fn prepare_quit<V: Vault>(
+        &self,
+        vault: &mut V,
+        policy: &Policy,
+    ) -> Result<Progress, VaultFault>
+        ensures answer { IsPrepared result }
+        ensures looks { Looks V.holds V.faults V.is_clean V.is_up V.may_leave vault.old vault.new
+            result }
+    {
+        match &self.session {
+            None => Ok(Progress::Ready),
+            Some(session) => prepare(vault, policy, session),
+        }
     }
 
     /// Whether the line that is whole with this piece is a login to a maildrop that is locked. The

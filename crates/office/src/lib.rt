@@ -27,6 +27,7 @@ mod numbers;
 mod office;
 mod output;
 mod policy_commands;
+mod preparing;
 mod quit;
 mod reading;
 mod referring;

@@ -3,7 +3,8 @@ ghost use Rattle.std.specs.Prelude.{◌≡◌, List, [], Ok, OnErr, IfOk, IsOkAn
 ghost use Rattle.popline.specs.Commands.{Quit};
 ghost use Rattle.popline.specs.Seen.{reply_seen};
 ghost use Rattle.vault.specs.Changes.{Contents};
-ghost use Rattle.vault.specs.Calls.{has_grown};
+ghost use Rattle.vault.specs.Call.{Looks};
+ghost use Rattle.vault.specs.Calls.{has_grown, IsPrepared};
 ghost use Rattle.vault.specs.declared.record.Keyed.{Keyed};
 ghost use Rattle.office.specs.Replying.{quit_says};
 ghost use Rattle.office.specs.Output.{nothing_owed};
@@ -17,7 +18,7 @@ use policy::Policy;
 use popline::Reply;
 use session::Session;
 use std::alloc::{AllocError, Global};
-use vault::{Vault, VaultFault};
+use vault::{Progress, Vault, VaultFault};
 
 /// The octets of [`Reply::RemovalFailed`], whose room is made before the store is asked.
 const REFUSAL_OCTETS: usize = 40;
@@ -69,5 +70,22 @@ pub(crate) fn quit<V: Vault>(
             output.say(alloc, &Reply::RemovalFailed)?;
             Ok(LineOutcome::Failed)
         }
+    }
+}
+
+/// Has the vault prepare what this session's QUIT would remove now. If memory is wanting for that,
+/// nothing is prepared.
+pub(crate) fn prepare<V: Vault>(
+    vault: &mut V,
+    policy: &Policy,
+    session: &Session,
+) -> Result<Progress, VaultFault>
+    ensures answer { IsPrepared result }
+    ensures looks { Looks V.holds V.faults V.is_clean V.is_up V.may_leave vault.old vault.new
+        result }
+{
+    match session.to_remove(policy) {
+        Ok((keys, _)) => vault.prepare_removal(&session.maildrop(), &keys),
+        Err(_) => Ok(Progress::Ready),
     }
 }

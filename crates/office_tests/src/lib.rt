@@ -17,6 +17,8 @@ mod offices;
 #[cfg(test)]
 mod pipelining;
 #[cfg(test)]
+mod quits;
+#[cfg(test)]
 mod scripts;
 #[cfg(test)]
 mod streams;

@@ -1,7 +1,7 @@
 //! What no clause says: worked values, that each call succeeds with ample memory, and refused
 //! growths.
 
-use mailtext::{MailText, TextFault, canon, stuff_into, unstuff};
+use mailtext::{MAX_OCTETS, MailText, TextFault, canon, stuff_into, unstuff};
 use std::alloc::Global;
 use std::test::Fail;
 
@@ -92,11 +92,57 @@ fn dots_stuffed_and_unstuffed(rt: HostRuntime) -> Result<(), Fail> {
     Ok(())
 }
 
+/// Whether a text to which another one is appended is this one.
+fn is_appended(alloc: Global, text: &[u8], more: &[u8], wanted: &[u8]) -> Result<bool, TextFault> {
+    let mut whole = kept(alloc, text)?;
+    whole.append(&kept(alloc, more)?)?;
+    Ok(whole.bytes() == wanted)
+}
+
+/// A part of the longest text, of which there are 400 in it.
+fn part(alloc: Global) -> Result<MailText, Fail> {
+    let line = vec![in alloc; b'a'; MAX_OCTETS / 400 - 2]?;
+    Ok(kept(alloc, line.as_slice())?)
+}
+
+/// Whether the longest text takes nothing more, and is as before.
+fn is_full(alloc: Global) -> Result<bool, Fail> {
+    let part = part(alloc)?;
+    let mut text = kept(alloc, part.bytes())?;
+    for _ in 1..400u32 {
+        text.append(&part)?;
+    }
+    let was_full = text.octets() == MAX_OCTETS;
+    let more = text.append(&kept(alloc, b"\n")?);
+    Ok(was_full && more == Err(TextFault::TooLarge) && text.octets() == MAX_OCTETS)
+}
+
+#[test]
+fn texts_are_appended(rt: HostRuntime) -> Result<(), Fail> {
+    assert!(rt; is_appended(rt.alloc(), b"A: b\n", b"\nhi", b"A: b\r\n\r\nhi\r\n")?);
+    assert!(rt; is_full(rt.alloc())?);
+    Ok(())
+}
+
 /// Whether a text is kept as this one, or memory is refused.
 fn is_kept_or_refused(alloc: Global, text: &[u8], wanted: &[u8]) -> bool {
     match kept(alloc, text) {
         Ok(kept) => kept.bytes() == wanted,
         Err(fault) => fault == TextFault::NoMemory,
+    }
+}
+
+/// Whether a text takes another one, or memory is refused and it is as before.
+fn is_appended_or_refused(alloc: Global) -> bool {
+    let Ok(mut text) = kept(alloc, b"a\n") else {
+        return true;
+    };
+    let Ok(more) = kept(alloc, b"b\n") else {
+        return true;
+    };
+    match text.append(&more) {
+        Ok(()) => text.bytes() == b"a\r\nb\r\n".as_slice(),
+        Err(fault) => fault == TextFault::NoMemory && text.bytes() == b"a\r\n".as_slice(),
     }
 }
 
@@ -127,6 +173,7 @@ fn refused_growths_change_nothing(rt: HostRuntime) {
     let alloc = rt.alloc();
     let text = b".\n..\n";
     assert!(rt; is_kept_or_refused(alloc, text, b".\r\n..\r\n"));
+    assert!(rt; is_appended_or_refused(alloc));
     assert!(rt; is_stuffed_or_refused(alloc, text, b"..\r\n...\r\n"));
     assert!(rt; is_unstuffed_or_refused(alloc, b"..\r\n.\r\n+OK\r\n", b".\r\n", 7));
 }

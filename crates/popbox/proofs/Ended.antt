@@ -27,7 +27,7 @@ turn_moments : {V W S H : Type 0} (vault : a_vault.Ghosts V) (Asked : W → List
     (l : Links) (o : Office V) (w : W) (s : S) (h : H) (times : List ℕ) (given : Log) (l2 : Links) (o2 : Office V) (w2 : W) (s2 : S) (h2 : H)
     → AreTurns vault Asked AskedFiles Heard T l o w s h times given l2 o2 w2 s2 h2 → length (moments given) ≡ length times
 turn_moments vault Asked AskedFiles Heard T l o w s h _ _ _ _ _ _ _ NoTurn = refl
-turn_moments vault Asked AskedFiles Heard T l o w s h _ _ _ _ _ _ _ (OneMore times given l1 o1 w1 s1 h1 now l2 o2 w2 s2 h2 o3 before turn left kept) =
+turn_moments vault Asked AskedFiles Heard T l o w s h _ _ _ _ _ _ _ (OneMore times given l1 o1 w1 s1 h1 now l2 o2 w2 s2 h2 l3 o3 s3 before turn left paused) =
     (let one : length (moments (given_in turn.seen ++ given)) ≡ suc (length (moments given)) =
     ap length (filter_map-append moment_of (given_in turn.seen) given) ∙ ap (λ xs. length (xs ++ moments given)) turn.ticks.once in
     let rest : length (moments given) ≡ length times = turn_moments vault Asked AskedFiles Heard T l o w s h times given l1 o1 w1 s1 h1 before in

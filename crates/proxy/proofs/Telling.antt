@@ -9,8 +9,8 @@ use Rattle.std.specs.BTreeMap.{is_at, get, Updates, BTreeMap}
 use Rattle.std.specs.declared.net.ip_addr.IpAddr.{IpAddr}
 use Rattle.serving.specs.declared.wire.Io.{Io}
 use Rattle.serving.specs.declared.wire.Io.TheVariants.{Later, Broken, End, Count}
-use Rattle.serving.specs.declared.wire.Port.TheVariants.{Pop, Admin}
-use Rattle.serving.specs.Wires.{Told, ToldOfPorts, AreFresh, at_port, more_at, is_fault, is_live, has_read, has_written, has_accepted, has_closed, counted, IsWithin}
+use Rattle.serving.specs.declared.wire.Port.TheVariants.{Pop}
+use Rattle.serving.specs.Wires.{Told, ToldOfPorts, at_port, more_at, is_fault, is_live, has_read, has_accepted, has_closed, counted, IsWithin}
 use Rattle.proxy.specs.declared.wire.Begun.{Begun}
 use Rattle.proxy.specs.Lines.{IsProxyLine}
 use Rattle.proxy.specs.Proxied.{first_line, behind_line, has_line, TellsBehind, IsBegun, IsKnown, TellsProxied, HasGone, IsLineRead, IsAsFarAs, io_of}
@@ -218,16 +218,6 @@ learns b known known' t u k source a put so = record {
   known_so = put_kept known known' k (Some source) (λ j x. IsKnown t.pop j x) put so a.known_so;
 }
 
--- both maps have what they had
-pub same_maps : (b b' : ℕ → Option Begun) (known known' : ℕ → Option (Option IpAddr)) (t u : ToldOfPorts) → TellsProxied b known t u
-    → ((j : ℕ) → b' j ≡ b j) → ((j : ℕ) → known' j ≡ known j) → TellsProxied b' known' t u
-same_maps b b' known known' t u a same same' = record {
-  pop = a.pop;
-  admin = a.admin;
-  begun_so = λ j. subst (λ o. IfSome o (λ x. IsBegun t.pop j x.line.items)) (sym (same j)) (a.begun_so j);
-  known_so = λ j. subst (λ o. IfSome o (λ x. IsKnown t.pop j x)) (sym (same' j)) (a.known_so j);
-}
-
 begun_gone : (t t' : Told) (k : ℕ) (fault : Bool) (octets : List ℕ) (j : ℕ) (line : List ℕ) → HasGone k fault octets t t' → (j ≡ k → octets ≡ []) → IsBegun t j line → IsBegun t' j line
 begun_gone t t' k fault octets j line h none a = record {
   came = subst (λ n. j < n) (sym h.accepted) a.came;
@@ -318,44 +308,6 @@ known_read b known t u k io octets source a so =
     below : (n k : ℕ) → k < n → n ≤ k → ⊥
     below n k lt le = omega arith
 
--- a link that nothing came from is closed, and said to be broken
-pub breaks : (b : ℕ → Option Begun) (known : ℕ → Option (Option IpAddr)) (t u : ToldOfPorts) (k : ℕ) → TellsProxied b known t (at_port Pop (λ of. has_read of k Later []) u)
-    → TellsProxied b known (at_port Pop (λ of. has_closed of k) t) (at_port Pop (λ of. has_read of k Broken []) u)
-breaks b known t u k a = record {
-  pop = record {
-    accepted = a.pop.accepted;
-    read = a.pop.read;
-    written = a.pop.written;
-    over = λ j. ap (λ o. if true && j == k then true else o) (a.pop.over j);
-    strayed = a.pop.strayed;
-    later = a.pop.later;
-    proxied = a.pop.proxied;
-  };
-  admin = a.admin;
-  begun_so = λ j. each_kept (b j) (λ x. IsBegun t.pop j x.line.items) (λ x. IsBegun (has_closed t.pop k) j x.line.items)
-      (λ x w. record { came = w.came; is = w.is; open_yet = w.open_yet }) (a.begun_so j);
-  known_so = λ j. each_kept (known j) (λ x. IsKnown t.pop j x) (λ x. IsKnown (has_closed t.pop k) j x) (λ x w. record { came = w.came; whole = w.whole; says = w.says }) (a.known_so j);
-}
-
--- octets were written on a link
-pub written_on : (b : ℕ → Option Begun) (known : ℕ → Option (Option IpAddr)) (t u : ToldOfPorts) (k : ℕ) (io : Io) (octets : List ℕ) → TellsProxied b known t u
-    → TellsProxied b known (at_port Pop (λ of. has_written of k io octets) t) (at_port Pop (λ of. has_written of k io octets) u)
-written_on b known t u k io octets a = record {
-  pop = record {
-    accepted = a.pop.accepted;
-    read = a.pop.read;
-    written = λ j. ap (λ xs. if j == k then xs ++ octets else xs) (a.pop.written j);
-    over = λ j. ap (λ o. if is_fault io && j == k then true else o) (a.pop.over j);
-    strayed = (let live : is_live u.pop k ≡ is_live t.pop k = rw (a.pop.accepted, a.pop.over k) refl in rw (a.pop.strayed, live) refl);
-    later = a.pop.later;
-    proxied = a.pop.proxied;
-  };
-  admin = a.admin;
-  begun_so = λ j. each_kept (b j) (λ x. IsBegun t.pop j x.line.items) (λ x. IsBegun (has_written t.pop k io octets) j x.line.items)
-      (λ x w. record { came = w.came; is = w.is; open_yet = w.open_yet }) (a.begun_so j);
-  known_so = λ j. each_kept (known j) (λ x. IsKnown t.pop j x) (λ x. IsKnown (has_written t.pop k io octets) j x) (λ x w. record { came = w.came; whole = w.whole; says = w.says }) (a.known_so j);
-}
-
 -- a link was closed
 pub closed : (b b' : ℕ → Option Begun) (known known' : ℕ → Option (Option IpAddr)) (t u : ToldOfPorts) (k : ℕ) → TellsProxied b known t u → IsPut b k None b' → IsPut known k None known'
     → TellsProxied b' known' (at_port Pop (λ of. has_closed of k) t) (at_port Pop (λ of. has_closed of k) u)
@@ -401,47 +353,6 @@ accepts b known t u a = record {
 
     after : (n j : ℕ) → j < n → j < n + 1
     after n j w = omega arith
-
--- nothing came from the link that was accepted last
-pub newest_begun : (b : ℕ → Option Begun) (known : ℕ → Option (Option IpAddr)) (t u : ToldOfPorts) (k : ℕ) → TellsProxied b known t u → k ≡ t.pop.accepted → IsBegun (has_accepted t.pop) k []
-newest_begun b known t u k a e = record {
-  came = first t.pop.accepted k e;
-  is = a.pop.later k (last t.pop.accepted k e);
-  open_yet = refl;
-}
-  where
-    first : (n k : ℕ) → k ≡ n → k < n + 1
-    first n k e = omega arith
-
-    last : (n k : ℕ) → k ≡ n → n ≤ k
-    last n k e = omega arith
-
--- at the administration's port all is as inside
-pub admin_changes : (b : ℕ → Option Begun) (known : ℕ → Option (Option IpAddr)) (t u : ToldOfPorts) (change : Told → Told) → TellsProxied b known t u
-    → TellsProxied b known (at_port Admin change t) (at_port Admin change u)
-admin_changes b known t u change a = record {
-  pop = a.pop;
-  admin = ap change a.admin;
-  begun_so = a.begun_so;
-  known_so = a.known_so;
-}
-
--- a wire from which nothing was accepted
-pub begun_fresh : (b : ℕ → Option Begun) (known : ℕ → Option (Option IpAddr)) (t : ToldOfPorts) → AreFresh t → ((j : ℕ) → b j ≡ None) → ((j : ℕ) → known j ≡ None) → TellsProxied b known t t
-begun_fresh b known t fresh none none' = record {
-  pop = record {
-    accepted = refl;
-    read = λ j. fresh.0.read j ∙ sym (ap behind_line (fresh.0.read j));
-    written = λ j. refl;
-    over = λ j. refl;
-    strayed = refl;
-    later = λ j w. fresh.0.read j;
-    proxied = λ j. inl (fresh.0.read j);
-  };
-  admin = refl;
-  begun_so = λ j. subst (λ o. IfSome o (λ x. IsBegun t.pop j x.line.items)) (sym (none j)) tt;
-  known_so = λ j. subst (λ o. IfSome o (λ x. IsKnown t.pop j x)) (sym (none' j)) tt;
-}
 
 -- ---- what a map's calls promise
 

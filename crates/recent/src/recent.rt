@@ -9,7 +9,7 @@ use mailtext::MailText;
 use policy::Policy;
 use std::alloc::Global;
 use std::marker::Model;
-use vault::{ClerkKind, Deposited, Head, MessageKey, Total, Vault, VaultFault};
+use vault::{ClerkKind, Deposited, Head, MessageKey, Progress, Total, Vault, VaultFault};
 
 /// A vault around another one, which keeps the heads of the maildrops that were asked for, and the
 /// totals of all maildrops, and answers the same question again from them. Every fault forgets
@@ -115,6 +115,26 @@ impl<V: Vault> Vault for Recent<V> {
     fn remove(&mut self, maildrop: &Name, keys: &[MessageKey]) -> Result<(), VaultFault> {
         let removed = self.vault.remove(maildrop, keys);
         after_mail(&mut self.kept, &mut self.totals, maildrop, removed)
+    }
+
+    fn prepare_removal(
+        &mut self,
+        maildrop: &Name,
+        keys: &[MessageKey],
+    ) -> Result<Progress, VaultFault> {
+        let prepared = self.vault.prepare_removal(maildrop, keys);
+        after_look(&mut self.kept, &mut self.totals, prepared)
+    }
+
+    fn prepare_deposit(
+        &mut self,
+        maildrop: &Name,
+        class: &Name,
+        id: &DepositId,
+        text: &MailText,
+    ) -> Result<Progress, VaultFault> {
+        let part = self.vault.prepare_deposit(maildrop, class, id, text);
+        after_look(&mut self.kept, &mut self.totals, part)
     }
 
     fn maildrops(&mut self) -> Result<Vec<Total>, VaultFault> {

@@ -72,9 +72,6 @@ short_piece n most xs h = omega (arith, h, length-take n xs)
 pub lent_open : (T : Trace) (c n : ℕ) (lent : List ℕ) → IsLent (rest T c) lent → 0 < n → n ≤ length lent → is_open T c ≡ true
 lent_open T c n lent is some fits = lent_if (is_open T c) (untaken T.log (history T) c) lent is (omega (arith, some, fits))
 
-pub lent_fits : (T : Trace) (c n : ℕ) (lent : List ℕ) → IsLent (rest T c) lent → n ≤ length lent → n ≤ length (rest T c)
-lent_fits T c n lent is fits = let e = ap length is.beginning in omega (arith, e, fits, length-take (length lent) (rest T c))
-
 -- ---- going
 
 gone_if : (o : Bool) → o ≡ true → reason_if (not o) NoSuchConnection ≡ None

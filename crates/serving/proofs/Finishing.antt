@@ -33,7 +33,7 @@ use Rattle.serving.specs.SpoolTurns.{IsSpoolTurn, has_dealt, SpoolPart}
 use Rattle.serving.specs.Hearing.{Hearing, HasHeard, WithHeard, HeardApart, idle_ends, heard_of_all, late_ends}
 use Rattle.serving.specs.Turns.{millis_of, HadItsTurn, Works}
 use Rattle.serving.proofs.Staying.{Fewer, deposit_same}
-use Rattle.serving.proofs.Resting.{rests_so, waits_then, not_true, is_left}
+use Rattle.serving.proofs.Resting.{rests_so, waits_then, not_true, is_left, or_neither}
 use Rattle.serving.proofs.Arriving.{shut_moved}
 use Rattle.serving.proofs.Hearing.{hears_then, turn_heard}
 use Rattle.serving.proofs.Turns.{served_so}
@@ -43,7 +43,7 @@ use Rattle.serving.specs.Late.{HasLived, IsNotedSince, HasEndedLate}
 use Rattle.serving.proofs.Timely.{lived_left, lived_right}
 use Rattle.serving.proofs.Settling.{late_still, may_same}
 use Rattle.serving.proofs.Working.{or_true, given_then, asked_then, none_of, count_joined, any_left, any_right, lies_left, lies_right, quiet_none, caused_more, fewer_quiet}
-use Rattle.serving.proofs.Working.{fewer_gone, none_joined, turned_left, turned_right}
+use Rattle.serving.proofs.Working.{fewer_gone, none_joined, turned_left, turned_right, awaits_left, awaits_right}
 
 -- ---- deposits
 
@@ -162,7 +162,7 @@ no_wait links e = rw e refl
 
 module _ {V W S H : Type 0} (vault : Ghosts V) (Asked : W → List Call → Type 0) (AskedFiles : S → List FileCall → Type 0) (Heard : H → List Hearing → Type 0) where
   pub turn_done : (T : Trace) (now : ℕ) (links links_then : Links) (o o1 o2 o3 o4 o5 o6 : Office V) (w w1 w2 w3 w4 w5 w6 : W) (f f1 : S)
-      (l l1 l2 l3 l4 l5 : H) (seats2 : List Seat) (goes : Bool) (held : List Exchange) (more lock_released polling polled : Bool) (n0 n1 n2 : List Newcomer)
+      (l l1 l2 l3 l4 l5 : H) (seats2 : List Seat) (goes : Bool) (held : List Exchange) (more lock_released is_preparing polling polled : Bool) (n0 n1 n2 : List Newcomer)
       → Part vault Asked o w o1 w1 (IsPassed (Waited (millis_of links) ∷ []) now)
       → ((U : Trace) → StandsFor vault.holds o1 U → HasHeard Heard l l1 (idle_ends U links.clients.seats.items))
       → (acc : Part vault Asked o1 w1 o2 w2 (AreAccepted vault.holds vault.is_clean o1 o2 links.clients.seats.items seats2 64 goes))
@@ -170,8 +170,8 @@ module _ {V W S H : Type 0} (vault : Ghosts V) (Asked : W → List Call → Type
       → HasHeard Heard l1 l2 []
       → Part vault Asked o2 w3 o3 w4
       (WithHeard vault.holds vault.is_clean Heard o2 l2 o3 l3
-      (Also (WereServed vault.holds vault.is_clean o2 o3 (settings links) now n0 lock_released polling n1 seats2 seats2) (PollsBy lock_released polling)))
-      → (lock_released ≡ true → polling ≡ true) → (polling ≡ true → polled ≡ true)
+      (Also (WereServed vault.holds vault.is_clean o2 o3 (settings links) now n0 lock_released is_preparing polling n1 seats2 seats2) (PollsBy (is_preparing || lock_released) polling)))
+      → (lock_released ≡ true → polling ≡ true) → (is_preparing ≡ true → polling ≡ true) → (polling ≡ true → polled ≡ true)
       → Part vault Asked o3 w4 o4 w5
       (Also (DidApart vault.holds vault.is_clean o3 o4 (HeardApart Heard l3 l4 (λ B L. HadHttpTurns links.site now B L held links_then.requests.exchanges.items)))
       (PollsBy false links_then.requests.poll_now))
@@ -186,15 +186,16 @@ module _ {V W S H : Type 0} (vault : Ghosts V) (Asked : W → List Call → Type
       → Asking Asked w5 w6 (λ calls. AreClosed U seats2 links_then.clients.seats.items calls × PollsBy polling polled calls × PollsAfterClosing links.clients.wait polled calls))
       → SpoolPart vault AskedFiles o5 f o6 f1
       (λ U given calls. IsSpoolTurn (last_tried links) (last_tried links_then) U given calls × (links_then.clients.poll_now ≡ (polled || has_dealt calls)))
-      → StandsFor vault.holds o T → vault.is_clean (vault_of o6) → Works vault Asked AskedFiles Heard T now links o w f l o6 links_then w6 f1 l5
-  turn_done T now links links_then o o1 o2 o3 o4 o5 o6 w w1 w2 w3 w4 w5 w6 f f1 l l1 l2 l3 l4 l5 seats2 goes held more lock_released polling polled n0 n1 n2
-      pass idle acc asked unheard served releasing still reqs waited keeps comers late forgets close spool s k6 =
+      → StandsFor vault.holds o T → vault.is_clean (vault_of o6)
+      → (turn : Works vault Asked AskedFiles Heard T now links o w f l o6 links_then w6 f1 l5) × (turn.seen.is_preparing ≡ is_preparing)
+  turn_done T now links links_then o o1 o2 o3 o4 o5 o6 w w1 w2 w3 w4 w5 w6 f f1 l l1 l2 l3 l4 l5 seats2 goes held more lock_released is_preparing polling polled n0 n1 n2
+      pass idle acc asked unheard served releasing preparing still reqs waited keeps comers late forgets close spool s k6 =
       let B = T.base in
       let L = T.log in
       let seconds = limit links (length seats2) in
       let newcomers = links.clients.newcomers.newcomers.items in
       let millis = millis_of links in
-      let way = way_by (settings links) now newcomers seats2 lock_released (millis_of links_then == 0) in
+      let way = way_by (settings links) now newcomers seats2 lock_released is_preparing (millis_of links_then == 0) in
       let gp = pass.given in
       let ga = acc.given in
       let gl = served.given in
@@ -233,9 +234,9 @@ module _ {V W S H : Type 0} (vault : Ghosts V) (Asked : W → List Call → Type
       let C5 : List Call = ((((cp ++ ca) ++ cq) ++ cl) ++ cr) ++ cx in
       let filed = spool.facts (trace_of B ((gz ++ G3) ++ L)) (subst (λ l. StandsFor vault.holds o5 (trace_of B l)) (sym (append_assoc gz G3 L)) s5) k6 in
       let sleeps_not : polled ≡ true → millis_of links_then ≡ 0 = λ e. no_wait links_then (filed.1 ∙ is_left polled (has_dealt spool.calls) e) in
-      let had = served_so vault o2 o3 (way_by (settings links) now n0 seats2 lock_released polling) way n1 seats2 seats2 gl cl refl refl (λ e. e)
+      let had = served_so vault o2 o3 (way_by (settings links) now n0 seats2 lock_released is_preparing polling) way n1 seats2 seats2 gl cl refl refl (λ e. e)
       (λ i d within. may_same (settings links).slow_guesses now n0 newcomers seats2 lock_released (get_or seats2 i d).connection (waited (get_or seats2 i d).connection))
-      (λ e. ap (λ n. n == 0) (sleeps_not (still e))) served.facts.1.0.turns in
+      (λ e. e) (λ e. ap (λ n. n == 0) (sleeps_not (still e))) served.facts.1.0.turns in
       let unread : All (IsNotedSo n1 B L G4 C5 way.wait way.may seats2) seats2 =
       All-weaker (IsNotedSo n1 B (G1 ++ L) gl cl way.wait way.may seats2) (IsNotedSo n1 B L G4 C5 way.wait way.may seats2)
       (λ q h e.
@@ -291,145 +292,159 @@ module _ {V W S H : Type 0} (vault : Ghosts V) (Asked : W → List Call → Type
         served = gl;
         serves = cl;
         lock_released = lock_released;
+        is_preparing = is_preparing;
         commands = gr;
         admin_serves = cr;
         late = gz;
         closes = cx;
         deposits = gs;
         file_calls = spool.calls;
-      } in
-      record {
-        seen = seen;
-        stands = u4.stands B L s k6;
-        admitted = u4.admitted B L s k6;
-        counted = u4.counted;
-        failed = u4.failed B L s k6;
-        up = u4.outlasts.up B L s k6;
-        stop = u4.outlasts.stop B L s k6;
-        asked =
-            asked_then Asked w w5 w6 ((((cp ++ ca) ++ cq) ++ cl) ++ cr) cx
-            (asked_then Asked w w4 w5 (((cp ++ ca) ++ cq) ++ cl) cr
-            (asked_then Asked w w3 w4 ((cp ++ ca) ++ cq) cl
-            (asked_then Asked w w2 w3 (cp ++ ca) cq (asked_then Asked w w1 w2 cp ca pass.was_asked acc.was_asked) asked.was_asked) served.was_asked) reqs.was_asked) x.was_asked;
-        asked_files = spool.was_asked;
-        heard = subst (λ h. HasHeard Heard l l5 (idle_heard ++ (h ++ late_heard))) (turn_heard B L gp ga gl gr come.only)
-            (hears_then Heard l l1 l5 idle_heard ((links_heard ++ reqs_heard) ++ late_heard) (idle (trace_of B (gp ++ L)) s1)
-            (hears_then Heard l1 l2 l5 [] ((links_heard ++ reqs_heard) ++ late_heard) unheard
-            (hears_then Heard l2 l4 l5 (links_heard ++ reqs_heard) late_heard
-            (hears_then Heard l2 l3 l4 links_heard reqs_heard (served.facts.0.is B (G1 ++ L) s2 k3) (reqs.facts.0.did B (G2 ++ L) s3 k4).0) late.facts.2)));
-        waits = record {
-          first = pass.facts.calls_are;
-          once = only_first _ ((((cp ++ ca) ++ cq) ++ cl) ++ cr) cx waits_x
-              ∙ (seen_first cp ca cq cl cr cx wait_of asked.facts.0.no_waits lq.no_waits rq.no_waits ∙ (only_first wait_of cp ca come.no_waits ∙ waits_p));
-        };
-        ticks = record {
-          event_tag = pass.facts.event_tag;
-          first = pass.facts.given_is;
-          once = only_last moment_of gx G3 (none_joined moment_of gs gz quiet.quiet.no_moments hush.no_moments)
-              ∙ (only_last moment_of gr G2 rq.no_moments ∙ (only_last moment_of gl G1 lq.no_moments ∙ (only_last moment_of ga gp come.no_moments ∙ moments_p)));
-        };
-        accepts = record {
-          enough = accepted_so vault o1 o2 links.clients.seats.items seats2 goes ga ca C5 (seen_second cp ca cq cl cr cx tells_none) acc.facts;
-          few = acc.facts.few;
-          arrived = only_first _ ((((cp ++ ca) ++ cq) ++ cl) ++ cr) cx arrivals_x
-              ∙ (seen_first cp ca cq cl cr cx arrival_of asked.facts.0.no_arrivals lq.no_arrivals rq.no_arrivals ∙ (only_last arrival_of cp ca arrivals_p ∙ come.arrived));
-          opened =
-              (let e5 = count_joined is_opening gs gz in
-              let e4 = count_joined is_opening gx G3 in
-              let e3 = count_joined is_opening gr G2 in
-              let e2 = count_joined is_opening gl G1 in
-              let e1 = count_joined is_opening ga gp in
-              let a = come.opened in
-              let b = quiet.quiet.no_openings in
-              let z = hush.no_openings in
-              let d = rq.no_openings in
-              let f = lq.no_openings in
-              omega (arith, e5, e4, e3, e2, e1, a, b, z, d, f, openings_p));
-          refused =
-              (let e5 = count_joined is_refusal gs gz in
-              let e4 = count_joined is_refusal gx G3 in
-              let e3 = count_joined is_refusal gr G2 in
-              let e2 = count_joined is_refusal gl G1 in
-              let e1 = count_joined is_refusal ga gp in
-              let a = come.refused (trace_of B (gp ++ L)) s1 k2 in
-              let b = quiet.quiet.no_refusals in
-              let z = hush.no_refusals in
-              let d = rq.no_refusals in
-              let f = lq.no_refusals in
-              omega (arith, e5, e4, e3, e2, e1, a, b, z, d, f, refusals_p));
-          seated = come.seated;
-          has_more = more;
-          admin = asked.facts.1;
-        };
-        clients = record {
-          turns = All-weaker (HadTurn way B (G1 ++ L) gl (trace_of B (gl ++ (G1 ++ L))) cl) (HadItsTurn T now links links_then seen)
-              (λ q h here.
-              turned_left way B L G3 gx ((((cp ++ ca) ++ cq) ++ cl) ++ cr) cx q
-              (turned_left way B L G2 gr (((cp ++ ca) ++ cq) ++ cl) cr q (turned_right way B L G1 gl ((cp ++ ca) ++ cq) cl q (h (to_links q.connection here)))))
-              seats2 (had.turns B (G1 ++ L) s2 k3);
-          offered =
-              (let R = IsOffered B L G4 seats2 in
-              let none : (calls : List Call) → list_any is_client_write calls ≡ false → All R calls = λ calls h. none_offered B L G4 seats2 calls h in
-              let of_links : All R cl = All-weaker (IsOffered B (G1 ++ L) gl seats2) R
-              (λ call h. offered_left B L G3 gx seats2 call (offered_left B L G2 gr seats2 call (offered_right B L G1 gl seats2 call h))) cl (had.offered B (G1 ++ L) s2 k3) in
-              let of_reqs : All R cr = none cr (unwritten_turns links.site now B (G2 ++ L) held links_then.requests.exchanges.items gr cr (reqs.facts.0.did B (G2 ++ L) s3 k4).1) in
-              let of_close : All R cx = none cx (ap (list_any is_client_write) x.facts.0.calls_are ∙ unwritten_closings (filter (is_shut_seat trace4) seats2)) in
-              let of_asked : All R cq = none cq (unwritten_accepted now 64 more links.requests.exchanges.items held cq asked.facts.1) in
-              let of_first : All R (cp ++ ca) = All-append R cp ca (none cp (ap (list_any is_client_write) pass.facts.calls_are)) (none ca come.unwritten) in
-              All-append R ((((cp ++ ca) ++ cq) ++ cl) ++ cr) cx
-              (All-append R (((cp ++ ca) ++ cq) ++ cl) cr (All-append R ((cp ++ ca) ++ cq) cl (All-append R (cp ++ ca) cq of_first of_asked) of_links) of_reqs) of_close);
-          in_order = served.facts.1.0.in_order B (G1 ++ L) s2 k3;
-          caused = All-append (HasCause seats2 C5) gr (gl ++ ga) caused_r (All-append (HasCause seats2 C5) gl ga caused_l caused_a);
-        };
-        admin = record {
-          served = (reqs.facts.0.did B (G2 ++ L) s3 k4).1;
-          apart = none_of is_admin (cp ++ ca) (cl ++ cx) (none_of is_admin cp ca (ap (list_any is_admin) pass.facts.calls_are) come.apart)
-              (none_of is_admin cl cx served.facts.1.0.turns.of_seats.apart (ap (list_any is_admin) x.facts.0.calls_are ∙ apart_of (filter (is_shut_seat trace4) seats2)));
-        };
-        late = record {
-          gone = late.facts.0;
-          timely = λ i d within is_late_now here.
-              (let q = get_or seats2 i d in
-              ⊎_elim
-              (λ (u : HasLived B (G3 ++ L) gz q.connection). inl (lived_right B L G3 gx q.connection (lived_left B (G3 ++ L) gz gs q.connection u)))
-              (λ (h : lies_unread (newcomer q.connection n1) ≡ true). inr (unread i d within h))
-              (late.facts.1.each B (G3 ++ L) s4 k5 i d within (late_still now seconds newcomers n1 q.connection (keeps q.connection) is_late_now) (sym (same q.connection) ∙ here)));
-          noted = λ c n is here.
-              ⊎_elim
-              (λ (e : newcomer c n2 ≡ newcomer c n1). inl (subst (IsSettled now (Some n)) (sym (forgets trace4 s5 c (sym (same c) ∙ here) ∙ e)) (keeps c n is)))
-              (λ (u : HasLived B (G3 ++ L) gz c). inr (lived_right B L G3 gx c (lived_left B (G3 ++ L) gz gs c u)))
-              (late.facts.1.noted B (G3 ++ L) s4 k5 c);
-          newly = λ h.
-              All-weaker (IsComer now newcomers n1) (IsNotedSince T now links links_then seen)
-              (λ q k none_before here.
-              (let c = q.connection in
-              ⊎_elim
-              (λ (e : newcomer c n2 ≡ newcomer c n1). inl (subst (CountsFrom now) (sym (forgets trace4 s5 c (sym (same c) ∙ here) ∙ e)) (k none_before)))
-              (λ (u : HasLived B (G3 ++ L) gz c). inr (lived_right B L G3 gx c (lived_left B (G3 ++ L) gz gs c u)))
-              (late.facts.1.noted B (G3 ++ L) s4 k5 c)))
-              (filter_map seat_of came) (comers h);
-          counts = λ i d within is_unread here.
-              (let q = get_or seats2 i d in
-              let c = q.connection in
-              ⊎_elim
-              (λ (e : newcomer c n2 ≡ newcomer c n1).
-              inr (unread i d within (ap lies_unread (sym (forgets trace4 s5 c (sym (same c) ∙ here) ∙ e)) ∙ is_unread)))
-              (λ (u : HasLived B (G3 ++ L) gz c). inl (lived_right B L G3 gx c (lived_left B (G3 ++ L) gz gs c u)))
-              (late.facts.1.noted B (G3 ++ L) s4 k5 c));
-        };
-        closes = record {
-          closed = filter_map-append closing_of ((((cp ++ ca) ++ cq) ++ cl) ++ cr) cx
-              ∙ (ap (λ zs. zs ++ closings cx) (seen_first cp ca cq cl cr cx closing_of asked.facts.0.no_closings lq.no_closings rq.no_closings ∙ (only_last closing_of cp ca closings_p ∙ come.closed))
-              ∙ ap (λ zs. filter_map unseated_of came ++ zs) (closings_x ∙ ap (map link_of_seat) shut_same));
-          left = x.facts.0.left ∙ open_same;
-        };
-        file = record { deposits = spool.deposits; tries = filed.0 };
-        next = record {
-          dealt = λ e. no_wait links_then (filed.1 ∙ (ap (λ b. polled || b) e ∙ or_true polled));
-          after_release = λ e. sleeps_not (still (releasing e));
-          after_closing = λ on e. sleeps_not (x.facts.2 on (ap has_moved (x.facts.0.calls_are ∙ ap (map closing) shut_same) ∙ shut_moved after seats2 e));
-          rests = λ m f d. waits_then links_then (filed.1 ∙ rests_so polling lock_released polled (has_dealt spool.calls) (has_moved cl) (has_moved cx) (has_moved C5) served.facts.1.1 x.facts.1
-              (λ q. seen_fourth cp ca cq cl cr cx is_moving q) (λ q. any_right is_moving ((((cp ++ ca) ++ cq) ++ cl) ++ cr) cx q) m f d)
-              (not_true links_then.requests.poll_now (λ e. true≢false (sym (seen_fifth cp ca cq cl cr cx is_moving (reqs.facts.1 e)) ∙ m)));
-        };
-      }
+      } in (
+        record {
+          seen = seen;
+          stands = u4.stands B L s k6;
+          admitted = u4.admitted B L s k6;
+          counted = u4.counted;
+          failed = u4.failed B L s k6;
+          up = u4.outlasts.up B L s k6;
+          stop = u4.outlasts.stop B L s k6;
+          asked =
+              asked_then Asked w w5 w6 ((((cp ++ ca) ++ cq) ++ cl) ++ cr) cx
+              (asked_then Asked w w4 w5 (((cp ++ ca) ++ cq) ++ cl) cr
+              (asked_then Asked w w3 w4 ((cp ++ ca) ++ cq) cl
+              (asked_then Asked w w2 w3 (cp ++ ca) cq (asked_then Asked w w1 w2 cp ca pass.was_asked acc.was_asked) asked.was_asked) served.was_asked) reqs.was_asked) x.was_asked;
+          asked_files = spool.was_asked;
+          heard = subst (λ h. HasHeard Heard l l5 (idle_heard ++ (h ++ late_heard))) (turn_heard B L gp ga gl gr come.only)
+              (hears_then Heard l l1 l5 idle_heard ((links_heard ++ reqs_heard) ++ late_heard) (idle (trace_of B (gp ++ L)) s1)
+              (hears_then Heard l1 l2 l5 [] ((links_heard ++ reqs_heard) ++ late_heard) unheard
+              (hears_then Heard l2 l4 l5 (links_heard ++ reqs_heard) late_heard
+              (hears_then Heard l2 l3 l4 links_heard reqs_heard (served.facts.0.is B (G1 ++ L) s2 k3) (reqs.facts.0.did B (G2 ++ L) s3 k4).0) late.facts.2)));
+          waits = record {
+            first = pass.facts.calls_are;
+            once = only_first _ ((((cp ++ ca) ++ cq) ++ cl) ++ cr) cx waits_x
+                ∙ (seen_first cp ca cq cl cr cx wait_of asked.facts.0.no_waits lq.no_waits rq.no_waits ∙ (only_first wait_of cp ca come.no_waits ∙ waits_p));
+          };
+          ticks = record {
+            event_tag = pass.facts.event_tag;
+            first = pass.facts.given_is;
+            once = only_last moment_of gx G3 (none_joined moment_of gs gz quiet.quiet.no_moments hush.no_moments)
+                ∙ (only_last moment_of gr G2 rq.no_moments ∙ (only_last moment_of gl G1 lq.no_moments ∙ (only_last moment_of ga gp come.no_moments ∙ moments_p)));
+          };
+          accepts = record {
+            enough = accepted_so vault o1 o2 links.clients.seats.items seats2 goes ga ca C5 (seen_second cp ca cq cl cr cx tells_none) acc.facts;
+            few = acc.facts.few;
+            arrived = only_first _ ((((cp ++ ca) ++ cq) ++ cl) ++ cr) cx arrivals_x
+                ∙ (seen_first cp ca cq cl cr cx arrival_of asked.facts.0.no_arrivals lq.no_arrivals rq.no_arrivals ∙ (only_last arrival_of cp ca arrivals_p ∙ come.arrived));
+            opened =
+                (let e5 = count_joined is_opening gs gz in
+                let e4 = count_joined is_opening gx G3 in
+                let e3 = count_joined is_opening gr G2 in
+                let e2 = count_joined is_opening gl G1 in
+                let e1 = count_joined is_opening ga gp in
+                let a = come.opened in
+                let b = quiet.quiet.no_openings in
+                let z = hush.no_openings in
+                let d = rq.no_openings in
+                let f = lq.no_openings in
+                omega (arith, e5, e4, e3, e2, e1, a, b, z, d, f, openings_p));
+            refused =
+                (let e5 = count_joined is_refusal gs gz in
+                let e4 = count_joined is_refusal gx G3 in
+                let e3 = count_joined is_refusal gr G2 in
+                let e2 = count_joined is_refusal gl G1 in
+                let e1 = count_joined is_refusal ga gp in
+                let a = come.refused (trace_of B (gp ++ L)) s1 k2 in
+                let b = quiet.quiet.no_refusals in
+                let z = hush.no_refusals in
+                let d = rq.no_refusals in
+                let f = lq.no_refusals in
+                omega (arith, e5, e4, e3, e2, e1, a, b, z, d, f, refusals_p));
+            seated = come.seated;
+            has_more = more;
+            admin = asked.facts.1;
+          };
+          clients = record {
+            turns = All-weaker (HadTurn way B (G1 ++ L) gl (trace_of B (gl ++ (G1 ++ L))) cl) (HadItsTurn T now links links_then seen)
+                (λ q h here.
+                turned_left way B L G3 gx ((((cp ++ ca) ++ cq) ++ cl) ++ cr) cx q
+                (turned_left way B L G2 gr (((cp ++ ca) ++ cq) ++ cl) cr q (turned_right way B L G1 gl ((cp ++ ca) ++ cq) cl q (h (to_links q.connection here)))))
+                seats2 (had.turns B (G1 ++ L) s2 k3);
+            offered =
+                (let R = IsOffered B L G4 seats2 in
+                let none : (calls : List Call) → list_any is_client_write calls ≡ false → All R calls = λ calls h. none_offered B L G4 seats2 calls h in
+                let of_links : All R cl = All-weaker (IsOffered B (G1 ++ L) gl seats2) R
+                (λ call h. offered_left B L G3 gx seats2 call (offered_left B L G2 gr seats2 call (offered_right B L G1 gl seats2 call h))) cl (had.offered B (G1 ++ L) s2 k3) in
+                let of_reqs : All R cr = none cr (unwritten_turns links.site now B (G2 ++ L) held links_then.requests.exchanges.items gr cr (reqs.facts.0.did B (G2 ++ L) s3 k4).1) in
+                let of_close : All R cx = none cx (ap (list_any is_client_write) x.facts.0.calls_are ∙ unwritten_closings (filter (is_shut_seat trace4) seats2)) in
+                let of_asked : All R cq = none cq (unwritten_accepted now 64 more links.requests.exchanges.items held cq asked.facts.1) in
+                let of_first : All R (cp ++ ca) = All-append R cp ca (none cp (ap (list_any is_client_write) pass.facts.calls_are)) (none ca come.unwritten) in
+                All-append R ((((cp ++ ca) ++ cq) ++ cl) ++ cr) cx
+                (All-append R (((cp ++ ca) ++ cq) ++ cl) cr (All-append R ((cp ++ ca) ++ cq) cl (All-append R (cp ++ ca) cq of_first of_asked) of_links) of_reqs) of_close);
+            in_order = served.facts.1.0.in_order B (G1 ++ L) s2 k3;
+            awaits = λ e.
+                (let some = served.facts.1.0.awaits e B (G1 ++ L) s2 k3 in
+                let q = some.0 in (
+                  q,
+                  some.1,
+                  awaits_left B L q G3 gx ((((cp ++ ca) ++ cq) ++ cl) ++ cr) cx
+                      (awaits_left B L q G2 gr (((cp ++ ca) ++ cq) ++ cl) cr (awaits_right B L q G1 gl ((cp ++ ca) ++ cq) cl some.2)),
+                ));
+            caused = All-append (HasCause seats2 C5) gr (gl ++ ga) caused_r (All-append (HasCause seats2 C5) gl ga caused_l caused_a);
+          };
+          admin = record {
+            served = (reqs.facts.0.did B (G2 ++ L) s3 k4).1;
+            apart = none_of is_admin (cp ++ ca) (cl ++ cx) (none_of is_admin cp ca (ap (list_any is_admin) pass.facts.calls_are) come.apart)
+                (none_of is_admin cl cx served.facts.1.0.turns.of_seats.apart (ap (list_any is_admin) x.facts.0.calls_are ∙ apart_of (filter (is_shut_seat trace4) seats2)));
+          };
+          late = record {
+            gone = late.facts.0;
+            timely = λ i d within is_late_now here.
+                (let q = get_or seats2 i d in
+                ⊎_elim
+                (λ (u : HasLived B (G3 ++ L) gz q.connection). inl (lived_right B L G3 gx q.connection (lived_left B (G3 ++ L) gz gs q.connection u)))
+                (λ (h : lies_unread (newcomer q.connection n1) ≡ true). inr (unread i d within h))
+                (late.facts.1.each B (G3 ++ L) s4 k5 i d within (late_still now seconds newcomers n1 q.connection (keeps q.connection) is_late_now) (sym (same q.connection) ∙ here)));
+            noted = λ c n is here.
+                ⊎_elim
+                (λ (e : newcomer c n2 ≡ newcomer c n1). inl (subst (IsSettled now (Some n)) (sym (forgets trace4 s5 c (sym (same c) ∙ here) ∙ e)) (keeps c n is)))
+                (λ (u : HasLived B (G3 ++ L) gz c). inr (lived_right B L G3 gx c (lived_left B (G3 ++ L) gz gs c u)))
+                (late.facts.1.noted B (G3 ++ L) s4 k5 c);
+            newly = λ h.
+                All-weaker (IsComer now newcomers n1) (IsNotedSince T now links links_then seen)
+                (λ q k none_before here.
+                (let c = q.connection in
+                ⊎_elim
+                (λ (e : newcomer c n2 ≡ newcomer c n1). inl (subst (CountsFrom now) (sym (forgets trace4 s5 c (sym (same c) ∙ here) ∙ e)) (k none_before)))
+                (λ (u : HasLived B (G3 ++ L) gz c). inr (lived_right B L G3 gx c (lived_left B (G3 ++ L) gz gs c u)))
+                (late.facts.1.noted B (G3 ++ L) s4 k5 c)))
+                (filter_map seat_of came) (comers h);
+            counts = λ i d within is_unread here.
+                (let q = get_or seats2 i d in
+                let c = q.connection in
+                ⊎_elim
+                (λ (e : newcomer c n2 ≡ newcomer c n1).
+                inr (unread i d within (ap lies_unread (sym (forgets trace4 s5 c (sym (same c) ∙ here) ∙ e)) ∙ is_unread)))
+                (λ (u : HasLived B (G3 ++ L) gz c). inl (lived_right B L G3 gx c (lived_left B (G3 ++ L) gz gs c u)))
+                (late.facts.1.noted B (G3 ++ L) s4 k5 c));
+          };
+          closes = record {
+            closed = filter_map-append closing_of ((((cp ++ ca) ++ cq) ++ cl) ++ cr) cx
+                ∙ (ap (λ zs. zs ++ closings cx)
+                (seen_first cp ca cq cl cr cx closing_of asked.facts.0.no_closings lq.no_closings rq.no_closings ∙ (only_last closing_of cp ca closings_p ∙ come.closed))
+                ∙ ap (λ zs. filter_map unseated_of came ++ zs) (closings_x ∙ ap (map link_of_seat) shut_same));
+            left = x.facts.0.left ∙ open_same;
+          };
+          file = record { deposits = spool.deposits; tries = filed.0 };
+          next = record {
+            dealt = λ e. no_wait links_then (filed.1 ∙ (ap (λ b. polled || b) e ∙ or_true polled));
+            after_release = λ e. sleeps_not (still (releasing e));
+            while_preparing = λ e. sleeps_not (still (preparing e));
+            after_closing = λ on e. sleeps_not (x.facts.2 on (ap has_moved (x.facts.0.calls_are ∙ ap (map closing) shut_same) ∙ shut_moved after seats2 e));
+            rests = λ m f p d. waits_then links_then (filed.1
+                ∙ rests_so polling (is_preparing || lock_released) polled (has_dealt spool.calls) (has_moved cl) (has_moved cx) (has_moved C5) served.facts.1.1 x.facts.1
+                (λ q. seen_fourth cp ca cq cl cr cx is_moving q) (λ q. any_right is_moving ((((cp ++ ca) ++ cq) ++ cl) ++ cr) cx q) m (or_neither is_preparing lock_released p f) d)
+                (not_true links_then.requests.poll_now (λ e. true≢false (sym (seen_fifth cp ca cq cl cr cx is_moving (reqs.facts.1 e)) ∙ m)));
+          };
+        },
+        refl,
+      )

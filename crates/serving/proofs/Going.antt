@@ -1,6 +1,6 @@
 -- That turns, one after the other, go on from any trace, and what a turn's wait changes.
 use Rattle.vault.specs.declared.vault.Vault.{Ghosts}
-use Rattle.std.proofs.Common.{◌≡◌, ◌≤◌, ◌||◌, ℕ, true, false, List, [], ◌∷◌, ◌++◌, map, sym, ◌∙◌, ap, arith, Some, None, Option, ⊎_elim, subst, append_assoc, length, ◌+◌, length-append}
+use Rattle.std.proofs.Common.{◌≡◌, ◌≤◌, ◌||◌, ℕ, Bool, true, false, List, [], ◌∷◌, ◌++◌, map, sym, ◌∙◌, ap, arith, Some, None, Option, ⊎_elim, inr, subst, append_assoc, length, ◌+◌, length-append}
 use Rattle.std.specs.Bool.{if◌then◌else◌}
 use Rattle.std.specs.List.{list_any}
 use Rattle.std.proofs.lemmas.Bool.{or_cases}
@@ -25,7 +25,7 @@ use Rattle.serving.specs.ClientParts.{IsPassed}
 use Rattle.serving.specs.declared.links.Seat.{Seat}
 use Rattle.serving.specs.declared.requests.Exchange.{Exchange}
 use Rattle.adminhttp.specs.Sites.{Site}
-use Rattle.serving.specs.Running.{NoTurn, OneMore, HasGoneOn, LeavesAsFound, Maintains, Maintained, Deferred, answers, HasTurned, WasServed}
+use Rattle.serving.specs.Running.{NoTurn, OneMore, HasGoneOn, LeavesAsFound, Maintains, Maintained, Prepared, Deferred, Pauses, PreparesFile, FilePrepared, NotPrepared, answers, HasTurned, WasServed}
 use Rattle.serving.specs.declared.links.Links.{Links}
 use Rattle.serving.proofs.Working.{newly_then, grown_more, asked_then}
 
@@ -52,12 +52,13 @@ pub waited_for : {W : Type 0} (Asked : W → List Call → Type 0) (w w1 : W) (l
 waited_for Asked w w1 links millis is called = record { is = λ before k. subst (λ n. Asked w1 (before ++ Waited n ∷ [])) is (called before k) }
 
 -- of a wire that waited the same is told, and an office that stands for what it stood for serves as before
-pub serves_on : {V W S : Type 0} (Holds : V → Contents → Type 0) (Tells : W → ToldOfPorts → Type 0) (TellsFiles : S → List FileAct → Type 0) (T : Trace) (o o1 : Office V) (w w1 : W) (f : S)
-    (seats : List Seat) (held : List Exchange) (site : Site) → ((t : ToldOfPorts) → Tells w t → Tells w1 t) → ((U : Trace) → StandsFor Holds o U → StandsFor Holds o1 U)
-    → Serves Holds Tells TellsFiles T o w f seats held site → Serves Holds Tells TellsFiles T o1 w1 f seats held site
-serves_on Holds Tells TellsFiles T o o1 w w1 f seats held site told still s = record {
+pub serves_on : {V W S : Type 0} (Holds : V → Contents → Type 0) (Tells : W → ToldOfPorts → Type 0) (TellsFiles : S → List FileAct → Type 0) (T : Trace) (o o1 : Office V) (w w1 : W) (f f1 : S)
+    (seats : List Seat) (held : List Exchange) (site : Site) → ((t : ToldOfPorts) → Tells w t → Tells w1 t) → ((a : List FileAct) → TellsFiles f a → TellsFiles f1 a)
+    → ((U : Trace) → StandsFor Holds o U → StandsFor Holds o1 U)
+    → Serves Holds Tells TellsFiles T o w f seats held site → Serves Holds Tells TellsFiles T o1 w1 f1 seats held site
+serves_on Holds Tells TellsFiles T o o1 w w1 f f1 seats held site told told_files still s = record {
   elsewhere = s.elsewhere;
-  tells = s.tells;
+  tells = told_files s.elsewhere.acts s.tells;
   is = record {
     log = s.is.log;
     told = s.is.told;
@@ -92,14 +93,26 @@ pub waits_idle : (links : Links) → (links.clients.poll_now || links.requests.p
 waits_idle links none = ap (λ more. if more then 0 else 1000) none
 
 -- a maintenance counts faults on, and makes no store clean
-module _ {V : Type 0} (vault : Ghosts V) (l : Links) (o o1 : Office V) where
-  maintained_more : Maintains vault l o o1 → vault.faults (vault_of o) ≤ vault.faults (vault_of o1)
+module _ {V : Type 0} (vault : Ghosts V) (p b : Bool) (l : Links) (o o1 : Office V) where
+  maintained_more : Maintains vault p b l o o1 → vault.faults (vault_of o) ≤ vault.faults (vault_of o1)
   maintained_more (Maintained answer idle looks) = looks.counted.kept
+  maintained_more (Prepared answer preparing looks) = looks.counted.kept
   maintained_more (Deferred busy same) = subst (λ x. vault.faults (vault_of o) ≤ vault.faults (vault_of x)) (sym same) (omega arith)
 
-  pub maintained_clean : Maintains vault l o o1 → vault.is_clean (vault_of o1) → vault.is_clean (vault_of o)
+  pub maintained_clean : Maintains vault p b l o o1 → vault.is_clean (vault_of o1) → vault.is_clean (vault_of o)
   maintained_clean (Maintained answer idle looks) = looks.clean
+  maintained_clean (Prepared answer preparing looks) = looks.clean
   maintained_clean (Deferred busy same) = λ k. subst (λ x. vault.is_clean (vault_of x)) same k
+
+  -- a large file is read, or its deposit is prepared
+  pub file_maintains : millis_of l ≡ 0 → PreparesFile vault true o o1 → Maintains vault p true l o o1
+  file_maintains busy (FilePrepared answer coming looks) = Prepared answer (inr coming) looks
+  file_maintains busy (NotPrepared same) = Deferred busy same
+
+-- no file is coming
+pub file_idle : {V : Type 0} (vault : Ghosts V) (o o1 : Office V) → PreparesFile vault false o o1 → o1 ≡ o
+file_idle vault o o1 (FilePrepared answer coming looks) = cc
+file_idle vault o o1 (NotPrepared same) = same
 
 -- an office that was given nothing
 pub unserved : {V : Type 0} (Holds : V → Contents → Type 0) (Faults : V → ℕ) (T : Trace) (o : Office V) → StandsFor Holds o T → WasServed Holds Faults T o o []
@@ -110,18 +123,18 @@ module _ {V W S H : Type 0} (vault : Ghosts V) (Asked : W → List Call → Type
   gone_none l o w s h stands = record { given = []; turns = NoTurn; served = unserved vault.holds vault.faults T o stands }
 
   gone_more : (moments : List ℕ) (l : Links) (o : Office V) (w : W) (s : S) (h : H) (l1 : Links) (o1 : Office V) (w1 : W) (s1 : S) (h1 : H) (now : ℕ)
-      (l2 : Links) (o2 : Office V) (w2 : W) (s2 : S) (h2 : H) (o3 : Office V)
+      (l2 : Links) (o2 : Office V) (w2 : W) (s2 : S) (h2 : H) (l3 : Links) (o3 : Office V) (s3 : S)
       → (a : HasGoneOn vault Asked AskedFiles Heard T moments l o w s h l1 o1 w1 s1 h1)
-      → Works vault Asked AskedFiles Heard (trace_of T.base (a.given ++ T.log)) now l1 o1 w1 s1 h1 o2 l2 w2 s2 h2
+      → (turn : Works vault Asked AskedFiles Heard (trace_of T.base (a.given ++ T.log)) now l1 o1 w1 s1 h1 o2 l2 w2 s2 h2)
       → LeavesAsFound now l1 l2
-      → Maintains vault l2 o2 o3
+      → Pauses vault AskedFiles turn.seen.is_preparing l2 o2 s2 l3 o3 s3
       → ((U : Trace) → StandsFor vault.holds o2 U → StandsFor vault.holds o3 U)
-      → HasGoneOn vault Asked AskedFiles Heard T (moments ++ now ∷ []) l o w s h l2 o3 w2 s2 h2
-  gone_more moments l o w s h l1 o1 w1 s1 h1 now l2 o2 w2 s2 h2 o3 a turn left kept still =
-      let more : vault.faults (vault_of o2) ≤ vault.faults (vault_of o3) = maintained_more vault l2 o2 o3 kept in
+      → HasGoneOn vault Asked AskedFiles Heard T (moments ++ now ∷ []) l o w s h l3 o3 w2 s3 h2
+  gone_more moments l o w s h l1 o1 w1 s1 h1 now l2 o2 w2 s2 h2 l3 o3 s3 a turn left kept still =
+      let more : vault.faults (vault_of o2) ≤ vault.faults (vault_of o3) = maintained_more vault turn.seen.is_preparing kept.is_coming l3 o2 o3 kept.maintains in
       record {
         given = given_in turn.seen ++ a.given;
-        turns = OneMore moments a.given l1 o1 w1 s1 h1 now l2 o2 w2 s2 h2 o3 a.turns turn left kept;
+        turns = OneMore moments a.given l1 o1 w1 s1 h1 now l2 o2 w2 s2 h2 l3 o3 s3 a.turns turn left kept;
         served = record {
           stands = subst (λ x. StandsFor vault.holds o3 (trace_of T.base x)) (sym (append_assoc (given_in turn.seen) a.given T.log))
               (still (trace_of T.base (given_in turn.seen ++ (a.given ++ T.log))) turn.stands);
@@ -148,22 +161,24 @@ module _ {V W S H C : Type 0} (vault : Ghosts V) (Asked : W → List Call → Ty
   }
 
   pub turned_more : (moments : List ℕ) (l1 : Links) (o1 : Office V) (w1 : W) (s1 : S) (h1 : H) (k1 : C) (now : ℕ)
-      (l2 : Links) (o2 : Office V) (w2 : W) (s2 : S) (h2 : H) (o3 : Office V) (k2 : C)
+      (l2 : Links) (o2 : Office V) (w2 : W) (s2 : S) (h2 : H) (p : Bool) (l3 : Links) (o3 : Office V) (s3 : S) (k2 : C)
       → HasTurned vault Asked AskedFiles Heard Gave false moments l o w s h k l1 o1 w1 s1 h1 k1
       → ((before : List (Option ℕ)) → Gave k1 before → Gave k2 (before ++ Some now ∷ []))
       → (vault.is_clean (vault_of o2) → vault.is_clean (vault_of o1))
-      → ((T : Trace) → StandsFor vault.holds o1 T → vault.is_clean (vault_of o2) → Works vault Asked AskedFiles Heard T now l1 o1 w1 s1 h1 o2 l2 w2 s2 h2)
+      → ((T : Trace) → StandsFor vault.holds o1 T → vault.is_clean (vault_of o2)
+      → (turn : Works vault Asked AskedFiles Heard T now l1 o1 w1 s1 h1 o2 l2 w2 s2 h2) × (turn.seen.is_preparing ≡ p))
       → LeavesAsFound now l1 l2
-      → Maintains vault l2 o2 o3
+      → Pauses vault AskedFiles p l2 o2 s2 l3 o3 s3
       → ((U : Trace) → StandsFor vault.holds o2 U → vault.is_clean (vault_of o3) → StandsFor vault.holds o3 U)
-      → HasTurned vault Asked AskedFiles Heard Gave false (moments ++ now ∷ []) l o w s h k l2 o3 w2 s2 h2 k2
-  turned_more moments l1 o1 w1 s1 h1 k1 now l2 o2 w2 s2 h2 o3 k2 a called clean works left kept still = record {
+      → HasTurned vault Asked AskedFiles Heard Gave false (moments ++ now ∷ []) l o w s h k l3 o3 w2 s3 h2 k2
+  turned_more moments l1 o1 w1 s1 h1 k1 now l2 o2 w2 s2 h2 p l3 o3 s3 k2 a called clean works left kept still = record {
     gave = λ before g. subst (Gave k2) (one_more before moments now) (called (before ++ answers false moments) (a.gave before g));
     each = λ T stands z.
-        (let z2 = maintained_clean vault l2 o2 o3 kept z in
+        (let z2 = maintained_clean vault p kept.is_coming l3 o2 o3 kept.maintains z in
         let g = a.each T stands (clean z2) in
-        gone_more vault Asked AskedFiles Heard T moments l o w s h l1 o1 w1 s1 h1 now l2 o2 w2 s2 h2 o3 g
-        (works (trace_of T.base (g.given ++ T.log)) g.served.stands z2) left kept (λ U st. still U st z));
+        let turn = works (trace_of T.base (g.given ++ T.log)) g.served.stands z2 in
+        gone_more vault Asked AskedFiles Heard T moments l o w s h l1 o1 w1 s1 h1 now l2 o2 w2 s2 h2 l3 o3 s3 g
+        turn.0 left (subst (λ b. Pauses vault AskedFiles b l2 o2 s2 l3 o3 s3) (sym turn.1) kept) (λ U st. still U st z));
   }
 
   pub turned_stopped : (moments : List ℕ) (l1 : Links) (o1 : Office V) (w1 : W) (s1 : S) (h1 : H) (k1 k2 : C)

@@ -80,9 +80,6 @@ not_true false h = refl
 none_astray : (strayed within over : Bool) → strayed ≡ false → within ≡ true → over ≡ false → (strayed || not (within && not over)) ≡ false
 none_astray strayed within over s w o = rw (s, w, o) refl
 
-over_same : (k : ℕ) (over : ℕ → Bool) → over_at k true over k ≡ true
-over_same k over = let q = eq-eqb k k refl in rw q refl
-
 over_other : (k j : ℕ) (over : ℕ → Bool) → (j ≡ k → ⊥) → over_at k true over j ≡ over j
 over_other k j over h = let q = ne_eqb j k h in rw q refl
 

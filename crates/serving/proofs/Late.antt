@@ -130,9 +130,6 @@ late_forgotten now seconds d xs ys is = subst (AreNoMoreLate now seconds xs) (sy
 pub late_so : (now seconds : ℕ) (xs : List Newcomer) (c : ℕ) → (seconds == 0) ≡ false → is_late_by now seconds (newcomer c xs) ≡ true → is_late now seconds xs c ≡ true
 late_so now seconds xs c on h = ap (λ b. not b && is_late_by now seconds (newcomer c xs)) on ∙ h
 
-pub late_next : (now seconds seconds0 : ℕ) (xs ys zs : List Newcomer) → seconds ≡ seconds0 → AreNoMoreLate now seconds0 xs ys → AreNoMoreLate now seconds ys zs → AreNoMoreLate now seconds0 xs zs
-late_next now seconds seconds0 xs ys zs is a b = late_then now seconds0 xs ys zs a (subst (λ n. AreNoMoreLate now n ys zs) is b)
-
 -- ---- connections that went
 
 -- whoever is late was so before

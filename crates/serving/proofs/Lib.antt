@@ -31,6 +31,7 @@ pub mod Late
 pub mod Stopping
 pub mod Noting
 pub mod Going
+pub mod Awaiting
 pub mod Releasing
 pub mod Timely
 pub mod Newly

@@ -54,7 +54,7 @@ one_read s given room io octets of = record {
   written = omega arith;
 }
 
-one_look : (s : Seat) (io : Io) (octets : List ℕ) → ServesSeat s 0 0 [] (Looked Pop s.link io octets ∷ [])
+pub one_look : (s : Seat) (io : Io) (octets : List ℕ) → ServesSeat s 0 0 [] (Looked Pop s.link io octets ∷ [])
 one_look s io octets = record {
   events = All-nil (IsEventOf s.connection);
   asked = All-cons (IsCallOn s.link) (Looked Pop s.link io octets) [] refl (All-nil (IsCallOn s.link));

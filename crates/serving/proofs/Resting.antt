@@ -55,6 +55,21 @@ polled_then p q r c1 c2 a b e =
 pub polled_behind : (p q r : Bool) (c1 c2 : List Call) → (r ≡ true → q ≡ true) → PollsBy p q c2 → PollsBy p r (c1 ++ c2)
 polled_behind p q r c1 c2 h b e = polled_then p p q c1 c2 (polled_same p c1) b (h e)
 
+-- for one cause more
+pub polled_more : (p p2 q : Bool) (calls : List Call) → (p ≡ true → p2 ≡ true) → PollsBy p q calls → PollsBy p2 q calls
+polled_more p p2 q calls more a e =
+    either p (has_moved calls) (p2 || has_moved calls) (λ x. is_left p2 (has_moved calls) (more x)) (λ x. is_right p2 (has_moved calls) x) (a e)
+
+pub or_joined : (a b c : Bool) → ((a || b) || c) ≡ true → (a || (b || c)) ≡ true
+or_joined true b c h = refl
+or_joined false b c h = h
+
+pub or_both : (a b c d : Bool) → (a ≡ true → c ≡ true) → (b ≡ true → d ≡ true) → (a || b) ≡ true → (c || d) ≡ true
+or_both a b c d f g h = either a b (c || d) (λ x. is_left c d (f x)) (λ x. is_right c d (g x)) h
+
+pub or_neither : (a b : Bool) → a ≡ false → b ≡ false → (a || b) ≡ false
+or_neither a b e f = ap (λ x. x || b) e ∙ f
+
 -- ---- if logins wait for locks
 
 pub releases_then : (wait : ℕ) (p q : Bool) (c1 c2 : List Call) → (p ≡ true → q ≡ true) → PollsAfterClosing wait p c1 → PollsAfterClosing wait q c2 → PollsAfterClosing wait q (c1 ++ c2)

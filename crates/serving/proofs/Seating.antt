@@ -1,7 +1,7 @@
 -- Seats: whose connections they have, and which of these are open.
 use Rattle.std.proofs.Common.{◌≡◌, ℕ, zero, suc, ◌+◌, ◌<◌, ◌≤◌, Bool, true, false, not, ◌||◌, ◌==◌, List, [], ◌∷◌, ◌++◌, length, take, drop, get_or, refl, sym, ◌∙◌, ap, arith}
 use Rattle.std.proofs.Common.{Some, eq-eqb, ne_eqb, ⊎_elim, subst, true≢false}
-use Rattle.std.specs.List.{All, AllPairs, Contains, remove}
+use Rattle.std.specs.List.{All, Contains, remove}
 use Rattle.std.proofs.lemmas.Bool.{cases_eq}
 use Rattle.std.proofs.lemmas.List.Elements.{All-nil, All-push, All-append, All-take, All-drop, All-weaker, All-contains, All-more}
 use Rattle.std.proofs.lemmas.List.Quantifiers.{all_pairs_push, all_pairs_remove}
@@ -23,27 +23,6 @@ any_default (x ∷ xs) (suc i) c d h = any_default xs i c d (omega (arith, h))
 -- what is read at a place is there
 pub contained : (xs ys : List Seat) (i : ℕ) (d : Seat) → ys ≡ xs → i < length xs → Contains xs (get_or ys i d)
 contained xs ys i d e h = subst (λ zs. Contains xs (get_or zs i d)) (sym e) (i, h, any_default xs i (get_or xs i d) d h)
-
-read_front : (xs : List Seat) (n k : ℕ) (d : Seat) → k < length (take n xs) → get_or (take n xs) k d ≡ get_or xs k d
-read_front [] zero k d h = refl
-read_front [] (suc n) k d h = refl
-read_front (x ∷ xs) zero k d h = absurd (omega (arith, h))
-read_front (x ∷ xs) (suc n) zero d h = refl
-read_front (x ∷ xs) (suc n) (suc k) d h = read_front xs n k d (omega (arith, h))
-
-front_short : (xs : List Seat) (n k : ℕ) → k < length (take n xs) → (k < n) × (k < length xs)
-front_short [] zero k h = absurd (omega (arith, h))
-front_short [] (suc n) k h = absurd (omega (arith, h))
-front_short (x ∷ xs) zero k h = absurd (omega (arith, h))
-front_short (x ∷ xs) (suc n) zero h = (omega arith, omega arith)
-front_short (x ∷ xs) (suc n) (suc k) h = let r = front_short xs n k (omega (arith, h)) in (omega (arith, r.0), omega (arith, r.1))
-
--- those before a place have earlier connections
-pub preceded : (xs ys : List Seat) (i : ℕ) (d : Seat) → ys ≡ xs → i < length xs → AllPairs Precedes xs → All (λ s. Precedes s (get_or ys i d)) (take i xs)
-preceded xs ys i d e h a k c w =
-    let f = front_short xs i k w in
-    let first : get_or (take i xs) k c ≡ get_or xs k d = read_front xs i k c w ∙ any_default xs k c d f.1 in
-    subst (λ zs. Precedes (get_or (take i xs) k c) (get_or zs i d)) (sym e) (subst (λ s. Precedes s (get_or xs i d)) (sym first) (a k i d f.0 h))
 
 front_remains : (xs : List Seat) (i : ℕ) → take i (remove xs i) ≡ take i xs
 front_remains [] zero = refl

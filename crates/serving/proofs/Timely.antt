@@ -1,6 +1,6 @@
 -- Clients that took too long for their login are ended, and nobody is forgotten early.
 use Rattle.vault.specs.declared.vault.Vault.{Ghosts}
-use Rattle.std.proofs.Common.{◌≡◌, ℕ, ◌+◌, ◌<◌, ◌≤◌, ◌==◌, ◌&&◌, not, Bool, true, false, List, [], ◌∷◌, ◌++◌, length, take, get_or, refl, sym, ◌∙◌, ap, Some, None, Option, ⊎_elim}
+use Rattle.std.proofs.Common.{◌≡◌, ℕ, ◌+◌, ◌<◌, ◌≤◌, ◌==◌, ◌&&◌, not, Bool, true, false, List, [], ◌∷◌, ◌++◌, length, take, get_or, refl, sym, ◌∙◌, ap, Some, None, ⊎_elim}
 use Rattle.std.proofs.Common.{◌⊎◌, inl, inr, subst, true≢false, append_assoc, eqb-true}
 use Rattle.std.proofs.lemmas.Bool.{cases_Bool}
 use Rattle.std.proofs.lemmas.List.Elements.{All-nil, All-cons, All-head, All-append, All-weaker, All-more}
@@ -63,16 +63,6 @@ prompt_so now seconds xs c h = ap (λ b. not (seconds == 0) && b) h ∙ and_fals
 -- by who is noted
 late_same : (now seconds : ℕ) (xs ys : List Newcomer) (c : ℕ) → newcomer c ys ≡ newcomer c xs → is_late now seconds xs c ≡ true → is_late now seconds ys c ≡ true
 late_same now seconds xs ys c e h = ap (λ n. not (seconds == 0) && is_late_by now seconds n) e ∙ h
-
--- whoever is late is late by who was noted, if that is noted still
-pub late_kept : (now seconds : ℕ) (xs ys : List Newcomer) (c : ℕ) → ((n : Newcomer) → newcomer c xs ≡ Some n → newcomer c ys ≡ Some n)
-    → is_late now seconds xs c ≡ true → is_late now seconds ys c ≡ true
-late_kept now seconds xs ys c keeps h = by (newcomer c xs) refl where
-  by : (m : Option Newcomer) → newcomer c xs ≡ m → is_late now seconds ys c ≡ true
-  by None is =
-      let k : is_late now seconds xs c ≡ false = ap (λ n. not (seconds == 0) && is_late_by now seconds n) is ∙ and_false (not (seconds == 0)) in
-      absurd (true≢false (sym h ∙ k))
-  by (Some n) is = late_same now seconds xs ys c (keeps n is ∙ sym is) h
 
 -- who is noted stays so after others
 pub found_first : (c : ℕ) (n : Newcomer) (xs ys : List Newcomer) → newcomer c xs ≡ Some n → newcomer c (xs ++ ys) ≡ Some n

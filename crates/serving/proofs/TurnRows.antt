@@ -47,6 +47,7 @@ turn now octets ticked gone taken = record {
   serves = Read Pop ended.link 4096 End [] ∷ Wrote Pop owed.link 16384 (Count 16384) octets
       ∷ Read Pop silent.link 4096 Later [] ∷ [];
   lock_released = false;
+  is_preparing = false;
   commands = [];
   admin_serves = [];
   late = [];

@@ -23,7 +23,7 @@ use Rattle.serving.specs.Wires.{is_fault}
 use Rattle.serving.specs.Hearing.{Hearing, WithHeard}
 use Rattle.serving.proofs.Hearing.{unheard}
 use Rattle.serving.specs.Parts.{Also, WasGiven, Part, IsQuietFor}
-use Rattle.serving.specs.Works.{IsOffered, is_read_of, is_later_of, is_taking_of, most_writes, octets_taken, had_its_turn, refusals, HasCause, WasAsked, IsReadByLine, IsHeldBack}
+use Rattle.serving.specs.Works.{IsOffered, is_read_of, is_later_of, is_taking_of, most_writes, octets_taken, had_its_turn, refusals, HasCause, WasAsked, IsReadByLine}
 use Rattle.serving.specs.Works.{reads_by_line, most_at_once, IsKeptBack, StaysUnread, LiesUnread}
 use Rattle.serving.specs.Ways.{Way, HadTurn}
 use Rattle.serving.specs.ClientParts.{is_client_write, AreOffered, OwesNothing, IsWritten, IsWrittenOut, IsNotReady, IsUnread, IsReadPiece, IsReadOnce, NotReady, WasRead, HasLooked}
@@ -40,7 +40,7 @@ use Rattle.serving.proofs.Seating.{any_default, contained, whole_front}
 use Rattle.serving.specs.Newcomers.{newcomer, lies_unread}
 use Rattle.serving.specs.declared.newcomers.Newcomer.{Newcomer}
 use Rattle.serving.proofs.Working.{none_of, lies_left, lies_right, given_none, asked_then, count_joined, any_right, of_then, of_more, of_none, turn_read, turn_later, turn_full}
-use Rattle.serving.proofs.Working.{turn_shared, turn_left, turn_right, turn_polled, line_right, taken_joined, turned_right, fewer_quiet, turns_later, shut_by}
+use Rattle.serving.proofs.Working.{Turned, turn_shared, turn_left, turn_right, turn_polled, line_right, taken_joined, turned_right, fewer_quiet, turns_later, shut_by}
 
 -- ---- one call
 
@@ -54,7 +54,7 @@ or_none : (b : Bool) → b ≡ true → (b || false) ≡ true
 or_none true e = refl
 or_none false e = cc
 
-first_seat : (seat : Seat) → Contains (seat ∷ []) seat
+pub first_seat : (seat : Seat) → Contains (seat ∷ []) seat
 first_seat seat = (0, omega arith, refl)
 
 -- a connection that isn't open is owed nothing
@@ -391,10 +391,10 @@ module _ {V : Type 0} (vault : Ghosts V) where
         ⊎ (IsReadByLine c2 way.by_line seat ⊎ ((g2 ≡ []) × (IsNotReady vault.holds o1 seat.connection ⊎ IsUnread vault.holds o1 seat way.wait (way.may seat.connection) c2)))
         → HadTurn way B L (g2 ++ g1) (trace_of B ((g2 ++ g1) ++ L)) (c1 ++ c2) seat
     by B L s k (inl r) here = inl (turn_right way.share way.poll_now seat.link c1 c2 (turn_read way.share way.poll_now seat.link c2 r))
-    by B L s k (inr (inl u)) here = inr (inl (line_right way.by_line seat c1 c2 u))
+    by B L s k (inr (inl u)) here = inr (inl (inl (line_right way.by_line seat c1 c2 u)))
     by B L s k (inr (inr (none, inl idle))) here =
         inl (served_unless o o1 o2 way seat g1 c1 c2 wa wb.clean a idle B L s k (subst (λ g. is_open (trace_of B ((g ++ g1) ++ L)) seat.connection ≡ true) none here))
-    by B L s k (inr (inr (none, inr u))) here = inr (inr (unread_at B L s k u))
+    by B L s k (inr (inr (none, inr u))) here = inr (inl (inr (unread_at B L s k u)))
 
   -- more is done for the same link
   pub served_then : (o o1 o2 : Office V) (way : Way) (noted : List Newcomer) (seat : Seat) (g1 g2 : Log) (c1 c2 : List Call)
@@ -418,9 +418,10 @@ module _ {V : Type 0} (vault : Ghosts V) where
   -- served in another way: the same share, the same wait, more logins may be kept back, and the next turn doesn't wait for another cause
   pub served_so : (o o1 : Office V) (way way2 : Way) (noted : List Newcomer) (seats these : List Seat) (g : Log) (c : List Call)
       → way2.share ≡ way.share → way2.wait ≡ way.wait → (way.by_line ≡ true → way2.by_line ≡ true)
-      → All (λ q. way.may q.connection ≡ true → way2.may q.connection ≡ true) these → (way.poll_now ≡ true → way2.poll_now ≡ true)
+      → All (λ q. way.may q.connection ≡ true → way2.may q.connection ≡ true) these
+      → (way.is_preparing ≡ true → way2.is_preparing ≡ true) → (way.poll_now ≡ true → way2.poll_now ≡ true)
       → HadTurns vault.holds vault.is_clean o o1 way noted seats these g c → HadTurns vault.holds vault.is_clean o o1 way2 noted seats these g c
-  served_so o o1 way way2 noted seats these g c share wait lines may still a = record {
+  served_so o o1 way way2 noted seats these g c share wait lines may prepares still a = record {
     of_seats = a.of_seats;
     offered = a.offered;
     noted_so = λ B L s k i d within e.
@@ -440,11 +441,11 @@ module _ {V : Type 0} (vault : Ghosts V) where
     }
 
     by : (B : Records) (L : Log) (q : Seat) → (way.may q.connection ≡ true → way2.may q.connection ≡ true)
-        → (had_its_turn way.share way.poll_now q.link c ≡ true) ⊎ IsHeldBack B L g c way.wait way.by_line (way.may q.connection) q
-        → (had_its_turn way2.share way2.poll_now q.link c ≡ true) ⊎ IsHeldBack B L g c way2.wait way2.by_line (way2.may q.connection) q
+        → Turned way B L g c q → Turned way2 B L g c q
     by B L q more (inl t) = inl (subst (λ n. had_its_turn n way2.poll_now q.link c ≡ true) (sym share) (turn_polled way.share way.poll_now way2.poll_now q.link c still t))
-    by B L q more (inr (inl u)) = inr (inl (record { piece = u.piece; io = u.io; io_then = u.io_then; octets = u.octets; held = lines u.held; shown = u.shown; read = u.read }))
-    by B L q more (inr (inr u)) = inr (inr (unread_in B L q (way.may q.connection) (way2.may q.connection) more u))
+    by B L q more (inr (inl (inl u))) = inr (inl (inl (record { piece = u.piece; io = u.io; io_then = u.io_then; octets = u.octets; held = lines u.held; shown = u.shown; read = u.read })))
+    by B L q more (inr (inl (inr u))) = inr (inl (inr (unread_in B L q (way.may q.connection) (way2.may q.connection) more u)))
+    by B L q more (inr (inr (e, u))) = inr (inr (prepares e, u))
 
   pub served_among : (o o1 : Office V) (way : Way) (noted : List Newcomer) (seats : List Seat) (seat : Seat) (g : Log) (c : List Call)
       → Contains seats seat → HadTurns vault.holds vault.is_clean o o1 way noted (seat ∷ []) (seat ∷ []) g c → HadTurns vault.holds vault.is_clean o o1 way noted seats (seat ∷ []) g c

@@ -18,6 +18,7 @@ use Rattle.office.specs.Trace.{is_open, rest_if}
 use Rattle.office.specs.Expected.{or_ignored, reason_if}
 use Rattle.office.specs.Outcomes.{Outcome, Reason, NoSuchConnection, event_tag_of, HasCause as HasItsCause}
 use Rattle.office.specs.Outcomes as outcome
+use Rattle.office.specs.Quitting.{brings_quit}
 use Rattle.office.specs.Taken.{trace_of, IsAdmitted}
 use Rattle.office.specs.Stands.{StandsFor, vault_of}
 use Rattle.office.specs.declared.office.Office.{Office}
@@ -31,6 +32,7 @@ use Rattle.serving.specs.declared.links.Seat.{Seat}
 use Rattle.serving.specs.declared.newcomers.Newcomer.{Newcomer}
 use Rattle.serving.specs.Works.{is_admin, is_read_of, is_later_of, is_taking_of, is_cut_of, is_cut, most_writes, octets_taken, is_written_out, had_its_turn, openings, is_opening}
 use Rattle.serving.specs.Works.{AreNewlyAdmitted, is_failed, IsLateGone, AreLateGone, HasCause, AreCaused, WasAsked, IsKeptBack, StaysUnread, IsReadByLine, IsHeldBack, LiesUnread}
+use Rattle.serving.specs.Quits.{AwaitsQuit}
 use Rattle.serving.specs.Ways.{Way, HadTurn}
 use Rattle.serving.specs.Parts.{WasGiven, Part, Asking, Giving, IsQuiet, IsQuietFor}
 use Rattle.serving.proofs.Staying.{Fewer, fewer_framed, frame_read, frame_took, frame_gone, fewer_tick, deposit_same, fewer_command}
@@ -377,20 +379,62 @@ line_right may s c1 c2 u = record {
   read = Contains-append_right c1 c2 (Read Pop s.link (first_line u.piece) u.io_then u.octets) u.read;
 }
 
+-- ---- links that stay unread for a QUIT
+
+module _ (B : Records) (L : Log) (s : Seat) where
+  pub awaits_left : (g1 g2 : Log) (c1 c2 : List Call) → AwaitsQuit B L g1 c1 s → AwaitsQuit B L (g2 ++ g1) (c1 ++ c2) s
+  awaits_left g1 g2 c1 c2 u = record {
+    later = g2 ++ u.later;
+    own = u.own;
+    front = u.front;
+    given_are = ap (λ g. g2 ++ g) u.given_are ∙ sym (append_assoc g2 u.later (u.own ++ u.front));
+    before = u.before;
+    here = u.here;
+    after = u.after ++ c2;
+    calls_are = ap (λ c. c ++ c2) u.calls_are ∙ (append_assoc u.before (u.here ++ u.after) c2 ∙ ap (λ c. u.before ++ c) (append_assoc u.here u.after c2));
+    unread = u.unread;
+    piece = u.piece;
+    io = u.io;
+    shown = u.shown;
+    brings = u.brings;
+  }
+
+  pub awaits_right : (g1 g2 : Log) (c1 c2 : List Call) → AwaitsQuit B (g1 ++ L) g2 c2 s → AwaitsQuit B L (g2 ++ g1) (c1 ++ c2) s
+  awaits_right g1 g2 c1 c2 u = record {
+    later = u.later;
+    own = u.own;
+    front = u.front ++ g1;
+    given_are = ap (λ g. g ++ g1) u.given_are ∙ (append_assoc u.later (u.own ++ u.front) g1 ∙ ap (λ g. u.later ++ g) (append_assoc u.own u.front g1));
+    before = c1 ++ u.before;
+    here = u.here;
+    after = u.after;
+    calls_are = ap (λ c. c1 ++ c) u.calls_are ∙ sym (append_assoc c1 u.before (u.here ++ u.after));
+    unread = u.unread;
+    piece = u.piece;
+    io = u.io;
+    shown = u.shown;
+    brings = subst (λ l. brings_quit (trace_of B (u.own ++ l)) s.connection u.piece ≡ true) (sym (append_assoc u.front g1 L)) u.brings;
+  }
+
+-- a link had its turn, or stays unread for a cause
+abbrev pub Turned : Way → (B : Records) (L g : Log) → List Call → Seat → Type 0
+Turned way B L g c s = (had_its_turn way.share way.poll_now s.link c ≡ true)
+    ⊎ (IsHeldBack B L g c way.wait way.by_line (way.may s.connection) s ⊎ ((way.is_preparing ≡ true) × AwaitsQuit B L g c s))
+
 -- in a turn that goes on
 pub turned_left : (way : Way) (B : Records) (L g1 g2 : Log) (c1 c2 : List Call) (s : Seat)
-    → (had_its_turn way.share way.poll_now s.link c1 ≡ true) ⊎ IsHeldBack B L g1 c1 way.wait way.by_line (way.may s.connection) s
-    → (had_its_turn way.share way.poll_now s.link (c1 ++ c2) ≡ true) ⊎ IsHeldBack B L (g2 ++ g1) (c1 ++ c2) way.wait way.by_line (way.may s.connection) s
+    → Turned way B L g1 c1 s → Turned way B L (g2 ++ g1) (c1 ++ c2) s
 turned_left way B L g1 g2 c1 c2 s (inl t) = inl (turn_left way.share way.poll_now s.link c1 c2 t)
-turned_left way B L g1 g2 c1 c2 s (inr (inl u)) = inr (inl (line_left way.by_line s c1 c2 u))
-turned_left way B L g1 g2 c1 c2 s (inr (inr u)) = inr (inr (unread_left B L way.wait (way.may s.connection) s g1 g2 c1 c2 u))
+turned_left way B L g1 g2 c1 c2 s (inr (inl (inl u))) = inr (inl (inl (line_left way.by_line s c1 c2 u)))
+turned_left way B L g1 g2 c1 c2 s (inr (inl (inr u))) = inr (inl (inr (unread_left B L way.wait (way.may s.connection) s g1 g2 c1 c2 u)))
+turned_left way B L g1 g2 c1 c2 s (inr (inr (e, u))) = inr (inr (e, awaits_left B L s g1 g2 c1 c2 u))
 
 pub turned_right : (way : Way) (B : Records) (L g1 g2 : Log) (c1 c2 : List Call) (s : Seat)
-    → (had_its_turn way.share way.poll_now s.link c2 ≡ true) ⊎ IsHeldBack B (g1 ++ L) g2 c2 way.wait way.by_line (way.may s.connection) s
-    → (had_its_turn way.share way.poll_now s.link (c1 ++ c2) ≡ true) ⊎ IsHeldBack B L (g2 ++ g1) (c1 ++ c2) way.wait way.by_line (way.may s.connection) s
+    → Turned way B (g1 ++ L) g2 c2 s → Turned way B L (g2 ++ g1) (c1 ++ c2) s
 turned_right way B L g1 g2 c1 c2 s (inl t) = inl (turn_right way.share way.poll_now s.link c1 c2 t)
-turned_right way B L g1 g2 c1 c2 s (inr (inl u)) = inr (inl (line_right way.by_line s c1 c2 u))
-turned_right way B L g1 g2 c1 c2 s (inr (inr u)) = inr (inr (unread_right B L way.wait (way.may s.connection) s g1 g2 c1 c2 u))
+turned_right way B L g1 g2 c1 c2 s (inr (inl (inl u))) = inr (inl (inl (line_right way.by_line s c1 c2 u)))
+turned_right way B L g1 g2 c1 c2 s (inr (inl (inr u))) = inr (inl (inr (unread_right B L way.wait (way.may s.connection) s g1 g2 c1 c2 u)))
+turned_right way B L g1 g2 c1 c2 s (inr (inr (e, u))) = inr (inr (e, awaits_right B L s g1 g2 c1 c2 u))
 
 -- ---- what is open
 

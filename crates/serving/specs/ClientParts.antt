@@ -26,12 +26,14 @@ use Rattle.serving.specs.declared.guesses.Refusal.{Refusal}
 use Rattle.creds.specs.declared.login_name.LoginName.{LoginName}
 use Rattle.serving.specs.declared.pace.Pace.{Pace}
 use Rattle.office.specs.Logins.{login_brought}
+use Rattle.office.specs.Quitting.{brings_quit}
 use Rattle.serving.specs.Works.{waits, arrivals, closings, is_admin, is_read_of, is_later_of}
 use Rattle.serving.specs.Works.{is_taking_of, octets_taken, most_writes, share_by, moments}
 use Rattle.serving.specs.Works.{openings, refusals, AreCaused, IsKeptBack, reads_by_line}
 use Rattle.serving.specs.Works.{IsReadByLine, LiesUnread, Came, seat_of, unseated_of, link_of}
 use Rattle.serving.specs.Works.{HasAccepted, is_open_seat}
 use Rattle.serving.specs.InOrder.{ServesSeat, ServesInOrder}
+use Rattle.serving.specs.Quits.{AwaitsQuit, SomeAwaitsQuit}
 use Rattle.serving.specs.Ways.{Way, way_by, HadTurn}
 use Rattle.serving.specs.Works.{is_shut_seat, IsOffered}
 use Rattle.serving.specs.Parts.{IsQuietFor}
@@ -156,6 +158,16 @@ pub data HasLooked {V : Type 0} (Holds : V → Contents → Type 0) (office : Of
       → HasLooked Holds office seat pace refusals count login
       (Looked Pop seat.link (Count n) piece ∷ [])
 
+-- It was looked whether a link's next line is a QUIT that stays unread, or nothing was looked at.
+pub data HasLookedForQuit {V : Type 0} (Holds : V → Contents → Type 0) (office : Office V)
+    (seat : Seat) : (kept : Bool) → Log → List Call → Type 0 where
+  NotLooked : HasLookedForQuit Holds office seat false [] []
+  NotKept : (io : Io) (piece : List ℕ)
+      → HasLookedForQuit Holds office seat false [] (Looked Pop seat.link io piece ∷ [])
+  QuitKept : (io : Io) (piece : List ℕ)
+      → ((T : Trace) → StandsFor Holds office T → brings_quit T seat.connection piece ≡ true)
+      → HasLookedForQuit Holds office seat true [] (Looked Pop seat.link io piece ∷ [])
+
 -- A link was read from once, so many octets at most, if its connection waits for them.
 pub data IsReadOnce {V : Type 0} (Holds : V → Contents → Type 0) (office : Office V) (seat : Seat)
     (room : ℕ) : Log → List Call → Type 0 where
@@ -187,12 +199,13 @@ abbrev pub may_at : (now : ℕ) → Clients → (c : ℕ) → Bool
 may_at now links c = links.lock_released || (links.guesses.are_slow
     && nat_lt (waited_of now (newcomer c links.newcomers.newcomers.items)) most_paced)
 
-abbrev pub way_at : (now : ℕ) → Clients → (poll_now : Bool) → Way
-way_at now links poll_now = record {
+abbrev pub way_at : (now : ℕ) → Clients → (is_preparing poll_now : Bool) → Way
+way_at now links is_preparing poll_now = record {
   share = share_by (length links.seats.items);
   wait = links.wait;
   by_line = reads_by_line links.wait (may_keep links);
   may = may_at now links;
+  is_preparing = is_preparing;
   poll_now = poll_now;
 }
 
@@ -209,23 +222,29 @@ pub record HadTurns {V : Type 0} (Holds : V → Contents → Type 0) (IsClean : 
       → IsClean (vault_of office_then)
       → All (IsNotedSo noted B L given calls way.wait way.may seats) these
 
--- the link of one seat had its turn, by events and calls of its own
+-- The link of one seat had its turn, by events and calls of its own. If some link stays unread for
+-- a QUIT, one did before, or this one does.
 pub record HadOwnTurn {V : Type 0} (Holds : V → Contents → Type 0) (IsClean : V → Type 0)
-    (office office_then : Office V) (way : Way) (noted : List Newcomer) (seat : Seat) (given : Log)
-    (calls : List Call) : Type 0 where
+    (office office_then : Office V) (way : Way) (was_preparing : Bool) (noted : List Newcomer)
+    (seat : Seat) (given : Log) (calls : List Call) : Type 0 where
   pub turns : HadTurns Holds IsClean office office_then way noted (seat ∷ []) (seat ∷ []) given calls
   pub served : ServesSeat seat 1 (most_writes + most_writes) given calls
+  pub awaits : way.is_preparing ≡ true → (was_preparing ≡ true)
+      ⊎ ((B : Records) (L : Log) → StandsFor Holds office (trace_of B L)
+      → IsClean (vault_of office_then) → AwaitsQuit B L given calls seat)
 
 -- the links of these seats had their turns, by these settings, one after the other
 pub record WereServed {V : Type 0} (Holds : V → Contents → Type 0) (IsClean : V → Type 0)
     (office office_then : Office V) (set : Settings) (now : ℕ) (newcomers : List Newcomer)
-    (lock_released poll_now : Bool) (noted : List Newcomer) (seats these : List Seat) (given : Log) (calls : List Call)
-    : Type 0 where
+    (lock_released is_preparing poll_now : Bool) (noted : List Newcomer) (seats these : List Seat)
+    (given : Log) (calls : List Call) : Type 0 where
   pub turns : HadTurns Holds IsClean office office_then
-      (way_by set now newcomers seats lock_released poll_now) noted seats these given calls
+      (way_by set now newcomers seats lock_released is_preparing poll_now) noted seats these given calls
   pub in_order : (B : Records) (L : Log) → StandsFor Holds office (trace_of B L)
       → IsClean (vault_of office_then)
       → ServesInOrder set.wait B L these given calls lock_released
+  pub awaits : is_preparing ≡ true → (B : Records) (L : Log) → StandsFor Holds office (trace_of B L)
+      → IsClean (vault_of office_then) → SomeAwaitsQuit B L given calls these
 
 abbrev pub closing : Seat → Call
 closing s = Closed Pop s.link

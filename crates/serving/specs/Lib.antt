@@ -16,6 +16,7 @@ pub mod KeptBack
 pub mod Works
 pub mod Ways
 pub mod InOrder
+pub mod Quits
 pub mod Seen
 pub mod Late
 pub mod Stopping

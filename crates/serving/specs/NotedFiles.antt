@@ -49,3 +49,8 @@ tells_once calls a b h k = h ∙ sym k
 pub record WasAsked {S : Type 0} (Tells : S → List FileAct → Type 0) (Asked : S → List FileCall → Type 0) (spool spool_then : S) (call : FileCall) : Type 0 where
   pub told : (acts : List FileAct) → Tells spool acts → Tells spool_then (acts_behind call acts)
   pub called : (calls : List FileCall) → Asked spool calls → Asked spool_then (calls ++ call ∷ [])
+
+-- the spool inside tells what it told, and was asked what it was asked
+pub record StaysAsItWas {S : Type 0} (Tells : S → List FileAct → Type 0) (Asked : S → List FileCall → Type 0) (spool spool_then : S) : Type 0 where
+  pub told : (acts : List FileAct) → Tells spool acts → Tells spool_then acts
+  pub called : (calls : List FileCall) → Asked spool calls → Asked spool_then calls

@@ -1,10 +1,11 @@
 -- That a server goes on turn by turn, each from where the one before it ended.
-use Rattle.std.specs.Prelude.{◌≡◌, ◌≤◌, ℕ, Bool, true, false, List, [], ◌∷◌, ◌++◌, length, map}
-use Rattle.std.specs.Prelude.{⊤, Option, Some, None, Result, if◌then◌else◌}
+use Rattle.std.specs.Prelude.{◌≡◌, ◌≤◌, ◌⊎◌, ℕ, Bool, true, false, List, [], ◌∷◌, ◌++◌, length}
+use Rattle.std.specs.Prelude.{map, ⊤, Option, Some, None, Result, if◌then◌else◌}
 use Rattle.std.specs.List.{list_any}
 use Rattle.vault.specs.Call.{Looks}
 use Rattle.vault.specs.Calls.{has_grown}
 use Rattle.vault.specs.Changes.{Contents}
+use Rattle.vault.specs.declared.answer.Progress.{Progress}
 use Rattle.vault.specs.declared.fault.VaultFault.{VaultFault}
 use Rattle.vault.specs.declared.vault.Vault.{Ghosts}
 use Rattle.office.specs.Events.{Log, Trace}
@@ -34,20 +35,62 @@ pub record LeavesAsFound (now : ℕ) (links links_then : Links) : Type 0 where
   pub few : AreFew links → AreFew links_then
   pub ongoing : AllGoOn now links_then
 
--- After a turn: if the next one waits, the store did nothing but look, whatever it answered; else
--- nothing was done. That the store was asked to do what it has put off is seen in no value: the
--- tests of `maintenance.rt` (turn_tests) count the calls.
-pub data Maintains {V : Type 0} (vault : Ghosts V) (links : Links)
+-- The links after such a pause: if a large file is read or prepared, the next turn doesn't wait.
+abbrev pub polled : (is_coming : Bool) → Links → Links
+polled is_coming links = record {
+  clients = record {
+    seats = links.clients.seats;
+    poll_now = if is_coming then true else links.clients.poll_now;
+    last = links.clients.last;
+    wait = links.clients.wait;
+    lock_released = links.clients.lock_released;
+    newcomers = links.clients.newcomers;
+    guesses = links.clients.guesses;
+  };
+  requests = links.requests;
+  site = links.site;
+}
+
+-- After a turn: if the next one waits, or a QUIT stays unread, or a large file is read or prepared,
+-- the store did nothing but look, whatever it answered; else nothing was done. That the store was
+-- asked to do what it has put off, or to prepare what the QUIT removes, or the file's deposit, is
+-- seen in no value: the tests of `maintenance.rt`, `long_quits.rt` and `large_files.rt` (turn_tests)
+-- count the calls.
+pub data Maintains {V : Type 0} (vault : Ghosts V) (is_preparing is_coming : Bool) (links : Links)
     (office office_then : Office V) : Type 0 where
   Maintained : (answer : Result ⊤ VaultFault) → millis_of links ≡ 1000
       → Looks vault.holds vault.faults vault.is_clean vault.is_up vault.may_leave
       (vault_of office) (vault_of office_then) answer
-      → Maintains vault links office office_then
+      → Maintains vault is_preparing is_coming links office office_then
+  Prepared : (answer : Result Progress VaultFault)
+      → (is_preparing ≡ true) ⊎ (is_coming ≡ true)
+      → Looks vault.holds vault.faults vault.is_clean vault.is_up vault.may_leave
+      (vault_of office) (vault_of office_then) answer
+      → Maintains vault is_preparing is_coming links office office_then
   Deferred : millis_of links ≡ 0 → office_then ≡ office
-      → Maintains vault links office office_then
+      → Maintains vault is_preparing is_coming links office office_then
+
+-- A part of the deposit of the large file that is coming, if one is, was prepared, or none was.
+pub data PreparesFile {V : Type 0} (vault : Ghosts V) (is_coming : Bool)
+    (office office_then : Office V) : Type 0 where
+  FilePrepared : (answer : Result Progress VaultFault) → is_coming ≡ true
+      → Looks vault.holds vault.faults vault.is_clean vault.is_up vault.may_leave
+      (vault_of office) (vault_of office_then) answer
+      → PreparesFile vault is_coming office office_then
+  NotPrepared : office_then ≡ office → PreparesFile vault is_coming office office_then
+
+-- The pause after a turn. Of the links only that the next turn doesn't wait may change, and of the
+-- spool nothing that was asked; the store is maintained.
+pub record Pauses {V S : Type 0} (vault : Ghosts V) (AskedFiles : S → List FileCall → Type 0)
+    (is_preparing : Bool) (links : Links) (office : Office V) (spool : S)
+    (links_then : Links) (office_then : Office V) (spool_then : S) : Type 0 where
+  pub is_coming : Bool
+  pub links_are : links_then ≡ polled is_coming links
+  pub asked_files : (calls : List FileCall) → AskedFiles spool calls → AskedFiles spool_then calls
+  pub maintains : Maintains vault is_preparing is_coming links_then office office_then
 
 -- The turns of these moments were done, the oldest first, and gave these events: each turn works,
--- from the trace with the events of those before it; and after each the store is maintained.
+-- from the trace with the events of those before it; and after each there is a pause.
 pub data AreTurns {V W S H : Type 0} (vault : Ghosts V)
     (Asked : W → List Call → Type 0) (AskedFiles : S → List FileCall → Type 0)
     (Heard : H → List Hearing → Type 0) (T : Trace)
@@ -57,15 +100,15 @@ pub data AreTurns {V W S H : Type 0} (vault : Ghosts V)
       [] [] links office wire spool listener
   OneMore : (moments : List ℕ) (given : Log) (links1 : Links) (office1 : Office V) (wire1 : W)
       (spool1 : S) (listener1 : H) (now : ℕ) (links2 : Links) (office2 : Office V) (wire2 : W)
-      (spool2 : S) (listener2 : H) (office3 : Office V)
+      (spool2 : S) (listener2 : H) (links3 : Links) (office3 : Office V) (spool3 : S)
       → AreTurns vault Asked AskedFiles Heard T links office wire spool listener
       moments given links1 office1 wire1 spool1 listener1
       → (turn : Works vault Asked AskedFiles Heard (trace_of T.base (given ++ T.log)) now
       links1 office1 wire1 spool1 listener1 office2 links2 wire2 spool2 listener2)
       → LeavesAsFound now links1 links2
-      → Maintains vault links2 office2 office3
+      → Pauses vault AskedFiles turn.seen.is_preparing links2 office2 spool2 links3 office3 spool3
       → AreTurns vault Asked AskedFiles Heard T links office wire spool listener
-      (moments ++ now ∷ []) (given_in turn.seen ++ given) links2 office3 wire2 spool2 listener2
+      (moments ++ now ∷ []) (given_in turn.seen ++ given) links3 office3 wire2 spool3 listener2
 
 -- What came of an office that was given these events since a trace: it stands for that trace with
 -- them.

@@ -26,10 +26,12 @@ pub record Seen : Type 0 where
   pub seats : List Seat
   pub admin_accepts : List Call
   pub held : List Exchange
-  -- 4. as clients' links are served, and whether a client's session ended meanwhile
+  -- 4. as clients' links are served, and whether a client's session ended meanwhile, and whether a
+  -- link stays unread for a QUIT that the store prepares
   pub served : Log
   pub serves : List Call
   pub lock_released : Bool
+  pub is_preparing : Bool
   -- 5. as the administration's links are served, as late clients are ended, and as links are closed
   pub commands : Log
   pub admin_serves : List Call

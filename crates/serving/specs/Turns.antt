@@ -1,7 +1,8 @@
 -- What one turn of the loop does: a record for each numbered sentence of docs/ARCHITECTURE.md, "One
 -- turn of the loop", in its order, and `Works`, which has them all. What is seen of a turn is in
 -- specs/Seen; proofs/TurnRows works one turn out.
-use Rattle.std.specs.Prelude.{◌≡◌, ◌⊎◌, ◌≤◌, ℕ, Bool, true, false, ◌==◌, ◌||◌, List, [], ◌∷◌, ◌++◌}
+use Rattle.std.specs.Prelude.{◌≡◌, ◌⊎◌, ◌≤◌, ℕ, Bool, true, false, ◌==◌, ◌||◌, List, [], ◌∷◌}
+use Rattle.std.specs.Prelude.{◌++◌}
 use Rattle.std.specs.Prelude.{length, map, filter, filter_map, Some, if◌then◌else◌}
 use Rattle.std.specs.List.{All, list_all, list_any}
 use Rattle.vault.specs.Calls.{has_grown}
@@ -22,6 +23,7 @@ use Rattle.serving.specs.InOrder.{ServesInOrder}
 use Rattle.serving.specs.KeptBack.{reads_by_line, IsHeldBack}
 use Rattle.serving.specs.Late.{noted_by, LoggedIn, IsInTime, IsNotedSince, IsCountedOn}
 use Rattle.serving.specs.Newcomers.{newcomer, limit, AllHaveSeats, IsSettled}
+use Rattle.serving.specs.Quits.{AwaitsQuit, SomeAwaitsQuit}
 use Rattle.serving.specs.Seen.{Seen, before_commands, before_deposits, given_in, calls_in}
 use Rattle.serving.specs.Seen.{trace_after, may_keep}
 use Rattle.serving.specs.Settings.{settings, last_tried}
@@ -67,25 +69,29 @@ module _ (T : Trace) (now : ℕ) (links links_then : Links) (t : Seen) where
 
   -- The wire was asked to read from a link (which may give nothing), or a write on it took no more
   -- for now, or it took its share or 64 writes (then the next turn doesn't wait); or it is kept
-  -- back for a cause (specs/KeptBack). So it is if its connection is open as the turn ends.
+  -- back for a cause (specs/KeptBack), or for a QUIT that the store prepares (specs/Quits). So it
+  -- is if its connection is open as the turn ends.
   abbrev pub HadItsTurn : Seat → Type 0
   HadItsTurn s = is_open (trace_after T t) s.connection ≡ true
       → (had_its_turn (share_by (length t.seats)) (millis_of links_then == 0) s.link (calls_in t)
       ≡ true)
-      ⊎ IsHeldBack T.base T.log (given_in t) (calls_in t) links.clients.wait
+      ⊎ (IsHeldBack T.base T.log (given_in t) (calls_in t) links.clients.wait
       (reads_by_line links.clients.wait ((settings links).slow_guesses || t.lock_released))
       (may_keep now links t s.connection) s
+      ⊎ ((t.is_preparing ≡ true) × AwaitsQuit T.base T.log (given_in t) (calls_in t) s))
 
   -- 4. It serves each client's link, in the order of the seats. Each write is offered all that its
   -- connection is owed, or the first 16,384 octets of it. Exactly if logins wait for locks and a
-  -- session ended as its link was served, `lock_released`, and further logins are kept back. A
-  -- connection is Gone only if its link broke or ended (that it is Gone then: `over` of
-  -- specs/Served).
+  -- session ended as its link was served, `lock_released`, and further logins are kept back. If
+  -- `is_preparing`, some client's link stays unread for its QUIT. A connection is Gone only if its
+  -- link broke or ended (that it is Gone then: `over` of specs/Served).
   pub record ServesClients : Type 0 where
     pub turns : All HadItsTurn t.seats
     pub offered : All (IsOffered T.base T.log (given_in t) t.seats) (calls_in t)
     pub in_order : ServesInOrder links.clients.wait T.base ((t.connects ++ t.tick) ++ T.log)
         t.seats t.served t.serves t.lock_released
+    pub awaits : t.is_preparing ≡ true
+        → SomeAwaitsQuit T.base T.log (given_in t) (calls_in t) t.seats
     pub caused : AreCaused t.seats (calls_in t) (t.commands ++ (t.served ++ t.connects))
 
   -- 5. It serves each link of the administration, one after the other, and makes no other call on
@@ -126,17 +132,18 @@ module _ (T : Trace) (now : ℕ) (links links_then : Links) (t : Seen) where
     pub tries : IsSpoolTurn (last_tried links) (last_tried links_then)
         (trace_of T.base (before_deposits t ++ T.log)) t.deposits t.file_calls
 
-  -- The next turn doesn't wait after a file that was removed or renamed; nor if `lock_released`;
-  -- nor, if logins wait for locks, if a link was closed; nor after a whole share (4). It waits a
-  -- second at most if nothing moved, no lock was released and no file was removed or renamed.
-  -- Otherwise either is allowed.
+  -- The next turn doesn't wait after a file that was removed or renamed; nor if `lock_released` or
+  -- `is_preparing`; nor, if logins wait for locks, if a link was closed; nor after a whole share
+  -- (4). It waits a second at most if nothing moved, no lock was released, no QUIT is prepared and
+  -- no file was removed or renamed. Otherwise either is allowed.
   pub record NextWaits : Type 0 where
     pub dealt : has_dealt t.file_calls ≡ true → millis_of links_then ≡ 0
     pub after_release : t.lock_released ≡ true → millis_of links_then ≡ 0
+    pub while_preparing : t.is_preparing ≡ true → millis_of links_then ≡ 0
     pub after_closing : (links.clients.wait == 0) ≡ false
         → list_any (is_shut_seat (trace_after T t)) t.seats ≡ true → millis_of links_then ≡ 0
     pub rests : has_moved (calls_in t) ≡ false → t.lock_released ≡ false
-        → has_dealt t.file_calls ≡ false → millis_of links_then ≡ 1000
+        → t.is_preparing ≡ false → has_dealt t.file_calls ≡ false → millis_of links_then ≡ 1000
 
 -- So it is of an office, a wire, a spool and a listener, since each trace: the office stands for
 -- that trace with the turn's events, each of which has a tag that it may have; the store's count of

@@ -6,12 +6,15 @@ ghost use Rattle.office.specs.Events.{Trace};
 ghost use Rattle.office.specs.Trace.{history};
 ghost use Rattle.office.specs.Sessions.{live};
 ghost use Rattle.office.specs.Stands.{StandsFor};
+ghost use Rattle.office.specs.Quitting.{brings_quit};
 ghost use Rattle.serving.specs.Newcomers.{newcomer, lies_unread, AreSettled, Settles};
 ghost use Rattle.serving.specs.Paces.{releases_lock};
 ghost use Rattle.serving.specs.Parts.{Does, KeepsServing, KeepsServingOne, Also, PollsBy};
 ghost use Rattle.serving.specs.Parts.{KeepsSeats, ReleasesMore, ReleasesLock};
+ghost use Rattle.serving.specs.Quits.{PreparesMore};
 ghost use Rattle.serving.specs.Settings.{settings_of};
 ghost use Rattle.serving.specs.ClientParts.{IsWritten, IsWrittenOut, IsReadOnce, IsReadPiece};
+ghost use Rattle.serving.specs.ClientParts.{HasLookedForQuit};
 ghost use Rattle.serving.specs.ClientParts.{HadOwnTurn, WereServed, may_keep, may_at, way_at};
 ghost use Rattle.serving.specs.Works.{share_by, reads_by_line};
 ghost use Rattle.arrayvec.specs.ArrayVec.{array_vec_len};
@@ -19,6 +22,7 @@ ghost use Rattle.arrayvec.specs.ArrayVec.{array_vec_len};
 use crate::links::{Clients, MOST_AT_ONCE, MOST_WRITES, Seat};
 use crate::listener::{LinkEvent, Listener};
 use crate::pace::{next_part, note_guess, pace_at};
+use crate::quits::Quits;
 use crate::server::Server;
 use crate::wire::{Io, Port, Wire};
 use office::{Event, Office};
@@ -69,6 +73,19 @@ fn note_release<V: Vault>(
     }
     clients.lock_released = true;
     clients.poll_now = true;
+}
+
+/// Whether octets may come on a connection, and a QUIT there may remove many messages.
+fn may_quit_long<V: Vault>(office: &Office<V>, connection: u64) -> bool {
+    office.ready(connection) && office.sees_many(connection)
+}
+
+/// Whether a piece brings a QUIT that removes many messages.
+fn is_long_quit<V: Vault>(office: &Office<V>, connection: u64, piece: &[u8]) -> bool
+    ensures { (T : Trace) → StandsFor V.holds office.now T → result ≡ true
+        → brings_quit T connection piece.now ≡ true }
+{
+    office.brings_quit(connection, piece) && office.marks_many(connection)
 }
 
 impl<V: Vault, W: Wire, L: Listener> Server<V, W, L> {
@@ -155,6 +172,33 @@ impl<V: Vault, W: Wire, L: Listener> Server<V, W, L> {
         }
     }
 
+    /// Looks whether a link's next line is a long QUIT that stays unread, while the store prepares
+    /// what it removes. Returns whether it stays unread.
+    fn keeps_quit(&mut self, quits: &mut Quits, seat: Seat) -> bool
+        ensures serves { KeepsServingOne V.Vault W.Wire seat self.old self.new }
+        ensures kept { result ≡ true → quits.new.is_preparing ≡ true }
+        ensures prepares { PreparesMore quits.old.is_preparing quits.new.is_preparing result }
+        ensures works { Does V.Vault W.Wire L.Listener self.old self.new
+            (HasLookedForQuit V.holds self.old.office seat result) }
+    {
+        if !quits.may_keep() {
+            return false;
+        }
+        if !may_quit_long(&self.office, seat.connection) {
+            return false;
+        }
+        let mut room = [0; MOST_AT_ONCE];
+        match self.wire.look(Port::Pop, seat.link, &mut room) {
+            Io::Count(count) => {
+                if !is_long_quit(&self.office, seat.connection, &room[..count]) {
+                    return false;
+                }
+                quits.keep(seat.connection)
+            }
+            _ => false,
+        }
+    }
+
     /// Reads a piece from a link, if its connection is ready, unless its next line is a login that
     /// is kept back; notes whether it is. Returns whether octets came. After a line that was read
     /// by itself the next turn doesn't wait.
@@ -202,20 +246,28 @@ impl<V: Vault, W: Wire, L: Listener> Server<V, W, L> {
     }
 
     /// Writes what the connection is owed until its share is reached. If nothing is owed any more,
-    /// reads once and writes what that gave. Returns whether more can be written at once.
-    fn serve_link(&mut self, clients: &mut Clients, seat: Seat, now: u64) -> bool
+    /// reads once, unless a long QUIT stays unread, and writes what that gave. Returns whether more
+    /// can be done at once.
+    fn serve_link(&mut self, clients: &mut Clients, quits: &mut Quits, seat: Seat, now: u64) -> bool
         ensures serves { KeepsServingOne V.Vault W.Wire seat self.old self.new }
         ensures keeps { KeepsSeats clients.old clients.new }
         ensures lock_released { clients.new.lock_released ≡ clients.old.lock_released }
         ensures settles { Settles now seat.connection clients.old clients.new }
         ensures works { Does V.Vault W.Wire L.Listener self.old self.new
             (Also (HadOwnTurn V.holds V.is_clean self.old.office self.new.office
-            (way_at now clients.old (clients.new.poll_now || result))
-            clients.new.newcomers.newcomers.items seat)
-            (PollsBy clients.old.poll_now (clients.new.poll_now || result))) }
+            (way_at now clients.old quits.new.is_preparing (clients.new.poll_now || result))
+            quits.old.is_preparing clients.new.newcomers.newcomers.items seat)
+            (PollsBy (clients.old.poll_now || quits.new.is_preparing)
+            (clients.new.poll_now || result))) }
+        ensures prepares { PreparesMore quits.old.is_preparing quits.new.is_preparing
+            (clients.new.poll_now || result) }
     {
         let share = share_of(clients);
         if self.write_owed(seat, share) {
+            clients.newcomers.settle(seat.connection, false, now);
+            return true;
+        }
+        if self.keeps_quit(quits, seat) {
             clients.newcomers.settle(seat.connection, false, now);
             return true;
         }
@@ -226,7 +278,7 @@ impl<V: Vault, W: Wire, L: Listener> Server<V, W, L> {
     }
 
     /// Serves a client's link, and notes whether its session ended.
-    fn serve_client(&mut self, clients: &mut Clients, seat: Seat, now: u64)
+    fn serve_client(&mut self, clients: &mut Clients, quits: &mut Quits, seat: Seat, now: u64)
         ensures serves { KeepsServingOne V.Vault W.Wire seat self.old self.new }
         ensures keeps { KeepsSeats clients.old clients.new }
         ensures releases { ReleasesLock V.holds self.old.office self.new.office
@@ -234,36 +286,42 @@ impl<V: Vault, W: Wire, L: Listener> Server<V, W, L> {
         ensures settles { Settles now seat.connection clients.old clients.new }
         ensures works { Does V.Vault W.Wire L.Listener self.old self.new
             (Also (HadOwnTurn V.holds V.is_clean self.old.office self.new.office
-            (way_at now clients.old clients.new.poll_now) clients.new.newcomers.newcomers.items
-            seat)
-            (PollsBy (clients.old.poll_now || clients.new.lock_released) clients.new.poll_now)) }
+            (way_at now clients.old quits.new.is_preparing clients.new.poll_now)
+            quits.old.is_preparing clients.new.newcomers.newcomers.items seat)
+            (PollsBy (clients.old.poll_now || (quits.new.is_preparing
+            || clients.new.lock_released)) clients.new.poll_now)) }
+        ensures prepares { PreparesMore quits.old.is_preparing quits.new.is_preparing
+            clients.new.poll_now }
     {
         let was_logged_in = self.office.is_logged_in(seat.connection);
-        let more = self.serve_link(clients, seat, now);
+        let more = self.serve_link(clients, quits, seat, now);
         clients.poll_now |= more;
         note_release(&self.office, clients, seat.connection, was_logged_in);
     }
 
     /// Serves each link, by ascending number of the connections.
-    pub(crate) fn serve_links(&mut self, clients: &mut Clients, now: u64)
+    pub(crate) fn serve_links(&mut self, clients: &mut Clients, quits: &mut Quits, now: u64)
         ensures serves { KeepsServing V.Vault W.Wire self.old self.new
             clients.old.seats.items [] clients.new.seats.items [] }
         ensures keeps { KeepsSeats clients.old clients.new }
         ensures settled { AreSettled now clients.old.newcomers.newcomers.items
             clients.new.newcomers.newcomers.items }
         ensures releases { clients.new.lock_released ≡ true → clients.new.poll_now ≡ true }
+        ensures prepares { quits.new.is_preparing ≡ true → clients.new.poll_now ≡ true }
         ensures works { Does V.Vault W.Wire L.Listener self.old self.new
             (Also (WereServed V.holds V.is_clean self.old.office self.new.office
             (settings_of clients.old) now clients.old.newcomers.newcomers.items
-            clients.new.lock_released clients.new.poll_now clients.new.newcomers.newcomers.items
-            clients.old.seats.items clients.old.seats.items)
-            (PollsBy (clients.old.poll_now || clients.new.lock_released) clients.new.poll_now)) }
+            clients.new.lock_released quits.new.is_preparing clients.new.poll_now
+            clients.new.newcomers.newcomers.items clients.old.seats.items clients.old.seats.items)
+            (PollsBy (clients.old.poll_now || (quits.new.is_preparing
+            || clients.new.lock_released)) clients.new.poll_now)) }
     {
         clients.lock_released = false;
+        quits.begin_turn();
         let mut place = 0;
         while place < clients.seats.len() {
             let seat = clients.seats[place];
-            self.serve_client(clients, seat, now);
+            self.serve_client(clients, quits, seat, now);
             place += 1;
         }
     }

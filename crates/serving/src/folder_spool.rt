@@ -3,8 +3,9 @@ ghost use Rattle.std.specs.Prelude.{IsTrue};
 ghost use Rattle.std.specs.Fs.{IsFile, file_type};
 
 use crate::file_name::FileName;
+use crate::large_file::LargeFile;
 use crate::next_name::NextName;
-use crate::spool::{MOST_OCTETS, Spool};
+use crate::spool::{Coming, MOST_OCTETS, Spool};
 use std::alloc::{AllocError, Global};
 use std::fs;
 use std::fs::{Metadata, OpenFile};
@@ -22,6 +23,11 @@ use std::time::{Clock, Duration, SystemTime};
 ///
 /// A file is renamed by `.bad` after its name, and if that file is there by `.bad.2` and so on,
 /// so that none takes another's place. After `.bad.100` it isn't renamed.
+///
+/// A file of more than 262,144 octets is read in pieces, and is coming meanwhile, for 1,000 pauses
+/// at most. No other file is named until it was tried: the turns don't wait meanwhile, and a file
+/// that can only be left is tried once a second. Before its text is given, what was opened is
+/// compared once more with what stands at the name. If it was changed, it is read at once.
 #[derive(Drop)]
 pub struct FolderSpool<'a, R: Files> {
     rt: &'a R,
@@ -30,6 +36,13 @@ pub struct FolderSpool<'a, R: Files> {
     /// When the folder was changed last, if the last pass over it found nothing to try and any
     /// later change shows.
     bare: Option<SystemTime>,
+    /// The large file that is coming, or was prepared.
+    large: Option<LargeFile<R::File>>,
+    /// It was told to read on before: there are pauses between turns.
+    has_pauses: bool,
+    /// The file that is read at once when it is tried next, though it may be large: it couldn't be
+    /// prepared.
+    at_once: Option<FileName>,
 }
 
 /// A file system tells the moment of a folder's last change to two seconds or better, so a change
@@ -60,6 +73,9 @@ impl<'a, R: Files + Clock + AllocGlobal + Clone + Drop> FolderSpool<'a, R> {
             alloc,
             folder,
             bare: None,
+            large: None,
+            has_pauses: false,
+            at_once: None,
         }
     }
 
@@ -143,10 +159,37 @@ impl<'a, R: Files + Clock + AllocGlobal + Clone + Drop> FolderSpool<'a, R> {
         None
     }
 
-    /// Reads a file of the folder's own; `None` if it is none, can't be read, or memory is
-    /// short.
-    fn read_file(&self, path: &str) -> Option<Vec<u8>> {
-        let file = self.open_own(path)?;
+    /// Whether this is the large file.
+    fn is_large(&self, name: &FileName) -> bool {
+        match &self.large {
+            Some(large) => large.name() == *name,
+            None => false,
+        }
+    }
+
+    /// Takes the text of the large file that was prepared; `None` if it was changed meanwhile, or
+    /// another one stands at its path.
+    fn take_large(&mut self, path: &str) -> Option<Vec<u8>> {
+        let large = self.large.take()?;
+        let opened = large.unchanged()?;
+        let named = fs::symlink_metadata(self.rt, path).ok()?;
+        if !is_own(&opened, &named) {
+            return None;
+        }
+        Some(large.into_text())
+    }
+
+    /// Whether a file may be read in pieces: not if nobody has it read on.
+    fn may_begin(&mut self, name: &FileName) -> bool {
+        if self.at_once == Some(*name) {
+            self.at_once = None;
+            return false;
+        }
+        self.has_pauses && self.large.is_none()
+    }
+
+    /// Reads an open file; `None` if it can't be read, or memory is short.
+    fn read_file(&self, file: R::File) -> Option<Vec<u8>> {
         let mut text = Vec::new(self.alloc);
         file.take(MOST_OCTETS as u64).read_to_end(&mut text).ok()?;
         Some(text)
@@ -161,6 +204,9 @@ impl<R: Files + Clock + AllocGlobal + Clone + Drop> Spool for FolderSpool<'_, R>
     ghost tells_once = { λ spool a b h k. absurd h };
 
     fn next_name(&mut self, last: &Option<FileName>) -> Option<FileName> {
+        if let Some(large) = &self.large {
+            return Some(large.name());
+        }
         let changed = self.changed()?;
         if self.bare == Some(changed) {
             return None;
@@ -179,7 +225,26 @@ impl<R: Files + Clock + AllocGlobal + Clone + Drop> Spool for FolderSpool<'_, R>
 
     fn read(&mut self, name: &FileName) -> Option<Vec<u8>> {
         let path = self.path(name, "").ok()?;
-        self.read_file(path.as_str())
+        if self.is_large(name) {
+            if self.coming().is_some() {
+                return None;
+            }
+            if let Some(text) = self.take_large(path.as_str()) {
+                return Some(text);
+            }
+            return self.read_file(self.open_own(path.as_str())?);
+        }
+        let file = self.open_own(path.as_str())?;
+        if !self.may_begin(name) {
+            return self.read_file(file);
+        }
+        match LargeFile::begin(self.alloc, name, file) {
+            Ok(large) => {
+                self.large = Some(large);
+                None
+            }
+            Err(file) => self.read_file(file),
+        }
     }
 
     fn remove(&mut self, name: &FileName) -> bool {
@@ -196,6 +261,31 @@ impl<R: Files + Clock + AllocGlobal + Clone + Drop> Spool for FolderSpool<'_, R>
         match self.free_path(name) {
             Some(to) => fs::rename(self.rt, from.as_str(), to.as_str()).is_ok(),
             None => false,
+        }
+    }
+
+    fn coming(&self) -> Option<&Coming> {
+        match &self.large {
+            Some(large) => large.coming(),
+            None => None,
+        }
+    }
+
+    fn read_on(&mut self) {
+        self.has_pauses = true;
+        let Some(large) = &mut self.large else {
+            return;
+        };
+        if large.read_on() {
+            return;
+        }
+        self.at_once = Some(large.name());
+        self.large = None;
+    }
+
+    fn note_prepared(&mut self) {
+        if let Some(large) = &mut self.large {
+            large.note_prepared();
         }
     }
 }

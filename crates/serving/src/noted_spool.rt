@@ -3,11 +3,11 @@ ghost use Rattle.std.specs.Prelude.{◌≡◌, List, [], ◌∷◌, ◌++◌, Ma
 ghost use Rattle.std.specs.Prelude.{if◌then◌else◌};
 ghost use Rattle.serving.specs.Spools.{FileAct, WasRead, WasRemoved, WasRenamed, FileCall};
 ghost use Rattle.serving.specs.Spools as call;
-ghost use Rattle.serving.specs.NotedFiles.{acts_of, call_of, tells_once, WasAsked};
+ghost use Rattle.serving.specs.NotedFiles.{acts_of, call_of, tells_once, WasAsked, StaysAsItWas};
 
 use crate::file_name::FileName;
 use crate::file_notes::{FileAsked, FileNotes};
-use crate::spool::Spool;
+use crate::spool::{Coming, Spool};
 
 /// A spool that does what the one inside does, and notes it.
 ///
@@ -119,5 +119,29 @@ impl<S: Spool> Spool for NotedSpool<S> {
         let is_done = self.spool.rename(name);
         self.notes.note(&FileAsked::Rename(*name, is_done), &[]);
         is_done
+    }
+
+    fn coming(&self) -> Option<&Coming> {
+        self.spool.coming()
+    }
+
+    fn read_on(&mut self)
+        ensures told { (a : List FileAct) → a ≡ acts_of self.old.notes.calls
+            → a ≡ acts_of self.new.notes.calls }
+        ensures called { (a : List FileCall) → a ≡ self.old.notes.calls
+            → a ≡ self.new.notes.calls }
+        ensures inside { StaysAsItWas S.tells S.asked self.old.spool self.new.spool }
+    {
+        self.spool.read_on();
+    }
+
+    fn note_prepared(&mut self)
+        ensures told { (a : List FileAct) → a ≡ acts_of self.old.notes.calls
+            → a ≡ acts_of self.new.notes.calls }
+        ensures called { (a : List FileCall) → a ≡ self.old.notes.calls
+            → a ≡ self.new.notes.calls }
+        ensures inside { StaysAsItWas S.tells S.asked self.old.spool self.new.spool }
+    {
+        self.spool.note_prepared();
     }
 }

@@ -8,15 +8,18 @@ ghost use Rattle.serving.specs.HttpTurns.{AreFew};
 ghost use Rattle.serving.specs.HttpWorks.{AreShort};
 ghost use Rattle.serving.specs.Newcomers.{AllHaveSeats};
 ghost use Rattle.serving.specs.Guesses.{AllArePacing};
-ghost use Rattle.serving.specs.Running.{HasRun, Maintains};
+ghost use Rattle.serving.specs.Running.{HasRun, PreparesFile, Pauses};
+ghost use Rattle.serving.specs.Spools.{FileAct};
+ghost use Rattle.serving.specs.NotedFiles.{StaysAsItWas};
 
 use crate::links::Links;
 use crate::listener::Listener;
+use crate::quits::Quits;
 use crate::server::Server;
 use crate::spool::Spool;
 use crate::turn::millis_for;
 use crate::wire::Wire;
-use vault::Vault;
+use vault::{Progress, Vault};
 
 /// Gives a server the moment of each turn, once the turn has waited, and tells it when to stop.
 ///
@@ -33,15 +36,58 @@ pub trait Clock {
             → gave self.new (a ++ result ∷ []) };
 }
 
+/// The line of a QUIT, as it ends a session.
+const QUIT_LINE: &[u8] = b"QUIT\r\n";
+
 impl<V: Vault, W: Wire, L: Listener> Server<V, W, L> {
-    /// Has the store do what it has put off, if the next turn waits.
-    fn maintain_if_idle(&mut self, links: &Links)
-        ensures maintains { Maintains V.Vault links.now self.old.office self.new.office }
+    /// Has the spool read on in the large file that is coming, if one is; and once all of it was
+    /// read, the store prepare a part of its deposit. Returns whether there is such a file.
+    fn prepare_file<S: Spool>(&mut self, spool: &mut S) -> bool
+        ensures prepares { PreparesFile V.Vault result self.old.office self.new.office }
         ensures stands { OfEachTrace V.Vault self.old.office self.new.office (λ T.
             StandsFor V.holds self.new.office T) }
+        ensures spool { StaysAsItWas S.tells S.asked spool.old spool.new }
         ensures wire { self.new.wire ≡ self.old.wire }
         ensures listener { self.new.listener ≡ self.old.listener }
     {
+        spool.read_on();
+        let Some(coming) = spool.coming() else {
+            return false;
+        };
+        let Some(text) = &coming.text else {
+            return true;
+        };
+        let name = &coming.name;
+        let prepared = self
+            .office
+            .prepare_deposit(&name.maildrop, &name.class, &name.id, text);
+        if prepared != Ok(Progress::More) {
+            spool.note_prepared();
+        }
+        true
+    }
+
+    /// The pause after a turn. Has the store prepare a part of what a QUIT removes, if one stays
+    /// unread; otherwise a part of the deposit of a large file, if one is coming, and then the next
+    /// turn doesn't wait; otherwise do what it has put off, if the next turn waits.
+    fn use_pause<S: Spool>(&mut self, links: &mut Links, spool: &mut S, quits: &mut Quits)
+        ensures pauses { Pauses V.Vault S.asked quits.old.is_preparing
+            links.old self.old.office spool.old links.new self.new.office spool.new }
+        ensures stands { OfEachTrace V.Vault self.old.office self.new.office (λ T.
+            StandsFor V.holds self.new.office T) }
+        ensures told { (a : List FileAct) → S.tells spool.old a → S.tells spool.new a }
+        ensures wire { self.new.wire ≡ self.old.wire }
+        ensures listener { self.new.listener ≡ self.old.listener }
+    {
+        if let Some(connection) = quits.next() {
+            let prepared = self.office.prepare_quit(connection, QUIT_LINE);
+            quits.note_progress(matches!(prepared, Ok(Progress::More)));
+            return;
+        }
+        if self.prepare_file(spool) {
+            links.clients.poll_now = true;
+            return;
+        }
         if links.poll_now() {
             return;
         }
@@ -51,7 +97,10 @@ impl<V: Vault, W: Wire, L: Listener> Server<V, W, L> {
     /// Does one turn after the other, until so many were done. Each waits, and then asks the clock
     /// for its moment. If the clock gives none it ends there: it accepts, reads and writes nothing
     /// more, and the office is told nothing. After a turn that has nothing more to do, the store
-    /// does what it has put off.
+    /// does what it has put off. A QUIT that removes many messages stays unread at first: before
+    /// each further turn the store prepares a part of what it removes, while the turns serve
+    /// others. The QUIT is read once no more can be prepared, or the store refuses. So it is with a
+    /// large file of the spool, which is also read in pieces.
     ///
     /// What held before the first turn holds before each: the settings and the site are the same,
     /// all who haven't logged in have seats, and a refusal keeps a login back for 1 to 15 seconds.
@@ -84,13 +133,14 @@ impl<V: Vault, W: Wire, L: Listener> Server<V, W, L> {
         ensures settings { settings links.new ≡ settings links.old }
         ensures site { links.new.site ≡ links.old.site }
     {
+        let mut quits = Quits::new();
         for _turn in 0..most {
             self.wire.wait(millis_for(links));
             let Some(now) = clock.moment() else {
                 return;
             };
-            self.serve_after_wait(links, spool, now);
-            self.maintain_if_idle(links);
+            self.serve_after_wait(links, spool, &mut quits, now);
+            self.use_pause(links, spool, &mut quits);
         }
     }
 }

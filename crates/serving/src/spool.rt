@@ -5,10 +5,19 @@ ghost use Rattle.serving.specs.Spools.{FileAct, WasRead, WasRemoved, WasRenamed,
 ghost use Rattle.serving.specs.Spools.{Read, Removed, Renamed};
 
 use crate::file_name::FileName;
+use mailtext::MailText;
 
 /// How many octets of a file are read at most: one more than a message may have in its kept form,
 /// so that a longer file is too large by then.
 pub const MOST_OCTETS: usize = 26_214_401;
+
+/// A large file that a spool reads in pieces, between turns.
+#[derive(Drop)]
+pub struct Coming {
+    pub name: FileName,
+    /// Its text in the form in which a store keeps it, once all of it was read.
+    pub text: Option<MailText>,
+}
 
 /// A folder of messages, each a file under a name of the form `maildrop.class.id.eml`. Files of
 /// other names are left alone.
@@ -29,8 +38,8 @@ pub trait Spool {
         ensures called { (a : List FileCall) → asked self.old a
             → asked self.new (a ++ Next last.now result ∷ []) };
 
-    /// The first [`MOST_OCTETS`] octets of a file; `None` if it can't be read, or isn't
-    /// a file of the folder's own.
+    /// The first [`MOST_OCTETS`] octets of a file; `None` if it can't be read, isn't a file of the
+    /// folder's own, or is coming.
     fn read(&mut self, name: &FileName) -> Option<Vec<u8>>
         ensures told { (a : List FileAct) → tells self.old a
             → MatchOption result (tells self.new a)
@@ -52,6 +61,25 @@ pub trait Spool {
             → tells self.new (if result then a ++ WasRenamed name.now ∷ [] else a) }
         ensures called { (a : List FileCall) → asked self.old a
             → asked self.new (a ++ Renamed name.now result ∷ []) };
+
+    /// The large file that is coming: it is read in pieces, and then its deposit is prepared. There
+    /// is one at most; a spool that reads each file at once has none.
+    fn coming(&self) -> Option<&Coming> {
+        None
+    }
+
+    /// Reads one more piece of the file that is coming, if not all of it was read.
+    fn read_on(&mut self)
+        ensures told { (a : List FileAct) → tells self.old a → tells self.new a }
+        ensures called { (a : List FileCall) → asked self.old a → asked self.new a }
+    {}
+
+    /// Notes that no more of the deposit of the file that is coming can be prepared: it isn't
+    /// coming any more, and is read when it is tried next.
+    fn note_prepared(&mut self)
+        ensures told { (a : List FileAct) → tells self.old a → tells self.new a }
+        ensures called { (a : List FileCall) → asked self.old a → asked self.new a }
+    {}
 
     /// Any two records of one spool are the same.
     ghost tells_once: { (spool : Self) (a b : List FileAct) → tells spool a → tells spool b

@@ -22,6 +22,7 @@ ghost use Rattle.adminhttp.specs.Sites.{Site};
 use crate::ends::report_idle_ones;
 use crate::links::{Links, MOST_LINKS};
 use crate::listener::Listener;
+use crate::quits::Quits;
 use crate::server::Server;
 use crate::spool::Spool;
 use crate::wire::Wire;
@@ -82,11 +83,18 @@ impl<V: Vault, W: Wire, L: Listener> Server<V, W, L> {
         ensures site { links.new.site ≡ links.old.site }
     {
         self.wire.wait(millis_for(links));
-        self.serve_after_wait(links, spool, now);
+        let mut quits = Quits::read_at_once();
+        self.serve_after_wait(links, spool, &mut quits, now);
     }
 
     /// All that a turn does after its wait. `wire` is the wire before that wait.
-    pub(crate) fn serve_after_wait<S: Spool>(&mut self, links: &mut Links, spool: &mut S, now: u64)
+    pub(crate) fn serve_after_wait<S: Spool>(
+        &mut self,
+        links: &mut Links,
+        spool: &mut S,
+        quits: &mut Quits,
+        now: u64,
+    )
         ensures serves { (T : Trace)
             → Serves V.holds W.tells S.tells T self.old.office self.old.wire spool.old
             links.old.clients.seats.items links.old.requests.exchanges.items links.old.site
@@ -99,9 +107,10 @@ impl<V: Vault, W: Wire, L: Listener> Server<V, W, L> {
             → WasAsked W.asked wire self.old.wire (Waited (millis_of links.old) ∷ [])
             → (T : Trace) → StandsFor V.holds self.old.office T
             → V.is_clean (vault_of self.new.office)
-            → Works V.Vault W.asked S.asked L.heard T now
+            → (turn : Works V.Vault W.asked S.asked L.heard T now
             links.old self.old.office wire spool.old self.old.listener
-            self.new.office links.new self.new.wire spool.new self.new.listener }
+            self.new.office links.new self.new.wire spool.new self.new.listener)
+            × (turn.seen.is_preparing ≡ quits.new.is_preparing) }
         ensures left { LeavesAsFound now links.old links.new }
     {
         links.clients.poll_now = false;
@@ -109,7 +118,7 @@ impl<V: Vault, W: Wire, L: Listener> Server<V, W, L> {
         report_idle_ones(&self.office, &mut self.listener, &links.clients);
         self.accept_links(&mut links.clients, now);
         self.accept_admin_links(&mut links.requests, MOST_LINKS, now);
-        self.serve_links(&mut links.clients, now);
+        self.serve_links(&mut links.clients, quits, now);
         let site = &links.site;
         self.serve_requests(&mut links.requests, site, now);
         let seconds = links.clients.newcomers.limit(links.clients.seats.len());

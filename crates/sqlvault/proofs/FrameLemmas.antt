@@ -7,13 +7,12 @@ use Rattle.sqlite.specs.Held.{Held, state}
 use Rattle.sqlite.specs.declared.error.Error.{Error}
 use Rattle.sqlite.specs.State.{State, HasCleanDisk, IsUnchanged, Survives}
 use Rattle.vault.specs.declared.fault.VaultFault.{VaultFault}
-use Rattle.vault.specs.Changes.{Contents, AreSound}
+use Rattle.vault.specs.Changes.{Contents}
 use Rattle.vault.specs.Calls.{IsDone}
 use Rattle.vault.specs.Stops.{IsOwn}
 use Rattle.mailsql.specs.Rows.{Rows, IsOurs, IsReady, HasTables, MayLeave, Changes, IsUndone}
 use Rattle.mailsql.specs.Rows.{IsHalted, rows_in}
 use Rattle.sqlvault.specs.declared.refusal.Refusal.{Refusal}
-use Rattle.sqlvault.specs.declared.refusal.Refusal.TheVariants.{Answered, Met}
 use Rattle.sqlvault.specs.Refusals.{answer_of, fault_of}
 use Rattle.sqlvault.specs.Keeps.{Keeps}
 use Rattle.sqlvault.specs.Stands.{Holds, Leaves, Within, IsEnded}
@@ -21,7 +20,7 @@ use Rattle.sqlvault.specs.Transactions.{Begins, Undoes, Ends}
 use Rattle.sqlvault.specs.Stops.{LeavesHeld, LeavesOr}
 use Rattle.sqlvault.specs.Frame.{IsOk, IsMet, MadeOr, Rests, Looks, Learns, Turns, Acts, Writes}
 use Rattle.sqlvault.proofs.HoldsLemmas.{holds_unchanged, holds_undone, holds_changed, refused}
-use Rattle.sqlvault.proofs.HoldsLemmas.{answered_so}
+use Rattle.sqlvault.proofs.SeesLemmas.{own_met, learns, sees_learnt, sees_then}
 use Rattle.sqlvault.proofs.StayLemmas.{clean_before}
 use Rattle.sqlvault.proofs.StopLemmas.{not_own, or_said}
 use Rattle.sqlvault.proofs.WithinLemmas.{begun, leaves_on, makes, makes_after, step_ok, step_err}
@@ -88,14 +87,6 @@ looks_then a b = record {
       };
 }
 
--- a look that met an error is answered by it
-pub looked_refused : {S A : Type 0} {Own : Type 0} {store : Ghosts S} {old new : Held S}
-    (expected : Result A VaultFault) (e : Error) → Looks store old new Own
-    → (c : Contents) → HasCleanDisk (state store new) → Holds (state store old) c
-    → IsDone (Holds (state store new)) c c expected (Err (fault_of e))
-looked_refused {store = store} {new = new} expected e look c clean h =
-    refused (Holds (state store new)) c c expected e (look.rests clean c h).held
-
 -- no query yet: a loop begins so
 pub looks_self : {S : Type 0} {Own : Type 0} (store : Ghosts S) (conn : Held S)
     → Looks store conn conn Own
@@ -113,12 +104,6 @@ looks_own less a = record {
       record { held = it.held; up = λ up own. it.up up (less own); stop = it.stop };
 }
 
--- what is own of an answer was met by no error
-pub own_met : {A : Type 0} (r : Result A Refusal) → IsOwn (answer_of r) → IsMet r
-own_met (Ok x) own = tt
-own_met (Err (Answered f)) own = tt
-own_met {A} (Err (Met e)) own = absurd (not_own A e own)
-
 -- a query that tells of what was held what it tells of the rows
 pub learnt : {S A : Type 0} (store : Ghosts S) (old new : Held S) (r : Result A Error)
     (Seen : Rows → A → Type 0) (Told : Contents → A → Type 0)
@@ -131,41 +116,14 @@ pub learnt : {S A : Type 0} (store : Ghosts S) (old new : Held S) (r : Result A 
     → IfOk r (Seen (rows_in (state store old).now.trees)))
     → ((rows : Rows) (c : Contents) (x : A) → Keeps rows c → Seen rows x → Told c x)
     → Learns store old new (IsOk r) (λ c. IfOk r (Told c))
-learnt store old new (Ok x) Seen Told same err s seen tell = record {
-  looks = asked store old new same s;
-  told = λ clean c h own.
-      let here : IsUnchanged (state store old) (state store new) = same clean h.tables in (
-        here.0.is_open,
-        tell (rows_in (state store old).now.trees) c x (h.rows here.0.was_open) (seen clean h.tables),
-      );
-}
-learnt store old new (Err e) Seen Told same err s seen tell = record {
-  looks = failed store old new err s;
-  told = λ clean c h own. absurd own;
-}
-
--- a look is answered by what it learnt of sound contents
-pub learns_answer : {S A : Type 0} {store : Ghosts S} {old new : Held S} {Told : Contents → Type 0}
-    (expected answered : Result A VaultFault) → Learns store old new ⊤ Told
-    → (c : Contents) → HasCleanDisk (state store new) → Holds (state store old) c
-    → (AreSound c → Told c → expected ≡ answered)
-    → IsDone (Holds (state store new)) c c expected answered
-learns_answer {store = store} {new = new} expected answered l c clean h is =
-    answered_so (Holds (state store new)) c expected answered
-    (is h.sound (l.told clean c h tt).1) (l.looks.rests clean c h).held
+learnt store old new r Seen Told same err s seen tell =
+    learns (sees_learnt store old new r Seen Told same err s seen tell)
 
 -- two such parts, of which the first has its answer
 pub learns_then : {S : Type 0} {Own : Type 0} {store : Ghosts S} {old mid new : Held S}
     {Told More : Contents → Type 0} → Learns store old mid ⊤ Told → Learns store mid new Own More
     → Learns store old new Own (λ c. Told c × More c)
-learns_then a b = record {
-  looks = looks_then a.looks b.looks;
-  told = λ clean c h own.
-      let before = b.looks.clean clean in
-      let first = a.told before c h tt in
-      let second = b.told clean c (a.looks.rests before c h).held own in
-      (second.0, (first.1, second.1));
-}
+learns_then a b = learns (sees_then a.sees b.sees)
 
 -- ---- a call
 
@@ -584,7 +542,7 @@ looks_undone {store = store} {old = old} {first = first} {last = last} {new = ne
     }
 
 -- the end of one that shows the rows of these contents: it was committed, or an error came
-ends_held : {S : Type 0} {store : Ghosts S} {last new : Held S} (r : Result (Unit {0}) Error)
+pub ends_held : {S : Type 0} {store : Ghosts S} {last new : Held S} (r : Result (Unit {0}) Error)
     → Ends store last new r → (base after : Contents) (rows : Rows) → HasCleanDisk (state store new)
     → Within (state store last) base rows → Keeps rows after
     → IsEnded base after (state store new) r
@@ -595,7 +553,7 @@ ends_held {store = store} {last = last} {new = new} (Err e) ends base after rows
     (ends.err last clean (goes_still (state store last) base rows w)) w
 
 -- a stop in it leaves the one or the other
-ends_leaves : {S : Type 0} {store : Ghosts S} {last new : Held S} {r : Result (Unit {0}) Error}
+pub ends_leaves : {S : Type 0} {store : Ghosts S} {last new : Held S} {r : Result (Unit {0}) Error}
     → Ends store last new r → (base after : Contents) (rows : Rows) → HasCleanDisk (state store new)
     → Within (state store last) base rows → Keeps rows after
     → Leaves (state store new) (λ left. Keeps left base ⊎ Keeps left after)
@@ -604,13 +562,13 @@ ends_leaves ends base after rows clean w keeps db may = elim (ends.stop clean db
   | inr made ↦ inr (subst (λ r. Keeps r after) (sym (ap rows_in made ∙ w.rows_are)) keeps)
 ]
 
-ends_up : {S : Type 0} {store : Ghosts S} {last new : Held S} (r : Result (Unit {0}) Error)
+pub ends_up : {S : Type 0} {store : Ghosts S} {last new : Held S} (r : Result (Unit {0}) Error)
     → Ends store last new r → HasCleanDisk (state store new) → IsOk r
     → IsTrue (state store new).is_open
 ends_up (Ok x) ends clean own = (ends.ok clean).is_open
 ends_up (Err e) ends clean own = absurd own
 
-made_or : (Made : (Contents → Type 0) → Type 0) (s : State) (c after : Contents)
+pub made_or : (Made : (Contents → Type 0) → Type 0) (s : State) (c after : Contents)
     (r : Result (Unit {0}) Error) → ((Held : Contents → Type 0) → Held after → Made Held)
     → IsEnded c after s r → MadeOr r Made c (Holds s)
 made_or Made s c after (Ok x) say held = say (Holds s) held
@@ -646,11 +604,11 @@ abbrev pub met_as : Result (Unit {0}) Error → Result (Unit {0}) VaultFault
 met_as (Ok x) = Ok x
 met_as (Err e) = Err (fault_of e)
 
-own_ok : (r : Result (Unit {0}) Error) → IsOwn (met_as r) → IsOk r
+pub own_ok : (r : Result (Unit {0}) Error) → IsOwn (met_as r) → IsOk r
 own_ok (Ok x) own = tt
 own_ok (Err e) own = absurd (not_own (Unit {0}) e own)
 
-met_done : (Held : Contents → Type 0) (c after : Contents) (r : Result (Unit {0}) Error)
+pub met_done : (Held : Contents → Type 0) (c after : Contents) (r : Result (Unit {0}) Error)
     → MadeOr r (λ H. H after) c Held → IsDone Held c after (Ok tt) (met_as r)
 met_done Held c after (Ok x) held = record { answer = refl; held = held }
 met_done Held c after (Err e) held = refused Held c after (Ok tt) e held

@@ -19,7 +19,7 @@ use Rattle.mailtext.specs.Text.{kept_form}
 use Rattle.creds.specs.Names.{is_deposit_id}
 use Rattle.vault.specs.Records.{is_sound_message, is_sound_receipt, is_receipt_for, is_counted, is_one_of, octets_of, most_octets, most_deposits, receipts_of, class_count}
 use Rattle.vault.specs.Changes.{Contents, AreSound, records_of, head_of, heads, kept_in}
-use Rattle.vault.specs.Calls.{IsRefusal, AreHeads, heads_result, seen_as}
+use Rattle.vault.specs.Calls.{IsRefusal, IsAnswer, heads_result, seen_as}
 use Rattle.vault.proofs.ListLemmas.{In, length-map, map-append, filter-map, all_in, all_of, all_filter, in_filter, map_in, found, bytes_are}
 use Rattle.mailsql.specs.Rows.{Rows, is_in}
 use Rattle.mailsql.specs.declared.rows.Message.{Message}
@@ -129,8 +129,8 @@ no_maildrop d c none = rw none refl
 pub shown_heads : (d : List ℕ) (c : Contents) (shown : List Head) → is_one_of d c.maildrops ≡ true → shown ≡ heads d c → heads_result d c ≡ Ok shown
 shown_heads d c shown there is = rw there (ap Ok (sym is))
 
--- an error in the reading of rows, if nothing was changed
-pub unread_heads : {V : Type 0} (items : V → List Head) (Held : Contents → Type 0) (d : List ℕ) (c : Contents) (e : Error) (result : Result V Refusal)
-    → IsErrAnd result (λ r. r ≡ Met e) → Held c → AreHeads Held c d (seen_as (answer_of result) items)
-unread_heads items Held d c e (Ok v) is h = absurd is
-unread_heads items Held d c e (Err r) is h = record { answer = subst (λ q. IsRefusal (heads_result d c) (told q)) (sym is) (met (heads_result d c) e); held = h }
+-- an error in the reading of rows
+pub unread_heads : {V : Type 0} (items : V → List Head) (d : List ℕ) (c : Contents) (e : Error) (result : Result V Refusal)
+    → IsErrAnd result (λ r. r ≡ Met e) → IsAnswer (heads_result d c) (seen_as (answer_of result) items)
+unread_heads items d c e (Ok v) is = absurd is
+unread_heads items d c e (Err r) is = subst (λ q. IsRefusal (heads_result d c) (told q)) (sym is) (met (heads_result d c) e)

@@ -8,14 +8,10 @@ use Rattle.vault.specs.declared.fault.VaultFault.{VaultFault}
 use Rattle.vault.specs.declared.fault.VaultFault.TheVariants as fault
 use Rattle.vault.specs.Changes.{Contents, AreSound}
 use Rattle.vault.specs.Calls.{IsAnswer, IsDone, IsRefusal}
-use Rattle.mailsql.specs.Rows.{Rows, rows_in, IsKept, HasTables, Changes, IsUndone}
+use Rattle.mailsql.specs.Rows.{Rows, rows_in, IsKept, Changes, IsUndone}
 use Rattle.sqlvault.specs.Keeps.{Keeps}
 use Rattle.sqlvault.specs.Stands.{Holds}
 use Rattle.sqlvault.specs.Refusals.{is_memory, fault_of}
-
--- the premise of a query
-pub has_tables : (s : State) (c : Contents) → Holds s c → HasTables s
-has_tables s c h = h.tables
 
 -- the rows that a query saw
 pub seen : (old new : State) (c : Contents) → IsUnchanged old new → Holds old c → Keeps (rows_in old.now.trees) c
@@ -86,10 +82,9 @@ pub same_answer : {A : Type 0} (r : Result A VaultFault) → IsAnswer r r
 same_answer {A} (Ok x) = refl
 same_answer {A} (Err e) = same_refusal A e
 
--- so a call is done that is answered as expected, and looks
-pub answered_so : {A : Type 0} (Held : Contents → Type 0) (c : Contents) (expected answered : Result A VaultFault) → expected ≡ answered → Held c → IsDone Held c c expected answered
-answered_so {A} Held c expected (Ok x) is h = record { answer = is; held = h }
-answered_so {A} Held c expected (Err e) is h = record { answer = subst (λ (r : Result A VaultFault). IsRefusal r e) (sym is) (same_refusal A e); held = h }
+-- an answer that is the expected one
+pub same_so : {A : Type 0} (expected answered : Result A VaultFault) → expected ≡ answered → IsAnswer expected answered
+same_so {A} expected answered is = subst (λ (r : Result A VaultFault). IsAnswer r answered) (sym is) (same_answer answered)
 
 -- ---- a result that is passed on
 

@@ -1,4 +1,5 @@
 pub mod SmallLemmas
+pub mod SeesLemmas
 pub mod FrameLemmas
 pub mod HoldsLemmas
 pub mod WithinLemmas
@@ -13,6 +14,13 @@ pub mod HeadLemmas
 pub mod PageLemmas
 pub mod CopyLemmas
 pub mod RemoveLemmas
+pub mod UnderWayLemmas
+pub mod RemovalLemmas
+pub mod ComingLemmas
+pub mod ComingCallLemmas
+pub mod PartRowLemmas
+pub mod TellsLemmas
+pub mod BesideLemmas
 pub mod GroupLemmas
 pub mod RuleLemmas
 pub mod TotalLemmas
@@ -41,4 +49,5 @@ pub mod OlderLemmas
 pub mod AgainLemmas
 pub mod VersionLemmas
 pub mod CallLemmas
+pub mod AheadLemmas
 pub mod CloseLemmas

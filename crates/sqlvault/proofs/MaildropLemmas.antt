@@ -4,7 +4,6 @@ use Rattle.std.specs.Prelude.{filter, min, ◌==◌}
 use Rattle.std.proofs.lemmas.Bool.Decides.{nat_tests}
 use Rattle.creds.specs.Names.{is_name}
 use Rattle.vault.specs.declared.fault.VaultFault.TheVariants as fault
-use Rattle.vault.specs.declared.record.Message.{Message}
 use Rattle.vault.specs.Records.{is_one_of, most_maildrops}
 use Rattle.vault.specs.Changes.{Contents, AreSound, with_maildrop, without_maildrop, with_maildrops, kept_in}
 use Rattle.vault.specs.Changes.{put_maildrop_answer, drop_answer}

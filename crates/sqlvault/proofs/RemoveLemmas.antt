@@ -1,11 +1,14 @@
 -- What a removal leaves.
 use Rattle.std.proofs.Common.{◌≡◌, inl, inr, ℕ, ◌<◌, ◌^◌, ℤ, Bool, true, false, not, cond, List, [], ◌∷◌, ◌++◌, map, refl, sym, ap, subst, ◌∙◌, arith, ⊎_elim}
-use Rattle.std.proofs.Common.{true≢false, w64}
-use Rattle.std.specs.Prelude.{◌&&◌, ◌||◌, ◌==◌, nat_lt, filter, flat_map}
+use Rattle.std.proofs.Common.{true≢false, w64, Option, Ok, Err, drop, take}
+use Rattle.std.proofs.lemmas.List.{take-append-drop}
+use Rattle.std.specs.List.{find}
+use Rattle.std.specs.Option.{option_map}
+use Rattle.std.specs.Prelude.{◌&&◌, ◌||◌, ◌==◌, nat_lt, filter, flat_map, unwrap_or}
 use Rattle.std.specs.Str.{bytes_eq}
 use Rattle.std.specs.List.{list_any}
 use Rattle.std.specs.List.Sorted.{IsPermutation}
-use Rattle.std.proofs.lemmas.Bool.{and_parts}
+use Rattle.std.proofs.lemmas.Bool.{and_parts, cases_Bool}
 use Rattle.std.proofs.lemmas.Bool.Decides.{nat_tests}
 use Rattle.std.proofs.Math.Facts.{to_z_inj}
 use Rattle.std.proofs.lemmas.List.Concat.{flat_map-cons}
@@ -14,8 +17,12 @@ use Rattle.std.proofs.lemmas.List.Folds.{list_any-append}
 use Rattle.sqlite_trees.proofs.ListLemmas.{IsPermutation-filter}
 use Rattle.policy.specs.Policy.{are_distinct}
 use Rattle.vault.specs.declared.record.Keyed.{Keyed}
-use Rattle.vault.specs.Changes.{Contents, is_named, without_keys, with_messages}
+use Rattle.vault.specs.Changes.{Contents, is_named, kept_in, head_of, without_keys, with_messages}
+use Rattle.vault.specs.Calls.{heads_result, text_under}
+use Rattle.vault.specs.Records.{is_one_of}
+use Rattle.vault.specs.declared.fault.VaultFault.TheVariants as fault
 use Rattle.vault.proofs.ListLemmas.{In, all_in, any_in, any_of, found, all_filter, list_any-map, not_true}
+use Rattle.vault.proofs.ListLemmas.{bytes_are, find-filter}
 use Rattle.vault.proofs.MailLemmas.{sound_filtered}
 use Rattle.mailsql.specs.declared.rows.Message.{Message}
 use Rattle.mailsql.specs.declared.rows.Sheet.{Sheet}
@@ -174,7 +181,7 @@ one_removed d key rows after fits change c keeps =
     })
 
 -- what some keys named is gone, and what others named was gone before
-removed_both : (d keys done : List ℕ) (rows : Rows) (c : Contents) → Keeps rows (with_messages (without_keys d keys (without_keys d done c.messages)) c)
+pub removed_both : (d keys done : List ℕ) (rows : Rows) (c : Contents) → Keeps rows (with_messages (without_keys d keys (without_keys d done c.messages)) c)
     → Keeps rows (with_messages (without_keys d (keys ++ done) c.messages) c)
 removed_both d keys done rows c keeps =
     let p : Keyed → Bool = λ x. not (bytes_eq x.message.maildrop d && is_named done x.key) in
@@ -196,3 +203,65 @@ removed_both d keys done rows c keeps =
 pub one_before : (d keys : List ℕ) (key : ℕ) (rows mid after : Rows) → key < 2 ^ 64 → Removed d keys rows mid → RemovesMessage (row_key key) d mid after → Removed d (key ∷ keys) rows after
 one_before d keys key rows mid after fits before change c keeps = removed_both d (key ∷ []) keys after c
     (one_removed d key mid after fits change (with_messages (without_keys d keys c.messages) c) (before c keeps))
+
+-- ---- what a removal doesn't name
+
+and_false : (b : Bool) → (b && false) ≡ false
+and_false true = refl
+and_false false = refl
+
+-- what lies in another maildrop stays
+pub other_kept : (d other keys : List ℕ) (ms : List Keyed) → bytes_eq d other ≡ false
+    → kept_in other (without_keys d keys ms) ≡ kept_in other ms
+other_kept d other keys ms apart =
+    let p : Keyed → Bool = λ x. not (bytes_eq x.message.maildrop d && is_named keys x.key) in
+    let q : Keyed → Bool = λ x. bytes_eq x.message.maildrop other in
+    filter_twice p q ms ∙ filter_alike (λ x. p x && q x) q ms (λ x i. spared x)
+  where
+    spared : (x : Keyed) → (not (bytes_eq x.message.maildrop d && is_named keys x.key) && bytes_eq x.message.maildrop other)
+        ≡ bytes_eq x.message.maildrop other
+    spared x = ⊎_elim
+        (λ (t : bytes_eq x.message.maildrop d ≡ true).
+        let f : bytes_eq x.message.maildrop other ≡ false =
+        ap (λ n. bytes_eq n other) (bytes_are x.message.maildrop d t) ∙ apart in
+        rw f (and_false (not (bytes_eq x.message.maildrop d && is_named keys x.key))))
+        (λ (f : bytes_eq x.message.maildrop d ≡ false). rw f refl)
+        (cases_Bool (bytes_eq x.message.maildrop d))
+
+-- so the answer about another maildrop is the same
+pub other_heads : (d other keys : List ℕ) (c : Contents) → bytes_eq d other ≡ false
+    → heads_result other (with_messages (without_keys d keys c.messages) c) ≡ heads_result other c
+other_heads d other keys c apart =
+    ap (λ (ms : List Keyed). cond (is_one_of other c.maildrops) (Ok (map head_of ms)) (Err fault.NoMaildrop))
+    (other_kept d other keys c.messages apart)
+
+-- the text of a message that isn't named stays
+pub other_text : (d keys : List ℕ) (key : ℕ) (ms : List Keyed) → is_named keys key ≡ false
+    → text_under key (without_keys d keys ms) ≡ text_under key ms
+other_text d keys key ms none =
+    let p : Keyed → Bool = λ x. not (bytes_eq x.message.maildrop d && is_named keys x.key) in
+    let q : Keyed → Bool = λ x. x.key == key in
+    ap (λ (o : Option Keyed). unwrap_or (option_map (λ (x : Keyed). x.message.text) o) [])
+    (find-filter p q ms ∙ (λ i. find (λ x. spared x i) ms))
+  where
+    spared : (x : Keyed) → (not (bytes_eq x.message.maildrop d && is_named keys x.key) && (x.key == key))
+        ≡ (x.key == key)
+    spared x = ⊎_elim
+        (λ (t : (x.key == key) ≡ true).
+        let f : is_named keys x.key ≡ false = ap (is_named keys) (num_same x.key key t) ∙ none in
+        rw (f, and_false (bytes_eq x.message.maildrop d)) refl)
+        (λ (f : (x.key == key) ≡ false).
+        rw f (and_false (not (bytes_eq x.message.maildrop d && is_named keys x.key))))
+        (cases_Bool (x.key == key))
+
+-- what all keys don't name the last ones don't
+pub less_named : (left : ℕ) (keys : List ℕ) (key : ℕ) → is_named keys key ≡ false
+    → is_named (drop left keys) key ≡ false
+less_named left keys key none =
+    or_last (is_named (take left keys) key) (is_named (drop left keys) key)
+    (sym (list_any-append (λ x. x == key) (take left keys) (drop left keys))
+    ∙ ap (λ ks. is_named ks key) (take-append-drop left keys) ∙ none)
+  where
+    or_last : (a b : Bool) → (a || b) ≡ false → b ≡ false
+    or_last true b e = absurd (true≢false e)
+    or_last false b e = e

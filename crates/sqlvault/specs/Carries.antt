@@ -9,19 +9,14 @@ use Rattle.vault.specs.declared.fault.VaultFault.{VaultFault}
 use Rattle.vault.specs.declared.fault.VaultFault.TheVariants.{Store, NoMemory, NotOurs, OldVersion}
 use Rattle.vault.specs.Changes.{Contents}
 use Rattle.mailsql.specs.declared.rows.MetaRow.{MetaRow}
+use Rattle.mailsql.specs.declared.tables.OlderVersion.{OlderVersion}
+use Rattle.mailsql.specs.OlderVersions.{is_first}
 use Rattle.mailsql.specs.Rows.{Rows, rows_in, is_carried, completed, is_meta_row, IsOld, IsKept}
 use Rattle.sqlvault.specs.Keeps.{Keeps, our_meta_row, version}
-use Rattle.sqlvault.specs.declared.version.OlderVersion.{OlderVersion}
-use Rattle.sqlvault.specs.declared.version.OlderVersion.TheVariants.{First, Second}
 use Rattle.sqlvault.specs.Moves.{body_head, body_sheets}
 use Rattle.sqlvault.specs.Stands.{Holds}
 
 -- ---- the older versions
-
--- it is version 1
-abbrev pub is_first : OlderVersion → Bool
-is_first First = true
-is_first Second = false
 
 -- the older versions: 1 (`carried`), which has messages and texts in one table, and 2
 abbrev pub old_version : (carried : Bool) → ℤ

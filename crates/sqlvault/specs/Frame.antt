@@ -1,8 +1,9 @@
 -- What a part of a call does to the connection, whatever it answers, in one word: it only looks
--- (`Looks`, and `Learns` with what it says), it changes records once, as a whole call (`Acts`) or
--- as a part of one (`Turns`), or it is a part of a transaction (`Writes`). Two parts compose:
--- `looks_then`, `learns_then`, `rests_turns` and `writes_then` of proofs/FrameLemmas. Of rows that
--- may be no contents there are `Asks` and `Reads`.
+-- (`Looks`; `Learns` with what it says; `Sees`, also inside a transaction), it changes records
+-- once, as a whole call (`Acts`) or as a part of one (`Turns`), or it is a part of a transaction
+-- (`Writes`). Two parts compose: `looks_then`, `learns_then`, `rests_turns` and `writes_then` of
+-- proofs/FrameLemmas, `sees_then` of proofs/SeesLemmas. Of rows that may be no contents there are
+-- `Asks` and `Reads`.
 use Rattle.std.specs.Prelude.{IsTrue, ⊤, Result, Ok, Err, OnOk, OnErr}
 use Rattle.sqlite_trees.specs.declared.store.Store.{Ghosts}
 use Rattle.sqlite.specs.Held.{Held, state}
@@ -13,7 +14,8 @@ use Rattle.vault.specs.Changes.{Contents}
 use Rattle.vault.specs.Stops.{IsOwn}
 use Rattle.sqlvault.specs.declared.refusal.Refusal.{Refusal}
 use Rattle.sqlvault.specs.declared.refusal.Refusal.TheVariants.{Answered, Met}
-use Rattle.mailsql.specs.Rows.{Rows, HasTables, IsReady, IsUndone}
+use Rattle.mailsql.specs.Rows.{Rows, rows_in, HasTables, IsReady, IsUndone}
+use Rattle.sqlvault.specs.Keeps.{Keeps}
 use Rattle.sqlvault.specs.Stands.{Holds, WasClean, Makes, LeavesNoMore}
 use Rattle.sqlvault.specs.Stops.{LeavesHeld, LeavesOr}
 use Rattle.sqlvault.specs.Stored.{Goes}
@@ -51,8 +53,24 @@ module _ {S : Type 0} (store : Ghosts S) (old new : Held S) where
     pub rests : HasCleanDisk (state store new) → (c : Contents) → Holds (state store old) c
         → Rests Own c
 
+  -- Queries, also inside a transaction: an answer of their own leaves the connection as it was, and
+  -- after an error the transaction may be gone. A stop leaves no more than before. This is so of
+  -- contents for which the rows stand.
+  pub record Sees (Own : Type 0) (Told : Contents → Type 0) : Type 0 where
+    pub clean : WasClean (state store old) (state store new)
+    pub same : HasCleanDisk (state store new) → HasTables (state store old) → Own
+        → IsUnchanged (state store old) (state store new)
+    pub undone : HasCleanDisk (state store new) → HasTables (state store old)
+        → IsUndone (state store old) (state store new)
+    pub told : HasCleanDisk (state store new) → HasTables (state store old) → (c : Contents)
+        → (IsTrue (state store old).is_open → Keeps (rows_in (state store old).now.trees) c)
+        → Told c
+    pub stop : HasCleanDisk (state store new) → IsReady (state store old)
+        → LeavesNoMore (state store old) (state store new)
+
   -- A part only looks, and says this of what was held; the connection is then open.
   pub record Learns (Own : Type 0) (Told : Contents → Type 0) : Type 0 where
+    pub sees : Sees Own Told
     pub looks : Looks Own
     pub told : HasCleanDisk (state store new) → (c : Contents) → Holds (state store old) c → Own
         → IsTrue (state store new).is_open × Told c

@@ -1,4 +1,7 @@
 pub mod Frame
+pub mod Removals
+pub mod Arrivals
+pub mod UnderWay
 pub mod Keeps
 pub mod Clerks
 pub mod Receipts

@@ -3,9 +3,10 @@ ghost use Rattle.std.specs.Prelude.{◌≡◌, true, false, Bool, IfErr};
 ghost use Rattle.sqlite.specs.Held.{state};
 ghost use Rattle.sqlite.specs.State.{HasCleanDisk};
 ghost use Rattle.mailsql.specs.Tables.{old_schema};
+ghost use Rattle.mailsql.specs.OlderVersions.{is_first};
 ghost use Rattle.mailsql.specs.Rows.{HasOldTables, rows_in};
 ghost use Rattle.sqlvault.specs.Adopts.{IsAdoptFault, IsOfUnknownVersion, IsVersionRefused};
-ghost use Rattle.sqlvault.specs.Carries.{HasOlder, IsOlder, IsOfRows, IsOfOlderVersion, is_first};
+ghost use Rattle.sqlvault.specs.Carries.{HasOlder, IsOlder, IsOfRows, IsOfOlderVersion};
 ghost use Rattle.sqlvault.specs.Moves.{Builds};
 ghost use Rattle.sqlvault.specs.Older.{IsAllCommitted, IsBegunOlder, Brings};
 ghost use Rattle.sqlvault.specs.Older.{AsksOlder, CarriesOlder};
@@ -17,8 +18,9 @@ use crate::moves::move_old;
 use crate::part::are_rows_sound;
 use crate::refusal::Refusal;
 use crate::transaction::{begin, end, roll_back, undo};
-use crate::version::{NEWEST, OlderVersion, find_version, older};
+use crate::version::{NEWEST, find_version, older};
 use mailsql::schema::{has_first_columns, has_second_columns};
+use mailsql::tables::OlderVersion;
 use mailsql::{meta, tables};
 use sqlite::{Alter, Connection, Error};
 use std::alloc::Global;
@@ -34,7 +36,7 @@ fn bring<S: Alter>(
     ensures { Builds S.Store conn.old conn.new (IsBegunOlder (is_first version))
         (Brings (is_first version)) result }
 {
-    match tables::complete_tables(conn, version.is_first()) {
+    match tables::complete_tables(conn, version) {
         Ok(()) => {}
         Err(error) => return Err(error),
     }

@@ -1,6 +1,6 @@
 //! The clerks.
 ghost use Rattle.std.specs.Prelude.{◌≡◌, List, [], ◌∷◌, ◌++◌, length, map, min, true, is_some};
-ghost use Rattle.std.specs.Prelude.{Some, IfOk, OnOk};
+ghost use Rattle.std.specs.Prelude.{Some, Ok, IfOk, OnOk, ⊤};
 ghost use Rattle.std.specs.List.{list_all};
 ghost use Rattle.sqlite.specs.Held.{state};
 ghost use Rattle.sqlite.specs.State.{HasCleanDisk};
@@ -8,7 +8,7 @@ ghost use Rattle.creds.specs.Names.{is_name, by_name};
 ghost use Rattle.vault.specs.declared.record.Clerk as vault;
 ghost use Rattle.vault.specs.Records.{is_sound_credential, is_sound_clerk, credential_in};
 ghost use Rattle.vault.specs.Changes.{Contents, put_clerk_answer};
-ghost use Rattle.vault.specs.Calls.{IsAnswer, seen_as, put_result, IsCredential, IsClerkPut};
+ghost use Rattle.vault.specs.Calls.{IsAnswer, seen_as, put_result, IsClerkPut};
 ghost use Rattle.vault.specs.Calls.{IsClerkDropped};
 ghost use Rattle.vault.specs.Clerks.{clerk_kinds, AreClerkKinds};
 ghost use Rattle.mailsql.specs.Rows as tables;
@@ -17,8 +17,9 @@ ghost use Rattle.sqlvault.specs.Clerks.{row_name, row_of, AreClerks};
 ghost use Rattle.sqlvault.specs.Keeps.{Keeps, kind_of, secret_of, clerk_row};
 ghost use Rattle.sqlvault.specs.Refusals.{answer_of};
 ghost use Rattle.sqlvault.specs.RowForms.{is_credential_row};
-ghost use Rattle.sqlvault.specs.Frame.{IsOk, IsMet, Looks, Learns, Acts, Becomes};
+ghost use Rattle.sqlvault.specs.Frame.{IsOk, IsMet, Looks, Learns, Sees, Acts, Becomes};
 ghost use Rattle.sqlvault.specs.Stands.{Holds, WasClean};
+ghost use Rattle.sqlvault.specs.UnderWay.{TellsBeside};
 
 use crate::refusal::{Refusal, unreadable};
 use crate::totals::push_name;
@@ -103,10 +104,10 @@ pub(crate) fn find_credential<S: Alter>(
     conn: &mut Connection<S>,
     clerk: &Name,
 ) -> Result<Option<Credential>, Refusal>
-    ensures done { (c : Contents) → HasCleanDisk (state S.Store conn.new)
-        → Holds (state S.Store conn.old) c → IsCredential (Holds (state S.Store conn.new)) c
-        clerk.now (answer_of result) }
-    ensures looks { Looks S.Store conn.old conn.new (IsMet result) }
+    ensures sees { Sees S.Store conn.old conn.new (IsMet result)
+        (λ c. IsAnswer (Ok (credential_in clerk.now c.clerks)) (answer_of result)) }
+    ensures beside { TellsBeside S.Store conn.old conn.new (λ _. ⊤)
+        (λ c. IsAnswer (Ok (credential_in clerk.now c.clerks)) (answer_of result)) }
 {
     match clerks::find_clerk(alloc, conn, clerk.as_bytes()) {
         Ok(Some(row)) => match read_credential(&row) {

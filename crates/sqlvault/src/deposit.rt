@@ -103,7 +103,7 @@ fn find_before<S: Alter>(
 }
 
 /// The answer to a deposit with a new id into a maildrop that is there: its unique-id, or `Full`.
-fn judge_new<S: Alter>(
+pub(crate) fn judge_new<S: Alter>(
     alloc: Global,
     conn: &mut Connection<S>,
     maildrop: &Name,
@@ -166,7 +166,10 @@ fn judge<S: Alter>(
 }
 
 /// Sets the count of the receipt's class and adds the receipt, inside a transaction.
-fn put_receipt<S: Alter>(conn: &mut Connection<S>, receipt: &Receipt) -> Result<(), Error>
+pub(crate) fn put_receipt<S: Alter>(
+    conn: &mut Connection<S>,
+    receipt: &Receipt,
+) -> Result<(), Error>
     requires { receipt.now.k ≤ most_deposits }
     ensures { Writes S.Store conn.old conn.new (λ _. PutsReceipt receipt.now) result }
 {
@@ -255,7 +258,13 @@ fn store<S: Alter>(
 }
 
 /// The receipt of a deposit that gets this number.
-fn receipt_for(maildrop: &Name, class: &Name, id: &DepositId, k: u64, digest: [u8; 32]) -> Receipt
+pub(crate) fn receipt_for(
+    maildrop: &Name,
+    class: &Name,
+    id: &DepositId,
+    k: u64,
+    digest: [u8; 32],
+) -> Receipt
     ensures value { result ≡ record {
       maildrop = maildrop.now;
       id = id.now;

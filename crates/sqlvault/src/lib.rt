@@ -3,9 +3,11 @@
 #![tactic(auto)]
 
 mod adopt;
+mod ahead;
 mod carry;
 mod checkpoint;
 mod clerks;
+mod coming;
 mod deposit;
 mod groups;
 mod mail;
@@ -15,6 +17,7 @@ mod pages;
 mod part;
 mod receipts;
 mod refusal;
+mod removal;
 mod rules;
 mod sound_clerks;
 mod sound_deposits;
@@ -26,7 +29,9 @@ mod totals;
 mod transaction;
 pub mod uses;
 mod version;
+mod work;
 
+pub use ahead::Ahead;
 pub use part::{Part, unsound_part};
 pub use refusal::Refusal;
 pub use sql_vault::{SqlVault, let_go};

@@ -1,20 +1,20 @@
 //! The heads of a maildrop's messages, and their removal.
 ghost use Rattle.std.specs.Prelude.{◌≡◌, ◌<◌, ◌^◌, Some, true, List, [], map, nat_lt, IfOk, IfErr};
+ghost use Rattle.std.specs.Prelude.{false, bytes_eq};
 ghost use Rattle.std.specs.List.{list_all};
-ghost use Rattle.sqlite.specs.Held.{state};
-ghost use Rattle.sqlite.specs.State.{HasCleanDisk};
 ghost use Rattle.creds.specs.Names.{is_name};
 ghost use Rattle.mailsql.specs.Errors.{IsWantOfMemory};
 ghost use Rattle.vault.specs.declared.record.Keyed.{Keyed};
-ghost use Rattle.vault.specs.Changes.{Contents, head_of, kept_in, without_keys, with_messages};
-ghost use Rattle.vault.specs.Calls.{seen_as, AreHeads, AreRemoved};
+ghost use Rattle.vault.specs.Changes.{Contents, head_of, kept_in, without_keys};
+ghost use Rattle.vault.specs.Changes.{with_messages};
+ghost use Rattle.vault.specs.Calls.{IsAnswer, seen_as, heads_result, AreRemoved};
 ghost use Rattle.sqlvault.specs.Keeps.{Keeps, message_row};
 ghost use Rattle.sqlvault.specs.Refusals.{answer_of};
 ghost use Rattle.sqlvault.specs.RowForms.{AreMailRows};
-ghost use Rattle.sqlvault.specs.Frame.{IsOk, IsMet, Looks, Learns, Acts, Writes};
-ghost use Rattle.sqlvault.specs.Stands.{Holds};
+ghost use Rattle.sqlvault.specs.Frame.{IsOk, IsMet, Sees, Learns, Acts, Writes};
+ghost use Rattle.sqlvault.specs.UnderWay.{TellsBeside};
 
-use crate::maildrops::has_maildrop;
+use crate::maildrops::find_maildrop;
 use crate::refusal::{Refusal, unreadable};
 use crate::transaction::{begin, end, undo};
 use creds::Name;
@@ -61,6 +61,21 @@ fn read_heads(alloc: Global, rows: &[Message]) -> Result<Vec<Head>, Error>
     Ok(heads)
 }
 
+/// The rows of a maildrop's messages, in order of arrival, also inside a transaction.
+fn find_rows<S: Alter>(
+    alloc: Global,
+    conn: &mut Connection<S>,
+    maildrop: &Name,
+) -> Result<Vec<Message>, Error>
+    ensures sees { Sees S.Store conn.old conn.new (IsOk result)
+        (λ c. IfOk result (λ rows. AreMailRows maildrop.now c rows.items)) }
+    ensures beside { TellsBeside S.Store conn.old conn.new
+        (λ a. bytes_eq a.maildrop maildrop.now ≡ false)
+        (λ c. IfOk result (λ rows. AreMailRows maildrop.now c rows.items)) }
+{
+    mail::heads(alloc, conn, maildrop.as_bytes())
+}
+
 /// The rows of a maildrop's messages, in order of arrival.
 pub(crate) fn rows_of<S: Alter>(
     alloc: Global,
@@ -70,7 +85,7 @@ pub(crate) fn rows_of<S: Alter>(
     ensures { Learns S.Store conn.old conn.new (IsOk result)
         (λ c. IfOk result (λ rows. AreMailRows maildrop.now c rows.items)) }
 {
-    mail::heads(alloc, conn, maildrop.as_bytes())
+    find_rows(alloc, conn, maildrop)
 }
 
 /// The heads of a maildrop without messages.
@@ -79,13 +94,15 @@ fn no_heads<S: Alter>(
     conn: &mut Connection<S>,
     maildrop: &Name,
 ) -> Result<Vec<Head>, Refusal>
-    ensures done { (c : Contents) → HasCleanDisk (state S.Store conn.new)
-        → Holds (state S.Store conn.old) c → kept_in maildrop.now c.messages ≡ []
-        → AreHeads (Holds (state S.Store conn.new)) c maildrop.now
-        (seen_as (answer_of result) (λ v. v.items)) }
-    ensures looks { Looks S.Store conn.old conn.new (IsMet result) }
+    ensures sees { Sees S.Store conn.old conn.new (IsMet result)
+        (λ c. kept_in maildrop.now c.messages ≡ [] → IsAnswer (heads_result maildrop.now c)
+        (seen_as (answer_of result) (λ v. v.items))) }
+    ensures beside { TellsBeside S.Store conn.old conn.new
+        (λ a. bytes_eq a.maildrop maildrop.now ≡ false)
+        (λ c. kept_in maildrop.now c.messages ≡ [] → IsAnswer (heads_result maildrop.now c)
+        (seen_as (answer_of result) (λ v. v.items))) }
 {
-    match has_maildrop(conn, maildrop) {
+    match find_maildrop(conn, maildrop) {
         Ok(true) => Ok(Vec::new(alloc)),
         Ok(false) => Err(Refusal::Answered(VaultFault::NoMaildrop)),
         Err(error) => Err(Refusal::Met(error)),
@@ -102,12 +119,13 @@ pub(crate) fn heads<S: Alter>(
     conn: &mut Connection<S>,
     maildrop: &Name,
 ) -> Result<Vec<Head>, Refusal>
-    ensures done { (c : Contents) → HasCleanDisk (state S.Store conn.new)
-        → Holds (state S.Store conn.old) c → AreHeads (Holds (state S.Store conn.new)) c
-        maildrop.now (seen_as (answer_of result) (λ v. v.items)) }
-    ensures looks { Looks S.Store conn.old conn.new (IsMet result) }
+    ensures sees { Sees S.Store conn.old conn.new (IsMet result)
+        (λ c. IsAnswer (heads_result maildrop.now c) (seen_as (answer_of result) (λ v. v.items))) }
+    ensures beside { TellsBeside S.Store conn.old conn.new
+        (λ a. bytes_eq a.maildrop maildrop.now ≡ false)
+        (λ c. IsAnswer (heads_result maildrop.now c) (seen_as (answer_of result) (λ v. v.items))) }
 {
-    match rows_of(alloc, conn, maildrop) {
+    match find_rows(alloc, conn, maildrop) {
         Ok(rows) => {
             if rows.is_empty() {
                 no_heads(alloc, conn, maildrop)
@@ -121,7 +139,7 @@ pub(crate) fn heads<S: Alter>(
 
 /// Removes each of the messages, inside a transaction, the last one first: so what is left of a
 /// page of the store needn't move.
-fn remove_all<S: Alter>(
+pub(crate) fn remove_all<S: Alter>(
     conn: &mut Connection<S>,
     maildrop: &Name,
     keys: &[MessageKey],

@@ -1,8 +1,9 @@
 //! Adding and dropping maildrops.
-ghost use Rattle.std.specs.Prelude.{◌≡◌, IfOk, min, length};
+ghost use Rattle.std.specs.Prelude.{◌≡◌, IfOk, min, length, ⊤};
 ghost use Rattle.vault.specs.Records.{is_one_of};
 ghost use Rattle.vault.specs.Calls.{IsMaildropAdded, IsMaildropDropped, present_in};
-ghost use Rattle.sqlvault.specs.Frame.{IsOk, Learns, Acts};
+ghost use Rattle.sqlvault.specs.Frame.{IsOk, Sees, Learns, Acts};
+ghost use Rattle.sqlvault.specs.UnderWay.{TellsBeside};
 ghost use Rattle.sqlvault.specs.Refusals.{answer_of};
 
 use crate::refusal::Refusal;
@@ -14,12 +15,22 @@ use vault::VaultFault;
 /// The greatest number of maildrops.
 pub(crate) const MAX_MAILDROPS: u64 = vault::MAX_MAILDROPS as u64;
 
+/// Whether there is a maildrop of this name, also inside a transaction.
+pub(crate) fn find_maildrop<S: Alter>(conn: &mut Connection<S>, name: &Name) -> Result<bool, Error>
+    ensures sees { Sees S.Store conn.old conn.new (IsOk result)
+        (λ c. IfOk result (λ there. there ≡ is_one_of name.now c.maildrops)) }
+    ensures beside { TellsBeside S.Store conn.old conn.new (λ _. ⊤)
+        (λ c. IfOk result (λ there. there ≡ is_one_of name.now c.maildrops)) }
+{
+    maildrops::has_maildrop(conn, name.as_bytes())
+}
+
 /// Whether there is a maildrop of this name.
 pub(crate) fn has_maildrop<S: Alter>(conn: &mut Connection<S>, name: &Name) -> Result<bool, Error>
     ensures { Learns S.Store conn.old conn.new (IsOk result)
         (λ c. IfOk result (λ there. there ≡ is_one_of name.now c.maildrops)) }
 {
-    maildrops::has_maildrop(conn, name.as_bytes())
+    find_maildrop(conn, name)
 }
 
 /// How many maildrops there are.

@@ -2,15 +2,15 @@
 ghost use Rattle.std.specs.Prelude.{◌≡◌, true, OnOk};
 ghost use Rattle.sqlite.specs.Held.{state};
 ghost use Rattle.sqlite.specs.State.{HasCleanDisk};
+ghost use Rattle.mailsql.specs.OlderVersions.{is_first};
 ghost use Rattle.mailsql.specs.Rows.{is_carried};
-ghost use Rattle.sqlvault.specs.Carries.{is_first};
 ghost use Rattle.sqlvault.specs.Moves.{MovesBody, MovesKey, MovesEach, MovesAll, MovesOld};
 ghost use Rattle.sqlvault.specs.Moves.{IsInside, IsInsideOf, IsUnmoved, HasHeads, Builds};
 
 use crate::refusal::unreadable;
-use crate::version::OlderVersion;
 use mailsql::rows::{Body, Message};
 use mailsql::schema::keys_hold;
+use mailsql::tables::OlderVersion;
 use mailsql::{bodies, mail, sheets};
 use sqlite::{Alter, Connection, Error};
 use std::alloc::Global;

@@ -1,15 +1,12 @@
 //! The pages of a message.
 ghost use Rattle.std.specs.Prelude.{◌≡◌, ◌<◌, ◌≤◌, ◌^◌, ◌-◌, length, take, drop, min};
-ghost use Rattle.std.specs.Prelude.{option_copied};
+ghost use Rattle.std.specs.Prelude.{option_copied, ◌==◌, false};
 ghost use Rattle.std.specs.List.{find};
-ghost use Rattle.sqlite.specs.Held.{state};
-ghost use Rattle.sqlite.specs.State.{HasCleanDisk};
-ghost use Rattle.vault.specs.Changes.{Contents};
-ghost use Rattle.vault.specs.Calls.{IsPaged};
+ghost use Rattle.vault.specs.Calls.{IsPageRead, text_under};
 ghost use Rattle.sqlvault.specs.Refusals.{answer_of};
-ghost use Rattle.sqlvault.specs.Stands.{Holds};
-ghost use Rattle.sqlvault.specs.Frame.{IsMet, Looks};
+ghost use Rattle.sqlvault.specs.Frame.{IsMet, Sees};
 ghost use Rattle.sqlvault.specs.Pages.{is_at, octets_from};
+ghost use Rattle.sqlvault.specs.UnderWay.{TellsBeside};
 
 use crate::refusal::Refusal;
 use mailsql::rows::Sheet;
@@ -86,10 +83,10 @@ pub(crate) fn page<S: Alter>(
     from: u64,
     buffer: &mut [u8],
 ) -> Result<usize, Refusal>
-    ensures done { (c : Contents) → HasCleanDisk (state S.Store conn.new)
-        → Holds (state S.Store conn.old) c
-        → IsPaged (Holds (state S.Store conn.new)) c key from buffer.new (answer_of result) }
-    ensures looks { Looks S.Store conn.old conn.new (IsMet result) }
+    ensures sees { Sees S.Store conn.old conn.new (IsMet result)
+        (λ c. IsPageRead (text_under key c.messages) from buffer.new (answer_of result)) }
+    ensures beside { TellsBeside S.Store conn.old conn.new (λ a. (key == a.key) ≡ false)
+        (λ c. IsPageRead (text_under key c.messages) from buffer.new (answer_of result)) }
 {
     let sheet_octets = SHEET_OCTETS as u64;
     let mail = key.number().cast_signed();

@@ -10,8 +10,10 @@ ghost use Rattle.sqlvault.specs.Carries.{HasOlder, IsCarried, LeavesEither};
 ghost use Rattle.sqlvault.specs.Refusals.{answer_of, count_after, open_fault};
 
 use crate::adopt::settle;
+use crate::coming::{self, Coming};
 use crate::refusal::{Refusal, fault_of, tell};
-use crate::{checkpoint, clerks, deposit, mail, maildrops, pages, receipts, rules, totals};
+use crate::removal::{self, Removing};
+use crate::{checkpoint, clerks, deposit, mail, maildrops, pages, receipts, rules, totals, work};
 use creds::{Credential, DepositId, Name};
 use mailtext::MailText;
 use policy::Policy;
@@ -19,7 +21,7 @@ use sqlite::{Alter, Connection, Error, ErrorCode, FileFrom, FileStore, Files, Me
 use sqlite_disk::Disk;
 use std::alloc::Global;
 use std::marker::Model;
-use vault::{ClerkKind, Deposited, Head, MessageKey, Receipt, Total, Vault, VaultFault};
+use vault::{ClerkKind, Deposited, Head, MessageKey, Progress, Receipt, Total, Vault, VaultFault};
 
 /// The octets of a page of the database, of which the log keeps copies.
 const PAGE: u64 = 4_096;
@@ -204,8 +206,16 @@ impl<D: Disk + Drop> SqlVault<FileStore<D>> {
 }
 
 impl<S: Alter> SqlVault<S> {
-    ghost use Rattle.std.specs.Prelude.{true, Err};
+    ghost use Rattle.std.specs.Prelude.{true, Err, ℕ, List, Some, None, length, take, ⊤, ◌==◌};
+    ghost use Rattle.std.specs.Prelude.{bytes_eq};
     ghost use Rattle.vault.specs.declared.fault.VaultFault.TheVariants.{NotOurs};
+    ghost use Rattle.vault.specs.Records.{credential_in};
+    ghost use Rattle.vault.specs.Calls.{AreRemoved, IsPageRead, heads_result, text_under};
+    ghost use Rattle.vault.specs.Calls.{IsDeposited};
+    ghost use Rattle.sqlvault.specs.declared.work.Work.TheVariants as works;
+    ghost use Rattle.sqlvault.specs.Removals.{removal_of};
+    ghost use Rattle.sqlvault.specs.UnderWay.{Prepares, Finishes, GivesUp, under_way, begun};
+    ghost use Rattle.sqlvault.specs.UnderWay.{IsStep, TellsBeside};
     ghost use Rattle.mailsql.specs.Names.{is_taken, has_meta_rows};
     ghost use Rattle.sqlvault.specs.Adopts.{Adopts, StaysAs, IsVersionRefused};
     ghost use Rattle.sqlvault.specs.Carries.{CarriesOver};
@@ -215,7 +225,7 @@ impl<S: Alter> SqlVault<S> {
     ghost use Rattle.vault.specs.Stops.{IsOwn};
     ghost use Rattle.sqlvault.specs.Clerks.{AreClerks};
     ghost use Rattle.sqlvault.specs.Receipts.{AreReceipts};
-    ghost use Rattle.sqlvault.specs.Frame.{Looks};
+    ghost use Rattle.sqlvault.specs.Frame.{Looks, Sees};
     ghost use Rattle.sqlvault.specs.Stands.{Holds, WasClean};
 
     /// Makes a connection a mail store.
@@ -342,6 +352,155 @@ impl<S: Alter> SqlVault<S> {
         self.told(answer)
     }
 
+    /// Where it allocates.
+    pub(crate) fn allocator(&self) -> Global {
+        self.alloc
+    }
+
+    /// Begins a removal in parts, in a transaction that is open until the removal is finished or
+    /// given up. Until then no call but the three that follow may be made.
+    pub(crate) fn begin_removal(&mut self) -> Result<(), VaultFault>
+        ensures prepares { (d keys : List ℕ) → Prepares S.Store self.old.conn self.new.conn None
+            (under_way result (works.Removal (removal_of d keys))) (IsOwn result) }
+        ensures counted { CountsFaults self.old.faults self.new.faults result }
+        ensures answer { IsAnswer (Ok tt) result }
+    {
+        let answer = removal::begin_removal(&mut self.conn);
+        self.told(answer)
+    }
+
+    /// Does some more of a removal. After a fault none is under way, and nothing is removed.
+    pub(crate) fn remove_piece(&mut self, removing: &mut Removing) -> Result<(), VaultFault>
+        ensures prepares { Prepares S.Store self.old.conn self.new.conn
+            (Some (works.Removal removing.old)) (under_way result (works.Removal removing.new))
+            (IsOwn result) }
+        ensures counted { CountsFaults self.old.faults self.new.faults result }
+        ensures answer { IsAnswer (Ok tt) result }
+    {
+        let answer = removal::remove_piece(&mut self.conn, removing);
+        self.told(answer)
+    }
+
+    /// Does the rest of a removal, and commits it. After a fault nothing is removed.
+    pub(crate) fn finish_removal(&mut self, removing: &Removing) -> Result<(), VaultFault>
+        ensures finishes { Finishes S.Store self.old.conn self.new.conn (works.Removal removing.now)
+            (λ c Held. AreRemoved Held c removing.now.maildrop removing.now.keys) result }
+        ensures counted { CountsFaults self.old.faults self.new.faults result }
+    {
+        let octets = removing.len().saturating_mul(PAGE);
+        let answer = removal::finish_removal(&mut self.conn, removing);
+        self.written(octets, answer)
+    }
+
+    /// Begins a deposit in parts, if its id is new and it would be accepted, in a transaction that
+    /// is open until the deposit is finished or given up.
+    pub(crate) fn start_deposit(
+        &mut self,
+        maildrop: &Name,
+        class: &Name,
+        id: &DepositId,
+        text: &MailText,
+    ) -> Result<Option<Coming>, VaultFault>
+        ensures prepares { Prepares S.Store self.old.conn self.new.conn None (begun result)
+            (IsOwn result) }
+        ensures counted { CountsFaults self.old.faults self.new.faults result }
+        ensures step { IsStep result }
+    {
+        let answer = coming::start(self.alloc, &mut self.conn, maildrop, class, id, text);
+        self.told(answer)
+    }
+
+    /// Does some more of a deposit. After a fault none is under way, and nothing is changed.
+    pub(crate) fn put_piece(
+        &mut self,
+        coming: &mut Coming,
+        text: &MailText,
+    ) -> Result<(), VaultFault>
+        ensures prepares { Prepares S.Store self.old.conn self.new.conn
+            (Some (works.Deposit coming.old)) (under_way result (works.Deposit coming.new))
+            (IsOwn result) }
+        ensures counted { CountsFaults self.old.faults self.new.faults result }
+        ensures step { IsStep result }
+    {
+        let answer = coming::put_piece(&mut self.conn, coming, text);
+        self.told(answer)
+    }
+
+    /// Does the rest of a deposit, and commits it. After a fault nothing is changed.
+    pub(crate) fn finish_deposit(
+        &mut self,
+        coming: Coming,
+        text: &MailText,
+    ) -> Result<Deposited, VaultFault>
+        requires begins { take (length coming.put) text.now ≡ coming.put }
+        requires sized { coming.octets ≡ length text.now }
+        ensures finishes { Finishes S.Store self.old.conn self.new.conn (works.Deposit coming)
+            (λ c Held. IsDeposited Held c coming.maildrop coming.class coming.id text.now) result }
+        ensures counted { CountsFaults self.old.faults self.new.faults result }
+    {
+        let octets = text.octets() as u64;
+        let answer = coming::finish(&mut self.conn, coming, text);
+        self.written(octets, answer)
+    }
+
+    /// Gives up what is under way, also if it answers a fault, or a query in its transaction met an
+    /// error.
+    pub(crate) fn give_up(&mut self) -> Result<(), VaultFault>
+        ensures gives_up { GivesUp S.Store self.old.conn self.new.conn (IsOwn result) }
+        ensures counted { CountsFaults self.old.faults self.new.faults result }
+        ensures answer { IsAnswer (Ok tt) result }
+    {
+        let answer = work::give_up(&mut self.conn);
+        self.told(answer)
+    }
+
+    /// The heads of a maildrop's messages, as [`Vault::heads`] gives them, also inside a
+    /// transaction.
+    pub(crate) fn look_up_heads(&mut self, maildrop: &Name) -> Result<Vec<Head>, VaultFault>
+        ensures sees { Sees S.Store self.old.conn self.new.conn (IsOwn result)
+            (λ c. IsAnswer (heads_result maildrop.now c) (seen_as result (λ v. v.items))) }
+        ensures beside { TellsBeside S.Store self.old.conn self.new.conn
+            (λ a. bytes_eq a.maildrop maildrop.now ≡ false)
+            (λ c. IsAnswer (heads_result maildrop.now c) (seen_as result (λ v. v.items))) }
+        ensures counted { CountsFaults self.old.faults self.new.faults result }
+    {
+        let answer = mail::heads(self.alloc, &mut self.conn, maildrop);
+        self.told(answer)
+    }
+
+    /// Octets of a message, as [`Vault::page`] gives them, also inside a transaction.
+    pub(crate) fn look_up_page(
+        &mut self,
+        key: MessageKey,
+        from: u64,
+        buffer: &mut [u8],
+    ) -> Result<usize, VaultFault>
+        ensures sees { Sees S.Store self.old.conn self.new.conn (IsOwn result)
+            (λ c. IsPageRead (text_under key c.messages) from buffer.new result) }
+        ensures beside { TellsBeside S.Store self.old.conn self.new.conn
+            (λ a. (key == a.key) ≡ false)
+            (λ c. IsPageRead (text_under key c.messages) from buffer.new result) }
+        ensures counted { CountsFaults self.old.faults self.new.faults result }
+    {
+        let answer = pages::page(self.alloc, &mut self.conn, key, from, buffer);
+        self.told(answer)
+    }
+
+    /// The credential of a clerk, as [`Vault::credential`] gives it, also inside a transaction.
+    pub(crate) fn look_up_credential(
+        &mut self,
+        clerk: &Name,
+    ) -> Result<Option<Credential>, VaultFault>
+        ensures sees { Sees S.Store self.old.conn self.new.conn (IsOwn result)
+            (λ c. IsAnswer (Ok (credential_in clerk.now c.clerks)) result) }
+        ensures beside { TellsBeside S.Store self.old.conn self.new.conn (λ _. ⊤)
+            (λ c. IsAnswer (Ok (credential_in clerk.now c.clerks)) result) }
+        ensures counted { CountsFaults self.old.faults self.new.faults result }
+    {
+        let answer = clerks::find_credential(self.alloc, &mut self.conn, clerk);
+        self.told(answer)
+    }
+
     /// The answer with its refusal as the vault's fault, which is counted if it is `Store`.
     fn told<T: Drop>(&mut self, answer: Result<T, Refusal>) -> Result<T, VaultFault>
         ensures answer { result ≡ answer_of answer }
@@ -419,13 +578,11 @@ impl<S: Alter> Vault for SqlVault<S> {
     }
 
     fn heads(&mut self, maildrop: &Name) -> Result<Vec<Head>, VaultFault> {
-        let answer = mail::heads(self.alloc, &mut self.conn, maildrop);
-        self.told(answer)
+        self.look_up_heads(maildrop)
     }
 
     fn page(&mut self, key: MessageKey, from: u64, buffer: &mut [u8]) -> Result<usize, VaultFault> {
-        let answer = pages::page(self.alloc, &mut self.conn, key, from, buffer);
-        self.told(answer)
+        self.look_up_page(key, from, buffer)
     }
 
     fn remove(&mut self, maildrop: &Name, keys: &[MessageKey]) -> Result<(), VaultFault> {
@@ -433,9 +590,29 @@ impl<S: Alter> Vault for SqlVault<S> {
         self.written((keys.len() as u64).saturating_mul(PAGE), answer)
     }
 
+    /// There is nothing to prepare: a removal is one transaction. [`crate::Ahead`] does it in
+    /// parts.
+    fn prepare_removal(
+        &mut self,
+        _maildrop: &Name,
+        _keys: &[MessageKey],
+    ) -> Result<Progress, VaultFault> {
+        Ok(Progress::Ready)
+    }
+
+    /// There is nothing to prepare: a deposit is one transaction.
+    fn prepare_deposit(
+        &mut self,
+        _maildrop: &Name,
+        _class: &Name,
+        _id: &DepositId,
+        _text: &MailText,
+    ) -> Result<Progress, VaultFault> {
+        Ok(Progress::Ready)
+    }
+
     fn credential(&mut self, clerk: &Name) -> Result<Option<Credential>, VaultFault> {
-        let answer = clerks::find_credential(self.alloc, &mut self.conn, clerk);
-        self.told(answer)
+        self.look_up_credential(clerk)
     }
 
     fn clerks(&mut self) -> Result<Vec<ClerkKind>, VaultFault> {

@@ -6,12 +6,13 @@ ghost use Rattle.mailsql.specs.Rows.{Rows, HasTables, HasOldTables, rows_in};
 ghost use Rattle.vault.specs.declared.fault.VaultFault.TheVariants.{OldVersion};
 ghost use Rattle.sqlvault.specs.declared.version.StoreVersion.TheVariants.{Unknown};
 ghost use Rattle.sqlvault.specs.Adopts.{IsAdoptFault, IsOfUnknownVersion, IsOfOurVersion};
-ghost use Rattle.sqlvault.specs.Carries.{IsOfOlderVersion, is_first};
+ghost use Rattle.sqlvault.specs.Carries.{IsOfOlderVersion};
 ghost use Rattle.sqlvault.specs.Frame.{Asks};
 ghost use Rattle.sqlvault.specs.Older.{AsksOlder, IsAllCommitted};
 ghost use Rattle.sqlvault.specs.Versions.{IsVersion, IsNoVersion, Tells, TellsUnknown};
 
 use mailsql::meta;
+use mailsql::tables::OlderVersion;
 use sqlite::{Alter, Connection, Error};
 use std::alloc::Global;
 use vault::VaultFault;
@@ -24,24 +25,6 @@ pub const OLDEST: i64 = 1;
 
 /// Version 2 of the layout.
 const SECOND: i64 = 2;
-
-/// A version of the layout before the newest one.
-#[derive(Clone, Copy)]
-pub(crate) enum OlderVersion {
-    /// Version 1: one table has the messages and their texts, and there are no groups.
-    First,
-    /// Version 2: there are no groups.
-    Second,
-}
-
-impl OlderVersion {
-    /// Whether it is version 1.
-    pub(crate) fn is_first(self) -> bool
-        ensures { result ≡ is_first self }
-    {
-        matches!(self, OlderVersion::First)
-    }
-}
 
 /// What a store's table `meta` says of its version.
 #[derive(Clone, Copy, Debug, PartialEq, Eq)]

@@ -6,6 +6,9 @@ use serving::{AdminRequest, Link, LinkEvent, Listener, Port, Wire};
 use session::Removed;
 use std::alloc::{AllocError, Global};
 
+/// How many messages a store that works in parts removes at once.
+const PART: u64 = 128;
+
 /// Accounts in their order, each with its connection, as texts.
 #[derive(Drop)]
 pub struct Heard {
@@ -13,6 +16,7 @@ pub struct Heard {
     texts: Vec<String>,
     /// Whether memory was wanting for one.
     is_short: bool,
+    long: u64,
 }
 
 /// By which command a login came.
@@ -109,6 +113,14 @@ fn account_text(alloc: Global, account: &Account) -> Result<String, AllocError> 
     }
 }
 
+/// Whether it is a QUIT that removed more messages than are removed at once.
+fn is_long(account: &Account) -> bool {
+    match account {
+        Account::Quit(removal) => removal.is_done && removal.marked as u64 > PART,
+        _ => false,
+    }
+}
+
 impl Heard {
     /// Nothing was heard yet.
     pub fn new(alloc: Global) -> Heard {
@@ -116,6 +128,7 @@ impl Heard {
             alloc,
             texts: Vec::new(alloc),
             is_short: false,
+            long: 0,
         }
     }
 
@@ -145,6 +158,11 @@ impl Heard {
         same && self.texts.len() == other.texts.len() && !self.is_short && !other.is_short
     }
 
+    /// How many QUITs removed more messages than a store that works in parts removes at once.
+    pub fn long_quits(&self) -> u64 {
+        self.long
+    }
+
     /// Forgets all.
     pub fn clear(&mut self) {
         self.texts.clear();
@@ -160,6 +178,7 @@ impl Listener for Heard {
 
     fn on_account(&mut self, connection: u64, account: &Account) {
         self.is_short |= self.keep(connection, account).is_err();
+        self.long = self.long.saturating_add(u64::from(is_long(account)));
     }
 
     fn on_request(&mut self, _link: Link, _request: &AdminRequest<'_>) {}

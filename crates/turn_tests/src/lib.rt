@@ -17,6 +17,10 @@ mod kept_back;
 #[cfg(test)]
 mod late;
 #[cfg(test)]
+mod long_quits;
+#[cfg(test)]
+mod long_turns;
+#[cfg(test)]
 mod maintenance;
 #[cfg(test)]
 mod opened;

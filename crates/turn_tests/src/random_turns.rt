@@ -46,6 +46,7 @@ fn new_game(
         chance: Chance::new(seed),
         waiting: 0,
         asking: 0,
+        is_fast: false,
         is_calm: false,
     };
     let spool = ScriptSpool::new(alloc);

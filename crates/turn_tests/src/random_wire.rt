@@ -1,6 +1,6 @@
 //! A wire whose reads and writes go well, wait, end or break by chance, and which looks at each
 //! beside a reckoning.
-ghost use Rattle.std.specs.Prelude.{None};
+ghost use Rattle.std.specs.Prelude.{None, length};
 ghost use Rattle.serving.specs.Wires.{IsWithin};
 
 use crate::chance::Chance;
@@ -19,6 +19,8 @@ pub struct RandomWire {
     pub waiting: u64,
     /// How many requests wait.
     pub asking: u64,
+    /// Links are faster and are lost less often, so that clients come to the end of what is long.
+    pub is_fast: bool,
     /// Nothing waits, ends or breaks any more.
     pub is_calm: bool,
 }
@@ -51,12 +53,15 @@ impl RandomWire {
     /// How many octets it may be at most.
     fn size(&mut self) -> usize {
         let size = self.chance.size();
-        if self.is_calm { usize::MAX } else { size }
+        if self.is_calm || (self.is_fast && !self.chance.once_in(8)) {
+            return usize::MAX;
+        }
+        size
     }
 
     /// What comes in place of the next read or write of a link, if it doesn't go well.
     fn stop(&mut self, place: usize) -> Option<Io> {
-        let number = self.chance.below(400);
+        let number = self.chance.below(if self.is_fast { 20_000 } else { 400 });
         if self.is_calm {
             return None;
         }
@@ -93,6 +98,28 @@ impl RandomWire {
             Some(io) => io,
             None => self.bring(port, place, buffer),
         }
+    }
+
+    /// What a link shows.
+    fn show_some(&mut self, port: Port, link: u64, buffer: &mut [u8]) -> Io {
+        let most = if self.chance.once_in(4) {
+            self.size()
+        } else {
+            usize::MAX
+        };
+        match self.reckoning.guest(port, link) {
+            Some(guest) if !guest.stalls() => Io::Count(copy_front(guest.unread(), most, buffer)),
+            _ => Io::Later,
+        }
+    }
+
+    /// Shows what comes next on a link, or the front of it.
+    pub fn show(&mut self, port: Port, link: Link, buffer: &mut [u8]) -> Io
+        ensures { IsWithin (length buffer.old) result }
+    {
+        let room = buffer.len();
+        let io = self.show_some(port, link.number, buffer);
+        within(io, room)
     }
 
     /// Writes on a link.

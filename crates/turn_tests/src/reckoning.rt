@@ -157,6 +157,12 @@ impl Reckoning {
         Ok(link)
     }
 
+    /// An open link.
+    pub fn guest(&self, port: Port, link: u64) -> Option<&Guest> {
+        self.guests
+            .get(place_of(self.guests.as_slice(), port, link)?)
+    }
+
     /// The moment is given.
     pub fn tick(&mut self) {
         let ended = end_late(&mut self.guests, &mut self.office, self.now);

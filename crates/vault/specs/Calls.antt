@@ -9,6 +9,7 @@ use Rattle.policy.specs.Policy.{Policy}
 use Rattle.vault.specs.declared.answer.Deposited.{Deposited}
 use Rattle.vault.specs.declared.answer.Deposited.TheVariants as stored
 use Rattle.vault.specs.declared.answer.Head.{Head}
+use Rattle.vault.specs.declared.answer.Progress.{Progress}
 use Rattle.vault.specs.declared.answer.Total.{Total}
 use Rattle.vault.specs.declared.fault.VaultFault.{VaultFault}
 use Rattle.vault.specs.declared.fault.VaultFault.TheVariants as fault
@@ -111,6 +112,11 @@ pub record IsPaged (Holds : Contents → Type 0) (c : Contents) (key from : ℕ)
 -- the named messages are gone; keys without a message are ignored
 abbrev pub AreRemoved : (Contents → Type 0) → Contents → (maildrop keys : List ℕ) → Result (Unit {0}) VaultFault → Type 0
 AreRemoved Holds c d keys answered = IsDone Holds c (with_messages (without_keys d keys c.messages) c) (Ok tt) answered
+
+-- a removal or a deposit is prepared, or `Store` or `NoMemory` is answered
+abbrev pub IsPrepared : Result Progress VaultFault → Type 0
+IsPrepared (Ok progress) = ⊤
+IsPrepared (Err e) = IsRefusal {A = Unit {0}} (Ok tt) e
 
 -- ---- clerks
 

@@ -36,6 +36,15 @@ pub struct Total {
     pub octets: u64,
 }
 
+/// How far a removal or a deposit is prepared.
+#[derive(Clone, Copy, PartialEq, Eq, Debug)]
+pub enum Progress {
+    /// More of it can be prepared.
+    More,
+    /// No more of it can be prepared.
+    Ready,
+}
+
 /// The two kinds of a clerk's credential.
 #[derive(Clone, Copy, PartialEq, Eq, Debug)]
 pub enum CredentialKind {

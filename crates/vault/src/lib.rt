@@ -1,4 +1,4 @@
-//! What a mail store keeps (clerks, maildrops, messages, deposits and the policy), its fourteen
+//! What a mail store keeps (clerks, maildrops, messages, deposits and the policy), its sixteen
 //! calls (the trait `Vault`), and a store in memory.
 #![tactic(auto)]
 
@@ -15,7 +15,7 @@ mod refusing;
 mod sheets;
 mod vault;
 
-pub use answer::{ClerkKind, CredentialKind, Deposited, Head, Total};
+pub use answer::{ClerkKind, CredentialKind, Deposited, Head, Progress, Total};
 pub use clerks::{MAX_CLERKS, clerk_kinds};
 pub use deposits::{MAX_DEPOSITS, MAX_MESSAGES};
 pub use fault::VaultFault;

@@ -4,10 +4,11 @@ ghost use Rattle.std.proofs.Common.{◌∙◌, sym};
 ghost use Rattle.vault.specs.Stops.{says_same};
 ghost use Rattle.vault.specs.Plain.{HoldsKept, LooksKept, CommitsKept, no_contents};
 ghost use Rattle.vault.specs.Calls.{IsAnswer, IsPaged, AreRemoved, IsCredential, IsClerkDropped};
-ghost use Rattle.vault.specs.Calls.{IsMaildropDropped};
+ghost use Rattle.vault.specs.Calls.{IsMaildropDropped, IsPrepared};
+ghost use Rattle.vault.specs.declared.answer.Progress.TheVariants.{Ready};
 ghost use Rattle.vault.specs.Changes.{Contents};
 
-use crate::answer::{ClerkKind, Deposited, Head, Total};
+use crate::answer::{ClerkKind, Deposited, Head, Progress, Total};
 use crate::clerks::{credential_of, drop_credential, has_form, list_clerks, put_credential};
 use crate::deposits::{accept, ask, judge};
 use crate::fault::VaultFault;
@@ -128,6 +129,34 @@ impl Vault for PlainVault {
     {
         remove_named(&mut self.messages, maildrop, keys);
         Ok(())
+    }
+
+    /// There is nothing to prepare.
+    fn prepare_removal(
+        &mut self,
+        _maildrop: &Name,
+        _keys: &[MessageKey],
+    ) -> Result<Progress, VaultFault>
+        ensures answer { IsPrepared result }
+        ensures looks { LooksKept self.old self.new result }
+        ensures ready { result ≡ Ok Ready }
+    {
+        Ok(Progress::Ready)
+    }
+
+    /// There is nothing to prepare.
+    fn prepare_deposit(
+        &mut self,
+        _maildrop: &Name,
+        _class: &Name,
+        _id: &DepositId,
+        _text: &MailText,
+    ) -> Result<Progress, VaultFault>
+        ensures answer { IsPrepared result }
+        ensures looks { LooksKept self.old self.new result }
+        ensures ready { result ≡ Ok Ready }
+    {
+        Ok(Progress::Ready)
     }
 
     fn maildrops(&mut self) -> Result<Vec<Total>, VaultFault> {

@@ -4,11 +4,12 @@ ghost use Rattle.vault.specs.Changes.{Contents};
 ghost use Rattle.vault.specs.Call.{Looks, Commits};
 ghost use Rattle.vault.specs.Calls.{seen_as, IsAnswer, IsDeposited, AreHeads, IsPaged, AreRemoved};
 ghost use Rattle.vault.specs.Calls.{IsCredential, IsClerkPut, IsClerkDropped, IsMaildropAdded};
-ghost use Rattle.vault.specs.Calls.{IsMaildropDropped, AreTotals, IsPolicy, IsPolicySet};
+ghost use Rattle.vault.specs.Calls.{IsMaildropDropped, IsPrepared, AreTotals, IsPolicy};
+ghost use Rattle.vault.specs.Calls.{IsPolicySet};
 ghost use Rattle.vault.specs.Clerks.{AreClerkKinds};
 ghost use Rattle.vault.specs.Refusals.{refusing_call, is_next, one_more, faults_of, over, IsInTurn};
 
-use crate::answer::{ClerkKind, Deposited, Head, Total};
+use crate::answer::{ClerkKind, Deposited, Head, Progress, Total};
 use crate::fault::VaultFault;
 use crate::message_key::MessageKey;
 use crate::vault::Vault;
@@ -160,6 +161,40 @@ impl<V: Vault> Vault for Refusing<V> {
             return Err(VaultFault::Store);
         }
         self.vault.remove(maildrop, keys)
+    }
+
+    fn prepare_removal(
+        &mut self,
+        maildrop: &Name,
+        keys: &[MessageKey],
+    ) -> Result<Progress, VaultFault>
+        ensures answer { IsPrepared result }
+        ensures looks { Looks (over V.holds) (faults_of V.faults) (over V.is_clean)
+            (over V.is_up) (over V.may_leave) self.old self.new result }
+        ensures turn { IsInTurn V.faults self.old self.new result }
+    {
+        if self.countdown.is_due() {
+            return Err(VaultFault::Store);
+        }
+        self.vault.prepare_removal(maildrop, keys)
+    }
+
+    fn prepare_deposit(
+        &mut self,
+        maildrop: &Name,
+        class: &Name,
+        id: &DepositId,
+        text: &MailText,
+    ) -> Result<Progress, VaultFault>
+        ensures answer { IsPrepared result }
+        ensures looks { Looks (over V.holds) (faults_of V.faults) (over V.is_clean)
+            (over V.is_up) (over V.may_leave) self.old self.new result }
+        ensures turn { IsInTurn V.faults self.old self.new result }
+    {
+        if self.countdown.is_due() {
+            return Err(VaultFault::Store);
+        }
+        self.vault.prepare_deposit(maildrop, class, id, text)
     }
 
     fn maildrops(&mut self) -> Result<Vec<Total>, VaultFault>

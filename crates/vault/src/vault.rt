@@ -5,10 +5,11 @@ ghost use Rattle.vault.specs.Stops.{SaySame};
 ghost use Rattle.vault.specs.Call.{Looks, Commits};
 ghost use Rattle.vault.specs.Calls.{seen_as, IsAnswer, IsDeposited, AreHeads, IsPaged, AreRemoved};
 ghost use Rattle.vault.specs.Calls.{IsCredential, IsClerkPut, IsClerkDropped, IsMaildropAdded};
-ghost use Rattle.vault.specs.Calls.{IsMaildropDropped, AreTotals, IsPolicy, IsPolicySet};
+ghost use Rattle.vault.specs.Calls.{IsMaildropDropped, IsPrepared, AreTotals, IsPolicy};
+ghost use Rattle.vault.specs.Calls.{IsPolicySet};
 ghost use Rattle.vault.specs.Clerks.{AreClerkKinds};
 
-use crate::answer::{ClerkKind, Deposited, Head, Total};
+use crate::answer::{ClerkKind, Deposited, Head, Progress, Total};
 use crate::fault::VaultFault;
 use crate::message_key::MessageKey;
 use creds::{Credential, DepositId, Name};
@@ -89,6 +90,31 @@ pub trait Vault {
             → AreRemoved (holds self.new) c maildrop.now keys.now result }
         ensures commits { Commits holds faults is_clean is_up may_leave self.old self.new
             (λ c Held. AreRemoved Held c maildrop.now keys.now) result };
+
+    /// Does a part of the work of a [`Vault::remove`] of these keys that may come, and answers
+    /// whether more of it can be done. Nothing is changed: what is prepared is seen by no other
+    /// call, and a stop leaves nothing of it. A store that has nothing to prepare answers
+    /// [`Progress::Ready`].
+    fn prepare_removal(
+        &mut self,
+        maildrop: &Name,
+        keys: &[MessageKey],
+    ) -> Result<Progress, VaultFault>
+        ensures answer { IsPrepared result }
+        ensures looks { Looks holds faults is_clean is_up may_leave self.old self.new result };
+
+    /// Does a part of the work of a [`Vault::deposit`] with these arguments that may come, and
+    /// answers whether more of it can be done. Nothing is changed, as for
+    /// [`Vault::prepare_removal`].
+    fn prepare_deposit(
+        &mut self,
+        maildrop: &Name,
+        class: &Name,
+        id: &DepositId,
+        text: &MailText,
+    ) -> Result<Progress, VaultFault>
+        ensures answer { IsPrepared result }
+        ensures looks { Looks holds faults is_clean is_up may_leave self.old self.new result };
 
     /// Every maildrop with the number of its messages and their octets, sorted by the octets of
     /// the name.

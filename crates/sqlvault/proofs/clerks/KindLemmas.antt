@@ -71,9 +71,6 @@ formed c h = and_parts (is_name c.name) (is_sound_credential c.credential) h
 pub named : (row : Clerk) (c : vault.Clerk) → row ≡ clerk_row c → is_sound_clerk c ≡ true → name_of row.name ≡ Some c.name
 named row c is h = let form = (formed c h).0 in ap (λ (r : Clerk). name_of r.name) is ∙ rw form refl
 
-pub credited : (c : vault.Clerk) → is_sound_clerk c ≡ true → is_sound_credential c.credential ≡ true
-credited c h = (formed c h).1
-
 -- what is read of a clerk's row is the clerk
 pub clerk_is : (c : vault.Clerk) (name : List ℕ) (credential : Credential) → Some name ≡ Some c.name → Some credential ≡ Some c.credential
     → (let x : vault.Clerk = record { name = name; credential = credential } in Some x ≡ Some c)

@@ -1,77 +1,24 @@
-use Rattle.std.proofs.Common.{arith, ◌+◌, ◌≡◌, ◌<◌, ℕ, ℤ, subst, sym, to_z-of_z, refl, ap, not, ◌∙◌}
+use Rattle.std.proofs.Common.{to_z-of_z}
 use Rattle.sqlite.specs.Held.{state}
-use Rattle.sqlite.specs.State.{HasCleanDisk, Survives}
-use Rattle.mailsql.specs.Sheets.{sheet_count}
-use Rattle.mailsql.specs.Rows.{Changes, MayLeave}
-use Rattle.mailsql.specs.Changes.{AddsFirstSheets, AddsSomeSheets}
-use Rattle.mailsql.proofs.StateLemmas.{survives_nothing}
-use Rattle.mailsql.proofs.ChainLemmas.{halts_then}
-use Rattle.mailsql.proofs.SheetRunLemmas.{HasAdded, none_added, added, stops_between}
-use Rattle.mailsql.proofs.sheets.add_sheets.Given.{Over}
-use Rattle.mailsql.proofs.sheets.add_sheets.Goals.{After-add_sheet_at}
+use Rattle.sqlite.proofs.StateLemmas.{survives_weaker}
+use Rattle.mailsql.proofs.ResultLemmas.{on_ok_then, if_err}
+use Rattle.mailsql.proofs.SheetRunLemmas.{all_changed, some_of_rest, fails_from_first}
 use Rattle.mailsql.proofs.sheets.add_sheets.Goals as goal
-
-pub loop-place-init : goal.loop-place-init
-loop-place-init g c = (
-  survives_nothing _ _,
-  λ clean ready. none_added c.args.mail c.args.text.now (state g.S.Store c.args.conn.now) ready
-      (λ off. c.is_autocommit-settled.ensures.settled (c.is_autocommit-settled.ensures.value ∙ ap not off) ready.0),
-)
-
--- ---- what every sheet after the first ones meets
-
--- the first sheets were added
-so_far : (g : Over) (c : After-add_sheet_at g) → HasAdded c.args.mail c.args.text.now c.loop-place.place (state g.S.Store c.args.conn.now) (state g.S.Store c.loop-place.conn)
-so_far g c = subst (λ (m : ℤ). HasAdded m c.args.text.now c.loop-place.place (state g.S.Store c.args.conn.now) (state g.S.Store c.loop-place.conn)) (to_z-of_z c.ranges.mail) c.loop-place.invariant
-
-low : (g : Over) (c : After-add_sheet_at g) → c.loop-place.place < sheet_count c.args.text.now
-low g c = omega (arith, c.loop-place-test.true, c.count_sheets-place-end.ensures)
-
-clean_before : (g : Over) (c : After-add_sheet_at g) → HasCleanDisk (state g.S.Store c.add_sheet_at.new.conn) → HasCleanDisk (state g.S.Store c.loop-place.conn)
-clean_before g c clean = omega (arith, clean, c.add_sheet_at.ensures.survives.clean)
-
-stops : (g : Over) (c : After-add_sheet_at g) → Survives (state g.S.Store c.args.conn.now) (state g.S.Store c.add_sheet_at.new.conn)
-    (MayLeave (AddsSomeSheets c.args.mail c.args.text.now) (state g.S.Store c.args.conn.now))
-stops g c =
-    let n = c.loop-place.place in
-    let inv = so_far g c in
-    stops_between c.args.mail c.args.text.now (state g.S.Store c.args.conn.now) (state g.S.Store c.loop-place.conn) (state g.S.Store c.add_sheet_at.new.conn) n (n + 1) refl (low g c) inv.1 inv.0
-    (simp (to_z-of_z, c.ranges.mail) at c.add_sheet_at.ensures.survives)
-
--- ---- each exit
-
-pub loop-place-preserved : goal.loop-place-preserved
-loop-place-preserved g c =
-    let it = (goal.at.loop-place-preserved g c).After-add_sheet_at in
-    let mail = c.args.mail in
-    let text = c.args.text.now in
-    let n = c.loop-place.place in
-    subst (λ (m : ℤ). HasAdded m c.args.text.now (c.loop-place.place + 1) (state g.S.Store c.args.conn.now) (state g.S.Store c.add_sheet_at.new.conn)) (sym (to_z-of_z c.ranges.mail)) (
-      stops g it,
-      λ clean ready. added mail text (state g.S.Store c.args.conn.now) (state g.S.Store c.loop-place.conn) (state g.S.Store c.add_sheet_at.new.conn) n (n + 1) refl (low g it)
-          ((so_far g it).1 (clean_before g it clean) ready) (λ on. simp (to_z-of_z, c.ranges.mail) at (c.in-Ok.ensures.ok clean on)),
-    )
-
-pub returns-in-Err-clause-err : goal.returns-in-Err-clause-err
-returns-in-Err-clause-err g c clean ready inside =
-    let it = (goal.at.returns-in-Err-clause-err g c).After-add_sheet_at in
-    halts_then (AddsFirstSheets c.loop-place.place c.args.mail c.args.text.now) (state g.S.Store c.args.conn.now) (state g.S.Store c.loop-place.conn) (state g.S.Store c.add_sheet_at.new.conn)
-    inside ((so_far g it).1 (clean_before g it clean) ready) (c.in-Err.ensures.err clean)
-
-pub returns-in-Err-clause-cause : goal.returns-in-Err-clause-cause
-returns-in-Err-clause-cause g c clean ready =
-    let it = (goal.at.returns-in-Err-clause-cause g c).After-add_sheet_at in
-    (c.loop-place.place, low g it, (c.loop-place.conn, (so_far g it).1 (clean_before g it clean) ready, simp (to_z-of_z, c.ranges.mail) at (c.in-Err.ensures.cause clean)))
-
-pub returns-in-Err-clause-survives : goal.returns-in-Err-clause-survives
-returns-in-Err-clause-survives g c = stops g (goal.at.returns-in-Err-clause-survives g c).After-add_sheet_at
 
 pub returns-clause-ok : goal.returns-clause-ok
 returns-clause-ok g c clean ready =
-    let inv = subst (λ (m : ℤ). HasAdded m c.args.text.now c.loop-place.place (state g.S.Store c.args.conn.now) (state g.S.Store c.loop-place.conn)) (to_z-of_z c.ranges.mail) c.loop-place.invariant in
-    let end : c.loop-place.place ≡ sheet_count c.args.text.now = omega (arith, c.loop-place-test.false, c.loop-place.auto.place-end, c.count_sheets-place-end.ensures) in
-    subst (λ (n : ℕ). Changes (AddsFirstSheets n c.args.mail c.args.text.now) (state g.S.Store c.args.conn.now) (state g.S.Store c.loop-place.conn)) end (inv.1 clean ready)
+    on_ok_then c.add_rest.result (all_changed c.args.mail c.args.text.now (state g.S.Store c.args.conn.now) (state g.S.Store c.add_rest.new.conn))
+    (simp (to_z-of_z, c.ranges.mail) at (c.add_rest.ensures.ok clean ready))
+
+pub returns-clause-err : goal.returns-clause-err
+returns-clause-err g c = c.add_rest.ensures.err
+
+pub returns-clause-cause : goal.returns-clause-cause
+returns-clause-cause g c clean ready =
+    if_err c.add_rest.result _ _ (fails_from_first c.args.mail c.args.text.now g.S.Store c.args.conn.now c.add_rest.new.conn)
+    (simp (to_z-of_z, c.ranges.mail) at (c.add_rest.ensures.cause clean ready))
 
 pub returns-clause-survives : goal.returns-clause-survives
 returns-clause-survives g c =
-    (subst (λ (m : ℤ). HasAdded m c.args.text.now c.loop-place.place (state g.S.Store c.args.conn.now) (state g.S.Store c.loop-place.conn)) (to_z-of_z c.ranges.mail) c.loop-place.invariant).0
+    survives_weaker _ _ _ _ (λ _ db may. some_of_rest c.args.mail c.args.text.now (state g.S.Store c.args.conn.now) db may)
+    (simp (to_z-of_z, c.ranges.mail) at c.add_rest.ensures.survives)

@@ -1,9 +1,9 @@
-use Rattle.std.proofs.Common.{◌⊎◌, ◌∙◌, sym}
+use Rattle.std.proofs.Common.{◌⊎◌, ◌∙◌}
 use Rattle.std.specs.Prelude.{codes}
 use Rattle.sqlite.specs.Held.{state}
 use Rattle.mailsql.specs.Changes.{DropsMetaRow, PutsMetaRow}
 use Rattle.mailsql.specs.Rows.{IsReady, rows_in}
-use Rattle.sqlvault.specs.Carries.{is_first}
+use Rattle.mailsql.specs.OlderVersions.{is_first}
 use Rattle.sqlvault.specs.Keeps.{our_meta_row}
 use Rattle.sqlvault.proofs.CarryLemmas.{completes_no_more}
 use Rattle.sqlvault.proofs.FrameLemmas.{was_clean}
@@ -16,9 +16,9 @@ returns-in-Err g c = record {
   clean = was_clean g.S.Store c.args.conn.now c.complete_tables.new.conn
       c.complete_tables.ensures.survives;
   part = λ clean1 b. record {
-    halted = c.in-Err.ensures.err clean1 b.begun (b.order ∙ sym c.is_first.ensures);
-    stop = completes_no_more c.is_first.result (state g.S.Store c.args.conn.now)
-        (state g.S.Store c.complete_tables.new.conn) b.begun (b.order ∙ sym c.is_first.ensures) clean1
+    halted = c.in-Err.ensures.err clean1 b.begun b.order;
+    stop = completes_no_more (is_first c.args.version) (state g.S.Store c.args.conn.now)
+        (state g.S.Store c.complete_tables.new.conn) b.begun b.order clean1
         c.complete_tables.ensures.survives;
   };
 }
@@ -36,9 +36,8 @@ returns-in-Ok-move_old g c =
           c.complete_tables.ensures.survives (c.move_old.ensures.clean (before clean3));
       part = λ clean3 b.
           let clean1 = c.move_old.ensures.clean (before clean3) in
-          let order = b.order ∙ sym c.is_first.ensures in
-          let made = c.in-Ok.ensures.ok clean1 b.begun order in
-          let stop = completes_no_more c.is_first.result s0 s1 b.begun order clean1
+          let made = c.in-Ok.ensures.ok clean1 b.begun b.order in
+          let stop = completes_no_more (is_first c.args.version) s0 s1 b.begun b.order clean1
           c.complete_tables.ensures.survives in
           let none = none_made (is_first c.args.version) (rows_in s0.now.trees) (rows_in s1.now.trees)
           (completed_rows (is_first c.args.version) s0 s1 b made stop) in
@@ -62,9 +61,8 @@ returns-in-Err-move_old g c = record {
       let s0 = state g.S.Store c.args.conn.now in
       let s1 = state g.S.Store c.complete_tables.new.conn in
       let clean1 = c.move_old.ensures.clean clean2 in
-      let order = b.order ∙ sym c.is_first.ensures in
-      let made = c.in-Ok.ensures.ok clean1 b.begun order in
-      let stop = completes_no_more c.is_first.result s0 s1 b.begun order clean1
+      let made = c.in-Ok.ensures.ok clean1 b.begun b.order in
+      let stop = completes_no_more (is_first c.args.version) s0 s1 b.begun b.order clean1
       c.complete_tables.ensures.survives in
       let none = none_made (is_first c.args.version) (rows_in s0.now.trees) (rows_in s1.now.trees)
       (completed_rows (is_first c.args.version) s0 s1 b made stop) in

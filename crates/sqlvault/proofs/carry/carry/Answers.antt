@@ -8,7 +8,8 @@ use Rattle.sqlvault.proofs.OlderLemmas.{midway_on, midway_meta_rows, midway_keep
 use Rattle.sqlvault.proofs.OlderLemmas.{committed_older, uncommitted_older}
 use Rattle.sqlite.specs.State.{HasCleanDisk}
 use Rattle.vault.specs.Changes.{Contents}
-use Rattle.sqlvault.specs.Carries.{is_first, IsOlder, KeepsOlder}
+use Rattle.mailsql.specs.OlderVersions.{is_first}
+use Rattle.sqlvault.specs.Carries.{IsOlder, KeepsOlder}
 use Rattle.sqlvault.specs.Refusals.{told}
 use Rattle.mailsql.proofs.CreateLemmas.{stops_making}
 use Rattle.sqlvault.proofs.carry.carry.Given.{Over}

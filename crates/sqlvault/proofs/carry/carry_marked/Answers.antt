@@ -3,8 +3,9 @@ use Rattle.sqlite.specs.Held.{state}
 use Rattle.sqlite.specs.Effect.{Database}
 use Rattle.sqlite.specs.State.{IsUnchanged}
 use Rattle.mailsql.specs.Tables.{old_schema}
+use Rattle.mailsql.specs.OlderVersions.{is_first}
 use Rattle.mailsql.specs.Rows.{rows_in, is_carried, HasOldTables}
-use Rattle.sqlvault.specs.Carries.{old_meta_row, is_first}
+use Rattle.sqlvault.specs.Carries.{old_meta_row}
 use Rattle.sqlvault.specs.Refusals.{told}
 use Rattle.sqlvault.proofs.AdoptLemmas.{stays_undone}
 use Rattle.sqlvault.proofs.CarryLemmas.{judged_uncarried, order_uncarried, older_on, old_on, either}

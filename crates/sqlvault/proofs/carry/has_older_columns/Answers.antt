@@ -1,7 +1,7 @@
 use Rattle.std.proofs.Common.{◌≡◌, ◌∙◌, ap, sym, Bool, true, false, true≢false}
 use Rattle.sqlite.specs.Held.{state}
 use Rattle.mailsql.specs.Tables.{old_schema}
-use Rattle.sqlvault.specs.Carries.{is_first}
+use Rattle.mailsql.specs.OlderVersions.{is_first}
 use Rattle.sqlvault.proofs.carry.has_older_columns.Goals as goal
 
 pub returns-in-First-clause-fits : goal.returns-in-First-clause-fits

@@ -4,28 +4,21 @@ use Rattle.sqlite.specs.Held.{state}
 use Rattle.vault.specs.Records.{credential_in}
 use Rattle.mailsql.specs.declared.rows.Clerk.{Clerk}
 use Rattle.mailsql.specs.Rows.{rows_in}
-use Rattle.sqlvault.proofs.FrameLemmas.{asked, failed}
+use Rattle.sqlvault.proofs.SeesLemmas.{learns, sees_asked, sees_failed}
 use Rattle.sqlvault.proofs.ClerkLemmas.{is_there}
 use Rattle.sqlvault.proofs.clerks.has_clerk.Goals as goal
 
 pub returns-in-Ok : goal.returns-in-Ok
-returns-in-Ok g c = record {
-  looks = asked g.S.Store c.args.conn.now c.find_clerk.new.conn c.in-Ok.ensures.same
-      c.find_clerk.ensures.survives;
-  told = λ clean k h own.
-      let here = c.in-Ok.ensures.same clean h.tables in (
-        here.0.is_open,
-        c.is_some.ensures
-            ∙ ap (λ (o : Option Clerk). is_some o) (c.in-Ok.ensures.ok clean h.tables)
-            ∙ is_there (rows_in (state g.S.Store c.args.conn.now).now.trees) k c.as_bytes.result.now
-            (h.rows here.0.was_open)
-            ∙ ap (λ n. is_some (credential_in n k.clerks)) c.as_bytes.ensures.value,
-      );
-}
+returns-in-Ok g c = learns
+    (sees_asked g.S.Store c.args.conn.now c.find_clerk.new.conn c.in-Ok.ensures.same
+    c.find_clerk.ensures.survives
+    (λ clean tables k keeps.
+    c.is_some.ensures
+    ∙ ap (λ (o : Option Clerk). is_some o) (c.in-Ok.ensures.ok clean tables)
+    ∙ is_there (rows_in (state g.S.Store c.args.conn.now).now.trees) k c.as_bytes.result.now keeps
+    ∙ ap (λ n. is_some (credential_in n k.clerks)) c.as_bytes.ensures.value))
 
 pub returns-in-Err : goal.returns-in-Err
-returns-in-Err g c = record {
-  looks = failed g.S.Store c.args.conn.now c.find_clerk.new.conn c.in-Err.ensures.err
-      c.find_clerk.ensures.survives;
-  told = λ clean k h own. absurd own;
-}
+returns-in-Err g c = learns
+    (sees_failed g.S.Store c.args.conn.now c.find_clerk.new.conn c.in-Err.ensures.err
+    c.find_clerk.ensures.survives (λ k. tt))

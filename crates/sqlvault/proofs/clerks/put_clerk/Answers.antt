@@ -5,7 +5,8 @@ use Rattle.vault.specs.Calls.{put_result, IsClerkPut}
 use Rattle.sqlvault.specs.Refusals.{fault_of}
 use Rattle.sqlvault.proofs.HoldsLemmas.{refused}
 use Rattle.sqlvault.proofs.ClerkLemmas.{keeps_put}
-use Rattle.sqlvault.proofs.FrameLemmas.{looks_whole, looks_turns, turns_said, own_met}
+use Rattle.sqlvault.proofs.SeesLemmas.{own_met}
+use Rattle.sqlvault.proofs.FrameLemmas.{looks_whole, looks_turns, turns_said}
 use Rattle.sqlvault.proofs.StopLemmas.{not_own}
 use Rattle.sqlvault.proofs.clerks.put_clerk.Goals as goal
 

@@ -6,7 +6,8 @@ use Rattle.vault.specs.Calls.{IsDeposited}
 use Rattle.sqlvault.specs.declared.refusal.Refusal.TheVariants.{Met}
 use Rattle.sqlvault.specs.Refusals.{answer_of}
 use Rattle.sqlvault.proofs.deposit.KeptLemmas.{accepts, receipt_made, deposited, undeposited}
-use Rattle.sqlvault.proofs.FrameLemmas.{looks_whole, rests_turns, own_met}
+use Rattle.sqlvault.proofs.SeesLemmas.{own_met}
+use Rattle.sqlvault.proofs.FrameLemmas.{looks_whole, rests_turns}
 use Rattle.sqlvault.proofs.StopLemmas.{not_own}
 use Rattle.sqlvault.proofs.deposit.deposit.Goals as goal
 

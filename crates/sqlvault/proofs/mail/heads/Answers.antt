@@ -1,50 +1,67 @@
 use Rattle.std.proofs.Common.{◌≡◌, ◌==◌, length, sym, ◌∙◌, rules}
-use Rattle.sqlite.specs.Held.{state}
 use Rattle.vault.specs.Changes.{kept_in}
 use Rattle.vault.specs.Calls.{heads_result}
-use Rattle.sqlvault.specs.Stands.{Holds}
+use Rattle.sqlvault.proofs.HoldsLemmas.{met, same_so}
 use Rattle.sqlvault.proofs.HeadLemmas.{no_mail, some_mail, shown_heads, there_by, unread_heads}
-use Rattle.sqlvault.proofs.FrameLemmas.{looked_refused, learns_answer, looks_then, looks_own}
+use Rattle.sqlvault.proofs.SeesLemmas.{sees_then, sees_said, sees_own}
+use Rattle.sqlvault.proofs.TellsLemmas.{tells_then, tells_said}
 use Rattle.sqlvault.proofs.mail.heads.Goals as goal
 
-pub returns-then-is_empty-clause-done : goal.returns-then-is_empty-clause-done
-returns-then-is_empty-clause-done g c k clean h =
+pub returns-then-is_empty-clause-sees : goal.returns-then-is_empty-clause-sees
+returns-then-is_empty-clause-sees g c =
     let rows = c.in-Ok.rows.items in
-    let before = c.no_heads.ensures.looks.clean clean in
     let empty : c.is_empty.result ≡ (length rows == 0) = search rules in
-    c.no_heads.ensures.done k clean (c.in-Ok.ensures.looks.rests before k h).held
-    (no_mail rows (sym empty ∙ c.if-is_empty.true) (c.in-Ok.ensures.told before k h tt).1)
+    sees_own (λ own. own)
+    (λ k told. told.1 (no_mail rows (sym empty ∙ c.if-is_empty.true) told.0))
+    (sees_then c.in-Ok.ensures.sees c.no_heads.ensures.sees)
 
-pub returns-in-Ok-clause-done : goal.returns-in-Ok-clause-done
-returns-in-Ok-clause-done g c k clean h =
+pub returns-in-Ok-clause-sees : goal.returns-in-Ok-clause-sees
+returns-in-Ok-clause-sees g c =
     let d = c.args.maildrop.now in
     let rows = c.in-Ok.rows.items in
     let empty : c.is_empty.result ≡ (length rows == 0) = search rules in
-    learns_answer (heads_result d k) _ c.in-Ok.ensures k clean h
-    (λ sound told. shown_heads d k c.in_ok-read_heads-in-Ok.field-0.items
+    sees_said c.in-Ok.ensures.sees
+    (λ k sound told. same_so (heads_result d k) _ (shown_heads d k c.in_ok-read_heads-in-Ok.field-0.items
     (there_by d k sound (some_mail rows (sym empty ∙ c.if-is_empty.false) told))
     (c.in_ok-read_heads-in-Ok.ensures.items (kept_in d k.messages)
-    (c.as_slice.ensures.value ∙ told.rows_are) told.classes told.keys))
+    (c.as_slice.ensures.value ∙ told.rows_are) told.classes told.keys)))
 
-pub returns-in_err-read_heads-in-Ok-clause-done : goal.returns-in_err-read_heads-in-Ok-clause-done
-returns-in_err-read_heads-in-Ok-clause-done g c k clean h =
-    unread_heads (λ v. v.items) (Holds (state g.S.Store c.rows_of.new.conn)) c.args.maildrop.now k
-    c.in_err-read_heads-in-Ok.field-0.0 c.from_residual.result c.from_residual.ensures.1
-    (c.in-Ok.ensures.looks.rests clean k h).held
+pub returns-in_err-read_heads-in-Ok-clause-sees : goal.returns-in_err-read_heads-in-Ok-clause-sees
+returns-in_err-read_heads-in-Ok-clause-sees g c =
+    sees_own (λ _. tt)
+    (λ k told. unread_heads (λ v. v.items) c.args.maildrop.now k
+    c.in_err-read_heads-in-Ok.field-0.0 c.from_residual.result c.from_residual.ensures.1)
+    c.in-Ok.ensures.sees
 
-pub returns-clause-done : goal.returns-clause-done
-returns-clause-done g c k clean h = looked_refused (heads_result c.args.maildrop.now k)
-    c.in-Err.error c.in-Err.ensures.looks k clean h
+pub returns-clause-sees : goal.returns-clause-sees
+returns-clause-sees g c = sees_own (λ own. own)
+    (λ k _. met (heads_result c.args.maildrop.now k) c.in-Err.error) c.in-Err.ensures.sees
 
-pub returns-then-is_empty-clause-looks : goal.returns-then-is_empty-clause-looks
-returns-then-is_empty-clause-looks g c =
-    looks_then c.in-Ok.ensures.looks c.no_heads.ensures.looks
+pub returns-then-is_empty-clause-beside : goal.returns-then-is_empty-clause-beside
+returns-then-is_empty-clause-beside g c =
+    let rows = c.in-Ok.rows.items in
+    let empty : c.is_empty.result ≡ (length rows == 0) = search rules in
+    tells_said
+    (tells_then c.in-Ok.ensures.sees c.in-Ok.ensures.beside c.no_heads.ensures.sees c.no_heads.ensures.beside)
+    (λ k sound told. told.1 (no_mail rows (sym empty ∙ c.if-is_empty.true) told.0))
 
-pub returns-in-Ok-clause-looks : goal.returns-in-Ok-clause-looks
-returns-in-Ok-clause-looks g c = c.in-Ok.ensures.looks
+pub returns-in-Ok-clause-beside : goal.returns-in-Ok-clause-beside
+returns-in-Ok-clause-beside g c =
+    let d = c.args.maildrop.now in
+    let rows = c.in-Ok.rows.items in
+    let empty : c.is_empty.result ≡ (length rows == 0) = search rules in
+    tells_said c.in-Ok.ensures.beside
+    (λ k sound told. same_so (heads_result d k) _ (shown_heads d k c.in_ok-read_heads-in-Ok.field-0.items
+    (there_by d k sound (some_mail rows (sym empty ∙ c.if-is_empty.false) told))
+    (c.in_ok-read_heads-in-Ok.ensures.items (kept_in d k.messages)
+    (c.as_slice.ensures.value ∙ told.rows_are) told.classes told.keys)))
 
-pub returns-in_err-read_heads-in-Ok-clause-looks : goal.returns-in_err-read_heads-in-Ok-clause-looks
-returns-in_err-read_heads-in-Ok-clause-looks g c = looks_own (λ _. tt) c.in-Ok.ensures.looks
+pub returns-in_err-read_heads-in-Ok-clause-beside : goal.returns-in_err-read_heads-in-Ok-clause-beside
+returns-in_err-read_heads-in-Ok-clause-beside g c =
+    tells_said c.in-Ok.ensures.beside
+    (λ k sound told. unread_heads (λ v. v.items) c.args.maildrop.now k
+    c.in_err-read_heads-in-Ok.field-0.0 c.from_residual.result c.from_residual.ensures.1)
 
-pub returns-clause-looks : goal.returns-clause-looks
-returns-clause-looks g c = c.in-Err.ensures.looks
+pub returns-clause-beside : goal.returns-clause-beside
+returns-clause-beside g c = tells_said c.in-Err.ensures.beside
+    (λ k sound _. met (heads_result c.args.maildrop.now k) c.in-Err.error)

@@ -1,17 +1,5 @@
-use Rattle.std.proofs.Common.{◌≡◌, ap, ◌∙◌}
-use Rattle.vault.specs.Records.{is_one_of}
-use Rattle.mailsql.specs.Rows.{has_name}
-use Rattle.sqlvault.proofs.FrameLemmas.{learnt}
-use Rattle.sqlvault.proofs.MaildropLemmas.{there_is}
+use Rattle.sqlvault.proofs.SeesLemmas.{learns}
 use Rattle.sqlvault.proofs.maildrops.has_maildrop.Goals as goal
 
 pub returns : goal.returns
-returns g c =
-    let text = c.as_bytes.result.now in
-    learnt g.S.Store c.args.conn.now c.has_maildrop.new.conn c.has_maildrop.result
-    (λ rows there. there ≡ has_name text rows.maildrops)
-    (λ k there. there ≡ is_one_of c.args.name.now k.maildrops) c.has_maildrop.ensures.same
-    (λ clean _. c.has_maildrop.ensures.err clean) c.has_maildrop.ensures.survives
-    c.has_maildrop.ensures.ok
-    (λ rows k there keeps is. is ∙ there_is rows k text keeps
-    ∙ ap (λ n. is_one_of n k.maildrops) c.as_bytes.ensures.value)
+returns g c = learns c.find_maildrop.ensures.sees

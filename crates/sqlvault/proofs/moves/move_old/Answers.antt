@@ -1,6 +1,6 @@
 use Rattle.std.proofs.Common.{ap, sym, subst}
 use Rattle.sqlite.specs.Held.{state}
-use Rattle.sqlvault.specs.Carries.{is_first}
+use Rattle.mailsql.specs.OlderVersions.{is_first}
 use Rattle.sqlvault.specs.Moves.{MovesOld, IsUnmoved, Builds}
 use Rattle.sqlvault.proofs.MoveLemmas.{part_old}
 use Rattle.sqlvault.proofs.moves.move_old.Goals as goal

@@ -96,6 +96,7 @@ returns-clause-works g c = λ wire asked T s clean.
     let now = c.args.now in
     let came = c.accept_links.new.clients in
     let served = c.serve_links.new.clients in
+    let preparing = c.serve_links.new.quits.is_preparing in
     let ended = c.end_late_ones.new.clients in
     let seats2 = came.seats.items in
     let o1 = c.tick.new.self.office in
@@ -129,16 +130,16 @@ returns-clause-works g c = λ wire asked T s clean.
     let untold = subst (λ gv. HasHeard Heard l l0 (heard_of_all T.base T.log gv)) c.tick.ensures.works.facts.1.given_is (c.tick.ensures.works.facts.0.is T.base T.log s passed_clean) in
     let turned = subst (λ set. Part g.V.Vault Asked o2 w3 o3 w4
     (WithHeard Holds IsClean Heard o2 l2 o3 l3
-    (Also (WereServed Holds IsClean o2 o3 set now came.newcomers.newcomers.items served.lock_released served.poll_now served.newcomers.newcomers.items seats2 seats2)
-    (PollsBy served.lock_released served.poll_now)))) c.accept_links.ensures.comers.keeps.set
+    (Also (WereServed Holds IsClean o2 o3 set now came.newcomers.newcomers.items served.lock_released preparing served.poll_now served.newcomers.newcomers.items seats2 seats2)
+    (PollsBy (preparing || served.lock_released) served.poll_now)))) c.accept_links.ensures.comers.keeps.set
     (subst (λ b. Part g.V.Vault Asked o2 w3 o3 w4
     (WithHeard Holds IsClean Heard o2 l2 o3 l3
-    (Also (WereServed Holds IsClean o2 o3 (settings_of came) now came.newcomers.newcomers.items served.lock_released served.poll_now served.newcomers.newcomers.items seats2 seats2)
-    (PollsBy (b || served.lock_released) served.poll_now)))) c.accept_links.ensures.comers.poll_now
+    (Also (WereServed Holds IsClean o2 o3 (settings_of came) now came.newcomers.newcomers.items served.lock_released preparing served.poll_now served.newcomers.newcomers.items seats2 seats2)
+    (PollsBy (b || (preparing || served.lock_released)) served.poll_now)))) c.accept_links.ensures.comers.poll_now
     (subst (λ o. Part g.V.Vault Asked o w3 o3 w4
     (WithHeard Holds IsClean Heard o l2 o3 l3
-    (Also (WereServed Holds IsClean o o3 (settings_of came) now came.newcomers.newcomers.items served.lock_released served.poll_now served.newcomers.newcomers.items seats2 seats2)
-    (PollsBy (came.poll_now || served.lock_released) served.poll_now)))) same c.serve_links.ensures.works)) in
+    (Also (WereServed Holds IsClean o o3 (settings_of came) now came.newcomers.newcomers.items served.lock_released preparing served.poll_now served.newcomers.newcomers.items seats2 seats2)
+    (PollsBy (came.poll_now || (preparing || served.lock_released)) served.poll_now)))) same c.serve_links.ensures.works)) in
     let settled = c.serve_links.ensures.settled in
     let set = c.serve_links.ensures.keeps.keeps.set ∙ c.accept_links.ensures.comers.keeps.set in
     let most = limit links (length seats2) in
@@ -184,10 +185,10 @@ returns-clause-works g c = λ wire asked T s clean.
     (record { clients = c.serve_spool.new.clients; requests = c.serve_requests.new.requests; site = c.args.links.now.site })
     c.args.self.now.office o1 o2 o3 o4 o5 c.serve_spool.new.self.office
     wire w1 c.accept_links.new.self.wire w3 w4 w5 w6 c.args.spool.now c.serve_spool.new.spool c.args.self.now.listener l1 l2 l3 l4 l6
-    seats2 a.0 c.accept_admin_links.new.requests.exchanges.items c.accept_admin_links.ensures.works.0 served.lock_released served.poll_now
+    seats2 a.0 c.accept_admin_links.new.requests.exchanges.items c.accept_admin_links.ensures.works.0 served.lock_released preparing served.poll_now
     c.close_links.new.clients.poll_now came.newcomers.newcomers.items served.newcomers.newcomers.items ended.newcomers.newcomers.items passed
     (λ U su. hears_then Heard l l0 l1 [] (idle_ends U old.seats.items) untold (c.report_idle_ones.ensures U su)) accepted c.accept_admin_links.ensures.works.1.part
-    (hears_same Heard l1 l2 (λ h q. c.accept_admin_links.ensures.works.1.unheard h (c.accept_links.ensures.heard h q))) turned c.serve_links.ensures.releases
+    (hears_same Heard l1 l2 (λ h q. c.accept_admin_links.ensures.works.1.unheard h (c.accept_links.ensures.heard h q))) turned c.serve_links.ensures.releases c.serve_links.ensures.prepares
     (λ e. c.close_links.ensures.closes.keeps.polled (c.end_late_ones.ensures.ends.poll_now ∙ e)) c.serve_requests.ensures.works waited keeps newly late forgets
     (λ U su.
     subst (λ w. Asking Asked w w6 (λ calls. AreClosed U seats2 c.serve_spool.new.clients.seats.items calls

@@ -6,7 +6,8 @@ use Rattle.serving.specs.Settings.{Settings}
 use Rattle.serving.specs.ClientParts.{HadTurns, way_at}
 use Rattle.serving.proofs.Composing.{does_so}
 use Rattle.serving.proofs.Turns.{served_so}
-use Rattle.serving.proofs.Resting.{client_polled, is_left}
+use Rattle.serving.proofs.Awaiting.{prepares_polled}
+use Rattle.serving.proofs.Resting.{client_polled, polled_more, or_joined, is_left}
 use Rattle.serving.proofs.server.Server.serve_client.Goals as goal
 
 pub returns-clause-keeps : goal.returns-clause-keeps
@@ -56,19 +57,29 @@ returns-clause-works g c =
     let clients = c.args.clients.now in
     let now = c.args.now in
     let seat = c.args.seat in
+    let preparing = x.new.quits.is_preparing in
     does_so g.V.Vault g.W.Wire g.L.Listener s s1 _ _ (λ gv cl wa a. (
       record {
         turns = served_so g.V.Vault s.office s1.office
-            (way_at now clients (x.new.clients.poll_now || x.result)) (way_at now clients n.poll_now) n.newcomers.newcomers.items (seat ∷ [])
-            (seat ∷ []) gv cl refl refl (λ e. e) (λ i d within e. e) c.note_release.ensures.keeps.keeps.polled
-            (subst (λ m. HadTurns Holds IsClean s.office s1.office (way_at now clients (x.new.clients.poll_now || x.result)) m.newcomers.items (seat ∷ []) (seat ∷ []) gv cl)
+            (way_at now clients preparing (x.new.clients.poll_now || x.result)) (way_at now clients preparing n.poll_now) n.newcomers.newcomers.items (seat ∷ [])
+            (seat ∷ []) gv cl refl refl (λ e. e) (λ i d within e. e) (λ e. e) c.note_release.ensures.keeps.keeps.polled
+            (subst (λ m. HadTurns Holds IsClean s.office s1.office (way_at now clients preparing (x.new.clients.poll_now || x.result)) m.newcomers.items (seat ∷ []) (seat ∷ []) gv cl)
             (sym c.note_release.ensures.newcomers) a.0.turns);
         served = a.0.served;
+        awaits = a.0.awaits;
       },
-      client_polled clients.poll_now (x.new.clients.poll_now || x.result) n.lock_released n.poll_now cl a.1 c.note_release.ensures.poll_now,
+      polled_more ((clients.poll_now || preparing) || n.lock_released) (clients.poll_now || (preparing || n.lock_released)) n.poll_now cl
+          (or_joined clients.poll_now preparing n.lock_released)
+          (client_polled (clients.poll_now || preparing) (x.new.clients.poll_now || x.result) n.lock_released n.poll_now cl a.1 c.note_release.ensures.poll_now),
     )) x.ensures.works
 
 pub returns-clause-settles : goal.returns-clause-settles
 returns-clause-settles g c =
     let x = c.serve_link-more.ensures.settles in
     record { lies = x.lies; is = ap (λ m. m.newcomers.items) c.note_release.ensures.newcomers ∙ x.is }
+
+pub returns-clause-prepares : goal.returns-clause-prepares
+returns-clause-prepares g c =
+    let x = c.serve_link-more in
+    prepares_polled c.args.quits.now.is_preparing x.new.quits.is_preparing (x.new.clients.poll_now || x.result) c.note_release.new.clients.poll_now
+    c.note_release.ensures.keeps.keeps.polled x.ensures.prepares

@@ -15,11 +15,13 @@ invariant-loop-place g l = record {
   settled : AreSettled l.fn.now l.fn.clients.newcomers.newcomers.items l.clients.newcomers.newcomers.items;
   touched : AreTouched l.fn.clients.newcomers.newcomers.items l.clients.newcomers.newcomers.items (take l.place l.fn.clients.seats.items);
   releases : l.clients.lock_released ≡ true → l.clients.poll_now ≡ true;
+  prepares : l.quits.is_preparing ≡ true → l.clients.poll_now ≡ true;
   works : Does g.V.Vault g.W.Wire g.L.Listener l.fn.self l.self
       (Also (WereServed g.V.Vault.holds g.V.Vault.is_clean l.fn.self.office l.self.office
-      (settings_of l.fn.clients) l.fn.now l.fn.clients.newcomers.newcomers.items l.clients.lock_released l.clients.poll_now l.clients.newcomers.newcomers.items l.fn.clients.seats.items
+      (settings_of l.fn.clients) l.fn.now l.fn.clients.newcomers.newcomers.items
+      l.clients.lock_released l.quits.is_preparing l.clients.poll_now l.clients.newcomers.newcomers.items l.fn.clients.seats.items
       (take l.place l.fn.clients.seats.items))
-      (PollsBy (l.fn.clients.poll_now || l.clients.lock_released) l.clients.poll_now));
+      (PollsBy (l.fn.clients.poll_now || (l.quits.is_preparing || l.clients.lock_released)) l.clients.poll_now));
 }
 
 abbrev pub decreases-loop-place : goal.decreases-loop-place

@@ -4,13 +4,14 @@ use Rattle.serving.proofs.server.Server.serve_turn.Goals as goal
 
 pub returns-clause-serves : goal.returns-clause-serves
 returns-clause-serves g c = λ T s clean.
-    c.serve_after_wait.ensures.serves T (serves_on g.V.Vault.holds g.W.Wire.tells g.S.Spool.tells T c.args.self.now.office c.args.self.now.office c.args.self.now.wire c.wait.new.self c.args.spool.now
-    c.args.links.now.clients.seats.items c.args.links.now.requests.exchanges.items c.args.links.now.site c.wait.ensures.told (λ U k. k) s) clean
+    c.serve_after_wait.ensures.serves T (serves_on g.V.Vault.holds g.W.Wire.tells g.S.Spool.tells T
+    c.args.self.now.office c.args.self.now.office c.args.self.now.wire c.wait.new.self c.args.spool.now c.args.spool.now
+    c.args.links.now.clients.seats.items c.args.links.now.requests.exchanges.items c.args.links.now.site c.wait.ensures.told (λ a told. told) (λ U k. k) s) clean
 
 pub returns-clause-works : goal.returns-clause-works
 returns-clause-works g c = λ T s clean.
-    c.serve_after_wait.ensures.works c.args.self.now.wire
-    (waited_for g.W.Wire.asked c.args.self.now.wire c.wait.new.self c.args.links.now c.millis_for.result c.millis_for.ensures c.wait.ensures.called) T s clean
+    (c.serve_after_wait.ensures.works c.args.self.now.wire
+    (waited_for g.W.Wire.asked c.args.self.now.wire c.wait.new.self c.args.links.now c.millis_for.result c.millis_for.ensures c.wait.ensures.called) T s clean).0
 
 pub returns-clause-short : goal.returns-clause-short
 returns-clause-short g c = λ T s clean short.

@@ -1,18 +1,17 @@
-use Rattle.std.proofs.Common.{ap}
-use Rattle.sqlvault.specs.Opened.{Opened}
-use Rattle.sqlvault.proofs.StopLemmas.{done_told}
-use Rattle.sqlvault.proofs.CallLemmas.{looks_call}
+use Rattle.std.proofs.Common.{Ok, refl}
+use Rattle.vault.specs.Changes.{Contents}
+use Rattle.vault.specs.Records.{credential_in}
+use Rattle.sqlvault.proofs.CallLemmas.{looks_over}
+use Rattle.sqlvault.proofs.SeesLemmas.{sees_looks, sees_done}
 use Rattle.sqlvault.proofs.sql_vault.SqlVaultVault.credential.Goals as goal
 
 pub returns-clause-done : goal.returns-clause-done
-returns-clause-done g c b h clean =
-    done_told g.S.Store _ c.args.self.now.conn c.self.inside.conn c.told.new.self.conn c.find_credential-answer.new.conn b _ c.told.result _
-    (ap (λ (o : Opened g.row.S.Denot). o.conn) c.self.view_is) c.told.ensures.conn c.told.ensures.answer
-    (c.find_credential-answer.ensures.done b) h clean
+returns-clause-done g c k h clean =
+    sees_done (λ (b : Contents). Ok (credential_in c.args.clerk.now b.clerks))
+    c.look_up_credential.result c.look_up_credential.ensures.sees k clean h
 
 pub returns-clause-looks : goal.returns-clause-looks
 returns-clause-looks g c =
-    looks_call g.S.Store c.find_credential-answer.new.conn c.find_credential-answer.result
-    c.told.result c.self.view_is c.told.ensures.conn c.told.ensures.answer c.told.ensures.counted
-    c.find_credential-answer.ensures.looks
+    looks_over g.S.Store c.look_up_credential.result refl refl c.look_up_credential.ensures.counted
+    (sees_looks c.look_up_credential.ensures.sees)
     (λ db o m. g.met.S.Store.settled c.args.self.now.conn.store db o m)

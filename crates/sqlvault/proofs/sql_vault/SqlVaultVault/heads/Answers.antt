@@ -1,22 +1,18 @@
-use Rattle.std.proofs.Common.{ap}
-use Rattle.std.proofs.Common.{Vec, Global}
+use Rattle.std.proofs.Common.{refl, Vec, Global}
 use Rattle.vault.specs.declared.answer.Head.{Head}
-use Rattle.vault.specs.Calls.{AreHeads, seen_as}
-use Rattle.sqlvault.specs.Opened.{Opened}
-use Rattle.sqlvault.proofs.StopLemmas.{done_by}
-use Rattle.sqlvault.proofs.CallLemmas.{looks_call}
+use Rattle.vault.specs.Calls.{heads_result, seen_as}
+use Rattle.sqlvault.proofs.CallLemmas.{looks_over}
+use Rattle.sqlvault.proofs.SeesLemmas.{sees_looks, sees_done}
 use Rattle.sqlvault.proofs.sql_vault.SqlVaultVault.heads.Goals as goal
 
 pub returns-clause-done : goal.returns-clause-done
 returns-clause-done g c k h clean =
-    done_by g.S.Store (λ Held a. AreHeads Held k c.args.maildrop.now
-    (seen_as a (λ (v : Vec Head Global). v.items)))
-    c.args.self.now.conn c.self.inside.conn c.told.new.self.conn c.heads-answer.new.conn k
-    c.told.result _ (ap (λ (o : Opened g.row.S.Denot). o.conn) c.self.view_is)
-    c.told.ensures.conn c.told.ensures.answer (c.heads-answer.ensures.done k) h clean
+    sees_done (heads_result c.args.maildrop.now)
+    (seen_as c.look_up_heads.result (λ (v : Vec Head Global). v.items))
+    c.look_up_heads.ensures.sees k clean h
 
 pub returns-clause-looks : goal.returns-clause-looks
 returns-clause-looks g c =
-    looks_call g.S.Store c.heads-answer.new.conn c.heads-answer.result c.told.result c.self.view_is
-    c.told.ensures.conn c.told.ensures.answer c.told.ensures.counted c.heads-answer.ensures.looks
+    looks_over g.S.Store c.look_up_heads.result refl refl c.look_up_heads.ensures.counted
+    (sees_looks c.look_up_heads.ensures.sees)
     (λ db o m. g.met.S.Store.settled c.args.self.now.conn.store db o m)

@@ -1,0 +1,12 @@
+-- What the vault inside keeps, and what is kept of its answers.
+use Rattle.recent.proofs.Looks.{looks_after}
+use Rattle.recent.proofs.recent.RecentVault.prepare_removal.Goals as goal
+
+pub returns-clause-answer : goal.returns-clause-answer
+returns-clause-answer g c = rw c.after_look.ensures.answer c.prepare_removal-prepared.ensures.answer
+
+pub returns-clause-looks : goal.returns-clause-looks
+returns-clause-looks g c =
+    rw c.after_look.ensures.answer
+    (looks_after g.V.Vault _ _ _ _ c.self.view_is c.prepare_removal-prepared.ensures.looks
+    c.after_look.ensures.kept c.after_look.ensures.totals)

@@ -1,0 +1,44 @@
+-- Long QUITs, whose lines stay unread in a turn, since the store prepares what they remove.
+use Rattle.std.specs.Prelude.{◌≡◌, ◌⊎◌, ℕ, Bool, true, List, ◌++◌}
+use Rattle.std.specs.List.{Contains}
+use Rattle.vault.specs.Records.{Records}
+use Rattle.office.specs.Events.{Log}
+use Rattle.office.specs.Quitting.{brings_quit}
+use Rattle.office.specs.Taken.{trace_of}
+use Rattle.serving.specs.Calls.{Call, Looked}
+use Rattle.serving.specs.InOrder.{ServesSeat}
+use Rattle.serving.specs.Works.{most_writes}
+use Rattle.serving.specs.declared.wire.Port.TheVariants.{Pop}
+use Rattle.serving.specs.declared.wire.Io.{Io}
+use Rattle.serving.specs.declared.links.Seat.{Seat}
+
+-- A seat's link stays unread: while it was served, by events and calls of its own, it was looked at
+-- and never read, and it showed a piece with which its connection's next line is a QUIT of its
+-- session.
+pub record AwaitsQuit (B : Records) (older given : Log) (calls : List Call) (s : Seat)
+    : Type 0 where
+  pub later : Log
+  pub own : Log
+  pub front : Log
+  pub given_are : given ≡ later ++ (own ++ front)
+  pub before : List Call
+  pub here : List Call
+  pub after : List Call
+  pub calls_are : calls ≡ before ++ (here ++ after)
+  pub unread : ServesSeat s 0 most_writes own here
+  pub piece : List ℕ
+  pub io : Io
+  pub shown : Contains here (Looked Pop s.link io piece)
+  pub brings : brings_quit (trace_of B (own ++ (front ++ older))) s.connection piece ≡ true
+
+-- so does the link of one of these seats
+abbrev pub SomeAwaitsQuit : (B : Records) (older given : Log) (calls : List Call) → List Seat
+    → Type 0
+SomeAwaitsQuit B older given calls seats =
+    (s : Seat) × Contains seats s × AwaitsQuit B older given calls s
+
+-- More links stay unread so: still, if one did before; and if one does now, one did before, or the
+-- next turn doesn't wait.
+pub record PreparesMore (before now poll_now : Bool) : Type 0 where
+  pub still : before ≡ true → now ≡ true
+  pub polled : now ≡ true → (before ≡ true) ⊎ (poll_now ≡ true)

@@ -1,0 +1,105 @@
+//! Long QUITs, whose lines stay unread while the store prepares what they remove.
+ghost use Rattle.std.specs.Prelude.{◌≡◌, true, false, IfSome};
+ghost use Rattle.serving.specs.Quits.{PreparesMore};
+
+/// For how many turns in a row QUITs stay unread at most.
+const MOST_TURNS: u32 = 1_000;
+
+/// Whose QUIT stays unread, from one turn to the next.
+///
+/// The store prepares one at a time, and any other long one that comes meanwhile stays unread too.
+/// After 1,000 turns in a row each is read as it comes.
+#[derive(Drop)]
+pub(crate) struct Quits {
+    /// A client's QUIT stays unread in this turn.
+    pub(crate) is_preparing: bool,
+    /// The connection whose QUIT the store prepares.
+    connection: Option<u64>,
+    /// That one stayed unread in this turn.
+    was_met: bool,
+    /// The store can prepare more of it.
+    has_more: bool,
+    /// In how many more turns QUITs may stay unread.
+    turns_left: u32,
+}
+
+impl Quits {
+    /// None stays unread yet.
+    pub(crate) fn new() -> Quits {
+        Quits::for_turns(MOST_TURNS)
+    }
+
+    /// None ever stays unread: nobody has the store prepare any.
+    pub(crate) fn read_at_once() -> Quits {
+        Quits::for_turns(0)
+    }
+
+    fn for_turns(turns_left: u32) -> Quits {
+        Quits {
+            is_preparing: false,
+            connection: None,
+            was_met: false,
+            has_more: false,
+            turns_left,
+        }
+    }
+
+    /// Begins to serve the links of a turn.
+    pub(crate) fn begin_turn(&mut self)
+        ensures { self.new.is_preparing ≡ false }
+    {
+        self.is_preparing = false;
+        self.was_met = false;
+    }
+
+    /// Whether a QUIT may stay unread in this turn.
+    pub(crate) fn may_keep(&self) -> bool {
+        self.turns_left > 0
+    }
+
+    /// Whether a connection's QUIT, which is long, stays unread: it is the one that the store
+    /// prepares and has more of, or that is another one, or none is prepared yet.
+    pub(crate) fn keep(&mut self, connection: u64) -> bool
+        ensures kept { result ≡ true → self.new.is_preparing ≡ true }
+        ensures prepares { PreparesMore self.old.is_preparing self.new.is_preparing result }
+    {
+        match self.connection {
+            None => {
+                self.connection = Some(connection);
+                self.was_met = true;
+            }
+            Some(other) => {
+                if other == connection {
+                    if !self.has_more {
+                        self.connection = None;
+                        return false;
+                    }
+                    self.was_met = true;
+                }
+            }
+        }
+        self.is_preparing = true;
+        true
+    }
+
+    /// Whose QUIT the store is to prepare before the next turn, if any stayed unread in this one.
+    pub(crate) fn next(&mut self) -> Option<u64>
+        ensures some { IfSome result (λ _. self.old.is_preparing ≡ true) }
+    {
+        if !self.is_preparing {
+            self.connection = None;
+            self.turns_left = MOST_TURNS;
+            return None;
+        }
+        self.turns_left = self.turns_left.saturating_sub(1);
+        if !self.was_met {
+            self.connection = None;
+        }
+        self.connection
+    }
+
+    /// Notes whether the store can prepare more of it.
+    pub(crate) fn note_progress(&mut self, has_more: bool) {
+        self.has_more = has_more;
+    }
+}

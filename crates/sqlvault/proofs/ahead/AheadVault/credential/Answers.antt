@@ -1,0 +1,63 @@
+use Rattle.std.proofs.Common.{refl, ap, Ok, Err}
+use Rattle.sqlvault.specs.UnderWay.{Prepared}
+use Rattle.sqlvault.proofs.AheadLemmas.{done_after, done_refused, looks_after, looks_refused}
+use Rattle.sqlvault.proofs.AheadLemmas.{looks_beside, looks_ended, told_ended}
+use Rattle.sqlvault.proofs.BesideLemmas.{told_credential}
+use Rattle.vault.specs.Records.{credential_in}
+use Rattle.vault.specs.Calls.{IsCredential}
+use Rattle.sqlvault.proofs.ahead.AheadVault.credential.Goals as goal
+
+pub returns-in-Ok-give_up-clause-done : goal.returns-in-Ok-give_up-clause-done
+returns-in-Ok-give_up-clause-done g c k h clean =
+    done_after g.S.Store (record { vault = c.credential.new.self; under_way = c.self-2.inside.work })
+    (λ Held. IsCredential Held k c.args.clerk.now c.credential.result)
+    k c.self-2.view_is c.in-Ok-give_up.ensures.looks c.in-Ok-give_up.ensures.none refl c.credential.ensures.looks.clean (c.credential.ensures.done k) h clean
+
+pub returns-in-Ok-give_up-clause-looks : goal.returns-in-Ok-give_up-clause-looks
+returns-in-Ok-give_up-clause-looks g c =
+    looks_after g.S.Store {new = record { vault = c.credential.new.self; under_way = c.self-2.inside.work }}
+    c.self-2.view_is c.in-Ok-give_up.ensures.looks c.in-Ok-give_up.ensures.none refl c.credential.ensures.looks
+
+pub returns-in-Err-give_up-clause-looks : goal.returns-in-Err-give_up-clause-looks
+returns-in-Err-give_up-clause-looks g c =
+    looks_refused g.S.Store c.in-Err-give_up.fault c.in-Err-give_up.ensures.answer c.in-Err-give_up.ensures.looks
+
+pub returns-in-Ok-clause-looks : goal.returns-in-Ok-clause-looks
+returns-in-Ok-clause-looks g c =
+    let r = c.is_at_work.ensures c.if-is_at_work.true in
+    looks_beside g.S.Store {old = c.args.self.now} {new = record { vault = c.look_up_credential.new.self; under_way = c.self.inside.work }}
+    c.self.inside.vault r.0 (ap (λ (v : Prepared g.row.S.Denot). v.vault) c.self.view_is) r.1
+    (λ db o m. g.met.S.Store.settled c.args.self.now.vault.conn.store db o m) (Ok c.in-Ok.found)
+    (ap (λ (v : Prepared g.row.S.Denot). v.under_way) c.self.view_is) c.in-Ok.ensures.counted c.in-Ok.ensures.sees tt
+
+pub returns-in-Err-clause-looks : goal.returns-in-Err-clause-looks
+returns-in-Err-clause-looks g c =
+    let r = c.is_at_work.ensures c.if-is_at_work.true in
+    looks_ended g.S.Store {old = c.args.self.now} {mid = record { vault = c.look_up_credential.new.self; under_way = c.self.inside.work }}
+    {new = c.end_beside.new.self} r.0 c.in-Err.fault c.end_beside.result c.end_beside.ensures
+    c.self.inside.vault (ap (λ (v : Prepared g.row.S.Denot). v.vault) c.self.view_is) r.1
+    c.in-Err.ensures.counted c.in-Err.ensures.sees
+    (λ db o m. g.met.S.Store.settled c.args.self.now.vault.conn.store db o m)
+
+pub returns-in-Ok-clause-done : goal.returns-in-Ok-clause-done
+returns-in-Ok-clause-done g c k h clean =
+    let r = c.is_at_work.ensures c.if-is_at_work.true in
+    record {
+      answer = told_credential g.S.Store {old = c.args.self.now} {new = c.look_up_credential.new.self.conn} c.self.inside.vault r.0 c.args.clerk.now (Ok c.in-Ok.found)
+          (ap (λ (v : Prepared g.row.S.Denot). v.vault) c.self.view_is) r.1 c.in-Ok.ensures.sees c.in-Ok.ensures.beside k h clean;
+      held = (returns-in-Ok-clause-looks g c).held k clean h;
+    }
+
+pub returns-in-Err-clause-done : goal.returns-in-Err-clause-done
+returns-in-Err-clause-done g c k h clean =
+    let r = c.is_at_work.ensures c.if-is_at_work.true in
+    record {
+      answer = told_ended (Ok (credential_in c.args.clerk.now k.clerks)) c.in-Err.fault c.end_beside.result c.end_beside.ensures.answer
+          (told_credential g.S.Store {old = c.args.self.now} {new = c.look_up_credential.new.self.conn} c.self.inside.vault r.0 c.args.clerk.now (Err c.in-Err.fault)
+          (ap (λ (v : Prepared g.row.S.Denot). v.vault) c.self.view_is) r.1 c.in-Err.ensures.sees c.in-Err.ensures.beside k h (c.end_beside.ensures.gives_up.clean clean));
+      held = (returns-in-Err-clause-looks g c).held k clean h;
+    }
+
+pub returns-in-Err-give_up-clause-done : goal.returns-in-Err-give_up-clause-done
+returns-in-Err-give_up-clause-done g c k h clean =
+    done_refused g.S.Store {new = c.give_up.new.self} k _ _ c.in-Err-give_up.fault c.in-Err-give_up.ensures.answer c.in-Err-give_up.ensures.looks h clean

@@ -1,0 +1,25 @@
+use Rattle.std.proofs.Common.{Ok, Err, Some, None, refl}
+use Rattle.sqlvault.specs.declared.work.Work.TheVariants as works
+use Rattle.sqlvault.proofs.AheadLemmas.{looks_from, looks_then_in, looks_prepared, looks_refused}
+use Rattle.sqlvault.proofs.ahead.AheadVault.prepare_deposit.Goals as goal
+
+pub returns-in-Some-clause-looks : goal.returns-in-Some-clause-looks
+returns-in-Some-clause-looks g c =
+    looks_prepared g.S.Store {old = c.args.self.now} {new = c.put_more.new.self} c.take_coming.new.self.vault
+    (Some (works.Deposit c.in-Some.coming)) c.put_more.new.self.under_way c.put_more.result c.in-Some.ensures.same
+    c.in-Some.ensures.taken.0 refl c.put_more.ensures.counted (c.put_more.ensures.prepares c.in-Some.ensures.taken.1)
+    (λ db o m. g.met.S.Store.settled c.args.self.now.vault.conn.store db o m)
+
+pub returns-in-Ok-clause-looks : goal.returns-in-Ok-clause-looks
+returns-in-Ok-clause-looks g c =
+    looks_then_in g.S.Store
+    (looks_from g.S.Store (Ok c.in-Ok.field-0) c.in_default.ensures.none c.in-Ok.ensures.looks)
+    (looks_prepared g.S.Store {old = c.give_up.new.self} {new = c.start_deposit.new.self} c.give_up.new.self.vault
+    None c.start_deposit.new.self.under_way c.start_deposit.result refl
+    c.in-Ok.ensures.none refl c.start_deposit.ensures.counted (c.start_deposit.ensures.prepares c.in-Ok.ensures.none)
+    (λ db o m. g.met.S.Store.settled c.give_up.new.self.vault.conn.store db o m))
+
+pub returns-in-Err-clause-looks : goal.returns-in-Err-clause-looks
+returns-in-Err-clause-looks g c =
+    looks_refused g.S.Store c.in-Err.fault c.in-Err.ensures.answer
+    (looks_from g.S.Store (Err c.in-Err.fault) c.in_default.ensures.none c.in-Err.ensures.looks)
