@@ -6,6 +6,8 @@ mod benches;
 #[cfg(test)]
 mod folders;
 #[cfg(test)]
+mod large_files;
+#[cfg(test)]
 mod loopback;
 #[cfg(test)]
 mod proxied;
