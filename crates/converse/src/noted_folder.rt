@@ -1,4 +1,4 @@
-//! Any folder as one that tells which files it took.
+//! Any folder as one that records which files it took.
 ghost use Rattle.std.specs.Prelude.{
   ◌≡◌,
   ◌∷◌,

@@ -13,7 +13,7 @@ pub trait Job {
     /// What it answers.
     type Answer;
 
-    /// It tells what it does.
+    /// It says what it does.
     ghost tells: { Self → Type 0 };
 
     /// The job over a store that kept the first trace, and whose count of faults was the first

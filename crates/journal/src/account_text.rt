@@ -225,7 +225,7 @@ pub fn cause_text(account: &Account) -> &'static str
     }
 }
 
-/// Why a link was refused for its first line, as the line of its end tells it.
+/// Why a link was refused for its first line, as the line of its end says it.
 pub fn refusal_text(refusal: Refusal) -> &'static str
     ensures { result.now ≡ refusal_words refusal }
 {

@@ -269,7 +269,7 @@ impl Client {
         line
     }
 
-    /// What stands behind an account's line: of a login how long it waited, of a session's QUIT its
+    /// What follows an account's line: of a login how long it waited, of a session's QUIT its
     /// commands.
     fn behind(&self, alloc: Global, account: &Account) -> Result<String, AllocError>
         ensures { IfOk result (λ text. string_bytes text ≡ behind_account account.now self.now) }
@@ -356,7 +356,7 @@ impl Clients {
             .position(|client| has_number(client, connection))
     }
 
-    /// Takes the address of a link, which a proxy told: it is written without a port.
+    /// Takes the address of a link that a proxy sent: it is written without a port.
     pub fn locate(&mut self, alloc: Global, link: Link, ip: IpAddr) {
         let Some(at) = self.place_at(link) else {
             return;

@@ -127,7 +127,7 @@ impl Heard {
         }
     }
 
-    /// The session's clerk and maildrop, as values behind others of a line; empty without a
+    /// The session's clerk and maildrop, as values that follow others on a line; empty without a
     /// session. Its error is want of memory.
     pub fn behind_name(&self, alloc: Global) -> Result<String, AllocError>
         ensures { IfOk result (λ text. string_bytes text ≡ behind_name self.now.name) }

@@ -120,7 +120,7 @@ impl<'a> Journal<'a> {
         }
     }
 
-    /// Keeps the address of a mail program's link, if it is known: a proxy may have told it since.
+    /// Keeps the address of a mail program's link, if it is known: a proxy may have sent it since.
     fn locate(&self, link: Link, ip: Option<IpAddr>) {
         if let Some(ip) = ip
             && let Ok(mut clients) = self.shared.clients.try_borrow_mut()

@@ -1,4 +1,4 @@
-//! The Message-ID that a mail's head tells (RFC 5322, 3.6.4).
+//! The Message-ID that a mail's head has (RFC 5322, 3.6.4).
 ghost use Rattle.std.specs.Prelude.{◌≡◌, true, option_map, IfSome};
 ghost use Rattle.mailtext.specs.Text.{without_return};
 ghost use Rattle.journal.specs.MessageIds.{is_atext as is_atext_of, is_dtext as is_dtext_of};
@@ -6,7 +6,7 @@ ghost use Rattle.journal.specs.MessageIds.{is_left, is_right, is_atoms, is_liter
 ghost use Rattle.journal.specs.MessageIds.{is_id_line, behind_blank, id_of_line, id_lines, only};
 ghost use Rattle.journal.specs.MessageIds.{message_id_in};
 
-/// What a line of a head begins with that tells the Message-ID, in letters of either case.
+/// What the line of a head with the Message-ID begins with, in letters of either case.
 const FIELD: &[u8] = b"message-id:";
 
 /// How many octets a Message-ID that is logged has at most.
@@ -26,7 +26,7 @@ fn is_dtext(octet: u8) -> bool
     matches!(octet, 33..=90 | 94..=126)
 }
 
-/// Whether a text is a Message-ID behind its `<`: its left part, `@`, its right part and `>`.
+/// Whether a text is the rest of a Message-ID after its `<`: left part, `@`, right part and `>`.
 /// `at_front`: at the front of an atom.
 fn is_left(text: &[u8], at_front: bool) -> bool
     ensures { result ≡ is_left at_front text.now }
@@ -39,7 +39,7 @@ fn is_left(text: &[u8], at_front: bool) -> bool
     }
 }
 
-/// Whether a text is a Message-ID behind its `@`.
+/// Whether a text is the rest of a Message-ID after its `@`.
 fn is_right(text: &[u8]) -> bool
     ensures { result ≡ is_right text.now }
 {
@@ -85,7 +85,7 @@ fn is_message_id(text: &[u8]) -> bool
     }
 }
 
-/// Whether a line of a head tells the Message-ID.
+/// Whether a line of a head is that of the Message-ID.
 fn is_id_line(line: &[u8]) -> bool
     ensures { result ≡ is_id_line line.now }
 {
@@ -112,7 +112,7 @@ fn without_return(text: &[u8]) -> &[u8]
     }
 }
 
-/// The Message-ID of a line that tells it, if nothing else stands on the line.
+/// The Message-ID of its line, if nothing else is on the line.
 fn id_of_line(line: &[u8]) -> Option<&[u8]>
     requires { is_id_line line.now ≡ true }
     ensures { option_map (λ id. id.now) result ≡ id_of_line line.now }
@@ -121,7 +121,7 @@ fn id_of_line(line: &[u8]) -> Option<&[u8]>
     if is_message_id(id) { Some(id) } else { None }
 }
 
-/// The one line of a head that tells the Message-ID; `None` if there is none, or a second one.
+/// The one line of a head with the Message-ID; `None` if there is no such line, or a second one.
 fn only_id_line(head: &[u8]) -> Option<&[u8]>
     ensures line { option_map (λ line. line.now) result ≡ only (id_lines head.now) }
     ensures tells { IfSome result (λ line. is_id_line line.now ≡ true) }

@@ -1,4 +1,4 @@
-//! Whether the server is proved and its options in force, as the line of its start tells them.
+//! Whether the server is proved and its options in force, as the line of its start has them.
 ghost use Rattle.std.specs.Prelude.{◌≡◌, IfOk, Some, string_bytes};
 ghost use Rattle.journal.specs.Settings.{yes_or_no, when_text, seconds_text, flags_text};
 ghost use Rattle.journal.specs.Settings.{admin_text, site_text, settings_text};

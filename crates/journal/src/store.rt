@@ -16,7 +16,7 @@ pub struct LoggedVault<'a, V: Vault> {
     pub vault: V,
     pub journal: Journal<'a>,
     pub told: Told,
-    /// Whether a deposit's line tells the Message-ID.
+    /// Whether a deposit's line has the Message-ID.
     pub message_ids: bool,
 }
 

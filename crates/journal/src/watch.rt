@@ -19,7 +19,7 @@ pub struct FileId {
 }
 
 impl FileId {
-    /// The file that stands at a path, behind any link; `None` if none can be looked at.
+    /// The file at a path, or to which a link there leads; `None` if it can't be looked at.
     pub fn at(rt: &HostRuntime, path: &str) -> Option<FileId> {
         Some(FileId::of(&fs::metadata(rt, path).ok()?))
     }

@@ -124,11 +124,10 @@ rules_at tree = table_of (codes "rules") tree
     (column_of (codes "place") kind.Integer false ∷ column_of (codes "name") kind.Text true ∷ column_of (codes "effect") kind.Integer true ∷ column_of (codes "clerk") kind.Text true ∷ column_of (codes "maildrop") kind.Text true ∷ column_of (codes "class") kind.Text true ∷ column_of (codes "actions") kind.Integer true ∷ [])
     (Some 0) (0 ∷ []) ((2 ∷ []) ∷ []) (plain_order ∷ []) [] false
 
--- the messages of version 1, with their bodies in one column, in place of mail and sheets
-abbrev pub messages_text : List ℕ
-messages_text = codes "CREATE TABLE messages (key INTEGER PRIMARY KEY AUTOINCREMENT, maildrop TEXT NOT NULL REFERENCES maildrops, class TEXT NOT NULL, k INTEGER NOT NULL, octets INTEGER NOT NULL, body BLOB NOT NULL, UNIQUE (maildrop, class, k)) STRICT"
-
--- the table that messages_text makes, in this tree
+-- the messages of version 1, with their bodies in one column, in place of mail and sheets, in this
+-- tree: CREATE TABLE messages (key INTEGER PRIMARY KEY AUTOINCREMENT, maildrop TEXT NOT NULL
+-- REFERENCES maildrops, class TEXT NOT NULL, k INTEGER NOT NULL, octets INTEGER NOT NULL,
+-- body BLOB NOT NULL, UNIQUE (maildrop, class, k)) STRICT
 abbrev pub messages_at : ℕ → Table
 messages_at tree = table_of (codes "messages") tree
     (column_of (codes "key") kind.Integer false ∷ column_of (codes "maildrop") kind.Text true ∷ column_of (codes "class") kind.Text true ∷ column_of (codes "k") kind.Integer true ∷ column_of (codes "octets") kind.Integer true ∷ column_of (codes "body") kind.Blob true ∷ [])

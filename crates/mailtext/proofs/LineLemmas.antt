@@ -2,7 +2,6 @@
 use Rattle.std.proofs.Common.{◌≡◌, ◌<◌, ℕ, List, [], ◌∷◌, ◌++◌, Bool, true, false, ◌&&◌, refl, ◌∙◌, ap, append_assoc, length, arith, eqb, ⊎_elim}
 use Rattle.std.proofs.lemmas.Bool.{cases_Bool, and_right, and_parts, false≢true}
 use Rattle.std.proofs.lemmas.Grind.{flat_map-append}
-use Rattle.std.proofs.lemmas.List.{length-append}
 use Rattle.mailtext.specs.Text.{line_end, lines_of, onto_first_line, begins_with_newline, ended, kept_form, without_return}
 
 -- octets without LF
@@ -100,33 +99,7 @@ lines_of-kept_form text = lines_of-ended (lines_of text) (AreLines-lines_of text
 pub kept_form-kept_form : (text : List ℕ) → kept_form (kept_form text) ≡ kept_form text
 kept_form-kept_form text = ap ended (lines_of-kept_form text)
 
--- ---- two texts, the first of which ends with LF
-
-begins_with_newline-join : (text more : List ℕ) → begins_with_newline ((text ++ 10 ∷ []) ++ more) ≡ begins_with_newline (text ++ 10 ∷ [])
-begins_with_newline-join [] more = refl
-begins_with_newline-join (b ∷ bs) more = refl
-
-onto_first_line-join : (b : ℕ) (ls more : List (List ℕ)) → 0 < length ls → onto_first_line b (ls ++ more) ≡ onto_first_line b ls ++ more
-onto_first_line-join b [] more some = absurd (omega (arith, some))
-onto_first_line-join b (l ∷ ls) more some = refl
-
--- their lines are those of the first and then those of the second
-pub lines_of-join : (text more : List ℕ) → lines_of ((text ++ 10 ∷ []) ++ more) ≡ lines_of (text ++ 10 ∷ []) ++ lines_of more
-lines_of-join [] more = refl
-lines_of-join (b ∷ bs) more =
-    let after = lines_of-join bs more in
-    let newline = begins_with_newline-join bs more in
-    let some : 0 < length (lines_of (bs ++ 10 ∷ [])) = lines_of-some (bs ++ 10 ∷ []) (rw (length-append bs (10 ∷ [])) (omega arith)) in
-    ⊎_elim (λ (e : eqb b 10 ≡ true). rw e (ap (λ ls. [] ∷ ls) after))
-    (λ (e : eqb b 10 ≡ false). ⊎_elim (λ (r : (eqb b 13 && begins_with_newline (bs ++ 10 ∷ [])) ≡ true). rw (e, newline, r) after)
-    (λ (r : (eqb b 13 && begins_with_newline (bs ++ 10 ∷ [])) ≡ false).
-    rw (e, newline, r, after) (onto_first_line-join b (lines_of (bs ++ 10 ∷ [])) (lines_of more) some))
-    (cases_Bool (eqb b 13 && begins_with_newline (bs ++ 10 ∷ []))))
-    (cases_Bool (eqb b 10))
-
--- and so their kept form is that of the first and then that of the second
-pub kept_form-join : (text more : List ℕ) → kept_form ((text ++ 10 ∷ []) ++ more) ≡ kept_form (text ++ 10 ∷ []) ++ kept_form more
-kept_form-join text more = ap ended (lines_of-join text more) ∙ flat_map-append (λ l. l ++ line_end) (lines_of (text ++ 10 ∷ [])) (lines_of more)
+-- ---- two texts, one after the other
 
 lines_of-ended_more : (ls : List (List ℕ)) (more : List ℕ) → AreLines ls → lines_of (ended ls ++ more) ≡ ls ++ lines_of more
 lines_of-ended_more [] more h = refl

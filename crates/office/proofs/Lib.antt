@@ -82,5 +82,6 @@ pub mod StoppingLines
 mod Unasked
 mod Memory
 mod MeetingLocks
+mod Many
 mod Sending
 pub mod Frames

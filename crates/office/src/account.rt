@@ -112,7 +112,8 @@ pub enum Account {
     Topped(MessageRow),
     /// A rule denied a session's command for the message of this unique-id: the rule's name.
     Denied(MessageCommand, Uid, Name),
-    /// The client took the last octet that it was owed; if a line acted then, it tells nothing.
+    /// The client took the last octet that it was owed. If a line acted then, the account is that
+    /// line's.
     Taken,
     /// A session quit.
     Quit(Removal),

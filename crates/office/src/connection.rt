@@ -22,7 +22,8 @@ ghost use Rattle.office.specs.Expected.{most_in_a_piece};
 ghost use Rattle.office.specs.Answered.{is_locked_by, HasTransaction, LocksFollow, held_if};
 ghost use Rattle.office.specs.AfterLine.{AfterNext, NothingDone, cut_through, line_of};
 ghost use Rattle.office.specs.Waiting.{is_held_for, coming_login, line_with};
-ghost use Rattle.office.specs.Quitting.{coming_quit};
+ghost use Rattle.office.specs.Quitting.{coming_quit, sees_many_in, marks_many_in};
+ghost use Rattle.office.specs.Quitting.{is_found as is_found_at};
 
 use crate::account::{Account, LineReport};
 use crate::command_line::CommandLine;
@@ -38,7 +39,7 @@ use popline::{Cutter, Reply};
 use session::{Pick, Removals, Session};
 use std::alloc::{AllocError, Global};
 use std::marker::Model;
-use vault::{Progress, Vault, VaultFault};
+use vault::{Head, Progress, Vault, VaultFault};
 
 /// A QUIT that removes more messages is worth preparing.
 const MANY: u64 = 128;
@@ -287,17 +288,17 @@ impl Connection {
 
     /// Whether somebody is in session with a view of more than [`MANY`] messages.
     pub fn sees_many(&self) -> bool
-        ensures { IsTrue result → IsTrue (is_some self.now.session) }
+        ensures { result ≡ sees_many_in self.now.session }
     {
         match &self.session {
             None => false,
-            Some(session) => !matches!(session.pick(MANY + 1), Err(Pick::NoSuch)),
+            Some(session) => is_found(&session.pick(MANY + 1)),
         }
     }
 
     /// Whether somebody is in session and has marked more than [`MANY`] messages.
     pub fn marks_many(&self) -> bool
-        ensures { IsTrue result → IsTrue (is_some self.now.session) }
+        ensures { result ≡ marks_many_in self.now.session }
     {
         match &self.session {
             None => false,
@@ -467,6 +468,17 @@ impl Connection {
             &mut self.state,
             &mut self.session,
         )
+    }
+}
+
+/// Whether a reference to a number found a message, be it marked.
+fn is_found(picked: &Result<Head, Pick>) -> bool
+    ensures { result ≡ is_found_at picked.now }
+{
+    match picked {
+        Ok(_) => true,
+        Err(Pick::NoSuch) => false,
+        Err(Pick::Deleted | Pick::Denied(_)) => true,
     }
 }
 

@@ -106,7 +106,7 @@ fn after_all(line: LineReport) -> EventReport
     }
 }
 
-/// What the outcome of a command tells: that it ended a session, if it did.
+/// The account of a command by its outcome: that it ended a session, if it did.
 fn ended_by(outcome: &Outcome) -> Account
     ensures { result ≡ outcome_told (outcome_seen outcome.now) }
 {

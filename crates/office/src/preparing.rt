@@ -1,13 +1,12 @@
 //! Preparing a QUIT: a part of what it removes is done before its line is read.
-ghost use Rattle.std.specs.Prelude.{◌≡◌, false, Ok, IsTrue};
+ghost use Rattle.std.specs.Prelude.{◌≡◌, false, Ok};
 ghost use Rattle.vault.specs.Call.{Looks};
 ghost use Rattle.vault.specs.Calls.{IsPrepared};
 ghost use Rattle.vault.specs.declared.answer.Progress.TheVariants.{Ready};
-ghost use Rattle.office.specs.Sessions.{live};
 ghost use Rattle.office.specs.Events.{Trace};
-ghost use Rattle.office.specs.Trace.{history};
 ghost use Rattle.office.specs.Stands.{OfEachTrace, StandsFor, vault_of};
-ghost use Rattle.office.specs.Quitting.{brings_quit as brings_quit_at};
+ghost use Rattle.office.specs.Quitting.{brings_quit as brings_quit_at, sees_many as sees_many_at};
+ghost use Rattle.office.specs.Quitting.{marks_many as marks_many_at};
 
 use crate::Office;
 use creds::{DepositId, Name};
@@ -37,8 +36,7 @@ impl<V: Vault> Office<V> {
     /// Whether connection `c` is in session with a view of more than 128 messages: only then may
     /// its QUIT be worth preparing. It looks at no mark.
     pub fn sees_many(&self, c: u64) -> bool
-        ensures { (T : Trace) → StandsFor V.holds self.now T → IsTrue result
-            → IsTrue (live (history T) c) }
+        ensures { (T : Trace) → StandsFor V.holds self.now T → result ≡ sees_many_at T c }
     {
         match self.connections.get(&c) {
             None => false,
@@ -48,8 +46,7 @@ impl<V: Vault> Office<V> {
 
     /// Whether connection `c` is in session and has marked more than 128 messages. It counts them.
     pub fn marks_many(&self, c: u64) -> bool
-        ensures { (T : Trace) → StandsFor V.holds self.now T → IsTrue result
-            → IsTrue (live (history T) c) }
+        ensures { (T : Trace) → StandsFor V.holds self.now T → result ≡ marks_many_at T c }
     {
         match self.connections.get(&c) {
             None => false,

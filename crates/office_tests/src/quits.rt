@@ -1,13 +1,15 @@
 //! A QUIT that is prepared before its line is given, while another session is served: all are sent
-//! what they are sent without that, and the same messages are left.
+//! what they are sent without that, and the same messages are left. And what the store prepares is
+//! what the QUIT, or a deposit, then changes.
 use creds::DepositId;
+use mailtext::canon;
 use office::{Event, Office};
 use sqlite::MemStore;
 use sqlvault::{Ahead, SqlVault};
 use std::alloc::{AllocError, Global};
 use std::test::Fail;
 use transcripts::offices::{add_maildrop, deposit, name, prepared};
-use vault::Progress;
+use vault::{Head, MessageKey, Progress, Vault};
 
 /// An office over a store that does a removal in parts.
 type Quitting = Office<Ahead<MemStore>>;
@@ -146,5 +148,58 @@ fn another_reads_while_a_quit_is_prepared(rt: HostRuntime) -> Result<(), Fail> {
 #[test]
 fn another_reads_once_a_quit_is_prepared(rt: HostRuntime) -> Result<(), Fail> {
     assert!(rt; is_as_without(rt.alloc(), 2, 0, (1, 0))?);
+    Ok(())
+}
+
+fn key_of(head: &Head) -> MessageKey {
+    head.key
+}
+
+/// The keys of the messages in `orders`, as a QUIT of all removes them.
+fn keys_in_orders(alloc: Global) -> Result<Vec<MessageKey>, Fail> {
+    let mut sent = Vec::new(alloc);
+    let mut vault = begun(alloc, &mut sent)?.into_vault();
+    let heads = vault.heads(&name("orders")?)?;
+    let mut keys = Vec::new(alloc);
+    for head in heads.as_slice() {
+        keys.push(key_of(head))?;
+    }
+    Ok(keys)
+}
+
+/// Once a QUIT is prepared, the store has nothing more to prepare of what that removes.
+#[test]
+fn what_a_quit_removes_is_prepared(rt: HostRuntime) -> Result<(), Fail> {
+    let alloc = rt.alloc();
+    let keys = keys_in_orders(alloc)?;
+    let mut sent = Vec::new(alloc);
+    let mut office = begun(alloc, &mut sent)?;
+    assert!(rt; prepare(&mut office, 2)? == 1);
+    let mut vault = office.into_vault();
+    let orders = name("orders")?;
+    assert!(rt; vault.prepare_removal(&orders, keys.as_slice())? == Progress::Ready);
+    vault.remove(&orders, keys.as_slice())?;
+    assert!(rt; vault.heads(&orders)?.is_empty());
+    Ok(())
+}
+
+/// How many octets a large text has: two pieces, and a rest.
+const LARGE: usize = 600_000;
+
+/// Once a deposit is prepared, the store has nothing more to prepare of it.
+#[test]
+fn what_a_deposit_adds_is_prepared(rt: HostRuntime) -> Result<(), Fail> {
+    let alloc = rt.alloc();
+    let orders = name("orders")?;
+    let note = name("note")?;
+    let id = DepositId::read(b"large").ok_or("an id")?;
+    let text = canon(alloc, vec![in alloc; b'a'; LARGE]?.as_slice())?;
+    let mut office = prepared(alloc, Ahead::new(SqlVault::in_memory(alloc)?))?;
+    assert!(rt; office.prepare_deposit(&orders, &note, &id, &text)? == Progress::More);
+    assert!(rt; office.prepare_deposit(&orders, &note, &id, &text)? == Progress::Ready);
+    let mut vault = office.into_vault();
+    assert!(rt; vault.prepare_deposit(&orders, &note, &id, &text)? == Progress::Ready);
+    let _ = vault.deposit(&orders, &note, &id, &text)?;
+    assert!(rt; vault.heads(&orders)?.len() == 1);
     Ok(())
 }

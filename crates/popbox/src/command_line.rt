@@ -37,7 +37,7 @@ fn removals<'a>(alloc: Global) -> Arg<'a> {
 
 /// `--admin-site NAME`: the administration's site.
 fn admin_site<'a>(alloc: Global) -> Arg<'a> {
-    let help = "There only requests to this host or machine, and of no other site's page, are done";
+    let help = "The administration's host name: requests from pages of other sites are refused";
     option(alloc, "admin-site", "NAME", help)
 }
 
@@ -51,7 +51,7 @@ fn verbose<'a>(alloc: Global) -> Arg<'a> {
     Arg::new(alloc, "verbose")
         .long("verbose")
         .action(ArgAction::SetTrue)
-        .help("Says on standard error what a fault is about")
+        .help("Says on standard error what an error is about")
 }
 
 /// A subcommand with these arguments and `--verbose`.
@@ -70,11 +70,11 @@ fn subcommand<'a>(
 /// `replay [--store PATH] [--host NAME] [--boot N] [--removals WHEN] [--verbose] [SCRIPT]`.
 fn replay<'a>(alloc: Global) -> Result<Command<'a>, AllocError> {
     let arguments = vec![in alloc;
-        store(alloc, "The store's file, else one in memory"),
+        store(alloc, "The store's file; without it, a store in memory"),
         host(alloc),
         boot(alloc).default_value("1"),
         removals(alloc),
-        Arg::new(alloc, "SCRIPT").help("The script's file; - or none: standard input"),
+        Arg::new(alloc, "SCRIPT").help("The script's file; - or none means standard input"),
     ]?;
     let about = "Runs the events of a script, and prints what each gives";
     subcommand(alloc, "replay", about, arguments)
@@ -112,12 +112,12 @@ fn review_policy<'a>(alloc: Global) -> Result<Command<'a>, AllocError> {
     );
     let store = store(
         alloc,
-        "The store's file, which no server has open: its names, and its policy if there is no OLD",
+        "A store that no server has open: its names are used, and its policy if there is no OLD",
     );
     let clerk = option(alloc, "clerk", "NAME", "Prints this clerk alone");
     let maildrop = option(alloc, "maildrop", "NAME", "Prints this maildrop alone");
     let only = option(alloc, "only", "PART", "Leaves out who may do what");
-    let format = option(alloc, "format", "FORMAT", "How it is written");
+    let format = option(alloc, "format", "FORMAT", "The form of what is printed");
     let file = Arg::new(alloc, "NEW").help("The policy's file; - is standard input");
     let arguments = vec![in alloc;
         against,
@@ -147,12 +147,12 @@ fn flag<'a>(alloc: Global, name: &'a str, help: &'a str) -> Arg<'a> {
 /// [--proxy-protocol]`: how long clients may be idle, wait and guess, and how their addresses are
 /// known.
 fn patience<'a>(alloc: Global) -> Result<Vec<Arg<'a>>, AllocError> {
-    let idle = "After so many seconds an idle client is ended";
-    let wait = "For so many seconds a login waits for a maildrop that is in use";
-    let login = "After so many seconds a client that hasn't logged in is ended; 0: it isn't";
-    let full = "The same while 64 clients are connected; 0: as ever";
-    let slow = "After a refused login the next one under its name from its address waits";
-    let proxied = "The first line of each client's link is a proxy's, which says its address";
+    let idle = "After how many seconds an idle client is disconnected";
+    let wait = "How many seconds a login waits for a maildrop that is in use";
+    let login = "After how many seconds a client that hasn't logged in is disconnected; 0: never";
+    let full = "The same while all 64 places are taken; 0: no other limit";
+    let slow = "After a refused login, the next one under that name from that address has to wait";
+    let proxied = "Each connection begins with a proxy's line that has the client's address";
     let arguments = vec![in alloc;
         option(alloc, "idle", "N", idle)
             .default_value("600")
@@ -201,7 +201,7 @@ fn serve<'a>(alloc: Global) -> Result<Command<'a>, AllocError> {
         alloc,
         "admin-port",
         "N",
-        "The port of 127.0.0.1 at which the administration is asked",
+        "The port of 127.0.0.1 for the administration's HTTP requests",
     );
     let turns = option(alloc, "turns", "N", "Ends after so many turns");
     let spool = option(
@@ -222,7 +222,7 @@ fn serve<'a>(alloc: Global) -> Result<Command<'a>, AllocError> {
         flag(
             alloc,
             "list-clerks",
-            "The administration lists the clerks at /clerks"
+            "The administration's port lists the clerks at /clerks"
         ),
         turns.value_parser(value_parser!(u64)),
     ]?;
@@ -239,9 +239,9 @@ fn export<'a>(alloc: Global) -> Result<Command<'a>, AllocError> {
         "M",
         "The maildrop whose messages are written",
     );
-    let folder = Arg::new(alloc, "DIR").help("The folder, which is there; no file is replaced");
+    let folder = Arg::new(alloc, "DIR").help("The folder, which must exist; no file is replaced");
     let arguments = vec![in alloc;
-        store(alloc, "The store's file, which no server has").required(true),
+        store(alloc, "The store's file, which no server may have open").required(true),
         maildrop.required(true),
         flag(
             alloc,
@@ -256,10 +256,10 @@ fn export<'a>(alloc: Global) -> Result<Command<'a>, AllocError> {
 
 /// `check --store PATH [--quick] [--verbose]`.
 fn check<'a>(alloc: Global) -> Result<Command<'a>, AllocError> {
-    let file = store(alloc, "The store's file, which no server has");
+    let file = store(alloc, "The store's file, which no server may have open");
     let quick = "Doesn't compare the messages' texts with their digests";
     let arguments = vec![in alloc; file.required(true), flag(alloc, "quick", quick)]?;
-    let about = "Opens a store, judges all that lies in it, and prints what that is";
+    let about = "Opens a store, checks all that is in it, and prints what that is";
     subcommand(alloc, "check", about, arguments)
 }
 

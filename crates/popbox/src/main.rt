@@ -41,7 +41,7 @@ use vault::{PlainVault, Vault, VaultFault};
 const UNREADABLE: u8 = 2;
 
 /// The last line on standard error if the command line can't be read.
-const VERBOSE: &str = "With '--verbose' behind a command, a fault is told with what it is about.";
+const VERBOSE: &str = "With '--verbose' after the command, an error also says what it is about.";
 
 fn main(rt: HostRuntime) -> ExitCode {
     let mut err = rt.stderr();

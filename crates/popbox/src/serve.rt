@@ -1,5 +1,5 @@
 //! `popbox serve`: clients over the network.
-ghost use Rattle.std.specs.Prelude.{◌≡◌, ◌≤◌, ◌↔◌, [], true, Option, None, Err};
+ghost use Rattle.std.specs.Prelude.{◌≡◌, ◌≤◌, ◌↔◌, [], true, None, Err};
 ghost use Rattle.std.specs.Prelude.{IfSome, IsSome, IfOk, IfErr};
 ghost use Rattle.vault.specs.Changes.{Contents};
 ghost use Rattle.office.specs.Events.{Trace};

@@ -10,8 +10,8 @@ pub const IS_PROVED: bool = true;
 /// What an unproved server says on standard error as it starts. (Measured on 29 November 2026:
 /// 4.75 s of a processor.)
 pub const SLOW: &str = "note: this popbox isn't proved, and is slow: a message of 1.5 MB takes \
-                        5 s of a processor, and nobody is served meanwhile";
+                        5 s of a processor";
 
 /// The end of `--help`, which says the same.
-pub const FOOT: &str = "--verbose behind a command: a fault is told with what it is about\n\
+pub const FOOT: &str = "--verbose after a command: an error also says what it is about\n\
                         This program is proved";

@@ -6,7 +6,7 @@ use Rattle.std.proofs.lemmas.List.{append-nil}
 use Rattle.std.proofs.lemmas.List.Elements.{All-nil, All-cons, Contains-append_left, Contains-append_right}
 use Rattle.vault.specs.Records.{Records}
 use Rattle.office.specs.Events.{Log, Trace}
-use Rattle.office.specs.Quitting.{brings_quit}
+use Rattle.office.specs.Quitting.{brings_long_quit}
 use Rattle.office.specs.Taken.{trace_of}
 use Rattle.office.specs.Stands.{StandsFor, vault_of}
 use Rattle.office.specs.declared.office.Office.{Office}
@@ -39,7 +39,7 @@ look_quiet seat io piece = record {
 
 -- a piece that brings a QUIT was looked at, which stays unread or doesn't
 pub kept_if : {V : Type 0} (vault : Ghosts V) (o : Office V) (seat : Seat) (io : Io) (piece : List ℕ) (kept : Bool)
-    → ((T : Trace) → StandsFor vault.holds o T → brings_quit T seat.connection piece ≡ true)
+    → ((T : Trace) → StandsFor vault.holds o T → brings_long_quit T seat.connection piece ≡ true)
     → HasLookedForQuit vault.holds o seat kept [] (Looked Pop seat.link io piece ∷ [])
 kept_if vault o seat io piece true brings = QuitKept io piece brings
 kept_if vault o seat io piece false brings = NotKept io piece

@@ -18,7 +18,7 @@ use Rattle.office.specs.Trace.{is_open, rest_if}
 use Rattle.office.specs.Expected.{or_ignored, reason_if}
 use Rattle.office.specs.Outcomes.{Outcome, Reason, NoSuchConnection, event_tag_of, HasCause as HasItsCause}
 use Rattle.office.specs.Outcomes as outcome
-use Rattle.office.specs.Quitting.{brings_quit}
+use Rattle.office.specs.Quitting.{brings_long_quit}
 use Rattle.office.specs.Taken.{trace_of, IsAdmitted}
 use Rattle.office.specs.Stands.{StandsFor, vault_of}
 use Rattle.office.specs.declared.office.Office.{Office}
@@ -413,7 +413,7 @@ module _ (B : Records) (L : Log) (s : Seat) where
     piece = u.piece;
     io = u.io;
     shown = u.shown;
-    brings = subst (λ l. brings_quit (trace_of B (u.own ++ l)) s.connection u.piece ≡ true) (sym (append_assoc u.front g1 L)) u.brings;
+    brings = subst (λ l. brings_long_quit (trace_of B (u.own ++ l)) s.connection u.piece ≡ true) (sym (append_assoc u.front g1 L)) u.brings;
   }
 
 -- a link had its turn, or stays unread for a cause

@@ -26,7 +26,7 @@ use Rattle.serving.specs.declared.guesses.Refusal.{Refusal}
 use Rattle.creds.specs.declared.login_name.LoginName.{LoginName}
 use Rattle.serving.specs.declared.pace.Pace.{Pace}
 use Rattle.office.specs.Logins.{login_brought}
-use Rattle.office.specs.Quitting.{brings_quit}
+use Rattle.office.specs.Quitting.{brings_long_quit}
 use Rattle.serving.specs.Works.{waits, arrivals, closings, is_admin, is_read_of, is_later_of}
 use Rattle.serving.specs.Works.{is_taking_of, octets_taken, most_writes, share_by, moments}
 use Rattle.serving.specs.Works.{openings, refusals, AreCaused, IsKeptBack, reads_by_line}
@@ -165,7 +165,7 @@ pub data HasLookedForQuit {V : Type 0} (Holds : V → Contents → Type 0) (offi
   NotKept : (io : Io) (piece : List ℕ)
       → HasLookedForQuit Holds office seat false [] (Looked Pop seat.link io piece ∷ [])
   QuitKept : (io : Io) (piece : List ℕ)
-      → ((T : Trace) → StandsFor Holds office T → brings_quit T seat.connection piece ≡ true)
+      → ((T : Trace) → StandsFor Holds office T → brings_long_quit T seat.connection piece ≡ true)
       → HasLookedForQuit Holds office seat true [] (Looked Pop seat.link io piece ∷ [])
 
 -- A link was read from once, so many octets at most, if its connection waits for them.

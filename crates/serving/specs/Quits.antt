@@ -3,7 +3,7 @@ use Rattle.std.specs.Prelude.{◌≡◌, ◌⊎◌, ℕ, Bool, true, List, ◌++
 use Rattle.std.specs.List.{Contains}
 use Rattle.vault.specs.Records.{Records}
 use Rattle.office.specs.Events.{Log}
-use Rattle.office.specs.Quitting.{brings_quit}
+use Rattle.office.specs.Quitting.{brings_long_quit}
 use Rattle.office.specs.Taken.{trace_of}
 use Rattle.serving.specs.Calls.{Call, Looked}
 use Rattle.serving.specs.InOrder.{ServesSeat}
@@ -14,7 +14,7 @@ use Rattle.serving.specs.declared.links.Seat.{Seat}
 
 -- A seat's link stays unread: while it was served, by events and calls of its own, it was looked at
 -- and never read, and it showed a piece with which its connection's next line is a QUIT of its
--- session.
+-- session, which has marked more than 128 messages.
 pub record AwaitsQuit (B : Records) (older given : Log) (calls : List Call) (s : Seat)
     : Type 0 where
   pub later : Log
@@ -29,7 +29,7 @@ pub record AwaitsQuit (B : Records) (older given : Log) (calls : List Call) (s :
   pub piece : List ℕ
   pub io : Io
   pub shown : Contains here (Looked Pop s.link io piece)
-  pub brings : brings_quit (trace_of B (own ++ (front ++ older))) s.connection piece ≡ true
+  pub brings : brings_long_quit (trace_of B (own ++ (front ++ older))) s.connection piece ≡ true
 
 -- so does the link of one of these seats
 abbrev pub SomeAwaitsQuit : (B : Records) (older given : Log) (calls : List Call) → List Seat

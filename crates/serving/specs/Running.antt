@@ -70,6 +70,11 @@ pub data Maintains {V : Type 0} (vault : Ghosts V) (is_preparing is_coming : Boo
   Deferred : millis_of links ≡ 0 → office_then ≡ office
       → Maintains vault is_preparing is_coming links office office_then
 
+-- The next turn doesn't wait only if it didn't before, or the spool answered that a file is coming.
+abbrev pub PollsForFile : {S : Type 0} (IsComing : S → Bool → Type 0) (before now : Bool) → Type 0
+PollsForFile {S} IsComing before now =
+    now ≡ true → (before ≡ true) ⊎ ((spool : S) × IsComing spool true)
+
 -- A part of the deposit of the large file that is coming, if one is, was prepared, or none was.
 pub data PreparesFile {V : Type 0} (vault : Ghosts V) (is_coming : Bool)
     (office office_then : Office V) : Type 0 where

@@ -6,7 +6,7 @@ ghost use Rattle.office.specs.Events.{Trace};
 ghost use Rattle.office.specs.Trace.{history};
 ghost use Rattle.office.specs.Sessions.{live};
 ghost use Rattle.office.specs.Stands.{StandsFor};
-ghost use Rattle.office.specs.Quitting.{brings_quit};
+ghost use Rattle.office.specs.Quitting.{brings_long_quit};
 ghost use Rattle.serving.specs.Newcomers.{newcomer, lies_unread, AreSettled, Settles};
 ghost use Rattle.serving.specs.Paces.{releases_lock};
 ghost use Rattle.serving.specs.Parts.{Does, KeepsServing, KeepsServingOne, Also, PollsBy};
@@ -80,10 +80,10 @@ fn may_quit_long<V: Vault>(office: &Office<V>, connection: u64) -> bool {
     office.ready(connection) && office.sees_many(connection)
 }
 
-/// Whether a piece brings a QUIT that removes many messages.
+/// Whether a piece brings a QUIT of a session that has marked many messages.
 fn is_long_quit<V: Vault>(office: &Office<V>, connection: u64, piece: &[u8]) -> bool
     ensures { (T : Trace) → StandsFor V.holds office.now T → result ≡ true
-        → brings_quit T connection piece.now ≡ true }
+        → brings_long_quit T connection piece.now ≡ true }
 {
     office.brings_quit(connection, piece) && office.marks_many(connection)
 }

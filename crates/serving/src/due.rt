@@ -63,7 +63,7 @@ pub(crate) fn before(turn: u64, turns: &[u64]) -> usize
     turns.iter().filter(|other| **other < turn).count()
 }
 
-/// Chooses among the places: a link that is due gets its turn behind so many.
+/// Chooses among the places: a link that is due gets its turn after so many.
 fn choose_all(places: &mut [Place], turns: u64, most: usize, waiting: &[u64])
     ensures { places.new ≡ map (chosen turns most waiting.now) places.old }
 {

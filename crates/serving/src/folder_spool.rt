@@ -1,9 +1,10 @@
 //! A spool over a folder.
-ghost use Rattle.std.specs.Prelude.{IsTrue};
+ghost use Rattle.std.specs.Prelude.{⊤, IsTrue};
 ghost use Rattle.std.specs.Fs.{IsFile, file_type};
 
 use crate::file_name::FileName;
 use crate::large_file::LargeFile;
+use crate::left_files::LeftFiles;
 use crate::next_name::NextName;
 use crate::spool::{Coming, MOST_OCTETS, Spool};
 use std::alloc::{AllocError, Global};
@@ -28,6 +29,10 @@ use std::time::{Clock, Duration, SystemTime};
 /// at most. No other file is named until it was tried: the turns don't wait meanwhile, and a file
 /// that can only be left is tried once a second. Before its text is given, what was opened is
 /// compared once more with what stands at the name. If it was changed, it is read at once.
+///
+/// A file that was tried and left, since its maildrop doesn't exist for example, is named again
+/// only if there is no other one, and at most one such file in a second: so it keeps no other mail
+/// waiting, and doesn't give up a long QUIT that the store prepares in each turn.
 #[derive(Drop)]
 pub struct FolderSpool<'a, R: Files> {
     rt: &'a R,
@@ -38,11 +43,13 @@ pub struct FolderSpool<'a, R: Files> {
     bare: Option<SystemTime>,
     /// The large file that is coming, or was prepared.
     large: Option<LargeFile<R::File>>,
-    /// It was told to read on before: there are pauses between turns.
+    /// `read_on` was called before: there are pauses between turns.
     has_pauses: bool,
     /// The file that is read at once when it is tried next, though it may be large: it couldn't be
     /// prepared.
     at_once: Option<FileName>,
+    /// The files that were tried and left.
+    left: LeftFiles,
 }
 
 /// A file system tells the moment of a folder's last change to two seconds or better, so a change
@@ -76,6 +83,7 @@ impl<'a, R: Files + Clock + AllocGlobal + Clone + Drop> FolderSpool<'a, R> {
             large: None,
             has_pauses: false,
             at_once: None,
+            left: LeftFiles::new(alloc),
         }
     }
 
@@ -98,14 +106,19 @@ impl<'a, R: Files + Clock + AllocGlobal + Clone + Drop> FolderSpool<'a, R> {
         format!(in self.alloc; "{}/{}{}", self.folder, text, ending)
     }
 
-    /// Shows the names of the folder to what looks for the next one. Whether it could be listed.
-    fn list(&self, next: &mut NextName) -> bool {
+    /// Shows the names of the folder to what looks for the next one among all, and those that
+    /// weren't left before to what looks for the next new one. Whether it could be listed.
+    fn list(&self, all: &mut NextName, new: &mut NextName) -> bool {
         let Ok(entries) = fs::read_dir(self.rt, self.folder) else {
             return false;
         };
         for entry in entries {
             if let Ok(entry) = entry {
-                if next.see(entry.file_name()).is_err() {
+                let name = entry.file_name();
+                if all.see(name).is_err() {
+                    return false;
+                }
+                if !self.left.has(name) && new.see(name).is_err() {
                     return false;
                 }
             }
@@ -201,29 +214,37 @@ impl<R: Files + Clock + AllocGlobal + Clone + Drop> Spool for FolderSpool<'_, R>
 
     ghost asked = { λ _ _. ⊥ };
 
+    ghost is_coming = { λ _ _. ⊤ };
+
     ghost tells_once = { λ spool a b h k. absurd h };
 
     fn next_name(&mut self, last: &Option<FileName>) -> Option<FileName> {
         if let Some(large) = &self.large {
             return Some(large.name());
         }
+        self.left.note(self.rt);
         let changed = self.changed()?;
         if self.bare == Some(changed) {
             return None;
         }
         let shows = self.shows_changes(changed);
-        let mut next = NextName::new(self.alloc, last).ok()?;
-        if !self.list(&mut next) {
+        let mut all = NextName::new(self.alloc, &self.left.last()).ok()?;
+        let mut new = NextName::new(self.alloc, last).ok()?;
+        if !self.list(&mut all, &mut new) {
             return None;
         }
-        let name = next.get();
-        if shows && name.is_none() {
+        if let Some(name) = new.get() {
+            return Some(name);
+        }
+        let left = all.get();
+        if shows && left.is_none() {
             self.bare = Some(changed);
         }
-        name
+        if self.left.rest(self.rt) { None } else { left }
     }
 
     fn read(&mut self, name: &FileName) -> Option<Vec<u8>> {
+        self.left.begin(name);
         let path = self.path(name, "").ok()?;
         if self.is_large(name) {
             if self.coming().is_some() {
@@ -241,6 +262,7 @@ impl<R: Files + Clock + AllocGlobal + Clone + Drop> Spool for FolderSpool<'_, R>
         match LargeFile::begin(self.alloc, name, file) {
             Ok(large) => {
                 self.large = Some(large);
+                self.left.forget();
                 None
             }
             Err(file) => self.read_file(file),
@@ -248,6 +270,7 @@ impl<R: Files + Clock + AllocGlobal + Clone + Drop> Spool for FolderSpool<'_, R>
     }
 
     fn remove(&mut self, name: &FileName) -> bool {
+        self.left.forget();
         match self.path(name, "") {
             Ok(path) => fs::remove_file(self.rt, path.as_str()).is_ok(),
             Err(_) => false,
@@ -258,10 +281,14 @@ impl<R: Files + Clock + AllocGlobal + Clone + Drop> Spool for FolderSpool<'_, R>
         let Ok(from) = self.path(name, "") else {
             return false;
         };
-        match self.free_path(name) {
-            Some(to) => fs::rename(self.rt, from.as_str(), to.as_str()).is_ok(),
-            None => false,
+        let Some(to) = self.free_path(name) else {
+            return false;
+        };
+        let is_renamed = fs::rename(self.rt, from.as_str(), to.as_str()).is_ok();
+        if is_renamed {
+            self.left.forget();
         }
+        is_renamed
     }
 
     fn coming(&self) -> Option<&Coming> {

@@ -12,7 +12,7 @@ use std::time::SystemTime;
 /// How many octets are read in one piece. A file with more is large.
 const PIECE: usize = 262_144;
 
-/// In how many pauses between turns a large file is read and prepared at most.
+/// A large file is read and prepared in at most so many pauses between turns.
 const MOST_PAUSES: u32 = 1_000;
 
 /// A large file that is read in pieces. It was opened once, and stays open until all of it was read

@@ -18,6 +18,7 @@ mod folder_spool;
 mod guesses;
 mod hearings;
 mod large_file;
+mod left_files;
 mod links;
 mod listener;
 mod newcomers;

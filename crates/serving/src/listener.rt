@@ -12,7 +12,7 @@ use office::Account;
 pub struct AdminRequest<'a> {
     /// The request's line; `None` if it is of no route.
     pub line: Option<RequestLine>,
-    /// What the response tells.
+    /// The content of the response.
     pub content: Content<'a>,
 }
 

@@ -65,6 +65,8 @@ impl<S: Spool> Spool for NotedSpool<S> {
 
     ghost asked = { λ noted calls. calls ≡ noted.notes.calls };
 
+    ghost is_coming = { λ noted. S.is_coming noted.spool };
+
     ghost tells_once = { λ noted a b h k. tells_once noted.notes.calls a b h k };
 
     fn next_name(&mut self, last: &Option<FileName>) -> Option<FileName>

@@ -115,7 +115,7 @@ pub(crate) fn pace_at<V: Vault, W: Wire>(
     }
 }
 
-/// Whether a login of an origin is kept back behind a refusal of the same name.
+/// Whether a login of an origin is kept back after a refusal of the same name.
 fn is_paced(guesses: &Guesses, origin: Option<u64>, name: &LoginName, now: u64) -> bool
     ensures { result ≡ is_paced_by now origin name.now guesses.now.refusals.items }
 {

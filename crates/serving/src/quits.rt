@@ -19,7 +19,7 @@ pub(crate) struct Quits {
     was_met: bool,
     /// The store can prepare more of it.
     has_more: bool,
-    /// In how many more turns QUITs may stay unread.
+    /// For how many more turns QUITs may stay unread.
     turns_left: u32,
 }
 
@@ -57,8 +57,8 @@ impl Quits {
         self.turns_left > 0
     }
 
-    /// Whether a connection's QUIT, which is long, stays unread: it is the one that the store
-    /// prepares and has more of, or that is another one, or none is prepared yet.
+    /// Whether a connection's long QUIT stays unread. It does if the store can prepare more of it,
+    /// if the store prepares another one, or if it prepares none yet.
     pub(crate) fn keep(&mut self, connection: u64) -> bool
         ensures kept { result ≡ true → self.new.is_preparing ≡ true }
         ensures prepares { PreparesMore self.old.is_preparing self.new.is_preparing result }

@@ -153,7 +153,7 @@ impl Requests {
     }
 }
 
-/// The fixed response of a refusal, and what it tells.
+/// The fixed response of a refusal, and its content.
 fn fixed<'a>(refusal: Refusal) -> (Response, Content<'a>)
     ensures response { octets_of result.0 ≡ refusal_response refusal }
     ensures content { octets_of result.0 ≡ response_of_content result.1 }
@@ -161,7 +161,7 @@ fn fixed<'a>(refusal: Refusal) -> (Response, Content<'a>)
     (Response::Fixed(refusal), Content::Refusal(refusal))
 }
 
-/// The response to an answer, and what it tells.
+/// The response to an answer, and its content.
 fn response_to_answer<'a>(alloc: Global, answer: &'a Answer) -> (Response, Content<'a>)
     ensures response { (octets_of result.0 ≡ answer_response (answer_seen answer.now))
         ⊎ (octets_of result.0 ≡ refusal_response OutOfMemory) }
@@ -173,7 +173,7 @@ fn response_to_answer<'a>(alloc: Global, answer: &'a Answer) -> (Response, Conte
     }
 }
 
-/// The response to a command that had this outcome, and what it tells.
+/// The response to a command that had this outcome, and its content.
 fn response_to<'a>(alloc: Global, outcome: &'a Outcome) -> (Response, Content<'a>)
     ensures response { IsResponseTo (outcome_seen outcome.now) (octets_of result.0) }
     ensures content { octets_of result.0 ≡ response_of_content result.1 }
@@ -195,7 +195,7 @@ fn report_end<L: Listener>(listener: &mut L, command: &AdminCommand, account: &A
     }
 }
 
-/// Gives a command to the office, makes the response, and tells the listener.
+/// Gives a command to the office, makes the response, and reports it to the listener.
 fn run_command<V: Vault, L: Listener>(
     alloc: Global,
     office: &mut Office<V>,
@@ -241,7 +241,7 @@ fn refuse<L: Listener>(
     Response::Fixed(refusal)
 }
 
-/// The response to a body that is no policy, and what it tells.
+/// The response to a body that isn't a policy, and its content.
 fn response_to_fault<'a>(alloc: Global, fault: &PolicyFault) -> (Response, Content<'a>)
     ensures response { (octets_of result.0 ≡ fault_response fault.now)
         ⊎ (octets_of result.0 ≡ refusal_response OutOfMemory) }

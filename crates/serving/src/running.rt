@@ -1,5 +1,5 @@
 //! Serving turn by turn, as long as a clock gives moments.
-ghost use Rattle.std.specs.Prelude.{◌≡◌, ℕ, List, ◌∷◌, [], ◌++◌, Option};
+ghost use Rattle.std.specs.Prelude.{◌≡◌, ℕ, false, List, ◌∷◌, [], ◌++◌, Option};
 ghost use Rattle.office.specs.Events.{Trace};
 ghost use Rattle.office.specs.Stands.{OfEachTrace, StandsFor, vault_of};
 ghost use Rattle.serving.specs.Served.{Serves};
@@ -8,7 +8,7 @@ ghost use Rattle.serving.specs.HttpTurns.{AreFew};
 ghost use Rattle.serving.specs.HttpWorks.{AreShort};
 ghost use Rattle.serving.specs.Newcomers.{AllHaveSeats};
 ghost use Rattle.serving.specs.Guesses.{AllArePacing};
-ghost use Rattle.serving.specs.Running.{HasRun, PreparesFile, Pauses};
+ghost use Rattle.serving.specs.Running.{HasRun, PreparesFile, Pauses, PollsForFile};
 ghost use Rattle.serving.specs.Spools.{FileAct};
 ghost use Rattle.serving.specs.NotedFiles.{StaysAsItWas};
 
@@ -21,7 +21,7 @@ use crate::turn::millis_for;
 use crate::wire::Wire;
 use vault::{Progress, Vault};
 
-/// Gives a server the moment of each turn, once the turn has waited, and tells it when to stop.
+/// Gives a server the moment of each turn, once the turn has waited, and says when it is to stop.
 ///
 /// `gave c answers`: c was asked so often and gave these answers. Of the machine's own clock this
 /// is known only if a [`NotedClock`](crate::NotedClock) wraps it.
@@ -40,10 +40,11 @@ pub trait Clock {
 const QUIT_LINE: &[u8] = b"QUIT\r\n";
 
 impl<V: Vault, W: Wire, L: Listener> Server<V, W, L> {
-    /// Has the spool read on in the large file that is coming, if one is; and once all of it was
-    /// read, the store prepare a part of its deposit. Returns whether there is such a file.
+    /// If a large file is coming, has the spool read the next piece of it; once all of it was read,
+    /// has the store prepare a part of its deposit. Returns whether there is such a file.
     fn prepare_file<S: Spool>(&mut self, spool: &mut S) -> bool
         ensures prepares { PreparesFile V.Vault result self.old.office self.new.office }
+        ensures coming { PollsForFile S.is_coming false result }
         ensures stands { OfEachTrace V.Vault self.old.office self.new.office (λ T.
             StandsFor V.holds self.new.office T) }
         ensures spool { StaysAsItWas S.tells S.asked spool.old spool.new }
@@ -75,6 +76,8 @@ impl<V: Vault, W: Wire, L: Listener> Server<V, W, L> {
             links.old self.old.office spool.old links.new self.new.office spool.new }
         ensures stands { OfEachTrace V.Vault self.old.office self.new.office (λ T.
             StandsFor V.holds self.new.office T) }
+        ensures coming { PollsForFile S.is_coming links.old.clients.poll_now
+            links.new.clients.poll_now }
         ensures told { (a : List FileAct) → S.tells spool.old a → S.tells spool.new a }
         ensures wire { self.new.wire ≡ self.old.wire }
         ensures listener { self.new.listener ≡ self.old.listener }

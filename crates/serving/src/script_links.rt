@@ -17,7 +17,7 @@ pub struct ScriptLink {
     at: usize,
     written: Vec<u8>,
     is_closed: bool,
-    /// A read or a write told its end or that it is broken, or it was closed.
+    /// A read or a write gave its end or that it is broken, or it was closed.
     is_over: bool,
     /// Its client takes what is written.
     takes: bool,
@@ -177,7 +177,7 @@ impl ScriptLinks {
     }
 }
 
-/// A fault, as a read or a write tells it.
+/// A fault, as a read or a write gives it.
 fn stopped(stop: Stop) -> Io
     ensures fault { is_fault result ≡ true }
     ensures within { (n : ℕ) → IsWithin n result }

@@ -1,10 +1,10 @@
 //! A spool in memory, for tests.
-ghost use Rattle.std.specs.Prelude.{◌≡◌, ◌<◌, [], IfSome, length, map};
+ghost use Rattle.std.specs.Prelude.{◌≡◌, ◌<◌, false, [], IfSome, length, map};
 ghost use Rattle.serving.specs.ScriptSpools.{tells_once, act_seen};
 
 use crate::file_name::FileName;
 use crate::next_name::NextName;
-use crate::spool::{MOST_OCTETS, Spool};
+use crate::spool::{Coming, MOST_OCTETS, Spool};
 use std::alloc::{AllocError, Global};
 
 /// A file in memory.
@@ -102,6 +102,8 @@ impl Spool for ScriptSpool {
 
     ghost asked = { λ _ _. ⊥ };
 
+    ghost is_coming = { λ _ answer. answer ≡ false };
+
     ghost tells_once = { λ spool a b h k. tells_once spool.acts.items a b h k };
 
     fn next_name(&mut self, last: &Option<FileName>) -> Option<FileName> {
@@ -145,5 +147,9 @@ impl Spool for ScriptSpool {
         }
         let _ = self.acts.push(ScriptAct::Renamed(*name));
         true
+    }
+
+    fn coming(&self) -> Option<&Coming> {
+        None
     }
 }

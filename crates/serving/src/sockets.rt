@@ -32,14 +32,15 @@ const ADMIN_LISTENER: Token = Token(161);
 #[derive(Drop)]
 struct Door {
     listener: TcpListener,
-    /// A link may wait to be accepted: the system told so, and `accept` hasn't found none since.
+    /// A link may wait to be accepted: the system reported one, and `accept` hasn't come away
+    /// without a link since.
     comes: bool,
     /// The system refused to accept a link: `accept` is tried again after the next wait.
     is_refused: bool,
 }
 
 impl Door {
-    /// Listens at an address, and tells the port.
+    /// Listens at an address, and returns the port.
     fn open<R: Net>(rt: &R, poll: &Poll, token: Token, at: SocketAddr) -> io::Result<(Door, u16)> {
         let mut listener = TcpListener::bind(rt, at)?;
         poll.registry()
@@ -89,9 +90,9 @@ pub(crate) struct Place {
     peer: Option<SocketAddr>,
     /// What came and was looked at, but not read yet.
     ahead: Ahead,
-    /// Octets may have come: the system told so, and no read has emptied the socket since.
+    /// Octets may have come: the system reported some, and no read has emptied the socket since.
     unread: bool,
-    /// The other end sends no more, or the link is broken: the system told so.
+    /// The system reported that the other end sends no more, or that the link is broken.
     is_ending: bool,
     /// Its socket may be read before the next wait.
     is_due: bool,
@@ -100,7 +101,7 @@ pub(crate) struct Place {
     pub(crate) turn: u64,
     /// Its number among the places, so that no two turns are the same.
     at: u64,
-    /// The last write gave `Later`, and the system hasn't told since that more may be written.
+    /// The last write gave `Later`, and the system hasn't reported since that more may be written.
     is_blocked: bool,
 }
 
@@ -237,7 +238,7 @@ impl SocketWire {
         self.places.iter().any(Place::is_pressing)
     }
 
-    /// Notes which sockets the system told to be ready.
+    /// Notes which sockets the system reported as ready.
     fn note_events(&mut self) {
         for event in &self.events {
             let token = event.token();
@@ -326,7 +327,7 @@ impl Place {
     }
 
     /// Lets its socket be read before the next wait, if it presses, and its other end has ended or
-    /// fewer than `most` wait longer; then its turn comes behind so many.
+    /// fewer than `most` wait longer; then its turn comes after so many.
     pub(crate) fn choose(&mut self, turns: u64, most: usize, waiting: &[u64])
         ensures { self.new ≡ chosen turns most waiting.now self.old }
     {

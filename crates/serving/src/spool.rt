@@ -1,6 +1,6 @@
 //! What a server needs of the folder into which the mail system puts messages.
-ghost use Rattle.std.specs.Prelude.{◌≡◌, List, ◌∷◌, [], ◌++◌, MatchOption, option_map};
-ghost use Rattle.std.specs.Prelude.{if◌then◌else◌};
+ghost use Rattle.std.specs.Prelude.{◌≡◌, Bool, List, ◌∷◌, [], ◌++◌, MatchOption, option_map};
+ghost use Rattle.std.specs.Prelude.{is_some, if◌then◌else◌};
 ghost use Rattle.serving.specs.Spools.{FileAct, WasRead, WasRemoved, WasRenamed, FileCall, Next};
 ghost use Rattle.serving.specs.Spools.{Read, Removed, Renamed};
 
@@ -31,8 +31,13 @@ pub trait Spool {
     /// `asked s calls`: s was asked these calls and answered them so, the newest last.
     ghost asked: { Self → List FileCall → Type 0 };
 
+    /// `is_coming s answer`: s may answer so whether a file is coming. A spool over a folder may
+    /// answer either.
+    ghost is_coming: { Self → Bool → Type 0 };
+
     /// The least name after this one, in the order of octets; the least one if none is after
-    /// it, or no name is given. `None` if there is no file, or the folder can't be listed.
+    /// it, or no name is given. `None` if there is no file, the folder can't be listed, or all its
+    /// files were left, one of them just now. A spool may name files that were left after others.
     fn next_name(&mut self, last: &Option<FileName>) -> Option<FileName>
         ensures told { (a : List FileAct) → tells self.old a → tells self.new a }
         ensures called { (a : List FileCall) → asked self.old a
@@ -64,9 +69,8 @@ pub trait Spool {
 
     /// The large file that is coming: it is read in pieces, and then its deposit is prepared. There
     /// is one at most; a spool that reads each file at once has none.
-    fn coming(&self) -> Option<&Coming> {
-        None
-    }
+    fn coming(&self) -> Option<&Coming>
+        ensures answer { is_coming self.now (is_some result) };
 
     /// Reads one more piece of the file that is coming, if not all of it was read.
     fn read_on(&mut self)

@@ -251,12 +251,6 @@ judged_any c d class id uid there none h text = judged_unknown c d class id text
 pub same_uid : (u v : Uid) → (let r : Result (Option Uid) Refusal = Ok (Some u) in r ≡ Ok (Some v)) → u ≡ v
 same_uid u v e = cc
 
-pub none_uid : (v : Uid) → (let r : Result (Option Uid) Refusal = Ok None in r ≡ Ok (Some v)) → ⊥
-none_uid v e = cc
-
-pub err_uid : (e : Refusal) (v : Uid) → (let r : Result (Option Uid) Refusal = Err e in r ≡ Ok (Some v)) → ⊥
-err_uid e v is = cc
-
 -- the class that it was judged for is its own
 pub own_uid : (c : Contents) (d class id : List ℕ) (uid : Uid) → AcceptsAny c d class id uid → AcceptsAny c d class id (record { class = class; k = uid.k })
 own_uid c d class id uid h =

@@ -17,11 +17,11 @@ use std::marker::Model;
 use std::mem;
 use vault::{ClerkKind, Deposited, Head, MessageKey, Progress, Total, Vault, VaultFault};
 
-/// After how many pieces of work that were given up the next one is done at once.
+/// Once so many pieces of work were given up, the next one is done at once.
 const MOST_GIVEN_UP: u8 = 3;
 
-/// How many were given up once work of so many octets or messages is done, of which a piece has so
-/// many. Short work changes nothing: it is never prepared.
+/// How many count as given up after work of this size was done at once: none, if it was long enough
+/// to be prepared. Short work, of one piece at most, changes nothing: it is never prepared.
 fn given_up_after(size: usize, piece: usize, given_up: u8) -> u8 {
     if size > piece { 0 } else { given_up }
 }
@@ -52,11 +52,11 @@ impl<S: Alter> Model for Ahead<S> {
 }
 
 impl<S: Alter> Ahead<S> {
-    ghost use Rattle.std.specs.Prelude.{◌≤◌, Some, IfSome, IfNone, IsTrue, false, bytes_eq};
+    ghost use Rattle.std.specs.Prelude.{◌≤◌, Some, IfSome, IfNone, IsTrue, false};
     ghost use Rattle.std.specs.Prelude.{length, take};
     ghost use Rattle.sqlite.specs.Held.{state};
     ghost use Rattle.sqlite.specs.State.{HasCleanDisk};
-    ghost use Rattle.vault.specs.Changes.{Contents, is_named};
+    ghost use Rattle.vault.specs.Changes.{Contents};
     ghost use Rattle.vault.specs.Calls.{IsPrepared, CountsFaults};
     ghost use Rattle.vault.specs.Stops.{IsOwn};
     ghost use Rattle.sqlvault.specs.Stands.{Holds};
@@ -207,7 +207,7 @@ impl<S: Alter> Ahead<S> {
         Ok(progress)
     }
 
-    /// Begins a removal and does a piece of it, where none is under way.
+    /// Begins a removal and does a piece of it, if none is under way.
     fn start(&mut self, maildrop: &Name, keys: &[MessageKey]) -> Result<Progress, VaultFault>
         ensures prepares { self.old.under_way ≡ None → Prepares S.Store self.old.vault.conn
             self.new.vault.conn None self.new.under_way (IsOwn result) }
@@ -309,7 +309,7 @@ impl<S: Alter> Ahead<S> {
         Ok(progress)
     }
 
-    /// Begins a deposit and does a piece of it, where nothing is under way.
+    /// Begins a deposit and does a piece of it, if nothing is under way.
     fn start_deposit(
         &mut self,
         maildrop: &Name,
@@ -333,8 +333,9 @@ impl<S: Alter> Ahead<S> {
     }
 }
 
-/// Each call as in the vault inside, once the work that is under way is given up; but that is gone
-/// on with if it is asked for, and queries of what it doesn't touch are answered beside it.
+/// Each call first gives up the work that is under way, and is then done by the vault inside. But a
+/// call that asks for that work continues it, and a query about what the work doesn't touch is
+/// answered beside it.
 impl<S: Alter> Vault for Ahead<S> {
     ghost use Rattle.sqlvault.specs.UnderWay.{sound_beside, settled_beside};
 

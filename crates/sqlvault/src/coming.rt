@@ -1,11 +1,10 @@
 //! A deposit in parts, in one open transaction.
-ghost use Rattle.std.specs.Prelude.{◌≡◌, ◌≤◌, ◌%◌, ◌/◌, ◌++◌, ℕ, List, length, take, true};
+ghost use Rattle.std.specs.Prelude.{◌≡◌, ◌≤◌, ◌%◌, ◌/◌, ◌++◌, length, take, true};
 ghost use Rattle.std.specs.Prelude.{Some, None, Ok, IsTrue, OnOk, bytes_eq, ◌==◌};
 ghost use Rattle.creds.specs.Names.{is_name, is_deposit_id};
 ghost use Rattle.creds.specs.declared.uid.Uid as uid;
 ghost use Rattle.sqlite.specs.Held.{state};
 ghost use Rattle.sqlite.specs.State.{HasCleanDisk};
-ghost use Rattle.vault.specs.declared.answer.Deposited.TheVariants as stored;
 ghost use Rattle.vault.specs.Records.{most_deposits};
 ghost use Rattle.vault.specs.Changes.{Contents, receipt_for};
 ghost use Rattle.vault.specs.Calls.{IsDeposited};
@@ -44,7 +43,7 @@ pub(crate) struct Coming {
     key: u64,
     /// How many octets the text has.
     octets: usize,
-    /// Those whose sheets stand, which are all whole.
+    /// The octets that were put so far; all their sheets are whole.
     put: Vec<u8>,
     /// The digest of these, so far.
     hasher: Sha256,

@@ -20,7 +20,7 @@ use vault::MessageKey;
 /// How many messages are removed at once.
 pub(crate) const PIECE: usize = 128;
 
-/// A removal that is under way. It is done from the last key on.
+/// A removal that is under way. Messages are removed from the last key to the first.
 #[derive(Drop)]
 pub(crate) struct Removing {
     maildrop: Name,

@@ -9,6 +9,12 @@ mod older_stores;
 #[cfg(test)]
 mod opened_twice;
 #[cfg(test)]
+mod prepared;
+#[cfg(test)]
+mod prepared_deposits;
+#[cfg(test)]
+mod prepared_stops;
+#[cfg(test)]
 mod recents;
 #[cfg(test)]
 mod refusals;

@@ -171,19 +171,19 @@ fn file_of(alloc: Global, octets: &[u8], calls: u64) -> Result<Stopping, Fail> {
 
 /// Which file fails, and after how many calls.
 #[derive(Clone, Copy)]
-struct Stop {
-    is_log: bool,
-    calls: u64,
+pub struct Stop {
+    pub is_log: bool,
+    pub calls: u64,
 }
 
 /// No file fails.
-const NEVER: Stop = Stop {
+pub const NEVER: Stop = Stop {
     is_log: true,
     calls: u64::MAX,
 };
 
 /// Files with these octets, one of which fails.
-fn files_with(alloc: Global, held: Held<'_>, stop: Stop) -> Result<Files<Stopping>, Fail> {
+pub fn files_with(alloc: Global, held: Held<'_>, stop: Stop) -> Result<Files<Stopping>, Fail> {
     let log_calls = if stop.is_log { stop.calls } else { u64::MAX };
     let db_calls = if stop.is_log { u64::MAX } else { stop.calls };
     let log = file_of(alloc, held.log, log_calls)?;
@@ -256,7 +256,7 @@ fn has_failed(file: &mut Stopping) -> bool {
     !file.may_be_used() || file.len().is_err()
 }
 
-fn is_stopped(files: &mut Files<Stopping>, stop: Stop) -> bool {
+pub fn is_stopped(files: &mut Files<Stopping>, stop: Stop) -> bool {
     if stop.is_log {
         has_failed(&mut files.log)
     } else {

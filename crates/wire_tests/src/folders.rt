@@ -4,6 +4,7 @@ use serving::{FileName, FolderSpool, Spool};
 use std::fs;
 use std::os::unix::fs::symlink;
 use std::test::Fail;
+use std::time::{Duration, Instant};
 
 #[test]
 fn files_of_a_folder(rt: HostRuntime) -> Result<(), Fail> {
@@ -29,6 +30,42 @@ fn files_of_a_folder(rt: HostRuntime) -> Result<(), Fail> {
     assert!(rt; spool.rename(&first) && spool.read(&first).is_none());
     assert!(rt; spool.next_name(&None) == Some(third));
     fs::remove_dir_all(&rt, "spool-of-a-test")?;
+    Ok(())
+}
+
+/// After so many looks at a folder a file that was left must be named again.
+const LOOKS: u32 = 100_000_000;
+
+/// Whether a file is the next one after another, and can be read.
+fn is_next<S: Spool>(spool: &mut S, last: Option<FileName>, name: FileName) -> bool {
+    spool.next_name(&last) == Some(name) && spool.read(&name).is_some()
+}
+
+/// Files that were tried and left are named again only if there is no other one, a second later.
+#[test]
+fn files_that_were_left_rest(rt: HostRuntime) -> Result<(), Fail> {
+    let _ = fs::remove_dir_all(&rt, "left-of-a-test");
+    fs::create_dir(&rt, "left-of-a-test")?;
+    fs::write(&rt, "left-of-a-test/b.note.x.eml", "text")?;
+    fs::write(&rt, "left-of-a-test/d.note.x.eml", "text")?;
+    let first = FileName::read(b"b.note.x.eml").ok_or("name")?;
+    let other = FileName::read(b"c.note.x.eml").ok_or("name")?;
+    let second = FileName::read(b"d.note.x.eml").ok_or("name")?;
+    let mut spool = FolderSpool::new(&rt, rt.alloc(), "left-of-a-test");
+    let begun = Instant::now(&rt)?;
+    assert!(rt; is_next(&mut spool, None, first) && is_next(&mut spool, Some(first), second));
+    assert!(rt; spool.next_name(&Some(second)).is_none());
+    fs::write(&rt, "left-of-a-test/c.note.x.eml", "text")?;
+    assert!(rt; is_next(&mut spool, Some(second), other) && spool.remove(&other));
+    for _ in 0..LOOKS {
+        if spool.next_name(&Some(other)).is_some() {
+            break;
+        }
+    }
+    assert!(rt; begun.elapsed(&rt)? >= Duration::from_secs(1));
+    assert!(rt; is_next(&mut spool, Some(other), first));
+    assert!(rt; spool.next_name(&Some(first)).is_none());
+    fs::remove_dir_all(&rt, "left-of-a-test")?;
     Ok(())
 }
 

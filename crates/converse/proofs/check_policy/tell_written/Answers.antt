@@ -27,5 +27,4 @@ returns-clause-part g c =
 pub returns-clause-cause : goal.returns-clause-cause
 returns-clause-cause g c =
     let written = writes_failed (g.W.Sink.seen c.args.out.now) (g.W.Sink.seen c.write_text.new.out) in
-    let Is = IsFaultOf c.args.octets.now in
-    if_err_still _ _ _ (λ e is. ended_writing Is written e is.0 is.1) c.write_text.ensures.cause
+    if_err_still _ _ _ (λ e is. ended_writing (IsFaultOf c.args.octets.now) written e is.0 is.1) c.write_text.ensures.cause

@@ -36,10 +36,9 @@ returns-then-after-before-clause-told g c = λ rs are d h k.
     let s = has_asked g.V.Vault.holds g.V.Vault.is_clean c.in_ok-totals.ensures.looks.clean c.in_ok-totals.ensures.done c.in_ok-policy.ensures.looks.clean c.in_ok-policy.ensures.done
     c.in_ok-tell_clerks.ensures.clean c.in_ok-tell_clerks.ensures.held c.in_ok-tell_clerks.ensures.told in
     let k3 = c.in_ok-tell_differing.ensures.clean k in
-    let all = s.totals_are d h k3 in
     store_differs c.args.file.now d c.args.clerks.now rs c.as_slice.result.now c.as_slice-2.result.now
     c.args.text.now.items c.print_front.new.out.items c.tell_clerks.new.text.items c.tell_differing.new.text.items
-    (c.as_slice.ensures.value ∙ all) (c.as_slice-2.ensures.value ∙ all) c.in-Ok.ensures
+    (c.as_slice.ensures.value ∙ (s.totals_are d h k3)) (c.as_slice-2.ensures.value ∙ (s.totals_are d h k3)) c.in-Ok.ensures
     (s.clerks_are d h k3) (c.in_ok-tell_differing.ensures.told rs are d (s.held d h k3) k) (omega arith)
 
 pub returns-then-after-before-clause-intact : goal.returns-then-after-before-clause-intact
@@ -60,8 +59,7 @@ returns-in_err-tell_clerks-clause-cause g c =
     let Late : VaultFault → Type 0 = IsRefusedCheck g.V.Vault.holds g.V.Vault.is_clean faults before now (AreKnown c.args.clerks.now) in
     let All : VaultFault → Type 0 = IsRefusedCheck g.V.Vault.holds g.V.Vault.is_clean faults first now (AreKnown c.args.clerks.now) in
     handed_as c.from_residual-in_err-tell_clerks.result _ (IsExportFault false false All) c.from_residual-in_err-tell_clerks.ensures.1
-    (cause_still false false false false Late All (λ e. e) (λ e. e)
-    (λ e r d h k.
+    (cause_still false false false false Late All (λ e. e) (λ e. e) (λ e r d h k.
     let k2 = t.clean k in
     let k1 = c.in_ok-policy.ensures.looks.clean k2 in
     let second = c.in_ok-policy.ensures.done d (c.in_ok-totals.ensures.done d h k1).held k2 in

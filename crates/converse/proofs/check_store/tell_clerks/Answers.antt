@@ -30,7 +30,6 @@ loop-name-preserved g c =
 pub returns-in_err-tell_clerk-clause-cause : goal.returns-in_err-tell_clerk-clause-cause
 returns-in_err-tell_clerk-clause-cause g c =
     let faults = g.V.Vault.faults in
-    let s = c.loop-name.invariant in
     let t = c.in_err-tell_clerk.ensures in
     let first = c.args.vault.now in
     let before = c.loop-name.vault in
@@ -41,5 +40,5 @@ returns-in_err-tell_clerk-clause-cause g c =
     (cause_still false false false false One All (λ e. e) (λ e. e)
     (λ e r d h k. refused_of_since (is_some (credential_in c.name-item.result d.clerks) ≡ true) (AreKnown c.args.clerks.now d)
     (at_index (λ name. is_some (credential_in name d.clerks) ≡ true) c.args.clerks.now c.loop-name.name-index _ c.loop-name-test.true c.name-item.is)
-    (faults first) (faults before) (faults now) s.read e (r d (s.held d h (t.clean k)) k))
+    (faults first) (faults before) (faults now) c.loop-name.invariant.read e (r d (c.loop-name.invariant.held d h (t.clean k)) k))
     _ t.cause)

@@ -34,7 +34,6 @@ returns-clause-told g c = λ rs are d h k.
 pub returns-in_err-tell_maildrop-clause-cause : goal.returns-in_err-tell_maildrop-clause-cause
 returns-in_err-tell_maildrop-clause-cause g c =
     let faults = g.V.Vault.faults in
-    let s = c.loop-total.invariant in
     let t = c.in_err-tell_maildrop.ensures in
     let first = c.args.vault.now in
     let before = c.loop-total.vault in
@@ -43,8 +42,8 @@ returns-in_err-tell_maildrop-clause-cause g c =
     let Each : VaultFault → Type 0 = IsRefusedRead g.V.Vault.holds g.V.Vault.is_clean faults first now (λ d. All (λ (x : Total). is_one_of x.maildrop d.maildrops ≡ true) c.args.totals.now) in
     handed_as c.from_residual.result _ (IsExportFault false false Each) c.from_residual.ensures.1
     (cause_still false false false false One Each (λ e. e) (λ e. e)
-    (λ e r d h k all. refused_since true (faults first) (faults before) (faults now) s.read e
+    (λ e r d h k all. refused_since true (faults first) (faults before) (faults now) c.loop-total.invariant.read e
     (subst (λ b. IsRefused b (has_grown (faults before) (faults now)) e)
     (at_index (λ (x : Total). is_one_of x.maildrop d.maildrops ≡ true) c.args.totals.now c.loop-total.total-index _ c.loop-total-test.true c.total-item.is all)
-    (r d (s.held d h (t.clean k)) k)))
+    (r d (c.loop-total.invariant.held d h (t.clean k)) k)))
     _ t.cause)

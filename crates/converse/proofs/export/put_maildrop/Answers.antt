@@ -47,16 +47,15 @@ returns-in_err-put_messages-clause-puts g c =
 
 pub returns-in_err-write_text-clause-puts : goal.returns-in_err-write_text-clause-puts
 returns-in_err-write_text-clause-puts g c =
-    let t = c.in_ok-put_messages.ensures in
-    let s = has_sifted g.met.V.Vault.sound t.clean c.in_ok-sift.ensures.held (c.in_ok-sift.ensures.sifted (against c.args.texts.now) c.in_ok-marks.ensures)
+    let s = has_sifted g.met.V.Vault.sound c.in_ok-put_messages.ensures.clean c.in_ok-sift.ensures.held (c.in_ok-sift.ensures.sifted (against c.args.texts.now) c.in_ok-marks.ensures)
     c.as_slice-2.ensures.value c.as_slice.ensures.value c.new-intact.ensures.items c.new-differing.ensures.items in
     let count : c.len.result ≡ length c.sift.new.intact.items = search rules in
-    let taken = put_whole s (g.F.Folder.files c.args.folder.now) (g.F.Folder.files c.put_messages.new.folder) t.whole in
+    let taken = put_whole s (g.F.Folder.files c.args.folder.now) (g.F.Folder.files c.put_messages.new.folder) c.in_ok-put_messages.ensures.whole in
     let report = report_told s c.len.result (count ∙ ap (λ (l : List Head). length l) (sym c.as_slice-2.ensures.value)) c.as_slice-3.ensures.value c.in_ok-report.ensures.told in
     puts_ill _ _ _ _ _ _ _ _ _ _ _ c.from_residual-in_err-write_text.result (search rules) (search rules)
     (λ d h k. takes_whole _ _ (files_of (against c.args.texts.now) c.args.maildrop.now d) (taken d h k))
     (inr (λ d h k. (taken d h k, subst (WritesPart (g.W.Sink.seen c.args.out.now) (g.W.Sink.seen c.write_text.new.out)) (report d h k) c.in_err-write_text.ensures.part)))
-    (inr (t.settled refl))
+    (inr (c.in_ok-put_messages.ensures.settled refl))
 
 pub returns-clause-puts : goal.returns-clause-puts
 returns-clause-puts g c =

@@ -33,17 +33,16 @@ returns-then-is_empty-clause-drained g c =
 
 pub returns-in-Ok-writeln-clause-drained : goal.returns-in-Ok-writeln-clause-drained
 returns-in-Ok-writeln-clause-drained g c =
-    let n = c.args.number in
     let lent = c.owed.result.now in λ T st clean.
     (let s = c.in_ok-outcome.ensures.taken T st clean in
-    let whole : lent ≡ lent_at T n = owed_whole g.V.Vault.holds c.args.office.now T st n lent (c.owed.ensures.lent T st) c.owed.ensures.count in
+    let whole : lent ≡ lent_at T c.args.number = owed_whole g.V.Vault.holds c.args.office.now T st c.args.number lent (c.owed.ensures.lent T st) c.owed.ensures.count in
     let some : 0 < length lent = some_lent c.is_empty.result lent c.if-is_empty.false c.is_empty.ensures in
     record {
-      printed = codes "sent " ++ decimal n ++ codes " " ++ s.printed ++ codes "\n";
+      printed = codes "sent " ++ decimal c.args.number ++ codes " " ++ s.printed ++ codes "\n";
       trace = s.trace;
       appends = appends_three _ _ _ _ _ s.printed _ _ c.in-Ok.ensures.bytes s.appends c.in-Ok-writeln.ensures.bytes refl;
       stands = s.stands;
-      is = (drains_all T n (outcome_seen c.in_ok-outcome.outcome) s.printed s.trace s.is.0 (subst (λ r. 0 < length r) whole some), s.is.1);
+      is = (drains_all T c.args.number (outcome_seen c.in_ok-outcome.outcome) s.printed s.trace s.is.0 (subst (λ r. 0 < length r) whole some), s.is.1);
     })
 
 pub returns-in-Err-clause-broken : goal.returns-in-Err-clause-broken

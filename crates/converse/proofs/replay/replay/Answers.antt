@@ -12,16 +12,14 @@ use Rattle.converse.proofs.replay.replay.Goals as goal
 
 pub returns-clause-told : goal.returns-clause-told
 returns-clause-told g c =
-    let x = c.play_over-status in
-    let o = c.in-Ok-open_office.ensures in
     let said = map line_seen c.in-Ok.lines.items in λ well.
     of_known (g.R.Read.remaining c.args.script.now) (λ text. script_of text ≡ Ok said)
     (λ text. (lines : List ScriptLine) → script_of text ≡ Ok lines → (T : Trace) → Keeps (g.V.Vault.holds c.args.vault) T → g.V.Vault.is_clean c.into_vault.result
     → HasRun g.V.Vault.holds c.into_vault.result (g.V.Vault.faults c.args.vault) (g.V.Vault.faults c.into_vault.result)
-    (g.W.Write.contents c.args.out.now) (g.W.Write.contents x.new.out) (opened_on T c.args.host.now c.args.boot c.args.removals) lines)
+    (g.W.Write.contents c.args.out.now) (g.W.Write.contents c.play_over-status.new.out) (opened_on T c.args.host.now c.args.boot c.args.removals) lines)
     (λ text is lines read. has_run_over g.V.Vault.holds g.V.Vault.faults g.V.Vault.is_clean
-    (λ T. opened_on T c.args.host.now c.args.boot c.args.removals) c.into_vault.ensures o.counted x.ensures.clean o.opened
-    (ap (map line_seen) c.as_slice.ensures.value ∙ same_lines (script_of text) said lines is read) (x.ensures.played well))
+    (λ T. opened_on T c.args.host.now c.args.boot c.args.removals) c.into_vault.ensures c.in-Ok-open_office.ensures.counted c.play_over-status.ensures.clean c.in-Ok-open_office.ensures.opened
+    (ap (map line_seen) c.as_slice.ensures.value ∙ same_lines (script_of text) said lines is read) (c.play_over-status.ensures.played well))
     c.in-Ok.ensures.lines
 
 pub returns-clause-kept : goal.returns-clause-kept

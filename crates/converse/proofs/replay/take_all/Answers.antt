@@ -29,20 +29,20 @@ loop-init g c = record {
 
 pub loop-preserved : goal.loop-preserved
 loop-preserved g c =
-    let n = c.args.number in
     let lent = c.owed-owed.result.now in
-    let e = Took n (length lent) in
+    let e = Took c.args.number (length lent) in
     let x = c.step-outcome in record {
       taken = λ T st clean.
           (let s = c.loop.invariant.taken T st (x.ensures.clean clean) in
-          let whole : lent ≡ lent_at s.trace n = owed_whole g.V.Vault.holds c.loop.office s.trace s.stands n lent (c.owed-owed.ensures.lent s.trace s.stands) c.owed-owed.ensures.count in
+          let whole : lent ≡ lent_at s.trace c.args.number =
+          owed_whole g.V.Vault.holds c.loop.office s.trace s.stands c.args.number lent (c.owed-owed.ensures.lent s.trace s.stands) c.owed-owed.ensures.count in
           record {
             printed = s.printed ++ escaped lent;
             trace = followed_by s.trace e x.result;
             appends = Appends-trans _ _ _ s.printed (escaped lent) s.appends c.in-Ok.ensures.told;
             stands = x.ensures.stands s.trace s.stands clean;
             is = (
-              takes_lent T n (outcome_seen c.loop.outcome) (outcome_seen x.result) s.printed s.trace lent whole s.is.0
+              takes_lent T c.args.number (outcome_seen c.loop.outcome) (outcome_seen x.result) s.printed s.trace lent whole s.is.0
                   (some_lent c.is_empty.result lent c.if-is_empty.false c.is_empty.ensures)
                   (by_owed g.V.Vault.holds c.loop.office s.trace s.stands e (outcome_seen x.result) (x.ensures.outcome s.trace s.stands clean)),
               caused_more (g.V.Vault.faults (vault_of c.args.office.now)) (g.V.Vault.faults (vault_of c.loop.office))
@@ -72,9 +72,8 @@ returns-then-is_empty-clause-taken g c =
 
 pub returns-in_default-clause-broken : goal.returns-in_default-clause-broken
 returns-in_default-clause-broken g c =
-    let n = c.args.number in
     let o = outcome_seen c.loop.outcome in
-    reaches_by (λ T. Begun T (Drains n)) (λ T. TakesSoFar T n o) (λ T. begun_taking T n o) c.loop.invariant.taken
+    reaches_by (λ T. Begun T (Drains c.args.number)) (λ T. TakesSoFar T c.args.number o) (λ T. begun_taking T c.args.number o) c.loop.invariant.taken
 
 pub returns-clause-broken : goal.returns-clause-broken
 returns-clause-broken g c =

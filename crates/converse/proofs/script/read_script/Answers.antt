@@ -20,10 +20,8 @@ loop-rest-preserved c =
 
 pub returns-in_err-read_into-clause-fault : goal.returns-in_err-read_into-clause-fault
 returns-in_err-read_into-clause-fault c = λ m is.
-    let left = c.in-Some.left.now in
     let asks = rw c.in-Some.is at c.loop-rest.invariant.asks in
-    let n = c.saturating_add-number.result in
-    let number : n ≡ c.loop-rest.number + 1 = omega (arith, rw c.in-Some.is at c.loop-rest.invariant.counted) in
+    let number : c.saturating_add-number.result ≡ c.loop-rest.number + 1 = omega (arith, rw c.in-Some.is at c.loop-rest.invariant.counted) in
     let told = c.in_err-read_into.ensures.fault m (same_fault _ _ _ c.from_residual.ensures.1 is) in
-    fault_told n m left _ _ (map line_seen c.loop-rest.lines.items) _ c.cut_at.ensures told.1
-    (subst (λ k. asks_then (Ok (map line_seen c.loop-rest.lines.items)) (rest_asks k (Some left)) ≡ script_of c.args.text.now) (sym number) asks)
+    fault_told c.saturating_add-number.result m c.in-Some.left.now _ _ (map line_seen c.loop-rest.lines.items) _ c.cut_at.ensures told.1
+    (subst (λ k. asks_then (Ok (map line_seen c.loop-rest.lines.items)) (rest_asks k (Some c.in-Some.left.now)) ≡ script_of c.args.text.now) (sym number) asks)

@@ -59,29 +59,26 @@ loop-init g c = talked_none
 
 pub returns-in_err-write_owed-clause-failed : goal.returns-in_err-write_owed-clause-failed
 returns-in_err-write_owed-clause-failed g c =
-    let r = c.from_residual in
     let s = c.loop.invariant in
     let first = g.W.Sink.seen c.args.writer.now in
     let now = g.W.Sink.seen c.write_owed.new.writer in
     let reads = reads_failed (g.R.Source.seen c.args.reader.now) (g.R.Source.seen c.loop.reader) in
-    handed_on reads (writes_failed first now) r.result c.in_err-write_owed.field-0.0 r.ensures.1
+    handed_on reads (writes_failed first now) c.from_residual.result c.in_err-write_owed.field-0.0 c.from_residual.ensures.1
     (failed_more false _ reads _ _ (λ q. absurd (cc)) (λ q. writes_failed_then first (g.W.Sink.seen c.loop.writer) now s.written s.writes q) c.in_err-write_owed.ensures.failed)
 
 pub returns-in_err-listen-clause-failed : goal.returns-in_err-listen-clause-failed
 returns-in_err-listen-clause-failed g c =
-    let r = c.from_residual-in_err-listen in
     let s = c.loop.invariant in
     let read = g.R.Source.seen c.listen.new.reader in
     let was = g.R.Source.seen c.args.reader.now in
     let writes = writes_failed (g.W.Sink.seen c.args.writer.now) (g.W.Sink.seen c.write_owed.new.writer) in
-    handed_on (reads_failed was read) writes r.result c.in_err-listen.field-0.0 r.ensures.1
+    handed_on (reads_failed was read) writes c.from_residual-in_err-listen.result c.in_err-listen.field-0.0 c.from_residual-in_err-listen.ensures.1
     (failed_more _ false _ writes _ (λ q. reads_failed_then was (g.R.Source.seen c.loop.reader) read s.octets s.reads q) (λ q. absurd (cc)) c.in_err-listen.ensures.failed)
 
 pub returns-in_err-write_owed-clause-flushed : goal.returns-in_err-write_owed-clause-flushed
 returns-in_err-write_owed-clause-flushed g c =
-    let r = c.from_residual in
     let t = c.in_err-write_owed in
-    flushed_unread _ _ r.result _ (refused_as r.result t.field-0.0 r.ensures.1) t.ensures.failed
+    flushed_unread _ _ c.from_residual.result _ (refused_as c.from_residual.result t.field-0.0 c.from_residual.ensures.1) t.ensures.failed
 
 pub returns-in_err-listen-clause-flushed : goal.returns-in_err-listen-clause-flushed
 returns-in_err-listen-clause-flushed g c = flushed_anyway _ _ c.in_ok-write_owed.ensures.flushed

@@ -19,5 +19,4 @@ returns-in_default-clause-failed g c = c.in_default.ensures.given.1
 
 pub returns-in_err-hear-clause-failed : goal.returns-in_err-hear-clause-failed
 returns-in_err-hear-clause-failed g c =
-    let f = c.in_err-hear.field-0.0 in
-    handed_on _ _ c.from_residual.result f c.from_residual.ensures.1 (failed_none _ _ f c.in_err-hear.ensures.failed)
+    handed_on _ _ c.from_residual.result c.in_err-hear.field-0.0 c.from_residual.ensures.1 (failed_none _ _ c.in_err-hear.field-0.0 c.in_err-hear.ensures.failed)

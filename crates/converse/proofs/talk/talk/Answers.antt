@@ -66,16 +66,14 @@ returns-clause-talked g c =
 
 pub returns-in_err-c-clause-failed : goal.returns-in_err-c-clause-failed
 returns-in_err-c-clause-failed g c =
-    let f = c.in_err-c.field-0.0 in
-    handed_on _ _ c.from_residual.result f c.from_residual.ensures.1 (failed_none _ _ f c.in_err-c.ensures.failed)
+    handed_on _ _ c.from_residual.result c.in_err-c.field-0.0 c.from_residual.ensures.1 (failed_none _ _ c.in_err-c.field-0.0 c.in_err-c.ensures.failed)
 
 pub returns-clause-failed : goal.returns-clause-failed
 returns-clause-failed g c = c.converse-talked.ensures.failed
 
 pub returns-in_err-c-clause-flushed : goal.returns-in_err-c-clause-flushed
 returns-in_err-c-clause-flushed g c =
-    let f = c.in_err-c.field-0.0 in
-    flushed_unread _ _ c.from_residual.result f (refused_as c.from_residual.result f c.from_residual.ensures.1) c.in_err-c.ensures.failed
+    flushed_unread _ _ c.from_residual.result c.in_err-c.field-0.0 (refused_as c.from_residual.result c.in_err-c.field-0.0 c.from_residual.ensures.1) c.in_err-c.ensures.failed
 
 pub returns-clause-flushed : goal.returns-clause-flushed
 returns-clause-flushed g c = c.converse-talked.ensures.flushed

@@ -48,19 +48,16 @@ loop-init g c = wrote_none
 
 pub returns-in_err-write_some-clause-failed : goal.returns-in_err-write_some-clause-failed
 returns-in_err-write_some-clause-failed g c =
-    let r = c.from_residual in
     let s = c.loop.invariant in
     let now = g.W.Sink.seen c.write_some.new.writer in
-    handed_on false (writes_failed (g.W.Sink.seen c.args.writer.now) now) r.result c.in_err-write_some.field-0.0 r.ensures.1
+    handed_on false (writes_failed (g.W.Sink.seen c.args.writer.now) now) c.from_residual.result c.in_err-write_some.field-0.0 c.from_residual.ensures.1
     (failed_more false _ false _ _ (λ q. q) (λ q. writes_failed_then (g.W.Sink.seen c.args.writer.now) (g.W.Sink.seen c.loop.writer) now s.more s.writes q) c.in_err-write_some.ensures.failed)
 
 pub returns-in_err-flush-clause-failed : goal.returns-in_err-flush-clause-failed
 returns-in_err-flush-clause-failed g c =
-    let r = c.from_residual-in_err-flush in
-    let s = c.loop.invariant in
     let d = c.in_ok-write_some.ensures.wrote in
     let first = g.W.Sink.seen c.args.writer.now in
     let now = g.W.Sink.seen c.flush.new.writer in
     let cause = c.in_err-flush.ensures.cause in
-    handed_on _ _ r.result _ r.ensures.1
-    (subst (HasFailed false (writes_failed first now)) (sym cause.0) (writes_failed_then first _ now _ (writes_then first _ _ s.more d.0 s.writes d.1) cause.1))
+    handed_on _ _ c.from_residual-in_err-flush.result _ c.from_residual-in_err-flush.ensures.1
+    (subst (HasFailed false (writes_failed first now)) (sym cause.0) (writes_failed_then first _ now _ (writes_then first _ _ c.loop.invariant.more d.0 c.loop.invariant.writes d.1) cause.1))

@@ -37,13 +37,12 @@ returns-in_err-had_memory-clause-wrote g c =
 pub returns-clause-wrote : goal.returns-clause-wrote
 returns-clause-wrote g c =
     let n = c.in-Ok.count in
-    let lent = c.owed-lent.result.now in
     let some : 0 < n = omega (arith, c.if-count-eq0.false) in
-    let fits : n ≤ length lent = omega (arith, c.in-Ok.ensures.bound) in
+    let fits : n ≤ length c.owed-lent.result.now = omega (arith, c.in-Ok.ensures.bound) in
     let s = c.step.ensures in (
-      take n lent,
+      take n c.owed-lent.result.now,
       c.in-Ok.ensures.taken.0,
-      (λ q. omega (arith, some, length-take-le n lent fits)),
+      (λ q. omega (arith, some, length-take-le n c.owed-lent.result.now fits)),
       paid_some g.V.Vault.is_clean (Ok tt) c.in_ok-had_memory.ensures.is some fits c.owed-lent.ensures.lent c.owed-lent.ensures.count (eq-eqb c.args.c c.args.c refl)
           (record { stands = s.stands; outcome = s.outcome; cause = s.cause; counted = s.counted }),
     )
@@ -63,5 +62,4 @@ returns-then-count-eq0-clause-failed g c =
 
 pub returns-in_err-had_memory-clause-failed : goal.returns-in_err-had_memory-clause-failed
 returns-in_err-had_memory-clause-failed g c =
-    let f = c.in_err-had_memory.field-0.0 in
-    handed_on _ _ c.from_residual.result f c.from_residual.ensures.1 (failed_none _ _ f c.in_err-had_memory.ensures.failed)
+    handed_on _ _ c.from_residual.result c.in_err-had_memory.field-0.0 c.from_residual.ensures.1 (failed_none _ _ c.in_err-had_memory.field-0.0 c.in_err-had_memory.ensures.failed)

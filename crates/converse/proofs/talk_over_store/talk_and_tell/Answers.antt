@@ -22,7 +22,6 @@ returns-in-Ok-clause-talked g c =
 pub returns-in-Err-clause-talked : goal.returns-in-Err-clause-talked
 returns-in-Err-clause-talked g c =
     let d = c.in-Err.ensures.talked in
-    let first = g.V.Vault.faults (vault_of c.args.office.now) in
     record {
       octets = d.0;
       written = d.1;
@@ -30,7 +29,7 @@ returns-in-Err-clause-talked g c =
       wrote = d.3;
       flushed = λ well. absurd (omega (arith, well, c.tell_fault.ensures.status));
       well = λ well T stands clean. absurd (omega (arith, well, c.tell_fault.ensures.status));
-      ill = λ _ T stands clean. has_broken g.V.Vault.holds g.V.Vault.faults first c.talk.new.office T d.0 d.1
+      ill = λ _ T stands clean. has_broken g.V.Vault.holds g.V.Vault.faults (g.V.Vault.faults (vault_of c.args.office.now)) c.talk.new.office T d.0 d.1
           (IsAtEnd (g.R.Source.seen c.talk.new.reader).left) c.in-Err.fault c.in-Err.ensures.failed (d.4 T stands clean);
       clean = search rules;
     }

@@ -41,7 +41,6 @@ returns-clause-sifted g c = λ rs are d h k all.
 pub returns-in_err-found-clause-cause : goal.returns-in_err-found-clause-cause
 returns-in_err-found-clause-cause g c =
     let faults = g.V.Vault.faults in
-    let s = c.loop-head.invariant in
     let t = c.in_err-found.ensures in
     let first = c.args.vault.now in
     let before = c.loop-head.vault in
@@ -50,6 +49,6 @@ returns-in_err-found-clause-cause g c =
     let Each : VaultFault → Type 0 = IsRefusedRead g.V.Vault.holds g.V.Vault.is_clean faults first now (λ d. All (IsMeasured d) c.args.heads.now) in
     handed_as c.from_residual.result _ (IsExportFault false false Each) c.from_residual.ensures.1
     (cause_still false false false false One Each (λ e. e) (λ e. e)
-    (λ e r d h k all. refused_since true (faults first) (faults before) (faults now) s.read e
-    (r d (s.held d h (t.clean k)) k (at_index (IsMeasured d) c.args.heads.now c.loop-head.head-index _ c.loop-head-test.true c.head-item.is all)))
+    (λ e r d h k all. refused_since true (faults first) (faults before) (faults now) c.loop-head.invariant.read e
+    (r d (c.loop-head.invariant.held d h (t.clean k)) k (at_index (IsMeasured d) c.args.heads.now c.loop-head.head-index _ c.loop-head-test.true c.head-item.is all)))
     _ t.cause)

@@ -14,12 +14,11 @@ loop-preserved g c =
     let all = c.args.text.now in
     let done = c.loop.done in
     let count = c.in_ok-done.field-0 in
-    let first = g.S.Sink.seen c.args.out.now in
     let before = g.S.Sink.seen c.loop.out in
     let after = g.S.Sink.seen c.write_some.new.out in
     let left = length-drop done all in
     let rest : take (length all - done) (drop done all) ≡ drop done all = take_all (length all - done) (drop done all) (omega (arith, left)) in
-    wrote_more first before after all done c.loop.counter count c.loop.invariant
+    wrote_more (g.S.Sink.seen c.args.out.now) before after all done c.loop.counter count c.loop.invariant
     (subst (λ (text : List ℕ). count ≤ length text) rest c.in_ok-done.ensures.bound)
     (subst (λ (text : List ℕ). Writes before after (take count text)) rest c.in_ok-done.ensures.took.0) c.in_ok-done.ensures.took.1
 
@@ -47,10 +46,9 @@ returns-then-done-text-clause-ok g c =
 pub returns-then-done-text-clause-cause : goal.returns-then-done-text-clause-cause
 returns-then-done-text-clause-cause g c =
     let first = g.S.Sink.seen c.args.out.now in
-    let before = g.S.Sink.seen c.loop.out in
     let now = g.S.Sink.seen c.flush.new.out in
-    if_err_still c.flush.result (λ fault. (fault ≡ CannotWrite) × (writes_failed before now ≡ true)) (λ fault. (fault ≡ CannotWrite) × (writes_failed first now ≡ true))
-    (λ e h. (h.0, writes_failed_then first before now (take c.loop.done c.args.text.now) c.loop.invariant.writes h.1)) c.flush.ensures.cause
+    if_err_still c.flush.result (λ fault. (fault ≡ CannotWrite) × (writes_failed (g.S.Sink.seen c.loop.out) now ≡ true)) (λ fault. (fault ≡ CannotWrite) × (writes_failed first now ≡ true))
+    (λ e h. (h.0, writes_failed_then first (g.S.Sink.seen c.loop.out) now (take c.loop.done c.args.text.now) c.loop.invariant.writes h.1)) c.flush.ensures.cause
 
 pub returns-clause-cause : goal.returns-clause-cause
 returns-clause-cause g c = (refl, some_failed _ _ c.args.text.now c.loop.done c.loop.counter c.loop.invariant (search rules))

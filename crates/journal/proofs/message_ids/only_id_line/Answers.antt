@@ -9,11 +9,10 @@ use Rattle.journal.proofs.message_ids.only_id_line.Goals.{then-octet-eq10, then-
 
 pub returns-then-is_some-clause-line : goal.returns-then-is_some-clause-line
 returns-then-is_some-clause-line c =
-    let head = c.args.head.now in
     let l = c.loop-i in
-    let first = id_line_first head l.start l.i l.invariant.begun c.loop-i-test.true c.if-octet-eq10.true l.invariant.here (sym c.is_id_line.ensures ∙ c.if-is_id_line.true) in
+    let first = id_line_first c.args.head.now l.start l.i l.invariant.begun c.loop-i-test.true c.if-octet-eq10.true l.invariant.here (sym c.is_id_line.ensures ∙ c.if-is_id_line.true) in
     sym (l.invariant.before ∙ (ap (λ ls. only (option_to_list (option_copied l.found) ++ ls)) first
-    ∙ two_lines l.found (take (l.i - l.start) (drop l.start head)) (id_lines (drop (l.i + 1) head)) (sym c.is_some.ensures ∙ c.if-is_some.true)))
+    ∙ two_lines l.found (take (l.i - l.start) (drop l.start c.args.head.now)) (id_lines (drop (l.i + 1) c.args.head.now)) (sym c.is_some.ensures ∙ c.if-is_some.true)))
 
 pub loop-i-preserved : goal.loop-i-preserved
 loop-i-preserved c =
@@ -51,8 +50,7 @@ loop-i-preserved c =
 
 pub returns-clause-line : goal.returns-clause-line
 returns-clause-line c =
-    let head = c.args.head.now in
     let l = c.loop-i in
-    let all : l.i ≡ length head = omega arith in
-    let here : Unbroken (drop l.start head) = rw (all, take_rest head l.start) at l.invariant.here in
-    sym (l.invariant.before ∙ (ap (λ ls. only (option_to_list (option_copied l.found) ++ ls)) (no_line (drop l.start head) here) ∙ only_before l.found))
+    let all : l.i ≡ length c.args.head.now = omega arith in
+    let here : Unbroken (drop l.start c.args.head.now) = rw (all, take_rest c.args.head.now l.start) at l.invariant.here in
+    sym (l.invariant.before ∙ (ap (λ ls. only (option_to_list (option_copied l.found) ++ ls)) (no_line (drop l.start c.args.head.now) here) ∙ only_before l.found))

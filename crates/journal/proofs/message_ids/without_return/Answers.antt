@@ -5,9 +5,8 @@ use Rattle.journal.proofs.message_ids.without_return.Goals as goal
 
 pub returns-in-Some : goal.returns-in-Some
 returns-in-Some c =
-    let s = c.in-Some in
-    let whole : c.args.text.now ≡ s.line.now ++ 13 ∷ [] = rw c.if-last-eq13.true at s.ensures.cases.0 in
-    sym (ap without_return whole ∙ without_return-push s.line.now)
+    let whole : c.args.text.now ≡ c.in-Some.line.now ++ 13 ∷ [] = rw c.if-last-eq13.true at c.in-Some.ensures.cases.0 in
+    sym (ap without_return whole ∙ without_return-push c.in-Some.line.now)
 
 pub returns-in_default : goal.returns-in_default
 returns-in_default c =

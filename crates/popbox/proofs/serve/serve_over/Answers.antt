@@ -30,27 +30,19 @@ returns-in-Err-clause-done g c = λ T k clean.
       T,
       rw c.from.ensures (WithoutOffice c.in-Err.fault c.in-Err.ensures.host (λ store. grown_more (g.V.Vault.faults c.args.vault)
           (g.V.Vault.faults c.totals_of-totals.new.vault.vault.vault) (g.V.Vault.faults c.in-Err.vault.vault.vault) _ first last (c.in-Err.ensures.cause store k.contents held clean_err))),
-      keeps_so (g.V.Vault.holds c.args.vault) _ T
-          (λ b h. subst (λ v. g.V.Vault.holds v b) (sym back)
-          (c.in-Err.ensures.kept b
-          (c.totals_of-totals.ensures.held b
-          (subst (λ r. HoldsFitting (g.V.Vault.holds r.vault) r.kept r.totals b) (sym fresh) (fits_none (g.V.Vault.holds c.args.vault) b h)) clean_old)
-          clean_err).inside) k,
+      keeps_so (g.V.Vault.holds c.args.vault) _ T (λ b h. subst (λ v. g.V.Vault.holds v b) (sym back) (c.in-Err.ensures.kept b (c.totals_of-totals.ensures.held b
+          (subst (λ r. HoldsFitting (g.V.Vault.holds r.vault) r.kept r.totals b) (sym fresh) (fits_none (g.V.Vault.holds c.args.vault) b h)) clean_old) clean_err).inside) k,
     ))
 
 pub returns-clause-done : goal.returns-clause-done
 returns-clause-done g c = λ T k clean.
     (let fresh = c.new-vault.ensures.vault ∙ c.new.ensures in
-    let back = c.into_vault-in-Ok-open-3.ensures
-    ∙ ap (λ x. x.vault) (c.into_vault-in-Ok-open-2.ensures ∙ ap (λ x. x.vault) c.into_vault-in-Ok-open.ensures) in
+    let back = c.into_vault-in-Ok-open-3.ensures ∙ ap (λ x. x.vault) (c.into_vault-in-Ok-open-2.ensures ∙ ap (λ x. x.vault) c.into_vault-in-Ok-open.ensures) in
     let clean_served = subst g.V.Vault.is_clean back clean in
     let clean_open = c.serve-served.ensures.clean clean_served in
     let clean_old = c.in-Ok-open.ensures.clean clean_open in
-    let stands = rw c.in-Some.ensures.value at (c.in-Ok-open.ensures.opened T
-    (keeps_so (g.V.Vault.holds c.args.vault) _ T
-    (λ b h. c.totals_of-totals.ensures.held b
-    (subst (λ r. HoldsFitting (g.V.Vault.holds r.vault) r.kept r.totals b) (sym fresh) (fits_none (g.V.Vault.holds c.args.vault) b h)) clean_old) k)
-    clean_open) in
+    let stands = rw c.in-Some.ensures.value at (c.in-Ok-open.ensures.opened T (keeps_so (g.V.Vault.holds c.args.vault) _ T (λ b h. c.totals_of-totals.ensures.held b
+    (subst (λ r. HoldsFitting (g.V.Vault.holds r.vault) r.kept r.totals b) (sym fresh) (fits_none (g.V.Vault.holds c.args.vault) b h)) clean_old) k) clean_open) in
     let opened = opened_by c.args.options.now c.args.boot T in
     let first = subst (λ r. g.V.Vault.faults r.vault ≤ g.V.Vault.faults c.totals_of-totals.new.vault.vault.vault) fresh c.totals_of-totals.ensures.counted in
     let opening = c.in-Ok-open.ensures.counted in

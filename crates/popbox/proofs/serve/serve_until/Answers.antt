@@ -1,6 +1,5 @@
 use Rattle.std.proofs.Common.{[], Err, sym, ◌∙◌, ap, subst}
 use Rattle.serving.proofs.Going.{unserved}
-use Rattle.converse.specs.declared.fault.Fault.TheVariants.{NoClock}
 use Rattle.popbox.specs.Served.{HasNoSite, HasNoClock, HasEnded, HasLostTime, HasServed, HasRunBy}
 use Rattle.popbox.proofs.ByOptions.{ran_by, err_is, has_stopped}
 use Rattle.popbox.proofs.serve.serve_until.Goals as goal

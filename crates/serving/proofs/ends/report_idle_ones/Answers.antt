@@ -21,6 +21,5 @@ loop-place-preserved g c =
 pub returns : goal.returns
 returns g c =
     let k = c.loop-place in
-    let seats = c.args.clients.now.seats.items in
-    let done : length seats ≤ k.place = search rules in
-    λ T s. idle_whole g.L.Listener.heard c.args.listener.now k.listener T seats k.place done (k.invariant.told T s)
+    let done : length c.args.clients.now.seats.items ≤ k.place = search rules in
+    λ T s. idle_whole g.L.Listener.heard c.args.listener.now k.listener T c.args.clients.now.seats.items k.place done (k.invariant.told T s)

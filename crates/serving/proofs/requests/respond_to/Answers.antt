@@ -38,42 +38,37 @@ pub returns-in-More-clause-works : goal.returns-in-More-clause-works
 returns-in-More-clause-works g c =
     let l = c.args.listener.now in
     gives_none_standing g.V.Vault c.args.office.now
-    (HeardApart g.L.Listener.heard l l (ComeTo c.args.site.now c.args.read.now None))
-    (λ B L stands.
+    (HeardApart g.L.Listener.heard l l (ComeTo c.args.site.now c.args.read.now None)) (λ B L stands.
     let read = as_opened c.args.site.now L c.args.read.now _ _ (c.admin_access.ensures (trace_of B L) stands) c.in-More.ensures in
     (hears_none g.L.Listener.heard l, record { place = None; is = NotYet read }))
 
 pub returns-in-Bad-clause-works : goal.returns-in-Bad-clause-works
 returns-in-Bad-clause-works g c =
     let response = octets_of c.refuse.result in
-    let l = c.args.listener.now in
     gives_none_standing g.V.Vault c.args.office.now
-    (HeardApart g.L.Listener.heard l c.refuse.new.listener (ComeTo c.args.site.now c.args.read.now (Some response)))
-    (λ B L stands.
+    (HeardApart g.L.Listener.heard c.args.listener.now c.refuse.new.listener (ComeTo c.args.site.now c.args.read.now (Some response))) (λ B L stands.
     let read = as_opened c.args.site.now L c.args.read.now _ _ (c.admin_access.ensures (trace_of B L) stands) c.in-Bad.ensures in
     let is = subst (λ (r : List ℕ). IsResponse c.args.site.now B L c.args.read.now None r) (sym c.refuse.ensures.response) (ToRefusal c.in-Bad.refusal [] L read refl) in
-    (hears_same g.L.Listener.heard l c.refuse.new.listener c.refuse.ensures.heard, record { place = None; is = NoCommand response is }))
+    (hears_same g.L.Listener.heard c.args.listener.now c.refuse.new.listener c.refuse.ensures.heard, record { place = None; is = NoCommand response is }))
 
 pub returns-in-BadPolicy-clause-works : goal.returns-in-BadPolicy-clause-works
 returns-in-BadPolicy-clause-works g c =
     let response = octets_of c.refuse_policy.result in
-    let l = c.args.listener.now in
     gives_none_standing g.V.Vault c.args.office.now
-    (HeardApart g.L.Listener.heard l c.refuse_policy.new.listener (ComeTo c.args.site.now c.args.read.now (Some response)))
+    (HeardApart g.L.Listener.heard c.args.listener.now c.refuse_policy.new.listener (ComeTo c.args.site.now c.args.read.now (Some response)))
     (λ B L stands.
     let read = as_opened c.args.site.now L c.args.read.now _ _ (c.admin_access.ensures (trace_of B L) stands) c.in-BadPolicy.ensures in
     let is = to_fault c.args.site.now B L c.args.read.now response c.in-BadPolicy.fault read c.refuse_policy.ensures.response in
-    (hears_same g.L.Listener.heard l c.refuse_policy.new.listener c.refuse_policy.ensures.heard, record { place = None; is = NoCommand response is }))
+    (hears_same g.L.Listener.heard c.args.listener.now c.refuse_policy.new.listener c.refuse_policy.ensures.heard, record { place = None; is = NoCommand response is }))
 
 pub returns-in-NoMemory-clause-works : goal.returns-in-NoMemory-clause-works
 returns-in-NoMemory-clause-works g c =
     let response = octets_of c.refuse-in-NoMemory.result in
-    let l = c.args.listener.now in
     gives_none g.V.Vault c.args.office.now
-    (HeardApart g.L.Listener.heard l c.refuse-in-NoMemory.new.listener (ComeTo c.args.site.now c.args.read.now (Some response)))
+    (HeardApart g.L.Listener.heard c.args.listener.now c.refuse-in-NoMemory.new.listener (ComeTo c.args.site.now c.args.read.now (Some response)))
     (λ B L.
     let is = subst (λ (r : List ℕ). IsResponse c.args.site.now B L c.args.read.now None r) (sym c.refuse-in-NoMemory.ensures.response) ForMemory in
-    (hears_same g.L.Listener.heard l c.refuse-in-NoMemory.new.listener c.refuse-in-NoMemory.ensures.heard, record { place = None; is = NoCommand response is }))
+    (hears_same g.L.Listener.heard c.args.listener.now c.refuse-in-NoMemory.new.listener c.refuse-in-NoMemory.ensures.heard, record { place = None; is = NoCommand response is }))
 
 pub returns-in-Command-clause-asked : goal.returns-in-Command-clause-asked
 returns-in-Command-clause-asked g c = λ B L stands clean.

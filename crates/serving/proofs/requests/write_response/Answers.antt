@@ -12,13 +12,12 @@ use Rattle.serving.proofs.requests.write_response.Goals as goal
 
 pub loop-times-init : goal.loop-times-init
 loop-times-init g c =
-    let e = c.args.exchange.now in
     record {
       answers = λ x B start L pop others s. s;
       keeps = record { link = refl; since = refl };
       heard = λ h k. k;
       works =
-          asks_none g.W.Wire.asked c.args.wire.now (WritesSoFar e e 0 0) (inl (refl, refl, refl, refl), λ h. absurd (omega (arith, h)), omega arith);
+          asks_none g.W.Wire.asked c.args.wire.now (WritesSoFar c.args.exchange.now c.args.exchange.now 0 0) (inl (refl, refl, refl, refl), λ h. absurd (omega (arith, h)), omega arith);
     }
 
 pub loop-times-preserved : goal.loop-times-preserved
@@ -26,7 +25,6 @@ loop-times-preserved g c =
     let k = c.loop-times in
     let x = c.write_some-count in
     let n = x.result in
-    let e = c.args.exchange.now in
     let e1 = k.exchange in
     let e2 = x.new.exchange in
     let some : (n == 0) ≡ false = search rules in
@@ -37,10 +35,10 @@ loop-times-preserved g c =
       answers = λ y B start L pop others s. x.ensures.answers y B start L pop others (k.invariant.answers y B start L pop others s);
       keeps = record { link = x.ensures.keeps.link ∙ k.invariant.keeps.link; since = x.ensures.keeps.since ∙ k.invariant.keeps.since };
       heard = λ h q. x.ensures.heard h (k.invariant.heard h q);
-      works = asks_then g.W.Wire.asked c.args.wire.now k.wire x.new.wire (WritesSoFar e e1 k._times k.written)
-          (Writes e1 e2 (if n == 0 then 0 else 1) n (not (n == 0))) (WritesSoFar e e2 (k._times + 1) sum)
+      works = asks_then g.W.Wire.asked c.args.wire.now k.wire x.new.wire (WritesSoFar c.args.exchange.now e1 k._times k.written)
+          (Writes e1 e2 (if n == 0 then 0 else 1) n (not (n == 0))) (WritesSoFar c.args.exchange.now e2 (k._times + 1) sum)
           (λ c1 c2 a b. (
-            inr (response_more e e1 e2 k._times (if n == 0 then 0 else 1) k.written n (k._times + 1) sum c1 c2 (omega (arith, one)) fits a.0 b.is),
+            inr (response_more c.args.exchange.now e1 e2 k._times (if n == 0 then 0 else 1) k.written n (k._times + 1) sum c1 c2 (omega (arith, one)) fits a.0 b.is),
             λ h. any_right is_moving c1 c2 (written_moved e1 e2 (if n == 0 then 0 else 1) n c2 some b.is),
             one_more_call k._times c1 c2 a.2 b.once,
           )) k.invariant.works x.ensures.works;
@@ -51,15 +49,12 @@ returns-then-count-eq0-clause-works g c =
     let k = c.loop-times in
     let x = c.write_some-count in
     let n = x.result in
-    let e = c.args.exchange.now in
-    let e1 = k.exchange in
-    let e2 = x.new.exchange in
     let none : (n == 0) ≡ true = search rules in
     let room : k._times < 64 = search rules in
-    asks_then g.W.Wire.asked c.args.wire.now k.wire x.new.wire (WritesSoFar e e1 k._times k.written)
-    (Writes e1 e2 (if n == 0 then 0 else 1) n (not (n == 0))) (λ cs. HasWritten e e2 cs × PollsBy false false cs)
+    asks_then g.W.Wire.asked c.args.wire.now k.wire x.new.wire (WritesSoFar c.args.exchange.now k.exchange k._times k.written)
+    (Writes k.exchange x.new.exchange (if n == 0 then 0 else 1) n (not (n == 0))) (λ cs. HasWritten c.args.exchange.now x.new.exchange cs × PollsBy false false cs)
     (λ c1 c2 a b. (
-      response_ended e e1 e2 k._times (if n == 0 then 0 else 1) k.written n c1 c2
+      response_ended c.args.exchange.now k.exchange x.new.exchange k._times (if n == 0 then 0 else 1) k.written n c1 c2
           (let h = one_more_call k._times c1 c2 a.2 b.once in omega (arith, h, room)) a.0 b.is (b.ends (ap not none)),
       polled_same false (c1 ++ c2),
     )) k.invariant.works x.ensures.works
@@ -72,9 +67,8 @@ returns-then-written-ge-SHARE-clause-works g c =
     let e = c.args.exchange.now in
     let e1 = k.exchange in
     let e2 = x.new.exchange in
-    let sum = c.saturating_add-written.result in
-    let fits : sum ≤ k.written + n = search rules in
-    let enough : 16384 ≤ sum = search rules in
+    let fits : c.saturating_add-written.result ≤ k.written + n = search rules in
+    let enough : 16384 ≤ c.saturating_add-written.result = search rules in
     let some : (n == 0) ≡ false = search rules in
     let room : k._times < 64 = search rules in
     asks_then g.W.Wire.asked c.args.wire.now k.wire x.new.wire (WritesSoFar e e1 k._times k.written)
@@ -87,8 +81,7 @@ returns-then-written-ge-SHARE-clause-works g c =
 pub returns-clause-works : goal.returns-clause-works
 returns-clause-works g c =
     let k = c.loop-times in
-    let e = c.args.exchange.now in
     let h : 64 ≤ k._times = search rules in
     let less : k._times ≤ 64 = search rules in
-    asks_so g.W.Wire.asked c.args.wire.now k.wire (WritesSoFar e k.exchange k._times k.written) (λ cs. HasWritten e k.exchange cs × PollsBy false true cs)
-    (λ cs a. (response_often e k.exchange k._times k.written cs (let q = a.2 in omega (arith, q, less)) h a.0, polled_moved false true cs (a.1 (omega (arith, h))))) k.invariant.works
+    asks_so g.W.Wire.asked c.args.wire.now k.wire (WritesSoFar c.args.exchange.now k.exchange k._times k.written) (λ cs. HasWritten c.args.exchange.now k.exchange cs × PollsBy false true cs)
+    (λ cs a. (response_often c.args.exchange.now k.exchange k._times k.written cs (let q = a.2 in omega (arith, q, less)) h a.0, polled_moved false true cs (a.1 (omega (arith, h))))) k.invariant.works

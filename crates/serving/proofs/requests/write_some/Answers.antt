@@ -17,28 +17,26 @@ pub returns-in-Count-clause-answers : goal.returns-in-Count-clause-answers
 returns-in-Count-clause-answers g c = λ x B start L pop others s.
     (let e = c.args.exchange.now in
     let count = c.in-Count.count in
-    let part = c.part_of-part.result.now in
     let whole = drop e.written (octets_of c.in-Some.response) in
-    let is : part ≡ take 16384 whole =
+    let is : c.part_of-part.result.now ≡ take 16384 whole =
     c.part_of-part.ensures ∙ ap (λ xs. take 16384 (drop e.written xs)) c.octets-octets.ensures in
     let fits : count ≤ length (take 16384 whole) =
     subst (λ xs. count ≤ length xs) is c.in-Count.ensures.within.1 in
     let goes : e.is_over ≡ false = search rules in
     wrote g.W.Wire.tells B start pop others e _ x L c.args.wire.now c.write.new.self s count
-    (take count part) _
+    (take count c.part_of-part.result.now) _
     (c.in-Count.ensures.told (record { pop = pop; admin = s.told }) s.tells) c.in-Some.is goes
     (ap (take count) is ∙ front_of_front count 16384 whole fits) refl refl refl)
 
 pub returns-in-Later-clause-answers : goal.returns-in-Later-clause-answers
 returns-in-Later-clause-answers g c = λ x B start L pop others s.
     (let e = c.args.exchange.now in
-    let n = e.link.number in
     let told = s.told in
     let goes : e.is_over ≡ false = search rules in
     let held = s.held.0 in
-    waited g.W.Wire.tells B start pop others e e x L c.args.wire.now c.write.new.self s (has_written told n Later [])
-    (c.in-Later.ensures.told (record { pop = pop; admin = told }) s.tells) refl (λ k. refl) (λ k. none_more n k told.written) (λ k ne. refl)
-    (straight_on told n s.exchanged.straight held.accepted (held.live goes)) refl refl refl refl (λ _. held.live goes))
+    waited g.W.Wire.tells B start pop others e e x L c.args.wire.now c.write.new.self s (has_written told e.link.number Later [])
+    (c.in-Later.ensures.told (record { pop = pop; admin = told }) s.tells) refl (λ k. refl) (λ k. none_more e.link.number k told.written) (λ k ne. refl)
+    (straight_on told e.link.number s.exchanged.straight held.accepted (held.live goes)) refl refl refl refl (λ _. held.live goes))
 
 pub returns-in-End-clause-answers : goal.returns-in-End-clause-answers
 returns-in-End-clause-answers g c = λ x B start L pop others s.
@@ -49,11 +47,10 @@ returns-in-End-clause-answers g c = λ x B start L pop others s.
     let goes : e.is_over ≡ false = search rules in
     let lent = c.part_of-part.result.now in
     let none : counted io lent ≡ [] = search rules in
-    let held = s.held.0 in
     let tells = subst (λ xs. g.W.Wire.tells c.write.new.self (record { pop = pop; admin = has_written told n io xs })) none (c.write.ensures.told (record { pop = pop; admin = told }) s.tells) in
     waited g.W.Wire.tells B start pop others e _ x L c.args.wire.now c.write.new.self s (has_written told n io [])
     tells refl (λ k. refl) (λ k. none_more n k told.written) (λ k ne. over_apart n k (is_fault io) told.over ne)
-    (straight_on told n s.exchanged.straight held.accepted (held.live goes)) refl refl refl refl (λ q. cc))
+    (straight_on told n s.exchanged.straight s.held.0.accepted (s.held.0.live goes)) refl refl refl refl (λ q. cc))
 
 pub returns-then-exchange-clause-works : goal.returns-then-exchange-clause-works
 returns-then-exchange-clause-works g c =
@@ -69,9 +66,8 @@ returns-in_default-clause-works g c =
 
 pub returns-then-exchange-whole-clause-works : goal.returns-then-exchange-whole-clause-works
 returns-then-exchange-whole-clause-works g c =
-    let e = c.args.exchange.now in
-    let h : length (octets_of c.in-Some.response) ≤ e.written = search rules in
-    asks_none g.W.Wire.asked c.args.wire.now (Writes e _ 0 0 false) (response_whole e _ c.in-Some.response c.in-Some.is refl refl refl refl refl h)
+    let h : length (octets_of c.in-Some.response) ≤ c.args.exchange.now.written = search rules in
+    asks_none g.W.Wire.asked c.args.wire.now (Writes c.args.exchange.now _ 0 0 false) (response_whole c.args.exchange.now _ c.in-Some.response c.in-Some.is refl refl refl refl refl h)
 
 pub returns-in-Count-clause-works : goal.returns-in-Count-clause-works
 returns-in-Count-clause-works g c =

@@ -44,12 +44,10 @@ returns-then-not-has_columns-clause-unknown g c clean1 it settled =
     absurd (c.in-Ok.ensures.unknown clean1 it settled)
 
 pub returns-in-Ok-true-clause-unknown : goal.returns-in-Ok-true-clause-unknown
-returns-in-Ok-true-clause-unknown g c clean2 it settled =
-    absurd (c.in-Ok.ensures.unknown (c.are_rows_sound.ensures.asks.clean clean2) it settled)
+returns-in-Ok-true-clause-unknown g c clean2 it settled = absurd (c.in-Ok.ensures.unknown (c.are_rows_sound.ensures.asks.clean clean2) it settled)
 
 pub returns-in-Ok-false-clause-unknown : goal.returns-in-Ok-false-clause-unknown
-returns-in-Ok-false-clause-unknown g c clean2 it settled =
-    absurd (c.in-Ok.ensures.unknown (c.are_rows_sound.ensures.asks.clean clean2) it settled)
+returns-in-Ok-false-clause-unknown g c clean2 it settled = absurd (c.in-Ok.ensures.unknown (c.are_rows_sound.ensures.asks.clean clean2) it settled)
 
 pub returns-in-Err-are_rows_sound-clause-unknown : goal.returns-in-Err-are_rows_sound-clause-unknown
 returns-in-Err-are_rows_sound-clause-unknown g c clean2 it settled =

@@ -42,8 +42,7 @@ returns-in-Err-fill-clause-clean g c clean =
     begins_clean c.begin.ensures (c.fill.ensures.clean (undoes_clean c.undo.ensures.undoes clean))
 
 pub returns-in-Ok-end-clause-clean : goal.returns-in-Ok-end-clause-clean
-returns-in-Ok-end-clause-clean g c clean =
-    begins_clean c.begin.ensures (c.fill.ensures.clean (c.end.ensures.clean clean))
+returns-in-Ok-end-clause-clean g c clean = begins_clean c.begin.ensures (c.fill.ensures.clean (c.end.ensures.clean clean))
 
 pub returns-in-Err-end-clause-clean : goal.returns-in-Err-end-clause-clean
 returns-in-Err-end-clause-clean g c clean =

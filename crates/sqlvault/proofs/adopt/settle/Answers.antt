@@ -15,8 +15,7 @@ returns-then-not-is_autocommit-clause-known g c clean known =
 
 pub returns-then-not-is_autocommit-clause-older : goal.returns-then-not-is_autocommit-clause-older
 returns-then-not-is_autocommit-clause-older g c clean older out =
-    absurd (true≢false (sym (c.is_autocommit.ensures.value ∙ ap not out)
-    ∙ c.if-not-is_autocommit.true))
+    absurd (true≢false (sym (c.is_autocommit.ensures.value ∙ ap not out) ∙ c.if-not-is_autocommit.true))
 
 pub returns-then-not-is_autocommit-clause-unknown : goal.returns-then-not-is_autocommit-clause-unknown
 returns-then-not-is_autocommit-clause-unknown g c clean it =
@@ -30,14 +29,12 @@ returns-then-not-is_taken-clause-known g c clean known =
     let s0 = state g.S.Store c.args.conn.now in
     c.make.ensures.settles clean
     (blank_of s0 c.is_taken.result c.is_taken.ensures.ours c.if-not-is_taken.true known)
-    (outside s0.in_transaction (sym c.if-not-is_autocommit.false ∙ c.is_autocommit.ensures.value))
-    (c.is_autocommit.ensures.settled c.if-not-is_autocommit.false)
+    (outside s0.in_transaction (sym c.if-not-is_autocommit.false ∙ c.is_autocommit.ensures.value)) (c.is_autocommit.ensures.settled c.if-not-is_autocommit.false)
 
 pub returns-then-not-is_taken-clause-foreign : goal.returns-then-not-is_taken-clause-foreign
 returns-then-not-is_taken-clause-foreign g c it =
     let s0 = state g.S.Store c.args.conn.now in
-    absurd (own_untaken s0 (outside s0.in_transaction
-    (sym c.if-not-is_autocommit.false ∙ c.is_autocommit.ensures.value))
+    absurd (own_untaken s0 (outside s0.in_transaction (sym c.if-not-is_autocommit.false ∙ c.is_autocommit.ensures.value))
     (sym c.is_taken.ensures.value ∙ c.if-not-is_taken.true) it)
 
 pub returns-then-not-is_taken-clause-kinds : goal.returns-then-not-is_taken-clause-kinds
@@ -81,8 +78,7 @@ returns-then-not-has_columns-clause-known g c clean known =
 pub returns-then-not-has_columns-clause-foreign : goal.returns-then-not-has_columns-clause-foreign
 returns-then-not-has_columns-clause-foreign g c it =
     let s0 = state g.S.Store c.args.conn.now in
-    absurd (own_marked s0 (outside s0.in_transaction
-    (sym c.if-not-is_autocommit.false ∙ c.is_autocommit.ensures.value))
+    absurd (own_marked s0 (outside s0.in_transaction (sym c.if-not-is_autocommit.false ∙ c.is_autocommit.ensures.value))
     (sym c.has_meta_rows.ensures.value ∙ c.if-not-has_meta_rows.false) it)
 
 pub returns-then-not-has_columns-clause-kinds : goal.returns-then-not-has_columns-clause-kinds
@@ -116,8 +112,7 @@ pub returns-clause-foreign : goal.returns-clause-foreign
 returns-clause-foreign g c it =
     let s0 = state g.S.Store c.args.conn.now in
     absurd (own_marked s0 (outside s0.in_transaction
-    (sym c.if-not-is_autocommit.false ∙ c.is_autocommit.ensures.value))
-    (sym c.has_meta_rows.ensures.value ∙ c.if-not-has_meta_rows.false) it)
+    (sym c.if-not-is_autocommit.false ∙ c.is_autocommit.ensures.value)) (sym c.has_meta_rows.ensures.value ∙ c.if-not-has_meta_rows.false) it)
 
 pub returns-clause-kinds : goal.returns-clause-kinds
 returns-clause-kinds g c = c.judge.ensures.kinds

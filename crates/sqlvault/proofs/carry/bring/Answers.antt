@@ -13,8 +13,7 @@ use Rattle.sqlvault.proofs.carry.bring.Goals as goal
 
 pub returns-in-Err : goal.returns-in-Err
 returns-in-Err g c = record {
-  clean = was_clean g.S.Store c.args.conn.now c.complete_tables.new.conn
-      c.complete_tables.ensures.survives;
+  clean = was_clean g.S.Store c.args.conn.now c.complete_tables.new.conn c.complete_tables.ensures.survives;
   part = λ clean1 b. record {
     halted = c.in-Err.ensures.err clean1 b.begun b.order;
     stop = completes_no_more (is_first c.args.version) (state g.S.Store c.args.conn.now)
@@ -37,10 +36,8 @@ returns-in-Ok-move_old g c =
       part = λ clean3 b.
           let clean1 = c.move_old.ensures.clean (before clean3) in
           let made = c.in-Ok.ensures.ok clean1 b.begun b.order in
-          let stop = completes_no_more (is_first c.args.version) s0 s1 b.begun b.order clean1
-          c.complete_tables.ensures.survives in
-          let none = none_made (is_first c.args.version) (rows_in s0.now.trees) (rows_in s1.now.trees)
-          (completed_rows (is_first c.args.version) s0 s1 b made stop) in
+          let stop = completes_no_more (is_first c.args.version) s0 s1 b.begun b.order clean1 c.complete_tables.ensures.survives in
+          let none = none_made (is_first c.args.version) (rows_in s0.now.trees) (rows_in s1.now.trees) (completed_rows (is_first c.args.version) s0 s1 b made stop) in
           let moved = moved_then (is_first c.args.version) s0 s1 b made stop s2
           (c.in-Ok-move_old.ensures.part (before clean3) (record {
             of = record { under = completed_inside s0 s1 made; order = made.same ∙ b.order };

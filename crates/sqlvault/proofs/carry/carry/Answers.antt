@@ -59,11 +59,10 @@ returns-in-Err-are_rows_sound-clause-turns g c clean4 older =
     let s2 = state g.S.Store c.bring.new.conn in
     let s3 = state g.S.Store c.are_rows_sound.new.conn in
     let back = c.undo-in-Err-are_rows_sound.ensures.undoes in
-    let clean3 = undoes_clean back clean4 in
-    let mid = midway g (goal.at.returns-in-Err-are_rows_sound-clause-turns g c).After-are_rows_sound clean3 older in
+    let mid = midway g (goal.at.returns-in-Err-are_rows_sound-clause-turns g c).After-are_rows_sound (undoes_clean back clean4) older in
     undone_older (is_first c.args.version) s0 s1 mid.begun s3 (state g.S.Store c.undo-in-Err-are_rows_sound.new.conn) c.undo-in-Err-are_rows_sound.result
-    (more_then s0 s2 s3 mid.stop (c.are_rows_sound.ensures.asks.stop clean3 (mid.on.is_open, mid.kept)))
-    (back.gone c.begin.new.conn clean4 (stops_making s1 s2 s3 mid.on (c.in-Err-are_rows_sound.ensures.asks.err clean3 (λ _. mid.kept)))) clean4 back.survives
+    (more_then s0 s2 s3 mid.stop (c.are_rows_sound.ensures.asks.stop (undoes_clean back clean4) (mid.on.is_open, mid.kept)))
+    (back.gone c.begin.new.conn clean4 (stops_making s1 s2 s3 mid.on (c.in-Err-are_rows_sound.ensures.asks.err (undoes_clean back clean4) (λ _. mid.kept)))) clean4 back.survives
 
 -- ---- that the transaction ends
 
@@ -107,8 +106,7 @@ returns-in-Err-bring-clause-clean g c clean = begins_clean c.begin.ensures
     (c.bring.ensures.clean (undoes_clean c.undo.ensures.undoes clean))
 
 pub returns-in-Ok-false-clause-clean : goal.returns-in-Ok-false-clause-clean
-returns-in-Ok-false-clause-clean g c clean =
-    begins_clean c.begin.ensures (c.bring.ensures.clean (c.are_rows_sound.ensures.asks.clean
+returns-in-Ok-false-clause-clean g c clean = begins_clean c.begin.ensures (c.bring.ensures.clean (c.are_rows_sound.ensures.asks.clean
     (undoes_clean c.unsound.ensures.undoes clean)))
 
 pub returns-in-Err-are_rows_sound-clause-clean : goal.returns-in-Err-are_rows_sound-clause-clean
@@ -117,8 +115,7 @@ returns-in-Err-are_rows_sound-clause-clean g c clean =
     (undoes_clean c.undo-in-Err-are_rows_sound.ensures.undoes clean)))
 
 pub returns-in-Ok-end-clause-clean : goal.returns-in-Ok-end-clause-clean
-returns-in-Ok-end-clause-clean g c clean = begins_clean c.begin.ensures
-    (c.bring.ensures.clean (c.are_rows_sound.ensures.asks.clean (c.end.ensures.clean clean)))
+returns-in-Ok-end-clause-clean g c clean = begins_clean c.begin.ensures (c.bring.ensures.clean (c.are_rows_sound.ensures.asks.clean (c.end.ensures.clean clean)))
 
 pub returns-in-Err-end-clause-clean : goal.returns-in-Err-end-clause-clean
 returns-in-Err-end-clause-clean g c clean = begins_clean c.begin.ensures

@@ -21,11 +21,9 @@ returns-in-Ok g c =
 
 pub returns-in-Err-drop_clerk : goal.returns-in-Err-drop_clerk
 returns-in-Err-drop_clerk g c =
-    let text = c.as_bytes.result.now in
-    let name = c.args.clerk.now in
-    learns_met (DropsClerk text) (λ k. with_clerks (without_clerk name k.clerks) k)
-    (λ k. drop_clerk_result name k.clerks) tt c.in-Ok-true.ensures c.drop_clerk.ensures.survives
-    (λ k there. may_drop k text name c.as_bytes.ensures.value
+    learns_met (DropsClerk c.as_bytes.result.now) (λ k. with_clerks (without_clerk c.args.clerk.now k.clerks) k)
+    (λ k. drop_clerk_result c.args.clerk.now k.clerks) tt c.in-Ok-true.ensures c.drop_clerk.ensures.survives
+    (λ k there. may_drop k c.as_bytes.result.now c.args.clerk.now c.as_bytes.ensures.value
     (sym there ∙ c.in-Ok-true.field-0-test)) c.in-Err-drop_clerk.error
     c.in-Err-drop_clerk.ensures.err
 

@@ -14,10 +14,7 @@ use Rattle.sqlvault.proofs.SeesLemmas.{sees_asked, sees_failed}
 use Rattle.sqlvault.proofs.clerks.find_credential.Goals as goal
 
 pub returns-in-Some-clause-sees : goal.returns-in-Some-clause-sees
-returns-in-Some-clause-sees g c =
-    sees_asked g.S.Store c.args.conn.now c.find_clerk.new.conn c.in-Ok-Some.ensures.same
-    c.find_clerk.ensures.survives
-    (λ clean tables k keeps.
+returns-in-Some-clause-sees g c = sees_asked g.S.Store c.args.conn.now c.find_clerk.new.conn c.in-Ok-Some.ensures.same c.find_clerk.ensures.survives (λ clean tables k keeps.
     let text = c.as_bytes.result.now in
     let rows = rows_in (state g.S.Store c.args.conn.now).now.trees in
     let f = is_found rows k text c.in-Ok-Some.row keeps
@@ -28,20 +25,16 @@ returns-in-Some-clause-sees g c =
 
 pub returns-in-Ok-None-clause-sees : goal.returns-in-Ok-None-clause-sees
 returns-in-Ok-None-clause-sees g c =
-    sees_asked g.S.Store c.args.conn.now c.find_clerk.new.conn c.in-Ok-None.ensures.same
-    c.find_clerk.ensures.survives
+    sees_asked g.S.Store c.args.conn.now c.find_clerk.new.conn c.in-Ok-None.ensures.same c.find_clerk.ensures.survives
     (λ clean tables k keeps.
-    let text = c.as_bytes.result.now in
-    let rows = rows_in (state g.S.Store c.args.conn.now).now.trees in
-    let none = not_found rows k text keeps
+    let none = not_found (rows_in (state g.S.Store c.args.conn.now).now.trees) k c.as_bytes.result.now keeps
     (sym c.in-Ok-None.field-0-is ∙ c.in-Ok-None.ensures.ok clean tables) in
     subst (λ name. IsAnswer (Ok (credential_in name k.clerks)) (Ok None))
     c.as_bytes.ensures.value (ap (λ (x : Option Credential). Ok x) none))
 
 pub returns-in-Ok-Some-clause-sees : goal.returns-in-Ok-Some-clause-sees
 returns-in-Ok-Some-clause-sees g c =
-    sees_asked g.S.Store c.args.conn.now c.find_clerk.new.conn c.in-Ok-Some.ensures.same
-    c.find_clerk.ensures.survives
+    sees_asked g.S.Store c.args.conn.now c.find_clerk.new.conn c.in-Ok-Some.ensures.same c.find_clerk.ensures.survives
     (λ clean tables k keeps. met (Ok (credential_in c.args.clerk.now k.clerks)) c.unreadable.result)
 
 pub returns-clause-sees : goal.returns-clause-sees
@@ -53,20 +46,17 @@ returns-clause-sees g c =
 pub returns-in-Some-clause-beside : goal.returns-in-Some-clause-beside
 returns-in-Some-clause-beside g c = record {
   told = λ clean tables a k spared shown.
-      let text = c.as_bytes.result.now in
-      let f = is_found shown.before k text c.in-Ok-Some.row shown.keeps
-      (sym c.in-Ok-Some.field-0-is ∙ c.in-Ok-Some.ensures.ok clean tables ∙ ap (λ (l : List Clerk). find (is_clerk text) l) (clerks_of_part a k _ shown)) in
-      let read = c.in-Some.ensures.read f.clerk f.row_is f.sound in
+      let f = is_found shown.before k c.as_bytes.result.now c.in-Ok-Some.row shown.keeps
+      (sym c.in-Ok-Some.field-0-is ∙ c.in-Ok-Some.ensures.ok clean tables ∙ ap (λ (l : List Clerk). find (is_clerk c.as_bytes.result.now) l) (clerks_of_part a k _ shown)) in
       subst (λ name. IsAnswer (Ok (credential_in name k.clerks)) (Ok (Some c.in-Some.credential)))
-      c.as_bytes.ensures.value (ap (λ (x : Option Credential). Ok x) (f.kept ∙ sym read));
+      c.as_bytes.ensures.value (ap (λ (x : Option Credential). Ok x) (f.kept ∙ sym (c.in-Some.ensures.read f.clerk f.row_is f.sound)));
 }
 
 pub returns-in-Ok-None-clause-beside : goal.returns-in-Ok-None-clause-beside
 returns-in-Ok-None-clause-beside g c = record {
   told = λ clean tables a k spared shown.
-      let text = c.as_bytes.result.now in
-      let none = not_found shown.before k text shown.keeps
-      (sym c.in-Ok-None.field-0-is ∙ c.in-Ok-None.ensures.ok clean tables ∙ ap (λ (l : List Clerk). find (is_clerk text) l) (clerks_of_part a k _ shown)) in
+      let none = not_found shown.before k c.as_bytes.result.now shown.keeps
+      (sym c.in-Ok-None.field-0-is ∙ c.in-Ok-None.ensures.ok clean tables ∙ ap (λ (l : List Clerk). find (is_clerk c.as_bytes.result.now) l) (clerks_of_part a k _ shown)) in
       subst (λ name. IsAnswer (Ok (credential_in name k.clerks)) (Ok None))
       c.as_bytes.ensures.value (ap (λ (x : Option Credential). Ok x) none);
 }

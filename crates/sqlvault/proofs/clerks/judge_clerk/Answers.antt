@@ -41,8 +41,7 @@ pub returns-in-Err-clause-looks : goal.returns-in-Err-clause-looks
 returns-in-Err-clause-looks g c = c.in-Err.ensures.looks
 
 pub returns-then-count-ge-MAX_CLERKS-clause-looks : goal.returns-then-count-ge-MAX_CLERKS-clause-looks
-returns-then-count-ge-MAX_CLERKS-clause-looks g c =
-    looks_then c.in-Ok-false.ensures.looks c.in-Ok.ensures.looks
+returns-then-count-ge-MAX_CLERKS-clause-looks g c = looks_then c.in-Ok-false.ensures.looks c.in-Ok.ensures.looks
 
 pub returns-else-count-ge-MAX_CLERKS-clause-looks : goal.returns-else-count-ge-MAX_CLERKS-clause-looks
 returns-else-count-ge-MAX_CLERKS-clause-looks g c =

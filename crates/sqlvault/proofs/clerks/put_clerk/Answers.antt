@@ -14,17 +14,13 @@ pub returns-in-Ok-write_clerk : goal.returns-in-Ok-write_clerk
 returns-in-Ok-write_clerk g c =
     let x : vault.Clerk =
     record { name = c.args.clerk.now; credential = c.args.credential.now } in
-    looks_turns _ _ c.in-Ok.ensures.looks c.write_clerk.ensures.clean (λ _. tt)
-    (λ clean k h held.
+    looks_turns _ _ c.in-Ok.ensures.looks c.write_clerk.ensures.clean (λ _. tt) (λ clean k h held.
     let judged = c.in-Ok.ensures.judged k (c.write_clerk.ensures.clean clean) h in
-    let keeps = keeps_put k x (Ok c.in-Ok.is_new) c.write_clerk.ensures.name
-    c.write_clerk.ensures.form judged refl in
-    turns_said (λ Held. IsClerkPut Held k x.name x.credential (Ok c.in-Ok.is_new))
-    (λ Held. (y : Bool) × IsClerkPut Held k x.name x.credential (Ok y)) k
+    let keeps = keeps_put k x (Ok c.in-Ok.is_new) c.write_clerk.ensures.name c.write_clerk.ensures.form judged refl in
+    turns_said (λ Held. IsClerkPut Held k x.name x.credential (Ok c.in-Ok.is_new)) (λ Held. (y : Bool) × IsClerkPut Held k x.name x.credential (Ok y)) k
     (c.in-Ok-write_clerk.ensures.written k
     (with_clerks (with_clerk x.name x.credential k.clerks) k) clean held keeps)
-    (λ Held made. record { answer = judged; held = made })
-    (λ Held made. (c.in-Ok.is_new, record { answer = judged; held = made })))
+    (λ Held made. record { answer = judged; held = made }) (λ Held made. (c.in-Ok.is_new, record { answer = judged; held = made })))
 
 pub returns-in-Err-write_clerk : goal.returns-in-Err-write_clerk
 returns-in-Err-write_clerk g c =

@@ -33,15 +33,14 @@ returns-in-Ok-put_clerk-clause-written g c k after clean h keep =
 
 pub returns-in-Err-put_clerk-clause-written : goal.returns-in-Err-put_clerk-clause-written
 returns-in-Err-put_clerk-clause-written g c k after clean h keep =
-    let text = c.as_bytes-name.result.now in
     let row : Clerk = record {
-      name = text;
+      name = c.as_bytes-name.result.now;
       kind = to_z w64 (of_z w64 c.kind_of.result);
       secret = c.secret_of-secret.result.now;
     } in
     rest (undone_whole k c.in-Ok.ensures
     (halted_in {A = Unit {0}} g.S.Store c.begin.new.conn c.put_clerk.new.conn (λ _. PutsClerk row)
-    (λ from to. DropsClerk text from to ⊎ PutsClerk row from to) c.in-Err-put_clerk.error
+    (λ from to. DropsClerk c.as_bytes-name.result.now from to ⊎ PutsClerk row from to) c.in-Err-put_clerk.error
     c.in-Err-put_clerk.ensures.err c.put_clerk.ensures.survives)
     c.undo.ensures.undoes clean h)
 
@@ -49,8 +48,7 @@ pub returns-in-Err-clause-clean : goal.returns-in-Err-clause-clean
 returns-in-Err-clause-clean g c clean = begins_clean c.begin.ensures clean
 
 pub returns-in-Ok-put_clerk-clause-clean : goal.returns-in-Ok-put_clerk-clause-clean
-returns-in-Ok-put_clerk-clause-clean g c clean = begins_clean c.begin.ensures
-    (was_clean g.S.Store c.begin.new.conn c.put_clerk.new.conn c.put_clerk.ensures.survives
+returns-in-Ok-put_clerk-clause-clean g c clean = begins_clean c.begin.ensures (was_clean g.S.Store c.begin.new.conn c.put_clerk.new.conn c.put_clerk.ensures.survives
     (c.end.ensures.clean clean))
 
 pub returns-in-Err-put_clerk-clause-clean : goal.returns-in-Err-put_clerk-clause-clean

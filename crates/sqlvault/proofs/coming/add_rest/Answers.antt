@@ -17,6 +17,5 @@ returns-in-Ok g c =
 
 pub returns-in-Err : goal.returns-in-Err
 returns-in-Err g c =
-    let asked = to_z w64 (of_z w64 c.cast_signed-mail.result) in
-    halted_in g.S.Store c.args.conn.now c.add_rest.new.conn _ (AddsSomeRest c.args.from asked c.args.text.now) c.in-Err.error
+    halted_in g.S.Store c.args.conn.now c.add_rest.new.conn _ (AddsSomeRest c.args.from (to_z w64 (of_z w64 c.cast_signed-mail.result)) c.args.text.now) c.in-Err.error
     c.in-Err.ensures.err c.add_rest.ensures.survives

@@ -29,12 +29,10 @@ returns-in-Ok-end g c =
 pub returns-in-Err-end : goal.returns-in-Err-end
 returns-in-Err-end g c =
     let a = c.args.coming in
-    let text = c.args.text.now in
-    let r = c.into_receipt-receipt.result in
     let f = c.into_receipt-receipt.ensures in
-    let whole = whole_of a text c.bytes.result.now r c.bytes.ensures.value c.bytes.ensures.kept c.requires.begins c.requires.sized
+    let whole = whole_of a c.args.text.now c.bytes.result.now c.into_receipt-receipt.result c.bytes.ensures.value c.bytes.ensures.kept c.requires.begins c.requires.sized
     c.sheets-from.ensures.whole f.value f.maildrop_form f.id_form f.class_form f.sized in
-    coming_whole {store = g.S.Store} {old = c.args.conn.now} {last = c.put_rest.new.conn} {new = c.end.new.conn} a text r (Err c.in-Err-end.error) whole
-    (put_written c.sheets-from.result (length a.put / 4096) c.key-key.result a.key c.bytes-2.result.now text r (Ok c.in-Ok.field-0)
+    coming_whole {store = g.S.Store} {old = c.args.conn.now} {last = c.put_rest.new.conn} {new = c.end.new.conn} a c.args.text.now c.into_receipt-receipt.result (Err c.in-Err-end.error) whole
+    (put_written c.sheets-from.result (length a.put / 4096) c.key-key.result a.key c.bytes-2.result.now c.args.text.now c.into_receipt-receipt.result (Ok c.in-Ok.field-0)
     c.sheets-from.ensures.value c.key-key.ensures c.bytes-2.ensures.value c.in-Ok.ensures)
     c.in-Err-end.ensures

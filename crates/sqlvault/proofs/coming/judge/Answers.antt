@@ -28,21 +28,15 @@ returns-in-Ok-New-clause-accepted g c k u clean3 h is =
     (λ text. rw c.in-Ok-New.field-0-is at (c.in-Ok-New.ensures.answered k text clean3 (holds_unchanged s1 s2 k same1 h1))))
 
 pub returns-in-Ok-New-clause-looks : goal.returns-in-Ok-New-clause-looks
-returns-in-Ok-New-clause-looks g c =
-    looks_then c.in-Ok-true.ensures.looks (looks_then
-    (asked g.S.Store c.has_maildrop.new.conn c.find_deposit.new.conn c.in-Ok-None.ensures.same
+returns-in-Ok-New-clause-looks g c = looks_then c.in-Ok-true.ensures.looks (looks_then (asked g.S.Store c.has_maildrop.new.conn c.find_deposit.new.conn c.in-Ok-None.ensures.same
     c.find_deposit.ensures.survives) c.in-Ok-New.ensures.looks)
 
 pub returns-in-Ok-Known-clause-looks : goal.returns-in-Ok-Known-clause-looks
-returns-in-Ok-Known-clause-looks g c =
-    looks_then c.in-Ok-true.ensures.looks (looks_then
-    (asked g.S.Store c.has_maildrop.new.conn c.find_deposit.new.conn c.in-Ok-None.ensures.same
+returns-in-Ok-Known-clause-looks g c = looks_then c.in-Ok-true.ensures.looks (looks_then (asked g.S.Store c.has_maildrop.new.conn c.find_deposit.new.conn c.in-Ok-None.ensures.same
     c.find_deposit.ensures.survives) c.in-Ok-Known.ensures.looks)
 
 pub returns-in-Err-Answered-clause-looks : goal.returns-in-Err-Answered-clause-looks
-returns-in-Err-Answered-clause-looks g c =
-    looks_then c.in-Ok-true.ensures.looks (looks_then
-    (asked g.S.Store c.has_maildrop.new.conn c.find_deposit.new.conn c.in-Ok-None.ensures.same
+returns-in-Err-Answered-clause-looks g c = looks_then c.in-Ok-true.ensures.looks (looks_then (asked g.S.Store c.has_maildrop.new.conn c.find_deposit.new.conn c.in-Ok-None.ensures.same
     c.find_deposit.ensures.survives) (rw c.in-Err-Answered.field-0-is at c.in-Err-Answered.ensures.looks))
 
 pub returns-in-Err-Met-clause-looks : goal.returns-in-Err-Met-clause-looks

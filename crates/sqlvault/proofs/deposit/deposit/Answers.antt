@@ -1,92 +1,106 @@
 use Rattle.std.proofs.Common.{◌≡◌, List, ℕ, length, ap, sym, ◌∙◌, Ok, Err}
 use Rattle.creds.specs.Digests.{text_digest}
+use Rattle.sqlite.specs.Held.{state}
+use Rattle.sqlite.specs.State.{HasCleanDisk}
 use Rattle.vault.specs.declared.answer.Deposited.{Deposited}
 use Rattle.vault.specs.declared.answer.Deposited.TheVariants as stored
-use Rattle.vault.specs.Calls.{IsDeposited}
+use Rattle.vault.specs.Changes.{Contents, receipt_for}
+use Rattle.vault.specs.Calls.{IsDeposited, deposit_result, deposit_answer_in}
 use Rattle.sqlvault.specs.declared.refusal.Refusal.TheVariants.{Met}
+use Rattle.sqlvault.specs.Deposits.{Accepts, IsStored}
 use Rattle.sqlvault.specs.Refusals.{answer_of}
+use Rattle.sqlvault.specs.Stands.{Holds}
 use Rattle.sqlvault.proofs.deposit.KeptLemmas.{accepts, receipt_made, deposited, undeposited}
 use Rattle.sqlvault.proofs.SeesLemmas.{own_met}
 use Rattle.sqlvault.proofs.FrameLemmas.{looks_whole, rests_turns}
 use Rattle.sqlvault.proofs.StopLemmas.{not_own}
+use Rattle.sqlvault.proofs.deposit.deposit.Given.{Over}
+use Rattle.sqlvault.proofs.deposit.deposit.Goals.{After-judge, After-store}
 use Rattle.sqlvault.proofs.deposit.deposit.Goals as goal
+
+-- ---- what several exits know
+
+digest_is : (g : Over) (c : After-judge g) → c.text_digest-digest.result ≡ text_digest c.args.text.now
+digest_is g c = c.text_digest-digest.ensures ∙ ap text_digest c.bytes.ensures.value
+
+-- the receipt is that of this deposit
+receipt_is : (g : Over) (c : After-store g) → c.text_digest-digest.result ≡ text_digest c.args.text.now
+    → c.receipt_for-receipt.result ≡ receipt_for c.args.maildrop.now c.args.class.now c.args.id.now c.args.text.now c.in-Ok-New.uid.k
+receipt_is g c digest =
+    receipt_made c.receipt_for-receipt.result c.args.maildrop.now c.args.class.now c.args.id.now c.args.text.now c.in-Ok-New.uid.k
+    c.text_digest-digest.result c.receipt_for-receipt.ensures.value digest
+
+-- the deposit is answered as a new one
+is_new : (g : Over) (c : After-store g) → c.text_digest-digest.result ≡ text_digest c.args.text.now
+    → (k : Contents) → HasCleanDisk (state g.S.Store c.judge.new.conn) → Holds (state g.S.Store c.args.conn.now) k
+    → deposit_result (deposit_answer_in k c.args.maildrop.now c.args.class.now c.args.id.now c.args.text.now) ≡ Ok (stored.New c.in-Ok-New.uid)
+is_new g c digest k clean h = rw c.in-Ok-New.field-0-is at (c.in-Ok-New.ensures.answered k c.args.text.now clean h digest)
+
+-- so the store may keep it
+accepted : (g : Over) (c : After-store g) → c.text_digest-digest.result ≡ text_digest c.args.text.now
+    → (k : Contents) → HasCleanDisk (state g.S.Store c.judge.new.conn) → Holds (state g.S.Store c.args.conn.now) k
+    → Accepts k c.receipt_for-receipt.result c.args.text.now
+accepted g c digest k clean h =
+    let f = c.receipt_for-receipt.ensures in
+    accepts k c.args.maildrop.now c.args.class.now c.args.id.now c.args.text.now c.in-Ok-New.uid c.receipt_for-receipt.result
+    (receipt_is g c digest) f.maildrop_form f.id_form f.class_form c.bytes.ensures.kept
+    (ap (λ (x : List ℕ). length x) (sym digest) ∙ f.sized) (is_new g c digest k clean h)
+
+-- and is deposited once it is kept
+made_new : (g : Over) (c : After-store g) → c.text_digest-digest.result ≡ text_digest c.args.text.now
+    → (k : Contents) → HasCleanDisk (state g.S.Store c.judge.new.conn) → Holds (state g.S.Store c.args.conn.now) k
+    → (Held : Contents → Type 0) → IsStored c.receipt_for-receipt.result c.args.text.now k Held
+    → IsDeposited Held k c.args.maildrop.now c.args.class.now c.args.id.now c.args.text.now (Ok (stored.New c.in-Ok-New.uid))
+made_new g c digest k clean h Held put =
+    deposited Held k c.args.maildrop.now c.args.class.now c.args.id.now c.args.text.now c.in-Ok-New.uid c.receipt_for-receipt.result
+    (receipt_is g c digest) (is_new g c digest k clean h) put
+
+-- ---- each exit
 
 pub returns-in-Ok : goal.returns-in-Ok
 returns-in-Ok g c =
-    let d = c.args.maildrop.now in
-    let class = c.args.class.now in
-    let id = c.args.id.now in
-    let text = c.args.text.now in
-    let uid = c.in-Ok-New.uid in
-    let r = c.receipt_for-receipt.result in
-    let f = c.receipt_for-receipt.ensures in
-    let digest : c.text_digest-digest.result ≡ text_digest text = c.text_digest-digest.ensures
-    ∙ ap text_digest c.bytes.ensures.value in
-    let is = receipt_made r d class id text uid.k c.text_digest-digest.result f.value digest in
+    let it = goal.at.returns-in-Ok g c in
+    let digest = digest_is g it.After-judge in
     record {
       clean = λ clean. c.judge.ensures.looks.clean (c.store.ensures.clean clean);
       turns = λ clean k h.
           let before = c.store.ensures.clean clean in
           let judged = c.in-Ok-New.ensures.looks.rests before k h in
-          let answer = rw c.in-Ok-New.field-0-is at
-          (c.in-Ok-New.ensures.answered k text before h digest) in
-          let accepted = accepts k d class id text uid r is f.maildrop_form f.id_form f.class_form
-          c.bytes.ensures.kept (ap (λ (x : List ℕ). length x) (sym digest) ∙ f.sized) answer in
-          rests_turns (λ Held. IsDeposited Held k d class id text (Ok (stored.New uid)))
-          (λ Held. (x : Deposited) × IsDeposited Held k d class id text (Ok x)) k judged
-          (c.in-Ok.ensures.stored k clean judged.held accepted)
-          (λ Held made. deposited Held k d class id text uid r is answer made)
-          (λ Held made. (stored.New uid, deposited Held k d class id text uid r is answer made))
-          (λ _. tt);
+          let made = made_new g it.After-store digest k before h in
+          rests_turns (λ Held. IsDeposited Held k c.args.maildrop.now c.args.class.now c.args.id.now c.args.text.now (Ok (stored.New c.in-Ok-New.uid)))
+          (λ Held. (x : Deposited) × IsDeposited Held k c.args.maildrop.now c.args.class.now c.args.id.now c.args.text.now (Ok x)) k judged
+          (c.in-Ok.ensures.stored k clean judged.held (accepted g it.After-store digest k before h))
+          (λ Held put. made Held put) (λ Held put. (stored.New c.in-Ok-New.uid, made Held put)) (λ _. tt);
     }
 
 pub returns-in-Err-store : goal.returns-in-Err-store
 returns-in-Err-store g c =
-    let d = c.args.maildrop.now in
-    let class = c.args.class.now in
-    let id = c.args.id.now in
-    let text = c.args.text.now in
-    let uid = c.in-Ok-New.uid in
-    let r = c.receipt_for-receipt.result in
-    let f = c.receipt_for-receipt.ensures in
-    let digest : c.text_digest-digest.result ≡ text_digest text = c.text_digest-digest.ensures
-    ∙ ap text_digest c.bytes.ensures.value in
-    let is = receipt_made r d class id text uid.k c.text_digest-digest.result f.value digest in
+    let it = goal.at.returns-in-Err-store g c in
+    let digest = digest_is g it.After-judge in
     record {
       clean = λ clean. c.judge.ensures.looks.clean (c.store.ensures.clean clean);
       turns = λ clean k h.
           let before = c.store.ensures.clean clean in
           let judged = c.in-Ok-New.ensures.looks.rests before k h in
-          let answer = rw c.in-Ok-New.field-0-is at
-          (c.in-Ok-New.ensures.answered k text before h digest) in
-          let accepted = accepts k d class id text uid r is f.maildrop_form f.id_form f.class_form
-          c.bytes.ensures.kept (ap (λ (x : List ℕ). length x) (sym digest) ∙ f.sized) answer in
-          rests_turns (λ Held. IsDeposited Held k d class id text
-          (answer_of (Err (Met c.in-Err-store.error))))
-          (λ Held. (x : Deposited) × IsDeposited Held k d class id text (Ok x)) k judged
-          (c.in-Err-store.ensures.stored k clean judged.held accepted)
-          (λ Held held. undeposited Held k d class id text c.in-Err-store.error held)
-          (λ Held made. (stored.New uid, deposited Held k d class id text uid r is answer made))
+          rests_turns (λ Held. IsDeposited Held k c.args.maildrop.now c.args.class.now c.args.id.now c.args.text.now (answer_of (Err (Met c.in-Err-store.error))))
+          (λ Held. (x : Deposited) × IsDeposited Held k c.args.maildrop.now c.args.class.now c.args.id.now c.args.text.now (Ok x)) k judged
+          (c.in-Err-store.ensures.stored k clean judged.held (accepted g it.After-store digest k before h))
+          (λ Held held. undeposited Held k c.args.maildrop.now c.args.class.now c.args.id.now c.args.text.now c.in-Err-store.error held)
+          (λ Held put. (stored.New c.in-Ok-New.uid, made_new g it.After-store digest k before h Held put))
           (not_own Deposited c.in-Err-store.error);
     }
 
 pub returns-in-Ok-Known : goal.returns-in-Ok-Known
 returns-in-Ok-Known g c =
-    let text = c.args.text.now in
-    let digest : c.text_digest-digest.result ≡ text_digest text = c.text_digest-digest.ensures
-    ∙ ap text_digest c.bytes.ensures.value in
     looks_whole _ _ c.in-Ok-Known.ensures.looks (λ _. tt)
     (λ clean k h held. record {
       answer = rw c.in-Ok-Known.field-0-is at
-          (c.in-Ok-Known.ensures.answered k text clean h digest);
+          (c.in-Ok-Known.ensures.answered k c.args.text.now clean h (digest_is g (goal.at.returns-in-Ok-Known g c).After-judge));
       held = held;
     })
 
 pub returns-in-Err : goal.returns-in-Err
 returns-in-Err g c =
-    let text = c.args.text.now in
-    let digest : c.text_digest-digest.result ≡ text_digest text = c.text_digest-digest.ensures
-    ∙ ap text_digest c.bytes.ensures.value in
     looks_whole _ _ c.in-Err.ensures.looks (own_met {A = Deposited} (Err c.in-Err.refusal))
     (λ clean k h held. record
-    { answer = c.in-Err.ensures.answered k text clean h digest; held = held })
+    { answer = c.in-Err.ensures.answered k c.args.text.now clean h (digest_is g (goal.at.returns-in-Err g c).After-judge); held = held })

@@ -19,8 +19,7 @@ returns-in-Ok-clause-answered g c k clean h =
 
 pub returns-in-Ok-clause-looks : goal.returns-in-Ok-clause-looks
 returns-in-Ok-clause-looks g c =
-    asked g.S.Store c.args.conn.now c.find_count.new.conn c.in-Ok.ensures.same
-    c.find_count.ensures.survives
+    asked g.S.Store c.args.conn.now c.find_count.new.conn c.in-Ok.ensures.same c.find_count.ensures.survives
 
 pub returns-in-Err-clause-looks : goal.returns-in-Err-clause-looks
 returns-in-Err-clause-looks g c =

@@ -55,12 +55,10 @@ returns-in-Ok-None-clause-within g c u is =
     c.judge_new.ensures.within u is
 
 pub returns-in-Err-clause-within : goal.returns-in-Err-clause-within
-returns-in-Err-clause-within g c u is =
-    absurd (no_new _ u is)
+returns-in-Err-clause-within g c u is = absurd (no_new _ u is)
 
 pub returns-in-Err-find_deposit-clause-within : goal.returns-in-Err-find_deposit-clause-within
-returns-in-Err-find_deposit-clause-within g c u is =
-    absurd (no_new _ u is)
+returns-in-Err-find_deposit-clause-within g c u is = absurd (no_new _ u is)
 
 pub returns-in-Ok-false-clause-within : goal.returns-in-Ok-false-clause-within
 returns-in-Ok-false-clause-within g c u is =

@@ -18,11 +18,9 @@ returns-then-present-ge-MAX_MESSAGES-clause-answered g c k text clean h =
 
 pub returns-clause-answered : goal.returns-clause-answered
 returns-clause-answered g c k text clean h =
-    let d = c.args.maildrop.now in
-    let class = c.args.class.now in
     let before = c.find_before.ensures.looks.clean clean in
-    accepted_next class text (present_in d k) c.in-Ok.present (present_in d k) 9223372036854775807
-    c.in-Ok-find_before.before (class_count class (receipts_of d k.deposits)) most_messages
+    accepted_next c.args.class.now text (present_in c.args.maildrop.now k) c.in-Ok.present (present_in c.args.maildrop.now k) 9223372036854775807
+    c.in-Ok-find_before.before (class_count c.args.class.now (receipts_of c.args.maildrop.now k.deposits)) most_messages
     most_deposits (c.in-Ok.ensures.told before k h tt).1 refl c.if-present-ge-MAX_MESSAGES.false
     (lit≤ tt)
     (c.in-Ok-find_before.ensures.answered k clean (c.in-Ok.ensures.looks.rests before k h).held)
@@ -37,16 +35,13 @@ returns-in-Err-find_before-clause-answered g c held text clean2 h =
     met _ c.in-Err-find_before.error
 
 pub returns-in-Err-clause-within : goal.returns-in-Err-clause-within
-returns-in-Err-clause-within g c u is =
-    absurd (no_new _ u is)
+returns-in-Err-clause-within g c u is = absurd (no_new _ u is)
 
 pub returns-in-Err-find_before-clause-within : goal.returns-in-Err-find_before-clause-within
-returns-in-Err-find_before-clause-within g c u is =
-    absurd (no_new _ u is)
+returns-in-Err-find_before-clause-within g c u is = absurd (no_new _ u is)
 
 pub returns-then-present-ge-MAX_MESSAGES-clause-within : goal.returns-then-present-ge-MAX_MESSAGES-clause-within
-returns-then-present-ge-MAX_MESSAGES-clause-within g c u is =
-    absurd (no_new _ u is)
+returns-then-present-ge-MAX_MESSAGES-clause-within g c u is = absurd (no_new _ u is)
 
 pub returns-then-before-ge-MAX_DEPOSITS-clause-within : goal.returns-then-before-ge-MAX_DEPOSITS-clause-within
 returns-then-before-ge-MAX_DEPOSITS-clause-within g c u is =

@@ -9,8 +9,7 @@ use Rattle.sqlvault.proofs.deposit.put_message.Goals as goal
 
 pub returns-in-Err : goal.returns-in-Err
 returns-in-Err g c =
-    unwritten g.S.Store c.args.conn.now c.add_message.new.conn _
-    (Arrives c.as_bytes.result.now c.as_bytes-2.result.now (to_z w64 c.args.receipt.now.k)
+    unwritten g.S.Store c.args.conn.now c.add_message.new.conn _ (Arrives c.as_bytes.result.now c.as_bytes-2.result.now (to_z w64 c.args.receipt.now.k)
     (to_z w64 c.octets-octets.result)) c.in-Err.error
     c.in-Err.ensures.err c.add_message.ensures.survives
 
@@ -30,8 +29,7 @@ returns-in-Ok-add_sheets g c =
     let Second : Rows → Rows → Type 0 = AddsSheets (to_z w64 (of_z w64 key)) bytes in
     writes_then First Second (PutsMessage (message_of c.args.receipt.now c.args.text.now)) key
     (Ok tt)
-    (wrote g.S.Store c.args.conn.now c.add_message.new.conn First (Arrives d class k octets) key
-    c.in-Ok.ensures.ok c.add_message.ensures.survives)
+    (wrote g.S.Store c.args.conn.now c.add_message.new.conn First (Arrives d class k octets) key c.in-Ok.ensures.ok c.add_message.ensures.survives)
     (wrote g.S.Store c.add_message.new.conn c.add_sheets.new.conn
     (λ _. Second) (AddsSomeSheets (to_z w64 (of_z w64 key)) bytes) tt
     c.in-Ok-add_sheets.ensures.ok c.add_sheets.ensures.survives)
@@ -43,7 +41,6 @@ returns-in-Ok-add_sheets g c =
 
 pub returns-in-Err-add_sheets : goal.returns-in-Err-add_sheets
 returns-in-Err-add_sheets g c =
-    let key = c.in-Ok.key in
     let First : ℤ → Rows → Rows → Type 0 =
     λ x. AddsMessage (record {
       key = x;
@@ -52,11 +49,11 @@ returns-in-Err-add_sheets g c =
       k = to_z w64 c.args.receipt.now.k;
       octets = to_z w64 c.octets-octets.result;
     }) in
-    writes_halted First key
+    writes_halted First c.in-Ok.key
     (wrote g.S.Store c.args.conn.now c.add_message.new.conn First
     (Arrives c.as_bytes.result.now c.as_bytes-2.result.now (to_z w64 c.args.receipt.now.k)
-    (to_z w64 c.octets-octets.result)) key
+    (to_z w64 c.octets-octets.result)) c.in-Ok.key
     c.in-Ok.ensures.ok c.add_message.ensures.survives)
     (halted_in g.S.Store c.add_message.new.conn c.add_sheets.new.conn _
-    (AddsSomeSheets (to_z w64 (of_z w64 key)) c.bytes.result.now) c.in-Err-add_sheets.error
+    (AddsSomeSheets (to_z w64 (of_z w64 c.in-Ok.key)) c.bytes.result.now) c.in-Err-add_sheets.error
     c.in-Err-add_sheets.ensures.err c.add_sheets.ensures.survives)

@@ -18,19 +18,15 @@ returns-then-is_empty-clause-sees g c =
 pub returns-in-Ok-clause-sees : goal.returns-in-Ok-clause-sees
 returns-in-Ok-clause-sees g c =
     let d = c.args.maildrop.now in
-    let rows = c.in-Ok.rows.items in
-    let empty : c.is_empty.result ≡ (length rows == 0) = search rules in
-    sees_said c.in-Ok.ensures.sees
-    (λ k sound told. same_so (heads_result d k) _ (shown_heads d k c.in_ok-read_heads-in-Ok.field-0.items
-    (there_by d k sound (some_mail rows (sym empty ∙ c.if-is_empty.false) told))
-    (c.in_ok-read_heads-in-Ok.ensures.items (kept_in d k.messages)
+    let empty : c.is_empty.result ≡ (length c.in-Ok.rows.items == 0) = search rules in
+    sees_said c.in-Ok.ensures.sees (λ k sound told. same_so (heads_result d k) _ (shown_heads d k c.in_ok-read_heads-in-Ok.field-0.items
+    (there_by d k sound (some_mail c.in-Ok.rows.items (sym empty ∙ c.if-is_empty.false) told)) (c.in_ok-read_heads-in-Ok.ensures.items (kept_in d k.messages)
     (c.as_slice.ensures.value ∙ told.rows_are) told.classes told.keys)))
 
 pub returns-in_err-read_heads-in-Ok-clause-sees : goal.returns-in_err-read_heads-in-Ok-clause-sees
 returns-in_err-read_heads-in-Ok-clause-sees g c =
     sees_own (λ _. tt)
-    (λ k told. unread_heads (λ v. v.items) c.args.maildrop.now k
-    c.in_err-read_heads-in-Ok.field-0.0 c.from_residual.result c.from_residual.ensures.1)
+    (λ k told. unread_heads (λ v. v.items) c.args.maildrop.now k c.in_err-read_heads-in-Ok.field-0.0 c.from_residual.result c.from_residual.ensures.1)
     c.in-Ok.ensures.sees
 
 pub returns-clause-sees : goal.returns-clause-sees
@@ -39,26 +35,22 @@ returns-clause-sees g c = sees_own (λ own. own)
 
 pub returns-then-is_empty-clause-beside : goal.returns-then-is_empty-clause-beside
 returns-then-is_empty-clause-beside g c =
-    let rows = c.in-Ok.rows.items in
-    let empty : c.is_empty.result ≡ (length rows == 0) = search rules in
+    let empty : c.is_empty.result ≡ (length c.in-Ok.rows.items == 0) = search rules in
     tells_said
     (tells_then c.in-Ok.ensures.sees c.in-Ok.ensures.beside c.no_heads.ensures.sees c.no_heads.ensures.beside)
-    (λ k sound told. told.1 (no_mail rows (sym empty ∙ c.if-is_empty.true) told.0))
+    (λ k sound told. told.1 (no_mail c.in-Ok.rows.items (sym empty ∙ c.if-is_empty.true) told.0))
 
 pub returns-in-Ok-clause-beside : goal.returns-in-Ok-clause-beside
 returns-in-Ok-clause-beside g c =
     let d = c.args.maildrop.now in
-    let rows = c.in-Ok.rows.items in
-    let empty : c.is_empty.result ≡ (length rows == 0) = search rules in
+    let empty : c.is_empty.result ≡ (length c.in-Ok.rows.items == 0) = search rules in
     tells_said c.in-Ok.ensures.beside
     (λ k sound told. same_so (heads_result d k) _ (shown_heads d k c.in_ok-read_heads-in-Ok.field-0.items
-    (there_by d k sound (some_mail rows (sym empty ∙ c.if-is_empty.false) told))
-    (c.in_ok-read_heads-in-Ok.ensures.items (kept_in d k.messages)
-    (c.as_slice.ensures.value ∙ told.rows_are) told.classes told.keys)))
+    (there_by d k sound (some_mail c.in-Ok.rows.items (sym empty ∙ c.if-is_empty.false) told))
+    (c.in_ok-read_heads-in-Ok.ensures.items (kept_in d k.messages) (c.as_slice.ensures.value ∙ told.rows_are) told.classes told.keys)))
 
 pub returns-in_err-read_heads-in-Ok-clause-beside : goal.returns-in_err-read_heads-in-Ok-clause-beside
-returns-in_err-read_heads-in-Ok-clause-beside g c =
-    tells_said c.in-Ok.ensures.beside
+returns-in_err-read_heads-in-Ok-clause-beside g c = tells_said c.in-Ok.ensures.beside
     (λ k sound told. unread_heads (λ v. v.items) c.args.maildrop.now k
     c.in_err-read_heads-in-Ok.field-0.0 c.from_residual.result c.from_residual.ensures.1)
 

@@ -11,16 +11,12 @@ pub returns-in-Ok-true-clause-sees : goal.returns-in-Ok-true-clause-sees
 returns-in-Ok-true-clause-sees g c =
     let d = c.args.maildrop.now in
     sees_own (λ _. tt)
-    (λ k there none. same_so (heads_result d k) _ (shown_heads d k c.new.result.items
-    (sym there ∙ c.in-Ok-true.field-0-test) (c.new.ensures.items ∙ sym (ap (map head_of) none))))
+    (λ k there none. same_so (heads_result d k) _ (shown_heads d k c.new.result.items (sym there ∙ c.in-Ok-true.field-0-test) (c.new.ensures.items ∙ sym (ap (map head_of) none))))
     c.in-Ok-true.ensures.sees
 
 pub returns-in-Ok-false-clause-sees : goal.returns-in-Ok-false-clause-sees
-returns-in-Ok-false-clause-sees g c =
-    let d = c.args.maildrop.now in
-    sees_own (λ _. tt)
-    (λ k there none. same_so (heads_result d k) _ (no_maildrop d k
-    (sym there ∙ c.in-Ok-false.field-0-test)))
+returns-in-Ok-false-clause-sees g c = sees_own (λ _. tt)
+    (λ k there none. same_so (heads_result c.args.maildrop.now k) _ (no_maildrop c.args.maildrop.now k (sym there ∙ c.in-Ok-false.field-0-test)))
     c.in-Ok-false.ensures.sees
 
 pub returns-in-Err-clause-sees : goal.returns-in-Err-clause-sees
@@ -29,16 +25,14 @@ returns-in-Err-clause-sees g c = sees_own (λ own. own)
 
 pub returns-in-Ok-true-clause-beside : goal.returns-in-Ok-true-clause-beside
 returns-in-Ok-true-clause-beside g c =
-    let d = c.args.maildrop.now in
     tells_said (tells_spared (λ _ _. tt) c.in-Ok-true.ensures.beside)
-    (λ k sound there none. same_so (heads_result d k) _ (shown_heads d k c.new.result.items
+    (λ k sound there none. same_so (heads_result c.args.maildrop.now k) _ (shown_heads c.args.maildrop.now k c.new.result.items
     (sym there ∙ c.in-Ok-true.field-0-test) (c.new.ensures.items ∙ sym (ap (map head_of) none))))
 
 pub returns-in-Ok-false-clause-beside : goal.returns-in-Ok-false-clause-beside
 returns-in-Ok-false-clause-beside g c =
-    let d = c.args.maildrop.now in
     tells_said (tells_spared (λ _ _. tt) c.in-Ok-false.ensures.beside)
-    (λ k sound there none. same_so (heads_result d k) _ (no_maildrop d k
+    (λ k sound there none. same_so (heads_result c.args.maildrop.now k) _ (no_maildrop c.args.maildrop.now k
     (sym there ∙ c.in-Ok-false.field-0-test)))
 
 pub returns-in-Err-clause-beside : goal.returns-in-Err-clause-beside

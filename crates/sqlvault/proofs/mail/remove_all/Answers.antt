@@ -53,13 +53,12 @@ loop-left-preserved g c =
 pub returns-in-Err : goal.returns-in-Err
 returns-in-Err g c =
     let asked = to_z w64 (of_z w64 c.cast_signed-key.result) in
-    let t = c.as_bytes.result.now in
-    let Removes : Unit {0} → Rows → Rows → Type 0 = λ _. RemovesMessage asked t in
+    let Removes : Unit {0} → Rows → Rows → Type 0 = λ _. RemovesMessage asked c.as_bytes.result.now in
     writes_failed (writes_halted
     (λ _. Removed c.args.maildrop.now (drop c.loop-left.left c.args.keys.now)) tt
     c.loop-left.invariant.done
     (unwritten g.S.Store c.loop-left.conn c.remove_message.new.conn Removes
-    (RemovesMessage asked t) c.in-Err.error c.in-Err.ensures.err
+    (RemovesMessage asked c.as_bytes.result.now) c.in-Err.error c.in-Err.ensures.err
     c.remove_message.ensures.survives))
 
 pub returns : goal.returns

@@ -24,8 +24,7 @@ returns-in-Err-maildrop_count g c = met_whole _ _ c.in-Err-maildrop_count.error
 pub returns-then-count-ge-MAX_MAILDROPS : goal.returns-then-count-ge-MAX_MAILDROPS
 returns-then-count-ge-MAX_MAILDROPS g c =
     learns_whole _ _ (learns_then c.in-Ok-false.ensures c.in-Ok.ensures)
-    (λ k told held. full (Holds (state g.S.Store c.maildrop_count.new.conn)) k c.args.name.now
-    (sym told.0 ∙ c.in-Ok-false.field-0-test)
+    (λ k told held. full (Holds (state g.S.Store c.maildrop_count.new.conn)) k c.args.name.now (sym told.0 ∙ c.in-Ok-false.field-0-test)
     (let count : c.in-Ok.count ≡ min (length k.maildrops) 9223372036854775807 = told.1 in
     omega (arith, c.if-count-ge-MAX_MAILDROPS.true, count)) held)
 
@@ -34,23 +33,18 @@ returns-in-Ok-add_maildrop g c =
     let text = c.as_bytes.result.now in
     let name = c.args.name.now in
     learns_done (AddsMaildrop text) (λ k. with_maildrops (with_maildrop name k.maildrops) k)
-    (λ k. put_result (put_maildrop_answer name k.maildrops)) true
-    (learns_then c.in-Ok-false.ensures c.in-Ok.ensures) c.add_maildrop.ensures.survives
-    (λ k told. may_add k text name c.as_bytes.ensures.value c.as_bytes.ensures.form
-    (sym told.0 ∙ c.in-Ok-false.field-0-test)
+    (λ k. put_result (put_maildrop_answer name k.maildrops)) true (learns_then c.in-Ok-false.ensures c.in-Ok.ensures) c.add_maildrop.ensures.survives
+    (λ k told. may_add k text name c.as_bytes.ensures.value c.as_bytes.ensures.form (sym told.0 ∙ c.in-Ok-false.field-0-test)
     (let count : c.in-Ok.count ≡ min (length k.maildrops) 9223372036854775807 = told.1 in
     omega (arith, c.if-count-ge-MAX_MAILDROPS.false, count)))
     c.in-Ok-add_maildrop.ensures.ok
 
 pub returns-in-Err-add_maildrop : goal.returns-in-Err-add_maildrop
 returns-in-Err-add_maildrop g c =
-    let text = c.as_bytes.result.now in
-    let name = c.args.name.now in
-    learns_met (AddsMaildrop text) (λ k. with_maildrops (with_maildrop name k.maildrops) k)
-    (λ k. put_result (put_maildrop_answer name k.maildrops)) true
+    learns_met (AddsMaildrop c.as_bytes.result.now) (λ k. with_maildrops (with_maildrop c.args.name.now k.maildrops) k)
+    (λ k. put_result (put_maildrop_answer c.args.name.now k.maildrops)) true
     (learns_then c.in-Ok-false.ensures c.in-Ok.ensures) c.add_maildrop.ensures.survives
-    (λ k told. may_add k text name c.as_bytes.ensures.value c.as_bytes.ensures.form
-    (sym told.0 ∙ c.in-Ok-false.field-0-test)
-    (let count : c.in-Ok.count ≡ min (length k.maildrops) 9223372036854775807 = told.1 in
+    (λ k told. may_add k c.as_bytes.result.now c.args.name.now c.as_bytes.ensures.value c.as_bytes.ensures.form
+    (sym told.0 ∙ c.in-Ok-false.field-0-test) (let count : c.in-Ok.count ≡ min (length k.maildrops) 9223372036854775807 = told.1 in
     omega (arith, c.if-count-ge-MAX_MAILDROPS.false, count)))
     c.in-Err-add_maildrop.error c.in-Err-add_maildrop.ensures.err

@@ -16,15 +16,13 @@ returns-clause-sees g c =
     (λ k there. there ≡ is_one_of c.args.name.now k.maildrops) c.has_maildrop.ensures.same
     (λ clean _. c.has_maildrop.ensures.err clean) c.has_maildrop.ensures.survives
     c.has_maildrop.ensures.ok
-    (λ rows k there keeps is. is ∙ there_is rows k text keeps
-    ∙ ap (λ n. is_one_of n k.maildrops) c.as_bytes.ensures.value)
+    (λ rows k there keeps is. is ∙ there_is rows k text keeps ∙ ap (λ n. is_one_of n k.maildrops) c.as_bytes.ensures.value)
 
 pub returns-clause-beside : goal.returns-clause-beside
 returns-clause-beside g c =
-    let text = c.as_bytes.result.now in
     tells_learnt g.S.Store c.args.conn.now c.has_maildrop.new.conn c.has_maildrop.result (λ _. ⊤)
-    (λ rows there. there ≡ has_name text rows.maildrops)
+    (λ rows there. there ≡ has_name c.as_bytes.result.now rows.maildrops)
     (λ k there. there ≡ is_one_of c.args.name.now k.maildrops) c.has_maildrop.ensures.ok
-    (λ a k rows part there spared is. is ∙ ap (has_name text) (maildrops_of_part a k rows part)
-    ∙ there_is part.before k text part.keeps
+    (λ a k rows part there spared is. is ∙ ap (has_name c.as_bytes.result.now) (maildrops_of_part a k rows part)
+    ∙ there_is part.before k c.as_bytes.result.now part.keeps
     ∙ ap (λ n. is_one_of n k.maildrops) c.as_bytes.ensures.value)

@@ -13,9 +13,8 @@ returns-in-Err g c = record {
   part = λ clean u.
       let s0 = state g.S.Store c.args.conn.now in
       let s1 = state g.S.Store c.old_messages.new.conn in
-      let i = u.of.under in
-      part_refused s0 s1 i (c.in-Err.ensures.err clean (λ _. i.tables) u.of.order)
-      (asked_carried s0 s1 i u.of.order clean c.old_messages.ensures.survives);
+      part_refused s0 s1 u.of.under (c.in-Err.ensures.err clean (λ _. u.of.under.tables) u.of.order)
+      (asked_carried s0 s1 u.of.under u.of.order clean c.old_messages.ensures.survives);
 }
 
 pub returns-in-Ok-move_all : goal.returns-in-Ok-move_all
@@ -33,11 +32,9 @@ returns-in-Ok-move_all g c =
           let clean2 = before clean3 in
           let clean1 = c.move_all.ensures.part.clean clean2 in
           let same : IsUnchanged s0 s1 = c.in-Ok.ensures.same clean1 (λ _. i.tables) u.of.order in
-          let looked = part_looked s0 s1 i same
-          (asked_carried s0 s1 i u.of.order clean1 c.old_messages.ensures.survives) in
+          let looked = part_looked s0 s1 i same (asked_carried s0 s1 i u.of.order clean1 c.old_messages.ensures.survives) in
           let i1 = inside_on (λ old new. new ≡ old) s0 s1 looked in
-          let heads = looked_heads c.as_slice.result.now s0 s1 u same looked
-          (c.keys_hold.ensures.apart (i1.is_open, i1.tables)).bodies
+          let heads = looked_heads c.as_slice.result.now s0 s1 u same looked (c.keys_hold.ensures.apart (i1.is_open, i1.tables)).bodies
           (c.as_slice.ensures.value ∙ c.in-Ok.ensures.ok clean1 (λ _. i.tables) u.of.order) in
           let moved = c.in-Ok-move_all.ensures.part.part clean2 heads in
           let carried = c.in-Ok-move_all.ensures.carried clean2 heads in
@@ -61,8 +58,7 @@ returns g c = record {
       (asked_carried s0 s1 i u.of.order clean1 c.old_messages.ensures.survives) in
       let i1 = inside_on (λ old new. new ≡ old) s0 s1 looked in
       let heads = looked_heads c.as_slice.result.now s0 s1 u same looked
-      (c.keys_hold.ensures.apart (i1.is_open, i1.tables)).bodies
-      (c.as_slice.ensures.value ∙ c.in-Ok.ensures.ok clean1 (λ _. i.tables) u.of.order) in
+      (c.keys_hold.ensures.apart (i1.is_open, i1.tables)).bodies (c.as_slice.ensures.value ∙ c.in-Ok.ensures.ok clean1 (λ _. i.tables) u.of.order) in
       halts_behind (λ old new. new ≡ old) s0 s1 (state g.S.Store c.move_all.new.conn) looked
       (c.in-Err-move_all.ensures.part.part clean2 heads);
 }

@@ -32,8 +32,7 @@ returns-in-Ok-None g c = record {
       let s0 = state g.S.Store c.args.conn.now in
       let s1 = state g.S.Store c.find_body.new.conn in
       part_refused s0 s1 of.under
-      (inl (c.in-Ok-None.ensures.same clean1 (λ _. of.under.tables) of.order))
-      (asked_carried s0 s1 of.under of.order clean1 c.find_body.ensures.survives);
+      (inl (c.in-Ok-None.ensures.same clean1 (λ _. of.under.tables) of.order)) (asked_carried s0 s1 of.under of.order clean1 c.find_body.ensures.survives);
 }
 
 pub returns-in-Err : goal.returns-in-Err

@@ -13,8 +13,7 @@ use Rattle.sqlvault.proofs.moves.put_body.Goals as goal
 
 pub returns-in-Ok : goal.returns-in-Ok
 returns-in-Ok g c =
-    let before = was_clean g.S.Store c.add_keyed.new.conn c.add_sheets.new.conn
-    c.add_sheets.ensures.survives in
+    let before = was_clean g.S.Store c.add_keyed.new.conn c.add_sheets.new.conn c.add_sheets.ensures.survives in
     record {
       clean = λ clean. was_clean g.S.Store c.args.conn.now c.add_keyed.new.conn
           c.add_keyed.ensures.survives (before clean);
@@ -28,8 +27,7 @@ returns-in-Ok g c =
           let octets = (let f : SFits w64 body.head.octets = search rules in to_z-of_z f) in
           let head = same_head body.head _ _ _ _ _ key c.as_slice.ensures c.as_slice-2.ensures k
           octets in
-          let survives = subst (λ (m : Message). Survives s0 s1 (MayLeave (AddsKeyed m) s0)) head
-          c.add_keyed.ensures.survives in
+          let survives = subst (λ (m : Message). Survives s0 s1 (MayLeave (AddsKeyed m) s0)) head c.add_keyed.ensures.survives in
           let clean1 = before clean2 in
           let adds = subst (λ (m : Message). Changes (AddsKeyed m) s0 s1) head
           (c.in-Ok.ensures.ok clean1 (i.is_open, i.tables)) in

@@ -22,19 +22,18 @@ returns-in-Ok-clause-sees g c =
     sees_asked g.S.Store c.args.conn.now c.sheets_between.new.conn c.in-Ok.ensures.same
     c.sheets_between.ensures.survives
     (λ clean tables base keeps.
-    let key = c.args.key in
     let first = c.args.from / 4096 in
     let end = first + c.sheets_for.result in
-    let fits : key < 2 ^ 64 = let e = c.number.ensures in let r : c.number.result < 2 ^ 64 = search rules in omega (arith, e, r) in
+    let fits : c.args.key < 2 ^ 64 = let e = c.number.ensures in let r : c.number.result < 2 ^ 64 = search rules in omega (arith, e, r) in
     let sfits : SFits w64 c.cast_signed-mail.result = search rules in
-    let mail : to_z w64 (of_z w64 c.cast_signed-mail.result) ≡ row_key key = to_z-of_z sfits ∙ c.cast_signed-mail.ensures ∙ ap (to_z w64) c.number.ensures in
+    let mail : to_z w64 (of_z w64 c.cast_signed-mail.result) ≡ row_key c.args.key = to_z-of_z sfits ∙ c.cast_signed-mail.ensures ∙ ap (to_z w64) c.number.ensures in
     let low : first < 2 ^ 62 = omega (arith, c.ranges.from.fits) in
     let from_is : to_z w64 first ≡ pos first = to_z_pos w64 first (omega (arith, low)) in
     let end_is : to_z w64 end ≡ pos end = to_z_pos w64 end (omega (arith, low, c.sheets_for.ensures.few)) in
     let shown = rw (mail, from_is, end_is) at (c.in-Ok.ensures.ok clean tables) in
     let rows = rows_in (state g.S.Store c.args.conn.now).now.trees in
-    let run = ap (λ l. octets_from (end - first) l first) (c.as_slice.ensures.value ∙ shown) ∙ run_read key rows base fits keeps first end (omega arith) in
-    pages_at (text_under key base.messages) c.args.from c.copy_sheets.result (end - first)
+    let run = ap (λ l. octets_from (end - first) l first) (c.as_slice.ensures.value ∙ shown) ∙ run_read c.args.key rows base fits keeps first end (omega arith) in
+    pages_at (text_under c.args.key base.messages) c.args.from c.copy_sheets.result (end - first)
     (octets_from (end - first) c.as_slice.result.now first) c.copy_sheets.new.buffer (omega (arith, c.sheets_for.ensures.some)) run c.copy_sheets.ensures.count c.copy_sheets.ensures.copied)
 
 pub returns-in-Err-clause-beside : goal.returns-in-Err-clause-beside
@@ -48,7 +47,7 @@ returns-in-Ok-clause-beside g c = record {
       let end = first + c.sheets_for.result in
       let fits : key < 2 ^ 64 = let e = c.number.ensures in let r : c.number.result < 2 ^ 64 = search rules in omega (arith, e, r) in
       let sfits : SFits w64 c.cast_signed-mail.result = search rules in
-      let mail : to_z w64 (of_z w64 c.cast_signed-mail.result) ≡ row_key key = to_z-of_z sfits ∙ c.cast_signed-mail.ensures ∙ ap (to_z w64) c.number.ensures in
+      let mail : to_z w64 (of_z w64 c.cast_signed-mail.result) ≡ row_key c.args.key = to_z-of_z sfits ∙ c.cast_signed-mail.ensures ∙ ap (to_z w64) c.number.ensures in
       let low : first < 2 ^ 62 = omega (arith, c.ranges.from.fits) in
       let from_is : to_z w64 first ≡ pos first = to_z_pos w64 first (omega (arith, low)) in
       let end_is : to_z w64 end ≡ pos end = to_z_pos w64 end (omega (arith, low, c.sheets_for.ensures.few)) in

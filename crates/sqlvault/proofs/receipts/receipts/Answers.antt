@@ -22,27 +22,22 @@ returns-in-Ok-read_receipts-clause-done g c held clean h =
 
 pub returns-in-Ok-clause-done : goal.returns-in-Ok-clause-done
 returns-in-Ok-clause-done g c held clean h =
-    let s0 = state g.S.Store c.args.conn.now in
     let s1 = state g.S.Store c.all_deposits.new.conn in
     refused (Holds s1) held held (Ok held.deposits) c.in-Err-read_receipts.error
-    (holds_unchanged s0 s1 held (c.in-Ok.ensures.same clean h.tables) h)
+    (holds_unchanged (state g.S.Store c.args.conn.now) s1 held (c.in-Ok.ensures.same clean h.tables) h)
 
 pub returns-clause-done : goal.returns-clause-done
 returns-clause-done g c held clean h =
-    let s0 = state g.S.Store c.args.conn.now in
     let s1 = state g.S.Store c.all_deposits.new.conn in
     refused (Holds s1) held held (Ok held.deposits) c.in-Err.error
-    (holds_undone s0 s1 held (c.in-Err.ensures.err clean h.tables) h)
+    (holds_undone (state g.S.Store c.args.conn.now) s1 held (c.in-Err.ensures.err clean h.tables) h)
 
 pub returns-in-Ok-read_receipts-clause-looks : goal.returns-in-Ok-read_receipts-clause-looks
-returns-in-Ok-read_receipts-clause-looks g c =
-    asked g.S.Store c.args.conn.now c.all_deposits.new.conn c.in-Ok.ensures.same
-    c.all_deposits.ensures.survives
+returns-in-Ok-read_receipts-clause-looks g c = asked g.S.Store c.args.conn.now c.all_deposits.new.conn c.in-Ok.ensures.same c.all_deposits.ensures.survives
 
 pub returns-in-Ok-clause-looks : goal.returns-in-Ok-clause-looks
 returns-in-Ok-clause-looks g c =
-    asked g.S.Store c.args.conn.now c.all_deposits.new.conn c.in-Ok.ensures.same
-    c.all_deposits.ensures.survives
+    asked g.S.Store c.args.conn.now c.all_deposits.new.conn c.in-Ok.ensures.same c.all_deposits.ensures.survives
 
 pub returns-clause-looks : goal.returns-clause-looks
 returns-clause-looks g c =

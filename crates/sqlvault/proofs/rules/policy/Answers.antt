@@ -23,15 +23,13 @@ returns-in-Ok-Some-clause-done g c held clean2 h =
 
 pub returns-in-Ok-None-clause-done : goal.returns-in-Ok-None-clause-done
 returns-in-Ok-None-clause-done g c held clean1 h =
-    let s0 = state g.S.Store c.args.conn.now in
     let s1 = state g.S.Store c.read_groups.new.conn in
-    refused (Holds s1) held _ _ c.unreadable.result (holds_unchanged s0 s1 held (c.in-Ok-None.ensures.asks.same clean1 h.tables) h)
+    refused (Holds s1) held _ _ c.unreadable.result (holds_unchanged (state g.S.Store c.args.conn.now) s1 held (c.in-Ok-None.ensures.asks.same clean1 h.tables) h)
 
 pub returns-in-Err-clause-done : goal.returns-in-Err-clause-done
 returns-in-Err-clause-done g c held clean1 h =
-    let s0 = state g.S.Store c.args.conn.now in
     let s1 = state g.S.Store c.read_groups.new.conn in
-    refused (Holds s1) held _ _ c.in-Err.error (holds_undone s0 s1 held (c.in-Err.ensures.asks.err clean1 h.tables) h)
+    refused (Holds s1) held _ _ c.in-Err.error (holds_undone (state g.S.Store c.args.conn.now) s1 held (c.in-Err.ensures.asks.err clean1 h.tables) h)
 
 pub returns-in-Ok-Some-clause-looks : goal.returns-in-Ok-Some-clause-looks
 returns-in-Ok-Some-clause-looks g c =

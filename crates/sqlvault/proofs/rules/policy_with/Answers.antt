@@ -21,25 +21,20 @@ returns-in-Ok-read_policy-clause-done g c held clean h groups =
 
 pub returns-clause-done : goal.returns-clause-done
 returns-clause-done g c held clean1 h groups =
-    let s0 = state g.S.Store c.args.conn.now in
     let s1 = state g.S.Store c.all_rules.new.conn in
-    refused (Holds s1) held _ _ c.in-Err.error (holds_undone s0 s1 held (c.in-Err.ensures.err clean1 h.tables) h)
+    refused (Holds s1) held _ _ c.in-Err.error (holds_undone (state g.S.Store c.args.conn.now) s1 held (c.in-Err.ensures.err clean1 h.tables) h)
 
 pub returns-in-Ok-clause-done : goal.returns-in-Ok-clause-done
 returns-in-Ok-clause-done g c held clean1 h groups =
-    let s0 = state g.S.Store c.args.conn.now in
     let s1 = state g.S.Store c.all_rules.new.conn in
-    refused (Holds s1) held _ _ c.in-Err-read_policy.error (holds_unchanged s0 s1 held (c.in-Ok.ensures.same clean1 h.tables) h)
+    refused (Holds s1) held _ _ c.in-Err-read_policy.error (holds_unchanged (state g.S.Store c.args.conn.now) s1 held (c.in-Ok.ensures.same clean1 h.tables) h)
 
 pub returns-in-Ok-read_policy-clause-looks : goal.returns-in-Ok-read_policy-clause-looks
-returns-in-Ok-read_policy-clause-looks g c =
-    asked g.S.Store c.args.conn.now c.all_rules.new.conn c.in-Ok.ensures.same
-    c.all_rules.ensures.survives
+returns-in-Ok-read_policy-clause-looks g c = asked g.S.Store c.args.conn.now c.all_rules.new.conn c.in-Ok.ensures.same c.all_rules.ensures.survives
 
 pub returns-in-Ok-clause-looks : goal.returns-in-Ok-clause-looks
 returns-in-Ok-clause-looks g c =
-    asked g.S.Store c.args.conn.now c.all_rules.new.conn c.in-Ok.ensures.same
-    c.all_rules.ensures.survives
+    asked g.S.Store c.args.conn.now c.all_rules.new.conn c.in-Ok.ensures.same c.all_rules.ensures.survives
 
 pub returns-clause-looks : goal.returns-clause-looks
 returns-clause-looks g c =

@@ -48,8 +48,7 @@ returns-clause-row c =
 
 pub returns-in_err-read-clause-read : goal.returns-in_err-read-clause-read
 returns-in_err-read-clause-read c r sound same =
-    let p = parts r sound in
-    never _ c.read.result r.name c.in_err-read.was (c.read.ensures ∙ ap name_of (c.as_slice.ensures ∙ ap (λ (x : Rule). x.name) same) ∙ name_read r.name p.name)
+    never _ c.read.result r.name c.in_err-read.was (c.read.ensures ∙ ap name_of (c.as_slice.ensures ∙ ap (λ (x : Rule). x.name) same) ∙ name_read r.name (parts r sound).name)
 
 pub returns-in_err-read_effect-clause-read : goal.returns-in_err-read_effect-clause-read
 returns-in_err-read_effect-clause-read c r sound same =
@@ -58,18 +57,16 @@ returns-in_err-read_effect-clause-read c r sound same =
 
 pub returns-in_err-read_clerks-clause-read : goal.returns-in_err-read_clerks-clause-read
 returns-in_err-read_clerks-clause-read c r sound same =
-    let p = parts r sound in
-    never _ c.read_clerks.result r.clerk c.in_err-read_clerks.was (c.read_clerks.ensures ∙ clerks_read c.as_slice-2.result.now r.clerk p.clerk (c.as_slice-2.ensures ∙ ap (λ (x : Rule). x.clerk) same))
+    never _ c.read_clerks.result r.clerk c.in_err-read_clerks.was
+    (c.read_clerks.ensures ∙ clerks_read c.as_slice-2.result.now r.clerk (parts r sound).clerk (c.as_slice-2.ensures ∙ ap (λ (x : Rule). x.clerk) same))
 
 pub returns-in_err-read_pattern-clause-read : goal.returns-in_err-read_pattern-clause-read
 returns-in_err-read_pattern-clause-read c r sound same =
-    let p = parts r sound in
-    never _ c.read_pattern.result r.maildrop c.in_err-read_pattern.was (c.read_pattern.ensures.read r.maildrop p.maildrop (c.as_slice-3.ensures ∙ ap (λ (x : Rule). x.maildrop) same))
+    never _ c.read_pattern.result r.maildrop c.in_err-read_pattern.was (c.read_pattern.ensures.read r.maildrop (parts r sound).maildrop (c.as_slice-3.ensures ∙ ap (λ (x : Rule). x.maildrop) same))
 
 pub returns-in_err-read_pattern-2-clause-read : goal.returns-in_err-read_pattern-2-clause-read
 returns-in_err-read_pattern-2-clause-read c r sound same =
-    let p = parts r sound in
-    never _ c.read_pattern-2.result r.class c.in_err-read_pattern-2.was (c.read_pattern-2.ensures.read r.class p.class (c.as_slice-4.ensures ∙ ap (λ (x : Rule). x.class) same))
+    never _ c.read_pattern-2.result r.class c.in_err-read_pattern-2.was (c.read_pattern-2.ensures.read r.class (parts r sound).class (c.as_slice-4.ensures ∙ ap (λ (x : Rule). x.class) same))
 
 pub returns-in_err-read_actions-clause-read : goal.returns-in_err-read_actions-clause-read
 returns-in_err-read_actions-clause-read c r sound same =

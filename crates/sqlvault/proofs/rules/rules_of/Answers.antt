@@ -29,9 +29,8 @@ pub returns-in_default-clause-all : goal.returns-in_default-clause-all
 returns-in_default-clause-all c rs sound same =
     let lt : c.loop-row.row-index < length c.args.rows.now = omega (arith, c.loop-row-test.true) in
     let at = row_at c.args.rows.now rs c.loop-row.row-index c.row-item.result lt c.row-item.is same in
-    let s = at.0 in
-    let ok = subst (λ x. is_sound_rule x ≡ true) (sym at.3) (all_at is_sound_rule rs c.loop-row.row-index s at.1 sound) in
-    let read = c.in_default.ensures.read s ok at.2 in
+    let ok = subst (λ x. is_sound_rule x ≡ true) (sym at.3) (all_at is_sound_rule rs c.loop-row.row-index at.0 at.1 sound) in
+    let read = c.in_default.ensures.read at.0 ok at.2 in
     let is = c.in_default.is in
     let not = c.in_default.not-Some in
     cc

@@ -15,14 +15,12 @@ returns-in-Err-replace_policy g c =
 
 pub returns-in-Ok-end : goal.returns-in-Ok-end
 returns-in-Ok-end g c =
-    commits_whole (with_policy c.args.policy.now) (Ok c.in-Ok-end.field-0)
-    c.in-Ok.ensures c.in-Ok-replace_policy.ensures.written (λ k from to kept change.
+    commits_whole (with_policy c.args.policy.now) (Ok c.in-Ok-end.field-0) c.in-Ok.ensures c.in-Ok-replace_policy.ensures.written (λ k from to kept change.
     keeps_set c.args.policy.now from to k c.in-Ok-replace_policy.ensures.sound change kept)
     c.in-Ok-end.ensures
 
 pub returns-in-Err-end : goal.returns-in-Err-end
 returns-in-Err-end g c =
     commits_whole (with_policy c.args.policy.now) (Err c.in-Err-end.error)
-    c.in-Ok.ensures c.in-Ok-replace_policy.ensures.written (λ k from to kept change.
-    keeps_set c.args.policy.now from to k c.in-Ok-replace_policy.ensures.sound change kept)
+    c.in-Ok.ensures c.in-Ok-replace_policy.ensures.written (λ k from to kept change. keeps_set c.args.policy.now from to k c.in-Ok-replace_policy.ensures.sound change kept)
     c.in-Err-end.ensures

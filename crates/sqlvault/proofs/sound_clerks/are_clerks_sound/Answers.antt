@@ -13,8 +13,7 @@ returns-in-Ok-clause-judged g c clean tables keys =
 
 pub returns-in-Ok-clause-asks : goal.returns-in-Ok-clause-asks
 returns-in-Ok-clause-asks g c =
-    answered g.S.Store c.args.conn.now c.all_clerks.new.conn c.in-Ok.ensures.same
-    c.all_clerks.ensures.survives
+    answered g.S.Store c.args.conn.now c.all_clerks.new.conn c.in-Ok.ensures.same c.all_clerks.ensures.survives
 
 pub returns-in-Err-clause-asks : goal.returns-in-Err-clause-asks
 returns-in-Err-clause-asks g c =

@@ -30,15 +30,13 @@ returns-in-Err-clause-asks g c =
 
 pub returns-in-Err-all_counts-clause-asks : goal.returns-in-Err-all_counts-clause-asks
 returns-in-Err-all_counts-clause-asks g c =
-    let rows = answered {A = Unit {0}} {E = Error} {x = tt} g.S.Store c.args.conn.now
-    c.all_deposits.new.conn c.in-Ok.ensures.same c.all_deposits.ensures.survives in
+    let rows = answered {A = Unit {0}} {E = Error} {x = tt} g.S.Store c.args.conn.now c.all_deposits.new.conn c.in-Ok.ensures.same c.all_deposits.ensures.survives in
     asks_then rows (unanswered g.S.Store c.all_deposits.new.conn c.all_counts.new.conn
     c.in-Err-all_counts.ensures.err c.all_counts.ensures.survives)
 
 pub returns-clause-asks : goal.returns-clause-asks
 returns-clause-asks g c =
-    let rows = answered {A = Unit {0}} {E = Error} {x = tt} g.S.Store c.args.conn.now
-    c.all_deposits.new.conn c.in-Ok.ensures.same c.all_deposits.ensures.survives in
+    let rows = answered {A = Unit {0}} {E = Error} {x = tt} g.S.Store c.args.conn.now c.all_deposits.new.conn c.in-Ok.ensures.same c.all_deposits.ensures.survives in
     asks_then rows (answered g.S.Store c.all_deposits.new.conn c.all_counts.new.conn
     c.in-Ok-all_counts.ensures.same c.all_counts.ensures.survives)
 

@@ -27,17 +27,16 @@ loop-row-preserved g c = (
 pub returns-in-Ok-false-clause-judged : goal.returns-in-Ok-false-clause-judged
 returns-in-Ok-false-clause-judged g c deposits clean h d =
     let s0 = state g.S.Store c.args.conn.now in
-    let s1 = state g.S.Store c.loop-row.conn in
     let was = c.loop-row.invariant.0.goes (c.is_message_sound.ensures.reads.clean clean) h in
     let lt : c.loop-row.row-index < length c.args.rows.now = omega (arith, c.loop-row-test.true) in
-    let none = told_behind (λ r b. Finds (IsStored r deposits c.row-item.result) b) s0 s1 deposits c.in-Ok-false.field-0-test was h d (c.in-Ok-false.ensures.judged deposits clean) in
+    let none = told_behind (λ r b. Finds (IsStored r deposits c.row-item.result) b) s0
+    (state g.S.Store c.loop-row.conn) deposits c.in-Ok-false.field-0-test was h d (c.in-Ok-false.ensures.judged deposits clean) in
     one_fails (HasMessage (rows_in s0.now.trees) deposits) c.args.rows.now c.loop-row.row-index c.row-item.result lt c.row-item.is (λ m. none m.0 m.1)
 
 pub returns-clause-judged : goal.returns-clause-judged
 returns-clause-judged g c deposits clean h d =
-    let s0 = state g.S.Store c.args.conn.now in
     let all : length c.args.rows.now ≤ c.loop-row.row-index = omega (arith, c.loop-row-test.false) in
-    each_passes (HasMessage (rows_in s0.now.trees) deposits) c.args.rows.now c.loop-row.row-index all (c.loop-row.invariant.1 deposits clean h d)
+    each_passes (HasMessage (rows_in (state g.S.Store c.args.conn.now).now.trees) deposits) c.args.rows.now c.loop-row.row-index all (c.loop-row.invariant.1 deposits clean h d)
 
 pub returns-in-Ok-false-clause-reads : goal.returns-in-Ok-false-clause-reads
 returns-in-Ok-false-clause-reads g c =

@@ -17,10 +17,10 @@ returns-in-Ok-None-clause-judged g c deposits clean h apart dropped d =
     let s0 = state g.S.Store c.args.conn.now in
     let s1 = state g.S.Store c.all_maildrops.new.conn in
     let clean1 = c.judge_maildrops.ensures.reads.clean clean in
-    let stays = stays_unchanged s0 s1 (c.in-Ok.ensures.same clean1 h) in
     let rows = rows_in s0.now.trees in
     let C : Rows → List (List ℕ) → Option ℕ → Type 0 = λ r names o. Counts (All (IsSoundIn r deposits) names) (sum_by (sheets_under r) names) o in
-    let told = told_behind (λ r. C r c.as_slice.result.now) s0 s1 deposits c.in-Ok-None.field-0-is stays h d (c.in-Ok-None.ensures.judged deposits clean) in
+    let told = told_behind (λ r. C r c.as_slice.result.now) s0 s1 deposits c.in-Ok-None.field-0-is
+    (stays_unchanged s0 s1 (c.in-Ok.ensures.same clean1 h)) h d (c.in-Ok-None.ensures.judged deposits clean) in
     let judged = subst (λ n. C rows n None) (c.as_slice.ensures.value ∙ c.in-Ok.ensures.ok clean1 h) told in
     λ ms are. judged (all_sound_in rows deposits apart dropped ms are)
 
@@ -35,12 +35,11 @@ returns-in-Ok-sheet_count-clause-judged g c deposits clean h apart dropped d =
     let stays = stays_unchanged s0 s1 (c.in-Ok.ensures.same clean1 h) in
     let tables = tables_stay s0 s1 stays h in
     let stays2 = stays_more s0 s1 s2 stays (c.in-Ok-Some.ensures.reads.goes clean2 tables) in
-    let rows = rows_in s0.now.trees in
     let C : Rows → List (List ℕ) → Option ℕ → Type 0 = λ r names o. Counts (All (IsSoundIn r deposits) names) (sum_by (sheets_under r) names) o in
     let told = told_behind (λ r. C r c.as_slice.result.now) s0 s1 deposits c.in-Ok-Some.field-0-is stays h d (c.in-Ok-Some.ensures.judged deposits clean2) in
-    let judged = subst (λ n. C rows n (Some c.in-Ok-Some.sheets)) (c.as_slice.ensures.value ∙ c.in-Ok.ensures.ok clean1 h) told in
+    let judged = subst (λ n. C (rows_in s0.now.trees) n (Some c.in-Ok-Some.sheets)) (c.as_slice.ensures.value ∙ c.in-Ok.ensures.ok clean1 h) told in
     let count = c.in-Ok-sheet_count.ensures.ok clean (tables_stay s0 s2 stays2 h) ∙ ap (λ (r : Rows). min (length r.sheets) 9223372036854775807) (rows_stay s0 s2 stays2) in
-    judged_count rows deposits apart dropped c.in-Ok-sheet_count.count c.in-Ok-Some.sheets judged.0 count judged.1
+    judged_count (rows_in s0.now.trees) deposits apart dropped c.in-Ok-sheet_count.count c.in-Ok-Some.sheets judged.0 count judged.1
 
 pub returns-in-Err-clause-asks : goal.returns-in-Err-clause-asks
 returns-in-Err-clause-asks g c =
@@ -49,20 +48,17 @@ returns-in-Err-clause-asks g c =
 
 pub returns-in-Ok-None-clause-asks : goal.returns-in-Ok-None-clause-asks
 returns-in-Ok-None-clause-asks g c =
-    let names = answered {A = Unit {0}} {E = Error} {x = tt} g.S.Store c.args.conn.now
-    c.all_maildrops.new.conn c.in-Ok.ensures.same c.all_maildrops.ensures.survives in
+    let names = answered {A = Unit {0}} {E = Error} {x = tt} g.S.Store c.args.conn.now c.all_maildrops.new.conn c.in-Ok.ensures.same c.all_maildrops.ensures.survives in
     asks_ok (asks_reads names c.in-Ok-None.ensures.reads)
 
 pub returns-in-Err-judge_maildrops-clause-asks : goal.returns-in-Err-judge_maildrops-clause-asks
 returns-in-Err-judge_maildrops-clause-asks g c =
-    let names = answered {A = Unit {0}} {E = Error} {x = tt} g.S.Store c.args.conn.now
-    c.all_maildrops.new.conn c.in-Ok.ensures.same c.all_maildrops.ensures.survives in
+    let names = answered {A = Unit {0}} {E = Error} {x = tt} g.S.Store c.args.conn.now c.all_maildrops.new.conn c.in-Ok.ensures.same c.all_maildrops.ensures.survives in
     asks_err (asks_reads names c.in-Err-judge_maildrops.ensures.reads)
 
 pub returns-in-Ok-sheet_count-clause-asks : goal.returns-in-Ok-sheet_count-clause-asks
 returns-in-Ok-sheet_count-clause-asks g c =
-    let names = answered {A = Unit {0}} {E = Error} {x = tt} g.S.Store c.args.conn.now
-    c.all_maildrops.new.conn c.in-Ok.ensures.same c.all_maildrops.ensures.survives in
+    let names = answered {A = Unit {0}} {E = Error} {x = tt} g.S.Store c.args.conn.now c.all_maildrops.new.conn c.in-Ok.ensures.same c.all_maildrops.ensures.survives in
     asks_then (asks_reads names c.in-Ok-Some.ensures.reads)
     (answered g.S.Store c.judge_maildrops.new.conn c.sheet_count.new.conn
     c.in-Ok-sheet_count.ensures.same c.sheet_count.ensures.survives)

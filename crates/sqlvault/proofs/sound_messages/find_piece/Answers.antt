@@ -16,19 +16,15 @@ returns-then-as_slice-size-clause-judged g c clean h =
     (ap length (sym c.as_slice.ensures) ∙ c.if-as_slice-size.true)
 
 pub returns-then-as_slice-size-clause-reads : goal.returns-then-as_slice-size-clause-reads
-returns-then-as_slice-size-clause-reads g c =
-    read g.S.Store c.args.conn.now c.find_sheet.new.conn c.in-Ok-Some.ensures.same
-    c.find_sheet.ensures.survives
+returns-then-as_slice-size-clause-reads g c = read g.S.Store c.args.conn.now c.find_sheet.new.conn c.in-Ok-Some.ensures.same c.find_sheet.ensures.survives
 
 pub returns-else-as_slice-size-clause-reads : goal.returns-else-as_slice-size-clause-reads
 returns-else-as_slice-size-clause-reads g c =
-    read g.S.Store c.args.conn.now c.find_sheet.new.conn c.in-Ok-Some.ensures.same
-    c.find_sheet.ensures.survives
+    read g.S.Store c.args.conn.now c.find_sheet.new.conn c.in-Ok-Some.ensures.same c.find_sheet.ensures.survives
 
 pub returns-in-Ok-None-clause-reads : goal.returns-in-Ok-None-clause-reads
 returns-in-Ok-None-clause-reads g c =
-    read g.S.Store c.args.conn.now c.find_sheet.new.conn c.in-Ok-None.ensures.same
-    c.find_sheet.ensures.survives
+    read g.S.Store c.args.conn.now c.find_sheet.new.conn c.in-Ok-None.ensures.same c.find_sheet.ensures.survives
 
 pub returns-in-Err-clause-reads : goal.returns-in-Err-clause-reads
 returns-in-Err-clause-reads g c =

@@ -13,9 +13,8 @@ use Rattle.sqlvault.proofs.sound_messages.is_message_sound.Goals as goal
 
 pub returns-in-Ok-false-clause-judged : goal.returns-in-Ok-false-clause-judged
 returns-in-Ok-false-clause-judged g c deposits clean h d =
-    let s0 = state g.S.Store c.args.conn.now in
     let none = subst (Finds (IsNumber deposits c.args.row.now)) c.in-Ok-false.field-0-test (c.in-Ok-false.ensures.judged deposits clean h d) in
-    λ x s. none x.message.k (number_stored (rows_in s0.now.trees) deposits c.args.row.now x d s)
+    λ x s. none x.message.k (number_stored (rows_in (state g.S.Store c.args.conn.now).now.trees) deposits c.args.row.now x d s)
 
 pub returns-in-Ok-Some-clause-judged : goal.returns-in-Ok-Some-clause-judged
 returns-in-Ok-Some-clause-judged g c deposits clean h d =
@@ -45,8 +44,7 @@ returns-in-Err-clause-reads g c =
     c.in-Err.ensures.reads
 
 pub returns-then-row-lt0-clause-reads : goal.returns-then-row-lt0-clause-reads
-returns-then-row-lt0-clause-reads g c =
-    reads_ok c.in-Ok-true.ensures.reads
+returns-then-row-lt0-clause-reads g c = reads_ok c.in-Ok-true.ensures.reads
 
 pub returns-then-row-clause-reads : goal.returns-then-row-clause-reads
 returns-then-row-clause-reads g c =

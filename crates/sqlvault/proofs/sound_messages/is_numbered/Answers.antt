@@ -16,30 +16,24 @@ returns-then-row-count-clause-judged g c deposits clean h d =
 
 pub returns-in-Ok-None-clause-judged : goal.returns-in-Ok-None-clause-judged
 returns-in-Ok-None-clause-judged g c deposits clean h d =
-    let s0 = state g.S.Store c.args.conn.now in
-    let told = none_told (rows_in s0.now.trees) deposits c.args.row.now c.as_slice.result.now c.as_slice-2.result.now c.in-Ok-None.field-0 d c.as_slice.ensures c.as_slice-2.ensures
+    let told = none_told (rows_in (state g.S.Store c.args.conn.now).now.trees) deposits c.args.row.now c.as_slice.result.now c.as_slice-2.result.now
+    c.in-Ok-None.field-0 d c.as_slice.ensures c.as_slice-2.ensures
     (c.in-Ok-None.ensures.ok clean h) c.in-Ok-None.field-0-is in
     λ k n. not_numbered deposits c.args.row.now k told n
 
 pub returns-then-row-lt1-clause-reads : goal.returns-then-row-lt1-clause-reads
-returns-then-row-lt1-clause-reads g c =
-    read g.S.Store c.args.conn.now c.find_count.new.conn c.in-Ok-Some.ensures.same
-    c.find_count.ensures.survives
+returns-then-row-lt1-clause-reads g c = read g.S.Store c.args.conn.now c.find_count.new.conn c.in-Ok-Some.ensures.same c.find_count.ensures.survives
 
 pub returns-then-row-count-clause-reads : goal.returns-then-row-count-clause-reads
-returns-then-row-count-clause-reads g c =
-    read g.S.Store c.args.conn.now c.find_count.new.conn c.in-Ok-Some.ensures.same
-    c.find_count.ensures.survives
+returns-then-row-count-clause-reads g c = read g.S.Store c.args.conn.now c.find_count.new.conn c.in-Ok-Some.ensures.same c.find_count.ensures.survives
 
 pub returns-else-row-count-clause-reads : goal.returns-else-row-count-clause-reads
 returns-else-row-count-clause-reads g c =
-    read g.S.Store c.args.conn.now c.find_count.new.conn c.in-Ok-Some.ensures.same
-    c.find_count.ensures.survives
+    read g.S.Store c.args.conn.now c.find_count.new.conn c.in-Ok-Some.ensures.same c.find_count.ensures.survives
 
 pub returns-in-Ok-None-clause-reads : goal.returns-in-Ok-None-clause-reads
 returns-in-Ok-None-clause-reads g c =
-    read g.S.Store c.args.conn.now c.find_count.new.conn c.in-Ok-None.ensures.same
-    c.find_count.ensures.survives
+    read g.S.Store c.args.conn.now c.find_count.new.conn c.in-Ok-None.ensures.same c.find_count.ensures.survives
 
 pub returns-in-Err-clause-reads : goal.returns-in-Err-clause-reads
 returns-in-Err-clause-reads g c =

@@ -28,14 +28,12 @@ returns-in-Ok-false-clause-judged g c deposits clean h d =
     let s1 = state g.S.Store c.heads.new.conn in
     let clean1 = c.are_all_sound.ensures.reads.clean clean in
     let stays = stays_unchanged s0 s1 (c.in-Ok.ensures.same clean1 h) in
-    let items = c.in-Ok.ensures.ok clean1 h in
     let none = told_behind (λ r b. Tells (All (HasMessage r deposits) c.as_slice.result.now) b) s0 s1 deposits c.in-Ok-false.field-0-test stays h d (c.in-Ok-false.ensures.judged deposits clean) in
-    maildrop_unsound (rows_in s0.now.trees) deposits c.args.name.now c.as_slice.result.now (c.as_slice.ensures.value ∙ items) none
+    maildrop_unsound (rows_in s0.now.trees) deposits c.args.name.now c.as_slice.result.now (c.as_slice.ensures.value ∙ (c.in-Ok.ensures.ok clean1 h)) none
 
 pub returns-in-Err-clause-reads : goal.returns-in-Err-clause-reads
 returns-in-Err-clause-reads g c =
-    unread g.S.Store c.args.conn.now c.heads.new.conn c.in-Err.ensures.err
-    c.heads.ensures.survives
+    unread g.S.Store c.args.conn.now c.heads.new.conn c.in-Err.ensures.err c.heads.ensures.survives
 
 pub returns-then-len-gt-MAX_MESSAGES-clause-reads : goal.returns-then-len-gt-MAX_MESSAGES-clause-reads
 returns-then-len-gt-MAX_MESSAGES-clause-reads g c =
@@ -44,14 +42,12 @@ returns-then-len-gt-MAX_MESSAGES-clause-reads g c =
 
 pub returns-in-Ok-true-clause-reads : goal.returns-in-Ok-true-clause-reads
 returns-in-Ok-true-clause-reads g c =
-    let rows = read {A = Unit {0}} {x = tt} g.S.Store c.args.conn.now c.heads.new.conn
-    c.in-Ok.ensures.same c.heads.ensures.survives in
+    let rows = read {A = Unit {0}} {x = tt} g.S.Store c.args.conn.now c.heads.new.conn c.in-Ok.ensures.same c.heads.ensures.survives in
     reads_ok (reads_then rows c.in-Ok-true.ensures.reads)
 
 pub returns-in-Ok-false-clause-reads : goal.returns-in-Ok-false-clause-reads
 returns-in-Ok-false-clause-reads g c =
-    let rows = read {A = Unit {0}} {x = tt} g.S.Store c.args.conn.now c.heads.new.conn
-    c.in-Ok.ensures.same c.heads.ensures.survives in
+    let rows = read {A = Unit {0}} {x = tt} g.S.Store c.args.conn.now c.heads.new.conn c.in-Ok.ensures.same c.heads.ensures.survives in
     reads_ok (reads_then rows c.in-Ok-false.ensures.reads)
 
 pub returns-clause-reads : goal.returns-clause-reads

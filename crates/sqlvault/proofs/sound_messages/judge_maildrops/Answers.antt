@@ -32,10 +32,10 @@ loop-name-preserved g c = (
 pub returns-in-Ok-None-clause-judged : goal.returns-in-Ok-None-clause-judged
 returns-in-Ok-None-clause-judged g c deposits clean h d =
     let s0 = state g.S.Store c.args.conn.now in
-    let s1 = state g.S.Store c.loop-name.conn in
     let was = c.loop-name.invariant.0.goes (c.judge_maildrop.ensures.reads.clean clean) h in
     let lt : c.loop-name.name-index < length c.args.names.now = omega (arith, c.loop-name-test.true) in
-    let none = told_behind (λ r. Counts (IsSoundIn r deposits c.as_slice.result.now) (sheets_under r c.as_slice.result.now)) s0 s1 deposits c.in-Ok-None.field-0-is was h d
+    let none = told_behind (λ r. Counts (IsSoundIn r deposits c.as_slice.result.now) (sheets_under r c.as_slice.result.now)) s0
+    (state g.S.Store c.loop-name.conn) deposits c.in-Ok-None.field-0-is was h d
     (c.in-Ok-None.ensures.judged deposits clean) in
     one_fails (IsSoundIn (rows_in s0.now.trees) deposits) c.args.names.now c.loop-name.name-index c.name-item.result lt c.name-item.is
     (subst (λ n. IsSoundIn (rows_in s0.now.trees) deposits n → ⊥) c.as_slice.ensures none)

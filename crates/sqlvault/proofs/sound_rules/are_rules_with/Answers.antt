@@ -14,8 +14,7 @@ returns-in_ok-are_rules-in-Ok-clause-judged g c clean tables groups =
 
 pub returns-in_ok-are_rules-in-Ok-clause-asks : goal.returns-in_ok-are_rules-in-Ok-clause-asks
 returns-in_ok-are_rules-in-Ok-clause-asks g c =
-    answered g.S.Store c.args.conn.now c.all_rules.new.conn c.in-Ok.ensures.same
-    c.all_rules.ensures.survives
+    answered g.S.Store c.args.conn.now c.all_rules.new.conn c.in-Ok.ensures.same c.all_rules.ensures.survives
 
 pub returns-in_err-are_rules-in-Ok-clause-asks : goal.returns-in_err-are_rules-in-Ok-clause-asks
 returns-in_err-are_rules-in-Ok-clause-asks g c =

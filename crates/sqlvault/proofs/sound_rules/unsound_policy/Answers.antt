@@ -36,13 +36,12 @@ returns-in-Ok-false-clause-judged g c clean2 tables =
     let s1 = state g.S.Store c.read_groups.new.conn in
     let clean1 = c.are_rules_with.ensures.asks.clean clean2 in
     let same = c.in-Ok-Some.ensures.asks.same clean1 tables in
-    let rows = rows_on s0 s1 same in
     let groups = subst (λ (o : Option (Vec Group Global)). IfSome o (λ (v : Vec Group Global). v.items ≡ groups_in (rows_in s0.now.trees))) c.in-Ok-Some.field-0-is
     (c.in-Ok-Some.ensures.rows clean1 tables) in
     let named = subst (λ (o : Option (Vec Group Global)). IfSome o (λ (v : Vec Group Global). list_all is_named_group v.items ≡ true)) c.in-Ok-Some.field-0-is c.in-Ok-Some.ensures.named in
-    let judged = c.in-Ok-false.ensures.judged clean2 (tables_on s0 s1 same tables) (groups ∙ ap groups_in (sym rows)) in (
+    let judged = c.in-Ok-false.ensures.judged clean2 (tables_on s0 s1 same tables) (groups ∙ ap groups_in (sym (rows_on s0 s1 same))) in (
       groups_read (rows_in s0.now.trees) c.in-Ok-Some.groups.items groups named,
-      subst (λ r. Finds (PolicyIs r) false) rows (subst (Finds (PolicyIs (rows_in s1.now.trees))) c.in-Ok-false.field-0-test judged),
+      subst (λ r. Finds (PolicyIs r) false) (rows_on s0 s1 same) (subst (Finds (PolicyIs (rows_in s1.now.trees))) c.in-Ok-false.field-0-test judged),
     )
 
 pub returns-in-Ok-None-clause-asks : goal.returns-in-Ok-None-clause-asks

@@ -6,9 +6,8 @@ use Rattle.sqlvault.proofs.uses.look_up.Goals as goal
 
 pub returns-in_err-credential-clause-cause : goal.returns-in_err-credential-clause-cause
 returns-in_err-credential-clause-cause g c key clean h =
-    let all = filled key c.args.stock.now in
     let e = c.in_err-credential.field-0.0 in
-    let done = c.in_err-credential.ensures.done all h clean in
+    let done = c.in_err-credential.ensures.done (filled key c.args.stock.now) h clean in
     if_passed_on c.from_residual.result e IsOfAnyCall c.from_residual.ensures.1 (any _ e done.answer)
 
 pub returns-in_err-clerks-clause-cause : goal.returns-in_err-clerks-clause-cause
@@ -48,9 +47,7 @@ returns-clause-same g c key clean h =
     let all = filled key c.args.stock.now in
     let before = c.policy.ensures.looks.clean clean in
     let found = c.in_ok-credential.ensures.done all h (c.clerks.ensures.looks.clean before) in
-    let listed = c.in_ok-clerks.ensures.done all found.held before in
-    let set = c.in_ok-policy.ensures.done all listed.held clean in
-    set.held
+    (c.in_ok-policy.ensures.done all (c.in_ok-clerks.ensures.done all found.held before).held clean).held
 
 pub returns-in_err-credential-clause-clean : goal.returns-in_err-credential-clause-clean
 returns-in_err-credential-clause-clean g c clean = c.credential.ensures.looks.clean clean
@@ -60,8 +57,7 @@ returns-in_err-clerks-clause-clean g c clean =
     c.credential.ensures.looks.clean (c.clerks.ensures.looks.clean clean)
 
 pub returns-in_err-policy-clause-clean : goal.returns-in_err-policy-clause-clean
-returns-in_err-policy-clause-clean g c clean =
-    c.credential.ensures.looks.clean (c.clerks.ensures.looks.clean (c.policy.ensures.looks.clean clean))
+returns-in_err-policy-clause-clean g c clean = c.credential.ensures.looks.clean (c.clerks.ensures.looks.clean (c.policy.ensures.looks.clean clean))
 
 pub returns-clause-clean : goal.returns-clause-clean
 returns-clause-clean g c clean =

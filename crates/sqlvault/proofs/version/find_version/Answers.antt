@@ -1,8 +1,9 @@
-use Rattle.std.proofs.Common.{◌≡◌, ◌≢◌, ◌∙◌, refl, ap, sym, length, rules, SFits, w64, to_z-of_z}
+use Rattle.std.proofs.Common.{◌≡◌, ◌≢◌, ◌∙◌, ◌⊎◌, Some, codes, refl, ap, sym, length, rules, SFits, w64, to_z, of_z, to_z-of_z}
+use Rattle.std.specs.Prelude.{find}
 use Rattle.sqlite.specs.Held.{state}
 use Rattle.sqlite.specs.State.{HasCleanDisk}
 use Rattle.sqlite.specs.declared.error.Error.{Error}
-use Rattle.mailsql.specs.Rows.{rows_in}
+use Rattle.mailsql.specs.Rows.{HasTables, HasOldTables, is_meta_row, rows_in}
 use Rattle.sqlvault.proofs.AskLemmas.{answered, asks_then}
 use Rattle.sqlvault.proofs.FrameLemmas.{was_clean}
 use Rattle.sqlvault.proofs.OlderLemmas.{looked_older, older_then}
@@ -12,46 +13,50 @@ use Rattle.sqlvault.proofs.version.find_version.Given.{Over}
 use Rattle.sqlvault.proofs.version.find_version.Goals.{After-all_meta_rows}
 use Rattle.sqlvault.proofs.version.find_version.Goals as goal
 
+-- ---- what is known of the version row
+
+clean_before : (g : Over) (c : After-all_meta_rows g) → HasCleanDisk (state g.S.Store c.all_meta_rows.new.conn) → HasCleanDisk (state g.S.Store c.find_meta_row.new.conn)
+clean_before g c clean2 = was_clean g.S.Store c.find_meta_row.new.conn c.all_meta_rows.new.conn c.all_meta_rows.ensures.survives clean2
+
+-- its version has 64 bits
+value_is : (g : Over) (c : After-all_meta_rows g) → to_z w64 (of_z w64 c.in-Ok-Some.meta_row.value) ≡ c.in-Ok-Some.meta_row.value
+value_is g c = let f : SFits w64 c.in-Ok-Some.meta_row.value = search rules in to_z-of_z f
+
+-- the query found it
+found : (g : Over) (c : After-all_meta_rows g) → HasCleanDisk (state g.S.Store c.find_meta_row.new.conn)
+    → HasTables (state g.S.Store c.args.conn.now) ⊎ HasOldTables (state g.S.Store c.args.conn.now)
+    → find (is_meta_row (codes "popbox")) (rows_in (state g.S.Store c.args.conn.now).now.trees).meta_rows ≡ Some c.in-Ok-Some.meta_row
+found g c clean1 here = found_here (state g.S.Store c.args.conn.now) here _ (c.in-Ok-Some.ensures.ok clean1) (c.in-Ok-Some.ensures.old_ok clean1) c.in-Ok-Some.field-0-is
+
+-- ---- each exit
+
 pub returns-then-len-eq1-clause-told : goal.returns-then-len-eq1-clause-told
 returns-then-len-eq1-clause-told g c clean2 here =
-    let s0 = state g.S.Store c.args.conn.now in
-    let s1 = state g.S.Store c.find_meta_row.new.conn in
-    let clean1 : HasCleanDisk s1 = was_clean g.S.Store c.find_meta_row.new.conn c.all_meta_rows.new.conn
-    c.all_meta_rows.ensures.survives clean2 in
-    let value = (let f : SFits w64 c.in-Ok-Some.meta_row.value = search rules in to_z-of_z f) in
-    let found = found_here s0 here _ (c.in-Ok-Some.ensures.ok clean1) (c.in-Ok-Some.ensures.old_ok clean1)
-    c.in-Ok-Some.field-0-is in
-    let all = all_then s0 s1 here c.in-Ok-Some.ensures.same c.in-Ok-Some.ensures.old_same clean1
+    let it = (goal.at.returns-then-len-eq1-clause-told g c).After-all_meta_rows in
+    let clean1 = clean_before g it clean2 in
+    let all = all_then (state g.S.Store c.args.conn.now) (state g.S.Store c.find_meta_row.new.conn) here c.in-Ok-Some.ensures.same c.in-Ok-Some.ensures.old_same clean1
     c.in-Ok.meta_rows.items (c.in-Ok.ensures.ok clean2) (c.in-Ok.ensures.old_ok clean2) in
     let count : length c.in-Ok.meta_rows.items ≡ 1 = search rules in (
-      alone _ (rows_in s0.now.trees).meta_rows c.in-Ok-Some.meta_row found (sym value)
+      alone _ (rows_in (state g.S.Store c.args.conn.now).now.trees).meta_rows c.in-Ok-Some.meta_row (found g it clean1 here) (sym (value_is g it))
           (sym (ap length all) ∙ count),
       c.if-not-is_version.ensures.known refl,
     )
 
 pub returns-in-Ok-clause-told : goal.returns-in-Ok-clause-told
 returns-in-Ok-clause-told g c clean2 here =
-    let s0 = state g.S.Store c.args.conn.now in
-    let s1 = state g.S.Store c.find_meta_row.new.conn in
-    let clean1 : HasCleanDisk s1 = was_clean g.S.Store c.find_meta_row.new.conn c.all_meta_rows.new.conn
-    c.all_meta_rows.ensures.survives clean2 in
-    let value = (let f : SFits w64 c.in-Ok-Some.meta_row.value = search rules in to_z-of_z f) in
-    let found = found_here s0 here _ (c.in-Ok-Some.ensures.ok clean1) (c.in-Ok-Some.ensures.old_ok clean1)
-    c.in-Ok-Some.field-0-is in
-    let all = all_then s0 s1 here c.in-Ok-Some.ensures.same c.in-Ok-Some.ensures.old_same clean1
+    let it = (goal.at.returns-in-Ok-clause-told g c).After-all_meta_rows in
+    let clean1 = clean_before g it clean2 in
+    let all = all_then (state g.S.Store c.args.conn.now) (state g.S.Store c.find_meta_row.new.conn) here c.in-Ok-Some.ensures.same c.in-Ok-Some.ensures.old_same clean1
     c.in-Ok.meta_rows.items (c.in-Ok.ensures.ok clean2) (c.in-Ok.ensures.old_ok clean2) in
     let count : length c.in-Ok.meta_rows.items ≢ 1 = search rules in (
-      (c.in-Ok-Some.meta_row, found, sym value),
+      (c.in-Ok-Some.meta_row, found g it clean1 here, sym (value_is g it)),
       (λ one. count (ap length all ∙ one)),
       c.if-not-is_version.ensures.known refl,
     )
 
 pub returns-then-len-eq1-clause-asks : goal.returns-then-len-eq1-clause-asks
-returns-then-len-eq1-clause-asks g c =
-    asks_then (answered {A = Unit {0}} {E = Error} {x = tt} g.S.Store c.args.conn.now c.find_meta_row.new.conn
-    c.in-Ok-Some.ensures.same c.find_meta_row.ensures.survives)
-    (answered g.S.Store c.find_meta_row.new.conn c.all_meta_rows.new.conn c.in-Ok.ensures.same
-    c.all_meta_rows.ensures.survives)
+returns-then-len-eq1-clause-asks g c = asks_then (answered {A = Unit {0}} {E = Error} {x = tt} g.S.Store c.args.conn.now c.find_meta_row.new.conn
+    c.in-Ok-Some.ensures.same c.find_meta_row.ensures.survives) (answered g.S.Store c.find_meta_row.new.conn c.all_meta_rows.new.conn c.in-Ok.ensures.same c.all_meta_rows.ensures.survives)
 
 pub returns-in-Ok-clause-asks : goal.returns-in-Ok-clause-asks
 returns-in-Ok-clause-asks g c =
@@ -61,27 +66,22 @@ returns-in-Ok-clause-asks g c =
     c.all_meta_rows.ensures.survives)
 
 pub returns-then-len-eq1-clause-asks_older : goal.returns-then-len-eq1-clause-asks_older
-returns-then-len-eq1-clause-asks_older g c =
-    older_then g.S.Store c.args.conn.now c.find_meta_row.new.conn c.all_meta_rows.new.conn _
-    c.in-Ok-Some.ensures.old_same c.find_meta_row.ensures.old_survives
-    (looked_older g.S.Store c.find_meta_row.new.conn c.all_meta_rows.new.conn _
+returns-then-len-eq1-clause-asks_older g c = older_then g.S.Store c.args.conn.now c.find_meta_row.new.conn c.all_meta_rows.new.conn _
+    c.in-Ok-Some.ensures.old_same c.find_meta_row.ensures.old_survives (looked_older g.S.Store c.find_meta_row.new.conn c.all_meta_rows.new.conn _
     c.in-Ok.ensures.old_same c.all_meta_rows.ensures.old_survives)
 
 pub returns-in-Ok-clause-asks_older : goal.returns-in-Ok-clause-asks_older
 returns-in-Ok-clause-asks_older g c =
     older_then g.S.Store c.args.conn.now c.find_meta_row.new.conn c.all_meta_rows.new.conn _
     c.in-Ok-Some.ensures.old_same c.find_meta_row.ensures.old_survives
-    (looked_older g.S.Store c.find_meta_row.new.conn c.all_meta_rows.new.conn _
-    c.in-Ok.ensures.old_same c.all_meta_rows.ensures.old_survives)
+    (looked_older g.S.Store c.find_meta_row.new.conn c.all_meta_rows.new.conn _ c.in-Ok.ensures.old_same c.all_meta_rows.ensures.old_survives)
 
 -- ---- of no version that is known here
 
 known : (g : Over) (c : After-all_meta_rows g) → HasCleanDisk (state g.S.Store c.all_meta_rows.new.conn) → IsOfUnknownVersion (state g.S.Store c.args.conn.now) → ⊥
 known g c clean2 it =
-    let clean1 = was_clean g.S.Store c.find_meta_row.new.conn c.all_meta_rows.new.conn c.all_meta_rows.ensures.survives clean2 in
-    let value = (let f : SFits w64 c.in-Ok-Some.meta_row.value = search rules in to_z-of_z f) in
     no_version (rows_in (state g.S.Store c.args.conn.now).now.trees) _
-    (c.in-Ok-Some.meta_row, sym (c.in-Ok-Some.ensures.marked_ok clean1 it.table) ∙ c.in-Ok-Some.field-0-is, sym value)
+    (c.in-Ok-Some.meta_row, sym (c.in-Ok-Some.ensures.marked_ok (clean_before g c clean2) it.table) ∙ c.in-Ok-Some.field-0-is, sym (value_is g c))
     (c.if-not-is_version.ensures.known refl) it.meta_row
 
 pub returns-then-len-eq1-clause-unknown : goal.returns-then-len-eq1-clause-unknown

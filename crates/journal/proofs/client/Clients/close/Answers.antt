@@ -15,6 +15,5 @@ returns-clause-line c =
 pub returns-clause-forgotten : goal.returns-clause-forgotten
 returns-clause-forgotten c =
     let p = λ (client : Client). client.link.number == c.args.link.number in
-    let xs = c.args.self.now.clients.items in
-    let place : position p xs ≡ Some c.in-Some.at = sym c.place_at.ensures.value ∙ c.in-Some.is in
+    let place : position p c.args.self.now.clients.items ≡ Some c.in-Some.at = sym c.place_at.ensures.value ∙ c.in-Some.is in
     subst (λ o. IfSome o (λ _. vec_len c.swap_remove-client.new.self + 1 ≡ vec_len c.args.self.now.clients)) (sym place) c.swap_remove-client.ensures.len

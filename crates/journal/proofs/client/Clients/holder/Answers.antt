@@ -14,5 +14,4 @@ returns-in-Some c =
 pub returns-in-None : goal.returns-in-None
 returns-in-None c =
     let p = λ (client : Client). is_in c.args.maildrop.now client.heard in
-    let xs = c.args.self.now.clients.items in
-    c.new.ensures.bytes ∙ ap holder_of (sym (none_found p xs (sym c.place_in.ensures.value ∙ c.in-None.is)))
+    c.new.ensures.bytes ∙ ap holder_of (sym (none_found p c.args.self.now.clients.items (sym c.place_in.ensures.value ∙ c.in-None.is)))

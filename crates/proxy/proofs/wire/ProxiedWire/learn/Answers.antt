@@ -16,30 +16,26 @@ use Rattle.proxy.proofs.wire.ProxiedWire.learn.Goals as goal
 pub returns-in-Ok-clause-told : goal.returns-in-Ok-clause-told
 returns-in-Ok-clause-told g c u (t, h, a, came, is) (front, e, open_yet) =
     let k = c.args.link.number in
-    let source = c.in-Some.read.source in
     let known = c.args.self.now.known in
     let first : first_line (t.pop.read k) ≡ c.args.line.now = ap first_line (is ∙ e) ∙ (whole_first front open_yet ∙ sym e) in (
       t,
       h,
-      learns (get nat_cmp c.args.self.now.begun) (get nat_cmp known) (get nat_cmp c.insert.new.self) t (at_port Pop (λ of. has_read of k Later []) u) k source a
-          (updated_put known c.insert.new.self k (Some source) c.in-Ok.ensures.updates)
-          (record { came = came; whole = ap has_line (is ∙ e) ∙ whole_has front; says = subst (λ xs. IsProxyLine xs source) (sym first) c.in-Some.ensures }),
+      learns (get nat_cmp c.args.self.now.begun) (get nat_cmp known) (get nat_cmp c.insert.new.self) t (at_port Pop (λ of. has_read of k Later []) u) k c.in-Some.read.source a
+          (updated_put known c.insert.new.self k (Some c.in-Some.read.source) c.in-Ok.ensures.updates)
+          (record { came = came; whole = ap has_line (is ∙ e) ∙ whole_has front; says = subst (λ xs. IsProxyLine xs c.in-Some.read.source) (sym first) c.in-Some.ensures }),
     )
 
 pub returns-in-Ok-clause-called : goal.returns-in-Ok-clause-called
 returns-in-Ok-clause-called g c room a h =
-    let k = c.args.link.number in
     let source = c.in-Some.read.source in
-    let known = c.args.self.now.known in
-    line_whole g.W.Wire.asked c.args.self.now.wire (get nat_cmp known)
-    (get nat_cmp c.insert.new.self) c.args.self.now.hurries c.args.link source room a (updated_put known c.insert.new.self k (Some source) c.in-Ok.ensures.updates) h
+    line_whole g.W.Wire.asked c.args.self.now.wire (get nat_cmp c.args.self.now.known)
+    (get nat_cmp c.insert.new.self) c.args.self.now.hurries c.args.link source room a (updated_put c.args.self.now.known c.insert.new.self c.args.link.number (Some source) c.in-Ok.ensures.updates) h
 
 pub returns-in_default-clause-called : goal.returns-in_default-clause-called
 returns-in_default-clause-called g c room a h = c.break_off.ensures.called 1 Whole room a h
 
 pub returns-in-Err-clause-called : goal.returns-in-Err-clause-called
 returns-in-Err-clause-called g c room a h =
-    let known = c.args.self.now.known in
     c.break_off-in-Err.ensures.called 1 Whole room a
-    (same_known g.W.Wire.asked c.args.self.now.wire (get nat_cmp known) (get nat_cmp c.insert.new.self) c.args.self.now.hurries c.args.link Whole a
-    (entries_same known c.insert.new.self (search rules)) h)
+    (same_known g.W.Wire.asked c.args.self.now.wire (get nat_cmp c.args.self.now.known) (get nat_cmp c.insert.new.self) c.args.self.now.hurries c.args.link Whole a
+    (entries_same c.args.self.now.known c.insert.new.self (search rules)) h)

@@ -27,9 +27,8 @@ returns-clause-within g c = within_any c.read_line.result (length c.args.buffer.
 pub returns-clause-told : goal.returns-clause-told
 returns-clause-told g c u h =
     let r = c.read_line.new.self in
-    let k = c.args.link.number in
     let io = c.read_line.result in
-    subst (λ xs. TellsProxy g.W.Wire.tells r.wire (get nat_cmp r.begun) (get nat_cmp r.known) (at_port Pop (λ of. has_read of k io xs) u))
+    subst (λ xs. TellsProxy g.W.Wire.tells r.wire (get nat_cmp r.begun) (get nat_cmp r.known) (at_port Pop (λ of. has_read of c.args.link.number io xs) u))
     (sym (counted_none io c.args.buffer.now c.read_line.ensures.within)) (c.read_line.ensures.told u h)
 
 pub returns-then-contains_key-clause-called : goal.returns-then-contains_key-clause-called
@@ -44,9 +43,7 @@ returns-then-contains_key-clause-called g c a h =
 pub returns-clause-called : goal.returns-clause-called
 returns-clause-called g c a h =
     let r = c.read_line.new.self in
-    let k = c.args.link.number in
-    let io = c.read_line.result in
-    let away : is_some (get nat_cmp c.args.self.now.known k) ≡ false = sym c.contains_key.ensures ∙ c.if-contains_key.false in
-    subst (λ xs. AskedBehind g.W.Wire.asked r.wire (get nat_cmp r.known) r.hurries (a ++ Read Pop c.args.link (length c.args.buffer.now) io xs ∷ []))
-    (sym (counted_none io c.args.buffer.now c.read_line.ensures.within))
+    let away : is_some (get nat_cmp c.args.self.now.known c.args.link.number) ≡ false = sym c.contains_key.ensures ∙ c.if-contains_key.false in
+    subst (λ xs. AskedBehind g.W.Wire.asked r.wire (get nat_cmp r.known) r.hurries (a ++ Read Pop c.args.link (length c.args.buffer.now) c.read_line.result xs ∷ []))
+    (sym (counted_none c.read_line.result c.args.buffer.now c.read_line.ensures.within))
     (c.read_line.ensures.called (length c.args.buffer.now) a (none_known _ away) h)

@@ -36,16 +36,12 @@ returns-in-End-clause-called g c room a none h =
 pub returns-in-Broken-clause-called : goal.returns-in-Broken-clause-called
 returns-in-Broken-clause-called g c room a none h =
     let known = get nat_cmp c.args.self.now.known in
-    let hurries = c.args.self.now.hurries in
-    line_open g.W.Wire.asked c.read.new.self known hurries c.args.link 0 Broken room Broken a refl (omega arith)
-    (amid g.W.Wire.asked c.args.self.now.wire c.read.new.self known hurries c.args.link 0 (Open Broken) a h none
+    line_open g.W.Wire.asked c.read.new.self known c.args.self.now.hurries c.args.link 0 Broken room Broken a refl (omega arith)
+    (amid g.W.Wire.asked c.args.self.now.wire c.read.new.self known c.args.self.now.hurries c.args.link 0 (Open Broken) a h none
     (λ b k. none_taken g.W.Wire.asked c.read.new.self c.args.link Broken c.read.new.buffer b c.in-Broken.ensures.within (c.in-Broken.ensures.called b k)))
 
 pub returns-in-Later-clause-called : goal.returns-in-Later-clause-called
 returns-in-Later-clause-called g c room a none h =
-    let known = get nat_cmp c.args.self.now.known in
-    let hurries = c.args.self.now.hurries in
-    let io = c.read.result in
-    c.break_off.ensures.called 0 (Open io) room a
-    (amid g.W.Wire.asked c.args.self.now.wire c.read.new.self known hurries c.args.link 0 (Open io) a h none
-    (λ b k. none_taken g.W.Wire.asked c.read.new.self c.args.link io c.read.new.buffer b c.read.ensures.within (c.read.ensures.called b k)))
+    c.break_off.ensures.called 0 (Open c.read.result) room a
+    (amid g.W.Wire.asked c.args.self.now.wire c.read.new.self (get nat_cmp c.args.self.now.known) c.args.self.now.hurries c.args.link 0 (Open c.read.result) a h none
+    (λ b k. none_taken g.W.Wire.asked c.read.new.self c.args.link c.read.result c.read.new.buffer b c.read.ensures.within (c.read.ensures.called b k)))

@@ -20,10 +20,9 @@ returns-in-Pop-clause-told g c u (t, h, a) =
 pub returns-in_err-link-clause-called : goal.returns-in_err-link-clause-called
 returns-in_err-link-clause-called g c a h =
     let known = get nat_cmp c.args.self.now.known in
-    let hurries = c.args.self.now.hurries in
     let same : c.accept.result ≡ c.from_residual.result = search rules in
-    subst (λ r. AskedBehind g.W.Wire.asked c.accept.new.self known hurries (a ++ Accepted c.args.port r ∷ [])) same
-    (hands_on g.W.Wire.asked c.args.self.now.wire c.accept.new.self known hurries a (Accepted c.args.port c.accept.result) refl (λ inside so. tt) c.accept.ensures.called h)
+    subst (λ r. AskedBehind g.W.Wire.asked c.accept.new.self known c.args.self.now.hurries (a ++ Accepted c.args.port r ∷ [])) same
+    (hands_on g.W.Wire.asked c.args.self.now.wire c.accept.new.self known c.args.self.now.hurries a (Accepted c.args.port c.accept.result) refl (λ inside so. tt) c.accept.ensures.called h)
 
 pub returns-in-Pop-clause-called : goal.returns-in-Pop-clause-called
 returns-in-Pop-clause-called g c a h =
@@ -35,5 +34,4 @@ returns-in-Pop-clause-called g c a h =
 pub returns-in-Admin-clause-called : goal.returns-in-Admin-clause-called
 returns-in-Admin-clause-called g c a h =
     let known = get nat_cmp c.args.self.now.known in
-    let hurries = c.args.self.now.hurries in
-    hands_on g.W.Wire.asked c.args.self.now.wire c.accept.new.self known hurries a (Accepted c.args.port (Some c.in_ok-link.link)) refl (λ inside so. tt) c.in_ok-link.ensures.called h
+    hands_on g.W.Wire.asked c.args.self.now.wire c.accept.new.self known c.args.self.now.hurries a (Accepted c.args.port (Some c.in_ok-link.link)) refl (λ inside so. tt) c.in_ok-link.ensures.called h

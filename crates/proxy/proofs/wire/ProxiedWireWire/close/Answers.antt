@@ -21,5 +21,4 @@ returns-in-Pop-clause-called g c a h =
 pub returns-in-Admin-clause-called : goal.returns-in-Admin-clause-called
 returns-in-Admin-clause-called g c a h =
     let known = get nat_cmp c.args.self.now.known in
-    let hurries = c.args.self.now.hurries in
-    hands_on g.W.Wire.asked c.args.self.now.wire c.close.new.self known hurries a (Closed c.args.port c.args.link) refl (λ inside so. tt) c.close.ensures.called h
+    hands_on g.W.Wire.asked c.args.self.now.wire c.close.new.self known c.args.self.now.hurries a (Closed c.args.port c.args.link) refl (λ inside so. tt) c.close.ensures.called h

@@ -21,15 +21,13 @@ returns-then-contains_key-clause-called g c a h =
 pub returns-else-contains_key-clause-called : goal.returns-else-contains_key-clause-called
 returns-else-contains_key-clause-called g c a h =
     let known = get nat_cmp c.args.self.now.known in
-    let hurries = c.args.self.now.hurries in
     let away : is_some (known c.args.link.number) ≡ false = sym c.contains_key.ensures ∙ c.if-contains_key.false in
-    subst (λ p. AskedBehind g.W.Wire.asked c.args.self.now.wire known hurries (a ++ Looked p c.args.link Later [] ∷ [])) (sym c.in-Pop.is)
-    (keeps_back g.W.Wire.asked c.args.self.now.wire known hurries a c.args.link (none_known _ away) h)
+    subst (λ p. AskedBehind g.W.Wire.asked c.args.self.now.wire known c.args.self.now.hurries (a ++ Looked p c.args.link Later [] ∷ [])) (sym c.in-Pop.is)
+    (keeps_back g.W.Wire.asked c.args.self.now.wire known c.args.self.now.hurries a c.args.link (none_known _ away) h)
 
 pub returns-in-Admin-clause-called : goal.returns-in-Admin-clause-called
 returns-in-Admin-clause-called g c a h =
     let known = get nat_cmp c.args.self.now.known in
-    let hurries = c.args.self.now.hurries in
     let octets = counted c.look-in-Admin.result c.look-in-Admin.new.buffer in
-    hands_on g.W.Wire.asked c.args.self.now.wire c.look-in-Admin.new.self known hurries a (Looked c.args.port c.args.link c.look-in-Admin.result octets) refl
+    hands_on g.W.Wire.asked c.args.self.now.wire c.look-in-Admin.new.self known c.args.self.now.hurries a (Looked c.args.port c.args.link c.look-in-Admin.result octets) refl
     (λ inside so. subst (λ p. IsBehindLine inside (Looked p c.args.link c.look-in-Admin.result octets)) (sym c.in-Admin.is) tt) c.look-in-Admin.ensures.called h

@@ -23,7 +23,6 @@ pub loop-times-preserved : goal.loop-times-preserved
 loop-times-preserved g c =
     let k = c.loop-times in
     let x = c.accept_admin_link in
-    let xs = c.args.requests.now.exchanges.items in
     let ys = k.requests.exchanges.items in
     let zs = x.new.requests.exchanges.items in
     let goes : x.result ≡ true = search rules in
@@ -34,9 +33,9 @@ loop-times-preserved g c =
       works = record {
         office = x.ensures.works.office ∙ k.invariant.works.office;
         unheard = λ h q. x.ensures.works.unheard h (k.invariant.works.unheard h q);
-        part = asks_then g.W.Wire.asked c.args.self.now.wire k.self.wire x.new.self.wire (HasAcceptedForAdmin c.args.now k._times true xs ys)
-            (HasAcceptedForAdmin c.args.now 1 true ys zs) (HasAcceptedForAdmin c.args.now (k._times + 1) true xs zs)
-            (λ c1 c2 a b. accepted_then c.args.now xs ys zs k._times 1 true c1 c2 a b) k.invariant.works.part once;
+        part = asks_then g.W.Wire.asked c.args.self.now.wire k.self.wire x.new.self.wire (HasAcceptedForAdmin c.args.now k._times true c.args.requests.now.exchanges.items ys)
+            (HasAcceptedForAdmin c.args.now 1 true ys zs) (HasAcceptedForAdmin c.args.now (k._times + 1) true c.args.requests.now.exchanges.items zs)
+            (λ c1 c2 a b. accepted_then c.args.now c.args.requests.now.exchanges.items ys zs k._times 1 true c1 c2 a b) k.invariant.works.part once;
       };
     }
 

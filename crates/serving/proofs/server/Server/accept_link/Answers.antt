@@ -26,7 +26,6 @@ pub returns-in-Some-number-clause-serves : goal.returns-in-Some-number-clause-se
 returns-in-Some-number-clause-serves g c = λ T elsewhere s clean.
     (let now = trace_of T.base s.log in
     let o = outcome_seen c.step.result in
-    let link = c.in-Some.link in
     let connection = c.in-Some-number.connection in
     let seats = c.args.clients.now.seats.items in
     let accepted = c.in-Some.ensures.told (record { pop = s.told; admin = elsewhere.admin }) s.tells in
@@ -34,7 +33,7 @@ returns-in-Some-number-clause-serves g c = λ T elsewhere s clean.
     let k = subst (Comes s.log o) {y = Some connection} e (comes now (lent_by c.args.self.now.office) o (c.step.ensures.outcome now s.stands clean)) in
     let after = owned_at s.told.accepted (next_number s.log) s.owner in
     let still = owned_still s.told s.owner T.base s.log s.served in
-    let own : after link.number ≡ Some connection = ap after accepted.0 ∙ (owned_new s.told s.owner T.base s.log ∙ ap Some (sym k.1)) in
+    let own : after c.in-Some.link.number ≡ Some connection = ap after accepted.0 ∙ (owned_new s.told s.owner T.base s.log ∙ ap Some (sym k.1)) in
     record {
       log = (event.Connect, event_tag_of o) ∷ s.log;
       told = has_accepted s.told;
@@ -43,7 +42,7 @@ returns-in-Some-number-clause-serves g c = λ T elsewhere s clean.
       admitted = (c.step.ensures.admitted now s.stands clean, s.admitted);
       tells = accepted.1;
       served = subst (λ m. AreServed (has_accepted s.told) after T.base ((event.Connect, m) ∷ s.log)) (sym k.0) (served_accepted s.told s.owner T.base s.log s.served);
-      seated = seated_more s.owner after T.base s.log ((event.Connect, event_tag_of o) ∷ s.log) seats _ (record { link = link; connection = connection }) c.push.ensures.items still
+      seated = seated_more s.owner after T.base s.log ((event.Connect, event_tag_of o) ∷ s.log) seats _ (record { link = c.in-Some.link; connection = connection }) c.push.ensures.items still
           (opened_before s.told s.owner T.base s.log connection k.1 s.served) own
           (subst (λ m. Frame T.base s.log ((event.Connect, m) ∷ s.log) connection) (sym k.0)
           (subst (Frame T.base s.log ((event.Connect, Tagged Done) ∷ s.log)) (sym k.1) (frame_connect T.base s.log))) s.seated;
@@ -72,11 +71,10 @@ returns-in-None-clause-serves g c = λ T elsewhere s clean.
 
 pub returns-then-is_full-clause-works : goal.returns-then-is_full-clause-works
 returns-then-is_full-clause-works g c =
-    let seats = c.args.clients.now.seats.items in
     let is : c.is_full.result ≡ true = search rules in
-    let full : length seats ≡ 128 = eqb-true (length seats) 128 (sym c.is_full.ensures.value ∙ is) in
+    let full : length c.args.clients.now.seats.items ≡ 128 = eqb-true (length c.args.clients.now.seats.items) 128 (sym c.is_full.ensures.value ∙ is) in
     does_none g.V.Vault g.W.Wire g.L.Listener c.args.self.now _
-    (accepted_full g.V.Vault c.args.self.now.office seats full)
+    (accepted_full g.V.Vault c.args.self.now.office c.args.clients.now.seats.items full)
 
 pub returns-in_default-clause-works : goal.returns-in_default-clause-works
 returns-in_default-clause-works g c =
@@ -90,19 +88,17 @@ returns-in-Some-number-clause-works g c =
     let IsClean = g.V.Vault.is_clean in
     let s = c.args.self.now in
     let o = outcome_seen c.step.result in
-    let link = c.in-Some.link in
-    let connection = c.in-Some-number.connection in
-    let e : opened_by o ≡ Some connection = sym c.opened-number.ensures ∙ c.in-Some-number.is in
+    let e : opened_by o ≡ Some c.in-Some-number.connection = sym c.opened-number.ensures ∙ c.in-Some-number.is in
     record {
       given = (event.Connect, event_tag_of o) ∷ [];
-      calls = Accepted Pop (Some link) ∷ [];
+      calls = Accepted Pop (Some c.in-Some.link) ∷ [];
       was_given = given_one g.V.Vault s.office c.step.new.self event.Connect o
           c.step.ensures.clean c.step.ensures.stands c.step.ensures.admitted c.step.ensures.counted c.step.ensures.cause c.step.ensures.up c.step.ensures.stop;
-      was_asked = asked_one g.W.Wire.asked s.wire c.accept.new.self (Accepted Pop (Some link)) c.in-Some.ensures.called;
+      was_asked = asked_one g.W.Wire.asked s.wire c.accept.new.self (Accepted Pop (Some c.in-Some.link)) c.in-Some.ensures.called;
       facts = (
         record { is = λ B L st clean. hears_same g.L.Listener.heard s.listener c.on_open.new.self (λ h k. c.on_open.ensures.heard h (c.on_link.ensures.heard h k)) },
-        accepted_seated g.V.Vault s.office c.step.new.self c.args.clients.now.seats.items _ link connection
-            (event_tag_of o) (done_mark o connection e) c.push.ensures.items,
+        accepted_seated g.V.Vault s.office c.step.new.self c.args.clients.now.seats.items _ c.in-Some.link c.in-Some-number.connection
+            (event_tag_of o) (done_mark o c.in-Some-number.connection e) c.push.ensures.items,
       );
     }
 

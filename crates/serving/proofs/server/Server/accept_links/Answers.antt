@@ -24,35 +24,31 @@ loop-times-preserved g c =
     let x = c.accept_link in
     let goes : x.result ≡ true = search rules in
     let seats = c.args.clients.now.seats.items in
-    let seats1 = k.clients.seats.items in
     let seats2 = x.new.clients.seats.items in
-    let once = subst (λ b. Does g.V.Vault g.W.Wire g.L.Listener k.self x.new.self (AreAccepted Holds IsClean k.self.office x.new.self.office seats1 seats2 1 b)) goes x.ensures.works in
+    let once = subst (λ b. Does g.V.Vault g.W.Wire g.L.Listener k.self x.new.self (AreAccepted Holds IsClean k.self.office x.new.self.office k.clients.seats.items seats2 1 b)) goes x.ensures.works in
     record {
       serves = λ T elsewhere s clean. x.ensures.serves T elsewhere (k.invariant.serves T elsewhere s (x.ensures.works.was_given.clean clean)) clean;
       comers = noted_then c.args.now c.args.clients.now k.clients x.new.clients k.invariant.comers x.ensures.comers;
       heard = λ h a. x.ensures.heard h (k.invariant.heard h a);
       works = does_then g.V.Vault g.W.Wire g.L.Listener s k.self x.new.self _ _ _
           (λ g1 g2 c1 c2 wa wb a b. accepted_then g.V.Vault s.office k.self.office
-          x.new.self.office seats seats1 seats2 k._times true g1 g2 c1 c2 wa wb a b) k.invariant.works once;
+          x.new.self.office seats k.clients.seats.items seats2 k._times true g1 g2 c1 c2 wa wb a b) k.invariant.works once;
     }
 
 pub returns-then-not-accept_link-clause-works : goal.returns-then-not-accept_link-clause-works
 returns-then-not-accept_link-clause-works g c =
     let Holds = g.V.Vault.holds in
-    let IsClean = g.V.Vault.is_clean in
-    let s = c.args.self.now in
     let k = c.loop-times in
     let x = c.accept_link in
     let goes : x.result ≡ false = search rules in
     let room : k._times < 64 = search rules in
-    let seats = c.args.clients.now.seats.items in
     let seats1 = k.clients.seats.items in
     let seats2 = x.new.clients.seats.items in
-    let once = subst (λ b. Does g.V.Vault g.W.Wire g.L.Listener k.self x.new.self (AreAccepted Holds IsClean k.self.office x.new.self.office seats1 seats2 1 b)) goes x.ensures.works in (
+    let once = subst (λ b. Does g.V.Vault g.W.Wire g.L.Listener k.self x.new.self (AreAccepted Holds g.V.Vault.is_clean k.self.office x.new.self.office seats1 seats2 1 b)) goes x.ensures.works in (
       false,
-      does_then g.V.Vault g.W.Wire g.L.Listener s k.self x.new.self _ _ _
-          (λ g1 g2 c1 c2 wa wb a b. accepted_ended g.V.Vault s.office x.new.self.office seats seats2 (k._times + 1) 64 _ _ (omega (arith, room))
-          (accepted_then g.V.Vault s.office k.self.office x.new.self.office seats seats1 seats2 k._times false g1 g2 c1 c2 wa wb a b))
+      does_then g.V.Vault g.W.Wire g.L.Listener c.args.self.now k.self x.new.self _ _ _
+          (λ g1 g2 c1 c2 wa wb a b. accepted_ended g.V.Vault c.args.self.now.office x.new.self.office c.args.clients.now.seats.items seats2 (k._times + 1) 64 _ _ (omega (arith, room))
+          (accepted_then g.V.Vault c.args.self.now.office k.self.office x.new.self.office c.args.clients.now.seats.items seats1 seats2 k._times false g1 g2 c1 c2 wa wb a b))
           k.invariant.works once,
     )
 

@@ -41,8 +41,7 @@ loop-place-preserved-then-close_seat g c =
       serves = λ T elsewhere s clean. c.if-close_seat.ensures.serves T elsewhere (k.invariant.serves T elsewhere s (clean_same g.V.Vault.is_clean _ _ x.ensures.works.office clean)) clean;
       closes = shut_then c.args.clients.now k.clients x.new.clients k.invariant.closes x.ensures.closes.closes;
       newcomers = λ T s q here. ap (λ v. newcomer q v) (c.if-close_seat.ensures.closes.newcomers no_seat) ∙ k.invariant.newcomers T s q here;
-      works = asks_both g.W.Wire g.L.Listener c.args.self.now k.self x.new.self _ _ _
-          (λ c1 c2 a b T s.
+      works = asks_both g.W.Wire g.L.Listener c.args.self.now k.self x.new.self _ _ _ (λ c1 c2 a b T s.
           (let p = a T s in
           let q = b T no_seat (stands_same g.V.Vault.holds _ _ k.invariant.works.office T s) in (
             closes_more T c.args.clients.now.seats.items k.clients.seats.items x.new.clients.seats.items k.place no_seat true c1 c2 within p.0 q.0,

@@ -47,9 +47,7 @@ returns-then-not-ended-clause-serves g c = λ T elsewhere s clean.
 pub returns-clause-serves : goal.returns-clause-serves
 returns-clause-serves g c = λ T elsewhere s clean.
     (let seats = c.args.clients.now.seats.items in
-    let place = c.args.place in
-    let ys = c.deref.result.now in
-    let has = contained seats ys place _ c.deref.ensures.0 c.requires in
+    let has = contained seats c.deref.result.now c.args.place _ c.deref.ensures.0 c.requires in
     let k = s in
     let over : c.ended.result ≡ true = search rules in
     let shut = shut_so (is_open (trace_of T.base k.log) _) c.ended.result (c.ended.ensures (trace_of T.base k.log) k.stands) over in
@@ -62,7 +60,7 @@ returns-clause-serves g c = λ T elsewhere s clean.
       admitted = k.admitted;
       tells = c.close_link.ensures.told (record { pop = k.told; admin = elsewhere.admin }) k.tells;
       served = served_closed k.told k.owner T.base k.log _ (closed_own k.owner T.base k.log _ _ own shut) k.served;
-      seated = seated_without k.owner (trace_of T.base k.log) seats ys place _ _ c.deref.ensures.0 c.remove.ensures.items c.requires shut k.seated;
+      seated = seated_without k.owner (trace_of T.base k.log) seats c.deref.result.now c.args.place _ _ c.deref.ensures.0 c.remove.ensures.items c.requires shut k.seated;
       adds = k.adds;
     })
 
@@ -75,11 +73,10 @@ returns-then-not-ended-clause-works g c = record {
     was_asked = asked_none g.W.Wire.asked c.args.self.now.wire;
     facts = λ T d s.
         (let seats = c.args.clients.now.seats.items in
-        let ys = c.deref.result.now in
         let goes : c.ended.result ≡ false = search rules in
         let here = open_so (is_open T _) c.ended.result (c.ended.ensures T s) goes in (
           record {
-            stays_if = sym (subst (λ q. is_open_seat T q ≡ true) (at_place seats ys c.args.place _ d c.deref.ensures.0 c.requires) here);
+            stays_if = sym (subst (λ q. is_open_seat T q ≡ true) (at_place seats c.deref.result.now c.args.place _ d c.deref.ensures.0 c.requires) here);
             left = refl;
             calls_are = refl;
           },
@@ -98,10 +95,9 @@ returns-clause-works g c = record {
     was_asked = asked_one g.W.Wire.asked c.args.self.now.wire c.close_link.new.wire _ c.close_link.ensures.called;
     facts = λ T d s.
         (let seats = c.args.clients.now.seats.items in
-        let ys = c.deref.result.now in
         let over : c.ended.result ≡ true = search rules in
         let shut = shut_so (is_open T _) c.ended.result (c.ended.ensures T s) over in
-        let at = at_place seats ys c.args.place _ d c.deref.ensures.0 c.requires in (
+        let at = at_place seats c.deref.result.now c.args.place _ d c.deref.ensures.0 c.requires in (
           record {
             stays_if = sym (subst (λ q. is_open_seat T q ≡ false) at shut);
             left = c.remove.ensures.items;

@@ -28,7 +28,6 @@ returns-clause-ends g c = ends_none c.args.now c.args.seconds c.args.clients.now
 
 pub returns-then-is_logged_in-clause-works : goal.returns-then-is_logged_in-clause-works
 returns-then-is_logged_in-clause-works g c =
-    let n = c.args.clients.now.newcomers in
     let o = c.args.self.now.office in
     let yes : c.is_logged_in.result ≡ true = search rules in
     record {
@@ -38,7 +37,7 @@ returns-then-is_logged_in-clause-works g c =
         was_given = given_none g.V.Vault o;
         facts = (
           λ on. late_lived g.V.Vault c.args.now c.args.seconds o
-              n.newcomers.items c.forget.new.self.newcomers.items c.args.seat c.forget.ensures.newcomers (λ T s. sym (c.is_logged_in.ensures T s) ∙ yes),
+              c.args.clients.now.newcomers.newcomers.items c.forget.new.self.newcomers.items c.args.seat c.forget.ensures.newcomers (λ T s. sym (c.is_logged_in.ensures T s) ∙ yes),
           hears_none g.L.Listener.heard c.args.self.now.listener,
         );
       };
@@ -46,16 +45,14 @@ returns-then-is_logged_in-clause-works g c =
 
 pub returns-then-lies_unread-clause-works : goal.returns-then-lies_unread-clause-works
 returns-then-lies_unread-clause-works g c =
-    let n = c.args.clients.now.newcomers in
-    let o = c.args.self.now.office in
     let yes : c.lies_unread.result ≡ true = search rules in
     record {
       wire = refl;
       part = record {
         given = [];
-        was_given = given_none g.V.Vault o;
+        was_given = given_none g.V.Vault c.args.self.now.office;
         facts = (
-          λ on. late_unread g.V.Vault c.args.now c.args.seconds o n.newcomers.items c.args.seat
+          λ on. late_unread g.V.Vault c.args.now c.args.seconds c.args.self.now.office c.args.clients.now.newcomers.newcomers.items c.args.seat
               (sym c.lies_unread.ensures ∙ yes),
           hears_none g.L.Listener.heard c.args.self.now.listener,
         );
@@ -64,17 +61,15 @@ returns-then-lies_unread-clause-works g c =
 
 pub returns-then-not-is_late-clause-works : goal.returns-then-not-is_late-clause-works
 returns-then-not-is_late-clause-works g c =
-    let n = c.args.clients.now.newcomers in
-    let o = c.args.self.now.office in
     let no : c.is_late.result ≡ false = search rules in
     record {
       wire = refl;
       part = record {
         given = [];
-        was_given = given_none g.V.Vault o;
+        was_given = given_none g.V.Vault c.args.self.now.office;
         facts = (
-          λ on. late_prompt g.V.Vault c.args.now c.args.seconds o n.newcomers.items c.args.seat
-              (prompt_so c.args.now c.args.seconds n.newcomers.items c.args.seat.connection (sym c.is_late.ensures ∙ no)),
+          λ on. late_prompt g.V.Vault c.args.now c.args.seconds c.args.self.now.office c.args.clients.now.newcomers.newcomers.items c.args.seat
+              (prompt_so c.args.now c.args.seconds c.args.clients.now.newcomers.newcomers.items c.args.seat.connection (sym c.is_late.ensures ∙ no)),
           hears_none g.L.Listener.heard c.args.self.now.listener,
         );
       };

@@ -18,7 +18,6 @@ no_seat = record { link = record { number = 0 }; connection = 0 }
 
 pub returns-then-seconds-eq0-clause-works : goal.returns-then-seconds-eq0-clause-works
 returns-then-seconds-eq0-clause-works g c =
-    let n = c.args.clients.now.newcomers in
     let off : (c.args.seconds == 0) ≡ true = search rules in
     record {
       wire = refl;
@@ -27,7 +26,7 @@ returns-then-seconds-eq0-clause-works g c =
         was_given = given_none g.V.Vault c.args.self.now.office;
         facts = (
           late_off g.V.Vault c.args.now c.args.seconds
-              c.args.self.now.office n.newcomers.items c.args.clients.now.seats.items off,
+              c.args.self.now.office c.args.clients.now.newcomers.newcomers.items c.args.clients.now.seats.items off,
           hears_none g.L.Listener.heard c.args.self.now.listener,
         );
       };
@@ -107,12 +106,11 @@ loop-place-preserved g c =
 pub returns-clause-works : goal.returns-clause-works
 returns-clause-works g c =
     let k = c.loop-place in
-    let n = c.args.clients.now.newcomers in
     let done : length k.clients.seats.items ≤ k.place = search rules in
     record {
       wire = k.invariant.works.wire;
-      part = late_whole g.V.Vault c.args.now c.args.seconds c.args.self.now.office k.self.office n.newcomers.items
+      part = late_whole g.V.Vault c.args.now c.args.seconds c.args.self.now.office k.self.office c.args.clients.now.newcomers.newcomers.items
           k.clients.newcomers.newcomers.items c.args.clients.now.seats.items k.clients.seats.items k.place
-          (λ given. HasHeard g.L.Listener.heard c.args.self.now.listener k.self.listener (late_ends c.args.now n.seconds n.newcomers.items given))
+          (λ given. HasHeard g.L.Listener.heard c.args.self.now.listener k.self.listener (late_ends c.args.now c.args.clients.now.newcomers.seconds c.args.clients.now.newcomers.newcomers.items given))
           (ap (λ v. v.items) k.invariant.keeps.seats) done k.invariant.works.part;
     }

@@ -18,8 +18,7 @@ returns-else-not-is_long_quit-clause-serves g c = λ seats these has before T el
     serving_seen g.V.Vault.holds g.W.Wire.tells T elsewhere _ _ _ seats these c.look.ensures.told s
 
 pub returns-in_default-clause-serves : goal.returns-in_default-clause-serves
-returns-in_default-clause-serves g c = λ seats these has before T elsewhere s clean.
-    serving_seen g.V.Vault.holds g.W.Wire.tells T elsewhere _ _ _ seats these c.look.ensures.told s
+returns-in_default-clause-serves g c = λ seats these has before T elsewhere s clean. serving_seen g.V.Vault.holds g.W.Wire.tells T elsewhere _ _ _ seats these c.look.ensures.told s
 
 pub returns-then-not-may_keep-clause-works : goal.returns-then-not-may_keep-clause-works
 returns-then-not-may_keep-clause-works g c = does_none g.V.Vault g.W.Wire g.L.Listener c.args.self.now _ NotLooked
@@ -37,11 +36,10 @@ returns-then-not-is_long_quit-clause-works g c =
 pub returns-else-not-is_long_quit-clause-works : goal.returns-else-not-is_long_quit-clause-works
 returns-else-not-is_long_quit-clause-works g c =
     let s = c.args.self.now in
-    let io = Count c.in-Count.count in
     let piece = take c.in-Count.count c.look.new.buffer in
     let long : c.is_long_quit.result ≡ true = search rules in
-    does_call g.V.Vault g.W.Wire g.L.Listener s.office s.listener s.wire c.look.new.self (Looked Pop c.args.seat.link io piece) _ c.in-Count.ensures.called
-    (kept_if g.V.Vault s.office c.args.seat io piece c.keep.result (λ T st. c.is_long_quit.ensures T st long))
+    does_call g.V.Vault g.W.Wire g.L.Listener s.office s.listener s.wire c.look.new.self (Looked Pop c.args.seat.link (Count c.in-Count.count) piece) _ c.in-Count.ensures.called
+    (kept_if g.V.Vault s.office c.args.seat (Count c.in-Count.count) piece c.keep.result (λ T st. c.is_long_quit.ensures T st long))
 
 pub returns-in_default-clause-works : goal.returns-in_default-clause-works
 returns-in_default-clause-works g c =

@@ -56,11 +56,9 @@ returns-in-Count-clause-serves g c = λ seats these has before T elsewhere s cle
 pub returns-in-Later-clause-serves : goal.returns-in-Later-clause-serves
 returns-in-Later-clause-serves g c = λ seats these has before T elsewhere s clean.
     (let number = c.args.seat.link.number in
-    let connection = c.args.seat.connection in
-    let now = trace_of T.base s.log in
     let both : ToldOfPorts = record { pop = s.told; admin = elsewhere.admin } in
     let is_so : c.ready.result ≡ true = search rules in
-    let here = ready_open now connection (sym (c.ready.ensures now s.stands) ∙ is_so) in
+    let here = ready_open (trace_of T.base s.log) c.args.seat.connection (sym (c.ready.ensures (trace_of T.base s.log) s.stands) ∙ is_so) in
     let at_k = seat_owns s.owner seats c.args.seat has s.seated.own in
     record {
       log = s.log;
@@ -69,7 +67,7 @@ returns-in-Later-clause-serves g c = λ seats these has before T elsewhere s cle
       stands = s.stands;
       admitted = s.admitted;
       tells = c.in-Later.ensures.told both s.tells;
-      served = served_read_none s.told s.owner T.base s.log number connection s.served at_k here;
+      served = served_read_none s.told s.owner T.base s.log number c.args.seat.connection s.served at_k here;
       seated = s.seated;
       adds = s.adds;
     })
@@ -110,39 +108,35 @@ returns-then-not-ready-clause-works g c =
 
 pub returns-in-Count-clause-works : goal.returns-in-Count-clause-works
 returns-in-Count-clause-works g c =
-    let o = c.args.self.now.office in
     let seat = c.args.seat in
     let room = length c.args.buffer.now in
     let n = c.in-Count.count in
     let piece = take n c.read.new.buffer in
     let x = c.step_with_account-report in
-    does_event g.V.Vault g.W.Wire g.L.Listener o x.new.self c.args.self.now.listener c.on_account.new.self c.args.self.now.wire c.read.new.self
+    does_event g.V.Vault g.W.Wire g.L.Listener c.args.self.now.office x.new.self c.args.self.now.listener c.on_account.new.self c.args.self.now.wire c.read.new.self
     (Read Pop seat.link room (Count n) piece) (event.Bytes seat.connection piece) (outcome_seen x.result.outcome) seat.connection x.result.account _ (λ T. refl)
     x.ensures.clean x.ensures.stands x.ensures.admitted x.ensures.counted x.ensures.cause x.ensures.up x.ensures.stop x.ensures.account c.in-Count.ensures.called
     (λ h k. c.on_account.ensures.heard h (c.on_link.ensures.heard h k))
-    (read_some g.V.Vault o seat room (Count n) piece piece (event_tag_of (outcome_seen x.result.outcome)), λ e. refl)
+    (read_some g.V.Vault c.args.self.now.office seat room (Count n) piece piece (event_tag_of (outcome_seen x.result.outcome)), λ e. refl)
 
 pub returns-in-Later-clause-works : goal.returns-in-Later-clause-works
 returns-in-Later-clause-works g c =
     let o = c.args.self.now.office in
     let seat = c.args.seat in
-    let room = length c.args.buffer.now in
-    does_call g.V.Vault g.W.Wire g.L.Listener o c.args.self.now.listener c.args.self.now.wire c.read.new.self (Read Pop seat.link room Later []) _ c.in-Later.ensures.called
-    (read_later g.V.Vault o seat room Later [], λ e. e)
+    does_call g.V.Vault g.W.Wire g.L.Listener o c.args.self.now.listener c.args.self.now.wire c.read.new.self (Read Pop seat.link (length c.args.buffer.now) Later []) _ c.in-Later.ensures.called
+    (read_later g.V.Vault o seat (length c.args.buffer.now) Later [], λ e. e)
 
 pub returns-in-End-clause-works : goal.returns-in-End-clause-works
 returns-in-End-clause-works g c =
-    let o = c.args.self.now.office in
     let seat = c.args.seat in
-    let room = length c.args.buffer.now in
     let x = c.step_with_account-report-in-End in
     let io = c.read.result in
     let octets = counted io c.read.new.buffer in
     let fault : is_fault io ≡ true = search rules in
-    does_event g.V.Vault g.W.Wire g.L.Listener o x.new.self c.args.self.now.listener c.on_account-in-End.new.self c.args.self.now.wire c.read.new.self
-    (Read Pop seat.link room io octets) (event.Gone seat.connection) (outcome_seen x.result.outcome) seat.connection x.result.account _ (λ T. refl)
+    does_event g.V.Vault g.W.Wire g.L.Listener c.args.self.now.office x.new.self c.args.self.now.listener c.on_account-in-End.new.self c.args.self.now.wire c.read.new.self
+    (Read Pop seat.link (length c.args.buffer.now) io octets) (event.Gone seat.connection) (outcome_seen x.result.outcome) seat.connection x.result.account _ (λ T. refl)
     x.ensures.clean x.ensures.stands x.ensures.admitted x.ensures.counted x.ensures.cause x.ensures.up x.ensures.stop x.ensures.account c.read.ensures.called
     (λ h k. c.on_account-in-End.ensures.heard h (c.on_link-in-End.ensures.heard h k)) (
-      read_cut g.V.Vault o seat room io octets (event_tag_of (outcome_seen x.result.outcome)) fault,
-      polled_quiet false (Read Pop seat.link room io octets ∷ []),
+      read_cut g.V.Vault c.args.self.now.office seat (length c.args.buffer.now) io octets (event_tag_of (outcome_seen x.result.outcome)) fault,
+      polled_quiet false (Read Pop seat.link (length c.args.buffer.now) io octets ∷ []),
     )

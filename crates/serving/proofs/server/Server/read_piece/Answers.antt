@@ -92,16 +92,14 @@ returns-then-not-read_once-clause-works g c =
     let a = part.ensures.works in
     let p = c.pace_at-pace in
     let pace = p.result in
-    let refusals = links.guesses.refusals.items in
-    let quiet = looked_quiet g.V.Vault.holds c.args.self.now.office seat pace refusals part.result.count part.result.login a.calls a.facts in
+    let quiet = looked_quiet g.V.Vault.holds c.args.self.now.office seat pace links.guesses.refusals.items part.result.count part.result.login a.calls a.facts in
     let some : (part.result.count == 0) ≡ false = search rules in
-    let line : pace.by_line ≡ true → reads_by_line links.wait (may_keep links) ≡ true = λ b.
-    subst (λ w. reads_by_line w (may_keep links) ≡ true) p.ensures.pace.wait
+    let line : pace.by_line ≡ true → reads_by_line links.wait (may_keep links) ≡ true = λ b. subst (λ w. reads_by_line w (may_keep links) ≡ true) p.ensures.pace.wait
     (line_so links.guesses.are_slow links.lock_released pace.is_shut pace.wait pace.origin p.ensures.pace.shut p.ensures.fast (p.ensures.lines b)) in
     read_after g.V.Vault g.W.Wire.asked g.L.Listener.heard
     c.args.self.now.office c.read_once.new.self.office c.args.self.now.wire part.new.wire c.read_once.new.self.wire c.args.self.now.listener c.read_once.new.self.listener seat links.wait
     (reads_by_line links.wait (may_keep links)) (may_at c.args.now links seat.connection)
-    (lies_unread (newcomer seat.connection c.settle-2.new.self.newcomers.items)) pace refusals part.result.count part.result.login
+    (lies_unread (newcomer seat.connection c.settle-2.new.self.newcomers.items)) pace links.guesses.refusals.items part.result.count part.result.login
     (PollsBy false c.read_once.result) (PollsBy links.poll_now (links.poll_now || false)) a.calls
     (λ cs m. polled_quiet links.poll_now (a.calls ++ cs)) quiet a.facts some line
     (not_unread seat.connection c.args.now links.newcomers.newcomers.items c.settle-2.new.self.newcomers.items
@@ -119,8 +117,7 @@ returns-clause-works g c =
     let a = part.ensures.works in
     let p = c.pace_at-pace in
     let pace = p.result in
-    let refusals = links.guesses.refusals.items in
-    let quiet = looked_quiet g.V.Vault.holds c.args.self.now.office seat pace refusals part.result.count part.result.login a.calls a.facts in
+    let quiet = looked_quiet g.V.Vault.holds c.args.self.now.office seat pace links.guesses.refusals.items part.result.count part.result.login a.calls a.facts in
     let some : (part.result.count == 0) ≡ false = search rules in
     let line : pace.by_line ≡ true → reads_by_line links.wait (may_keep links) ≡ true = λ b.
     subst (λ w. reads_by_line w (may_keep links) ≡ true) p.ensures.pace.wait
@@ -129,7 +126,7 @@ returns-clause-works g c =
     read_after g.V.Vault g.W.Wire.asked g.L.Listener.heard
     c.args.self.now.office c.read_once.new.self.office c.args.self.now.wire part.new.wire c.read_once.new.self.wire c.args.self.now.listener c.read_once.new.self.listener seat links.wait
     (reads_by_line links.wait (may_keep links)) (may_at c.args.now links seat.connection)
-    (lies_unread (newcomer seat.connection c.note_guess.new.clients.newcomers.newcomers.items)) pace refusals part.result.count part.result.login
+    (lies_unread (newcomer seat.connection c.note_guess.new.clients.newcomers.newcomers.items)) pace links.guesses.refusals.items part.result.count part.result.login
     (PollsBy false c.read_once.result) (PollsBy links.poll_now poll_now) a.calls
     (λ cs m. polled_moved links.poll_now poll_now (a.calls ++ cs) (any_right is_moving a.calls cs (m came))) quiet a.facts some line
     (not_unread seat.connection c.args.now links.newcomers.newcomers.items c.note_guess.new.clients.newcomers.newcomers.items

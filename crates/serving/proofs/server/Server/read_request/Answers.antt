@@ -31,14 +31,13 @@ returns-in-Count-clause-asked g c = λ B start L pop others s clean.
 pub returns-in-Later-clause-asked : goal.returns-in-Later-clause-asked
 returns-in-Later-clause-asked g c = λ B start L pop others s clean.
     (let e = c.args.exchange.now in
-    let n = e.link.number in
     let told = s.is.told in
     let goes : e.is_over ≡ false = search rules in
     let held = s.is.held.0 in
     asked_still g.V.Vault.holds g.W.Wire.tells c.args.site.now B start L pop c.args.self.now.office c.args.self.now.wire c.read.new.self (AreKeptAmong others e) (AreKeptAmong others e) s
-    (waited g.W.Wire.tells B start pop others e e s.x s.log c.args.self.now.wire c.read.new.self s.is (has_read told n Later [])
-    (c.in-Later.ensures.told (record { pop = pop; admin = told }) s.is.tells) refl (λ k. none_more n k told.read) (λ k. refl) (λ k ne. refl)
-    (straight_on told n s.is.exchanged.straight held.accepted (held.live goes)) refl refl refl refl (λ _. held.live goes)))
+    (waited g.W.Wire.tells B start pop others e e s.x s.log c.args.self.now.wire c.read.new.self s.is (has_read told e.link.number Later [])
+    (c.in-Later.ensures.told (record { pop = pop; admin = told }) s.is.tells) refl (λ k. none_more e.link.number k told.read) (λ k. refl) (λ k ne. refl)
+    (straight_on told e.link.number s.is.exchanged.straight held.accepted (held.live goes)) refl refl refl refl (λ _. held.live goes)))
 
 pub returns-in-End-clause-asked : goal.returns-in-End-clause-asked
 returns-in-End-clause-asked g c = λ B start L pop others s clean.
@@ -48,27 +47,24 @@ returns-in-End-clause-asked g c = λ B start L pop others s clean.
     let io = c.read.result in
     let goes : e.is_over ≡ false = search rules in
     let none : counted io c.read.new.buffer ≡ [] = search rules in
-    let held = s.is.held.0 in
     let tells = subst (λ xs. g.W.Wire.tells c.read.new.self (record { pop = pop; admin = has_read told n io xs })) none (c.read.ensures.told (record { pop = pop; admin = told }) s.is.tells) in
     asked_still g.V.Vault.holds g.W.Wire.tells c.args.site.now B start L pop c.args.self.now.office c.args.self.now.wire c.read.new.self (AreKeptAmong others e) (AreKeptAmong others _) s
     (waited g.W.Wire.tells B start pop others e _ s.x s.log c.args.self.now.wire c.read.new.self s.is (has_read told n io [])
     tells refl (λ k. none_more n k told.read) (λ k. refl) (λ k ne. over_apart n k (is_fault io) told.over ne)
-    (straight_on told n s.is.exchanged.straight held.accepted (held.live goes)) refl refl refl refl (λ q. cc)))
+    (straight_on told n s.is.exchanged.straight s.is.held.0.accepted (s.is.held.0.live goes)) refl refl refl refl (λ q. cc)))
 
 pub returns-then-exchange-clause-works : goal.returns-then-exchange-clause-works
 returns-then-exchange-clause-works g c =
-    let e = c.args.exchange.now in
-    let over : e.is_over ≡ true = search rules in
+    let over : c.args.exchange.now.is_over ≡ true = search rules in
     did_none g.V.Vault g.W.Wire.asked c.args.self.now.office c.args.self.now.wire
-    (HeardApart g.L.Listener.heard c.args.self.now.listener c.args.self.now.listener (λ B L. HasRead c.args.site.now B L e e))
+    (HeardApart g.L.Listener.heard c.args.self.now.listener c.args.self.now.listener (λ B L. HasRead c.args.site.now B L c.args.exchange.now c.args.exchange.now))
     (λ B L. (hears_none g.L.Listener.heard c.args.self.now.listener, IsOver over refl))
 
 pub returns-then-is_some-clause-works : goal.returns-then-is_some-clause-works
 returns-then-is_some-clause-works g c =
-    let e = c.args.exchange.now in
-    let some : is_some e.response ≡ true = search rules in
+    let some : is_some c.args.exchange.now.response ≡ true = search rules in
     did_none g.V.Vault g.W.Wire.asked c.args.self.now.office c.args.self.now.wire
-    (HeardApart g.L.Listener.heard c.args.self.now.listener c.args.self.now.listener (λ B L. HasRead c.args.site.now B L e e))
+    (HeardApart g.L.Listener.heard c.args.self.now.listener c.args.self.now.listener (λ B L. HasRead c.args.site.now B L c.args.exchange.now c.args.exchange.now))
     (λ B L. (hears_none g.L.Listener.heard c.args.self.now.listener, HasResponse some refl))
 
 pub returns-in-Count-clause-works : goal.returns-in-Count-clause-works
@@ -102,20 +98,16 @@ returns-in-Count-clause-works g c =
 pub returns-in-Later-clause-works : goal.returns-in-Later-clause-works
 returns-in-Later-clause-works g c =
     let e = c.args.exchange.now in
-    let w = c.args.self.now.wire in
-    let w1 = c.read.new.self in
     let call = Read Admin e.link 4096 Later [] in
     let none : e.response ≡ None = search rules in
-    did_asked g.V.Vault g.W.Wire.asked c.args.self.now.office w w1
+    did_asked g.V.Vault g.W.Wire.asked c.args.self.now.office c.args.self.now.wire c.read.new.self
     (IsOne call) (HeardApart g.L.Listener.heard c.args.self.now.listener c.args.self.now.listener (λ B L. HasRead c.args.site.now B L e e))
     (λ B L cs is. (hears_none g.L.Listener.heard c.args.self.now.listener, subst (HasRead c.args.site.now B L e e []) (sym is) (GaveNothing none refl)))
-    (asks_one g.W.Wire.asked w w1 call (IsOne call) (quiet_read e.link 4096 Later []) refl c.in-Later.ensures.called)
+    (asks_one g.W.Wire.asked c.args.self.now.wire c.read.new.self call (IsOne call) (quiet_read e.link 4096 Later []) refl c.in-Later.ensures.called)
 
 pub returns-in-End-clause-works : goal.returns-in-End-clause-works
 returns-in-End-clause-works g c =
     let e = c.args.exchange.now in
-    let w = c.args.self.now.wire in
-    let w1 = c.read.new.self in
     let io = c.read.result in
     let octets = counted io c.read.new.buffer in
     let call = Read Admin e.link 4096 io octets in
@@ -123,10 +115,10 @@ returns-in-End-clause-works g c =
     let fault : is_fault io ≡ true = search rules in
     let empty : octets ≡ [] = search rules in
     let e2 : Exchange = record { link = e.link; since = e.since; read = e.read; response = e.response; written = e.written; is_over = true } in
-    did_asked g.V.Vault g.W.Wire.asked c.args.self.now.office w w1
+    did_asked g.V.Vault g.W.Wire.asked c.args.self.now.office c.args.self.now.wire c.read.new.self
     (IsOne call) (HeardApart g.L.Listener.heard c.args.self.now.listener c.args.self.now.listener (λ B L. HasRead c.args.site.now B L e e2))
     (λ B L cs is. (
       hears_none g.L.Listener.heard c.args.self.now.listener,
       subst (HasRead c.args.site.now B L e e2 []) (sym is) (subst (λ xs. HasRead c.args.site.now B L e e2 [] (Read Admin e.link 4096 io xs ∷ [])) (sym empty) (GaveItsEnd io none fault refl)),
     ))
-    (asks_one g.W.Wire.asked w w1 call (IsOne call) (quiet_read e.link 4096 io octets) refl c.read.ensures.called)
+    (asks_one g.W.Wire.asked c.args.self.now.wire c.read.new.self call (IsOne call) (quiet_read e.link 4096 io octets) refl c.read.ensures.called)

@@ -87,10 +87,9 @@ returns-clause-works g c = λ wire asked T s clean.
     (let Holds = g.V.Vault.holds in
     let IsClean = g.V.Vault.is_clean in
     let Asked = g.W.Wire.asked in
-    let same = c.accept_admin_links.ensures.works.1.office in
     let late_clean = clean_same IsClean _ _ c.close_links.ensures.works.office (c.serve_spool.ensures.works.part.was_given.clean clean) in
     let links_clean = c.serve_requests.ensures.works.was_given.clean (c.end_late_ones.ensures.works.part.was_given.clean late_clean) in
-    let passed_clean = c.accept_links.ensures.works.1.was_given.clean (clean_same IsClean _ _ same (c.serve_links.ensures.works.was_given.clean links_clean)) in
+    let passed_clean = c.accept_links.ensures.works.1.was_given.clean (clean_same IsClean _ _ c.accept_admin_links.ensures.works.1.office (c.serve_links.ensures.works.was_given.clean links_clean)) in
     let links = c.args.links.now in
     let old = links.clients in
     let now = c.args.now in
@@ -128,8 +127,7 @@ returns-clause-works g c = λ wire asked T s clean.
     let passed = passed_by g.V.Vault Asked c.args.self.now.office o1 wire c.args.self.now.wire w1
     (Waited (millis_of links)) now asked ticked in
     let untold = subst (λ gv. HasHeard Heard l l0 (heard_of_all T.base T.log gv)) c.tick.ensures.works.facts.1.given_is (c.tick.ensures.works.facts.0.is T.base T.log s passed_clean) in
-    let turned = subst (λ set. Part g.V.Vault Asked o2 w3 o3 w4
-    (WithHeard Holds IsClean Heard o2 l2 o3 l3
+    let turned = subst (λ set. Part g.V.Vault Asked o2 w3 o3 w4 (WithHeard Holds IsClean Heard o2 l2 o3 l3
     (Also (WereServed Holds IsClean o2 o3 set now came.newcomers.newcomers.items served.lock_released preparing served.poll_now served.newcomers.newcomers.items seats2 seats2)
     (PollsBy (preparing || served.lock_released) served.poll_now)))) c.accept_links.ensures.comers.keeps.set
     (subst (λ b. Part g.V.Vault Asked o2 w3 o3 w4
@@ -139,7 +137,7 @@ returns-clause-works g c = λ wire asked T s clean.
     (subst (λ o. Part g.V.Vault Asked o w3 o3 w4
     (WithHeard Holds IsClean Heard o l2 o3 l3
     (Also (WereServed Holds IsClean o o3 (settings_of came) now came.newcomers.newcomers.items served.lock_released preparing served.poll_now served.newcomers.newcomers.items seats2 seats2)
-    (PollsBy (came.poll_now || (preparing || served.lock_released)) served.poll_now)))) same c.serve_links.ensures.works)) in
+    (PollsBy (came.poll_now || (preparing || served.lock_released)) served.poll_now)))) c.accept_admin_links.ensures.works.1.office c.serve_links.ensures.works)) in
     let settled = c.serve_links.ensures.settled in
     let set = c.serve_links.ensures.keeps.keeps.set ∙ c.accept_links.ensures.comers.keeps.set in
     let most = limit links (length seats2) in
@@ -195,8 +193,7 @@ returns-clause-works g c = λ wire asked T s clean.
     × PollsBy served.poll_now c.close_links.new.clients.poll_now calls × PollsAfterClosing old.wait c.close_links.new.clients.poll_now calls)) same_wire
     (subst (λ v. Asking Asked c.end_late_ones.new.self.wire w6
     (λ calls. AreClosed U v.items c.serve_spool.new.clients.seats.items calls × PollsBy served.poll_now c.close_links.new.clients.poll_now calls
-    × PollsAfterClosing old.wait c.close_links.new.clients.poll_now calls)) seats_same
-    (subst (λ v. Asking Asked c.end_late_ones.new.self.wire w6
+    × PollsAfterClosing old.wait c.close_links.new.clients.poll_now calls)) seats_same (subst (λ v. Asking Asked c.end_late_ones.new.self.wire w6
     (λ calls. AreClosed U ended.seats.items v.items calls × PollsBy served.poll_now c.close_links.new.clients.poll_now calls × PollsAfterClosing old.wait c.close_links.new.clients.poll_now calls))
     (sym c.serve_spool.ensures.keeps.seats)
     (subst (λ n. Asking Asked c.end_late_ones.new.self.wire w6

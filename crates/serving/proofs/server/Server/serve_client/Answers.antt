@@ -12,14 +12,13 @@ use Rattle.serving.proofs.server.Server.serve_client.Goals as goal
 
 pub returns-clause-keeps : goal.returns-clause-keeps
 returns-clause-keeps g c =
-    let x = c.serve_link-more in
-    let a = x.ensures.keeps in
+    let a = c.serve_link-more.ensures.keeps in
     let b = c.note_release.ensures.keeps in
     record {
       keeps = record {
         set = b.keeps.set ∙ a.keeps.set;
         last = b.keeps.last ∙ a.keeps.last;
-        polled = λ e. b.keeps.polled (is_left x.new.clients.poll_now x.result (a.keeps.polled e));
+        polled = λ e. b.keeps.polled (is_left c.serve_link-more.new.clients.poll_now c.serve_link-more.result (a.keeps.polled e));
         pacing = λ h. b.keeps.pacing (a.keeps.pacing h);
       };
       seats = b.seats ∙ a.seats;

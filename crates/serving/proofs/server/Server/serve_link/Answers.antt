@@ -14,17 +14,14 @@ use Rattle.serving.proofs.server.Server.serve_link.Goals as goal
 
 pub returns-then-write_owed-clause-works : goal.returns-then-write_owed-clause-works
 returns-then-write_owed-clause-works g c =
-    let Holds = g.V.Vault.holds in
-    let IsClean = g.V.Vault.is_clean in
     let s = c.args.self.now in
     let x = c.write_owed in
     let s1 = x.new.self in
     let clients = c.args.clients.now in
-    let was = c.args.quits.now.is_preparing in
-    let way = way_at c.args.now clients was (clients.poll_now || true) in
+    let way = way_at c.args.now clients c.args.quits.now.is_preparing (clients.poll_now || true) in
     let goes : x.result ≡ true = search rules in
-    let out = subst (λ b. Does g.V.Vault g.W.Wire g.L.Listener s s1 (IsWrittenOut Holds IsClean s.office s1.office c.args.seat way.share b)) goes
-    (subst (λ n. Does g.V.Vault g.W.Wire g.L.Listener s s1 (IsWrittenOut Holds IsClean s.office s1.office c.args.seat n x.result)) c.share_of-share.ensures x.ensures.works) in
+    let out = subst (λ b. Does g.V.Vault g.W.Wire g.L.Listener s s1 (IsWrittenOut g.V.Vault.holds g.V.Vault.is_clean s.office s1.office c.args.seat way.share b)) goes
+    (subst (λ n. Does g.V.Vault g.W.Wire g.L.Listener s s1 (IsWrittenOut g.V.Vault.holds g.V.Vault.is_clean s.office s1.office c.args.seat n x.result)) c.share_of-share.ensures x.ensures.works) in
     does_so g.V.Vault g.W.Wire g.L.Listener s s1 _ _ (λ gv cl wa a. (
       record {
         turns = served_written g.V.Vault s.office s1.office way c.settle.new.self.newcomers.items c.args.seat gv cl (or_true clients.poll_now)
@@ -32,13 +29,11 @@ returns-then-write_owed-clause-works g c =
         served = serves_less c.args.seat 0 64 1 128 gv cl (omega arith) (omega arith) a.served;
         awaits = λ e. inl e;
       },
-      polled_moved (clients.poll_now || was) (clients.poll_now || true) cl (shared_moved c.args.seat.link (length clients.seats.items) cl (a.goes_on refl)),
+      polled_moved (clients.poll_now || c.args.quits.now.is_preparing) (clients.poll_now || true) cl (shared_moved c.args.seat.link (length clients.seats.items) cl (a.goes_on refl)),
     )) out
 
 pub returns-then-keeps_quit-clause-works : goal.returns-then-keeps_quit-clause-works
 returns-then-keeps_quit-clause-works g c =
-    let Holds = g.V.Vault.holds in
-    let IsClean = g.V.Vault.is_clean in
     let s = c.args.self.now in
     let seat = c.args.seat in
     let x = c.write_owed in
@@ -51,8 +46,8 @@ returns-then-keeps_quit-clause-works g c =
     let clients = c.args.clients.now in
     let noted = c.settle-then-keeps_quit.new.self.newcomers.items in
     let way = way_at c.args.now clients q.new.quits.is_preparing (clients.poll_now || true) in
-    let out = subst (λ b. Does g.V.Vault g.W.Wire g.L.Listener s s1 (IsWrittenOut Holds IsClean s.office s1.office seat way.share b)) ends
-    (subst (λ n. Does g.V.Vault g.W.Wire g.L.Listener s s1 (IsWrittenOut Holds IsClean s.office s1.office seat n x.result)) c.share_of-share.ensures x.ensures.works) in
+    let out = subst (λ b. Does g.V.Vault g.W.Wire g.L.Listener s s1 (IsWrittenOut g.V.Vault.holds g.V.Vault.is_clean s.office s1.office seat way.share b)) ends
+    (subst (λ n. Does g.V.Vault g.W.Wire g.L.Listener s s1 (IsWrittenOut g.V.Vault.holds g.V.Vault.is_clean s.office s1.office seat n x.result)) c.share_of-share.ensures x.ensures.works) in
     does_then g.V.Vault g.W.Wire g.L.Listener s s1 s2 _ _ _
     (λ g1 g2 c1 c2 wa wb a b. (
       record {
@@ -67,8 +62,6 @@ returns-then-keeps_quit-clause-works g c =
 
 pub returns-then-not-read_piece-clause-works : goal.returns-then-not-read_piece-clause-works
 returns-then-not-read_piece-clause-works g c =
-    let Holds = g.V.Vault.holds in
-    let IsClean = g.V.Vault.is_clean in
     let s = c.args.self.now in
     let seat = c.args.seat in
     let x = c.write_owed in
@@ -76,7 +69,6 @@ returns-then-not-read_piece-clause-works g c =
     let y = c.read_piece in
     let s1 = x.new.self in
     let sq = q.new.self in
-    let s2 = y.new.self in
     let noted = y.new.clients in
     let was = c.args.quits.now.is_preparing in
     let now = q.new.quits.is_preparing in
@@ -85,15 +77,15 @@ returns-then-not-read_piece-clause-works g c =
     let ends : x.result ≡ false = search rules in
     let clients = c.args.clients.now in
     let way = way_at c.args.now clients now (noted.poll_now || false) in
-    let written = subst (λ b. Does g.V.Vault g.W.Wire g.L.Listener s s1 (IsWrittenOut Holds IsClean s.office s1.office seat way.share b)) ends
-    (subst (λ n. Does g.V.Vault g.W.Wire g.L.Listener s s1 (IsWrittenOut Holds IsClean s.office s1.office seat n x.result)) c.share_of-share.ensures x.ensures.works) in
-    let out : Does g.V.Vault g.W.Wire g.L.Listener s sq (IsWrittenOut Holds IsClean s.office sq.office seat way.share false) =
+    let written = subst (λ b. Does g.V.Vault g.W.Wire g.L.Listener s s1 (IsWrittenOut g.V.Vault.holds g.V.Vault.is_clean s.office s1.office seat way.share b)) ends
+    (subst (λ n. Does g.V.Vault g.W.Wire g.L.Listener s s1 (IsWrittenOut g.V.Vault.holds g.V.Vault.is_clean s.office s1.office seat n x.result)) c.share_of-share.ensures x.ensures.works) in
+    let out : Does g.V.Vault g.W.Wire g.L.Listener s sq (IsWrittenOut g.V.Vault.holds g.V.Vault.is_clean s.office sq.office seat way.share false) =
     does_then g.V.Vault g.W.Wire g.L.Listener s s1 sq _ _ _
     (λ g1 g2 c1 c2 wa wb a b. written_looked g.V.Vault s.office s1.office sq.office seat way.share g1 g2 c1 c2 q.result wb.clean a b) written q.ensures.works in
-    does_then g.V.Vault g.W.Wire g.L.Listener s sq s2 _ _ _
+    does_then g.V.Vault g.W.Wire g.L.Listener s sq y.new.self _ _ _
     (λ g1 g2 c1 c2 wa wb a b. (
       record {
-        turns = served_one g.V.Vault s.office sq.office s2.office way noted.newcomers.newcomers.items seat g1 g2 c1 c2 wa wb a b.0;
+        turns = served_one g.V.Vault s.office sq.office y.new.self.office way noted.newcomers.newcomers.items seat g1 g2 c1 c2 wa wb a b.0;
         served = serves_less seat (0 + 1) (64 + 0) 1 128 _ _ (omega arith) (omega arith) (serves_then seat 0 64 1 0 g1 g2 c1 c2 a.served b.0.served);
         awaits = λ e. inl (prepared_before was now q.result unkept q.ensures.prepares e);
       },
@@ -156,8 +148,7 @@ returns-then-write_owed-clause-prepares g c = prepares_same c.args.quits.now.is_
 
 pub returns-then-keeps_quit-clause-prepares : goal.returns-then-keeps_quit-clause-prepares
 returns-then-keeps_quit-clause-prepares g c =
-    let q = c.keeps_quit in
-    prepares_polled c.args.quits.now.is_preparing q.new.quits.is_preparing q.result _ (λ e. or_true c.args.clients.now.poll_now) q.ensures.prepares
+    prepares_polled c.args.quits.now.is_preparing c.keeps_quit.new.quits.is_preparing c.keeps_quit.result _ (λ e. or_true c.args.clients.now.poll_now) c.keeps_quit.ensures.prepares
 
 pub returns-then-not-read_piece-clause-prepares : goal.returns-then-not-read_piece-clause-prepares
 returns-then-not-read_piece-clause-prepares g c =

@@ -96,14 +96,12 @@ loop-place-preserved g c =
 
 pub returns-clause-works : goal.returns-clause-works
 returns-clause-works g c =
-    let s = c.args.self.now in
     let k = c.loop-place in
-    let old = c.args.clients.now in
     let done : length k.clients.seats.items ≤ k.place = search rules in
-    does_so g.V.Vault g.W.Wire g.L.Listener s k.self _ _ (λ gv cl wa a. (
-      were_whole g.V.Vault s.office k.self.office
-          (settings_of old) c.args.now old.newcomers.newcomers.items
-          k.clients.lock_released k.quits.is_preparing k.clients.poll_now k.clients.newcomers.newcomers.items old.seats.items k.clients.seats.items k.place gv cl
+    does_so g.V.Vault g.W.Wire g.L.Listener c.args.self.now k.self _ _ (λ gv cl wa a. (
+      were_whole g.V.Vault c.args.self.now.office k.self.office
+          (settings_of c.args.clients.now) c.args.now c.args.clients.now.newcomers.newcomers.items
+          k.clients.lock_released k.quits.is_preparing k.clients.poll_now k.clients.newcomers.newcomers.items c.args.clients.now.seats.items k.clients.seats.items k.place gv cl
           (ap (λ v. v.items) k.invariant.keeps.seats) done a.0,
       a.1,
     )) k.invariant.works

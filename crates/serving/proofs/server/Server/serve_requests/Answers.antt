@@ -29,7 +29,6 @@ loop-place-preserved-then-serve_place g c =
     let k = c.loop-place in
     let x = c.serve_place in
     let now = c.args.now in
-    let xs = c.args.requests.now.exchanges.items in
     let ys = k.requests.exchanges.items in
     let zs = x.new.requests.exchanges.items in
     let l = c.args.self.now.listener in
@@ -38,22 +37,18 @@ loop-place-preserved-then-serve_place g c =
       asked = λ B start L pop s clean. x.ensures.asked B start L pop (k.invariant.asked B start L pop s (x.ensures.works.was_given.clean clean)) clean;
       stay = one_more c.args.now k.requests.exchanges.items x.new.requests.exchanges.items k.place x.ensures.held.before (x.ensures.held.goes_on c.if-serve_place.true) k.invariant.stay;
       no_more = (let a = x.ensures.left in let b = k.invariant.no_more in omega (arith, a, b));
-      works =
-          (let one = subst (λ b. ServesApart g.V.Vault g.W.Wire g.L.Listener k.self x.new.self (PollsBy k.requests.poll_now x.new.requests.poll_now)
+      works = (let one = subst (λ b. ServesApart g.V.Vault g.W.Wire g.L.Listener k.self x.new.self (PollsBy k.requests.poll_now x.new.requests.poll_now)
           (λ B L. HadHttpTurns c.args.site.now now B L (take 1 (drop k.place ys)) (take (if b then 1 else 0) (drop k.place zs)))) so x.ensures.works in
-          also_then g.V.Vault g.W.Wire.asked c.args.self.now.office
-          k.self.office x.new.self.office c.args.self.now.wire k.self.wire x.new.self.wire
-          (HeardApart g.L.Listener.heard l k.self.listener (HadSome c.args.site.now now k.place xs ys))
+          also_then g.V.Vault g.W.Wire.asked c.args.self.now.office k.self.office x.new.self.office c.args.self.now.wire k.self.wire x.new.self.wire
+          (HeardApart g.L.Listener.heard l k.self.listener (HadSome c.args.site.now now k.place c.args.requests.now.exchanges.items ys))
           (HeardApart g.L.Listener.heard k.self.listener x.new.self.listener (λ B L. HadHttpTurns c.args.site.now now B L (take 1 (drop k.place ys)) (take 1 (drop k.place zs))))
-          (HeardApart g.L.Listener.heard l x.new.self.listener (HadSome c.args.site.now now (k.place + 1) xs zs)) (PollsBy false k.requests.poll_now)
+          (HeardApart g.L.Listener.heard l x.new.self.listener (HadSome c.args.site.now now (k.place + 1) c.args.requests.now.exchanges.items zs)) (PollsBy false k.requests.poll_now)
           (PollsBy k.requests.poll_now x.new.requests.poll_now) (PollsBy false x.new.requests.poll_now)
           (λ B L g1 g2 c1 c2 a turn. (
             apart_then g.L.Listener.heard l k.self.listener x.new.self.listener B L g1 g2 a.0 turn.0,
-            had_held c.args.site.now now k.place xs ys zs B L g1 g2 c1 c2 a.1 turn.1 x.ensures.held.before
+            had_held c.args.site.now now k.place c.args.requests.now.exchanges.items ys zs B L g1 g2 c1 c2 a.1 turn.1 x.ensures.held.before
                 (subst (λ b. drop (if b then k.place + 1 else k.place) zs ≡ drop (k.place + 1) ys) so x.ensures.held.behind),
-          ))
-          (polled_then false k.requests.poll_now x.new.requests.poll_now)
-          k.invariant.works one);
+          )) (polled_then false k.requests.poll_now x.new.requests.poll_now) k.invariant.works one);
     }
 
 pub loop-place-preserved : goal.loop-place-preserved
@@ -61,10 +56,8 @@ loop-place-preserved g c =
     let k = c.loop-place in
     let x = c.serve_place in
     let now = c.args.now in
-    let xs = c.args.requests.now.exchanges.items in
     let ys = k.requests.exchanges.items in
     let zs = x.new.requests.exchanges.items in
-    let l = c.args.self.now.listener in
     let so : x.result ≡ false = search rules in
     record {
       asked = λ B start L pop s clean. x.ensures.asked B start L pop (k.invariant.asked B start L pop s (x.ensures.works.was_given.clean clean)) clean;
@@ -75,13 +68,13 @@ loop-place-preserved g c =
           (λ B L. HadHttpTurns c.args.site.now now B L (take 1 (drop k.place ys)) (take (if b then 1 else 0) (drop k.place zs)))) so x.ensures.works in
           also_then g.V.Vault g.W.Wire.asked c.args.self.now.office
           k.self.office x.new.self.office c.args.self.now.wire k.self.wire x.new.self.wire
-          (HeardApart g.L.Listener.heard l k.self.listener (HadSome c.args.site.now now k.place xs ys))
+          (HeardApart g.L.Listener.heard c.args.self.now.listener k.self.listener (HadSome c.args.site.now now k.place c.args.requests.now.exchanges.items ys))
           (HeardApart g.L.Listener.heard k.self.listener x.new.self.listener (λ B L. HadHttpTurns c.args.site.now now B L (take 1 (drop k.place ys)) []))
-          (HeardApart g.L.Listener.heard l x.new.self.listener (HadSome c.args.site.now now k.place xs zs)) (PollsBy false k.requests.poll_now)
+          (HeardApart g.L.Listener.heard c.args.self.now.listener x.new.self.listener (HadSome c.args.site.now now k.place c.args.requests.now.exchanges.items zs)) (PollsBy false k.requests.poll_now)
           (PollsBy k.requests.poll_now x.new.requests.poll_now) (PollsBy false x.new.requests.poll_now)
           (λ B L g1 g2 c1 c2 a turn. (
-            apart_then g.L.Listener.heard l k.self.listener x.new.self.listener B L g1 g2 a.0 turn.0,
-            had_closed c.args.site.now now k.place xs ys zs B L g1 g2 c1 c2 a.1 turn.1 x.ensures.held.before
+            apart_then g.L.Listener.heard c.args.self.now.listener k.self.listener x.new.self.listener B L g1 g2 a.0 turn.0,
+            had_closed c.args.site.now now k.place c.args.requests.now.exchanges.items ys zs B L g1 g2 c1 c2 a.1 turn.1 x.ensures.held.before
                 (subst (λ b. drop (if b then k.place + 1 else k.place) zs ≡ drop (k.place + 1) ys) so x.ensures.held.behind),
           ))
           (polled_then false k.requests.poll_now x.new.requests.poll_now)

@@ -64,8 +64,7 @@ loop-turn-preserved g c =
       turned = (
         m.0 ++ now ∷ [],
         one_longer m.0 now k._turn m.1,
-        subst (λ w. HasTurned g.V.Vault g.W.Wire.asked g.S.Spool.asked g.L.Listener.heard g.C.Clock.gave false
-            (m.0 ++ now ∷ [])
+        subst (λ w. HasTurned g.V.Vault g.W.Wire.asked g.S.Spool.asked g.L.Listener.heard g.C.Clock.gave false (m.0 ++ now ∷ [])
             c.args.links.now c.args.self.now.office c.args.self.now.wire c.args.spool.now c.args.self.now.listener c.args.clock.now l3 o3 w
             y.new.spool y.new.self.listener c.moment.new.self) (sym y.ensures.wire)
             (subst (λ h. HasTurned g.V.Vault g.W.Wire.asked g.S.Spool.asked g.L.Listener.heard g.C.Clock.gave false
@@ -121,5 +120,4 @@ returns-clause-runs g c =
     let m = k.invariant.turned in
     let most : k._turn ≤ c.args.most = search rules in
     let all : c.args.most ≤ k._turn = search rules in
-    let count = m.1 in
-    record { moments = m.0; stopped = false; wire_left = k.self.wire; turned = m.2; last = refl; within = omega (arith, most, count); all = λ e. omega (arith, most, all, count) }
+    record { moments = m.0; stopped = false; wire_left = k.self.wire; turned = m.2; last = refl; within = omega (arith, most, m.1); all = λ e. omega (arith, most, all, m.1) }

@@ -27,10 +27,9 @@ pub returns-in-Rename-clause-tried : goal.returns-in-Rename-clause-tried
 returns-in-Rename-clause-tried g c = λ T acts s h clean.
     (let n = c.args.name.now in
     let text = c.in-Some.text.items in
-    let read = acts ++ WasRead n text ∷ [] in
     tried_one g.V.Vault.holds g.S.Spool.tells T acts c.step.new.self c.rename.new.self (lent_by c.args.self.now.office) n c.as_slice.result.now text (outcome_seen c.step.result) disposal.Rename _
     c.as_slice.ensures.value (sym c.in-Rename.is ∙ c.disposal_by-fate.ensures) (c.step.ensures.outcome T s clean) (c.step.ensures.stands T s clean) (c.step.ensures.admitted T s clean)
-    (c.rename.ensures.told read (c.in-Some.ensures.told acts h)) (filed_if n text disposal.Rename acts (WasRenamed n) c.rename.result refl))
+    (c.rename.ensures.told (acts ++ WasRead n text ∷ []) (c.in-Some.ensures.told acts h)) (filed_if n text disposal.Rename acts (WasRenamed n) c.rename.result refl))
 
 pub returns-clause-tried : goal.returns-clause-tried
 returns-clause-tried g c = λ T acts s h clean.
@@ -52,7 +51,6 @@ returns-in_default-clause-works g c =
 
 pub returns-in-Remove-clause-works : goal.returns-in-Remove-clause-works
 returns-in-Remove-clause-works g c =
-    let o = c.args.self.now.office in
     let o1 = c.step.new.self in
     let out = outcome_seen c.step.result in
     let n = c.args.name.now in
@@ -60,10 +58,10 @@ returns-in-Remove-clause-works g c =
       wire = refl;
       listener = refl;
       part =
-          tries_read g.V.Vault g.S.Spool.asked o o1 c.args.spool.now c.read.new.self c.remove.new.self
-          (lent_by o) n c.as_slice.result.now c.in-Some.text.items out disposal.Remove c.remove.result c.remove.result (dealt_so c.remove.result)
+          tries_read g.V.Vault g.S.Spool.asked c.args.self.now.office o1 c.args.spool.now c.read.new.self c.remove.new.self
+          (lent_by c.args.self.now.office) n c.as_slice.result.now c.in-Some.text.items out disposal.Remove c.remove.result c.remove.result (dealt_so c.remove.result)
           c.as_slice.ensures.value (sym c.in-Remove.is ∙ c.disposal_by-fate.ensures)
-          (given_one g.V.Vault o o1 _
+          (given_one g.V.Vault c.args.self.now.office o1 _
           (outcome_seen c.step.result) c.step.ensures.clean c.step.ensures.stands c.step.ensures.admitted c.step.ensures.counted c.step.ensures.cause c.step.ensures.up c.step.ensures.stop)
           c.step.ensures.outcome c.in-Some.ensures.called c.remove.ensures.called;
     }
@@ -71,35 +69,28 @@ returns-in-Remove-clause-works g c =
 pub returns-in-Rename-clause-works : goal.returns-in-Rename-clause-works
 returns-in-Rename-clause-works g c =
     let o = c.args.self.now.office in
-    let o1 = c.step.new.self in
-    let out = outcome_seen c.step.result in
-    let n = c.args.name.now in
     record {
       wire = refl;
       listener = refl;
       part =
-          tries_read g.V.Vault g.S.Spool.asked o o1 c.args.spool.now c.read.new.self c.rename.new.self
-          (lent_by o) n c.as_slice.result.now c.in-Some.text.items out disposal.Rename c.rename.result c.rename.result (dealt_so c.rename.result)
+          tries_read g.V.Vault g.S.Spool.asked o c.step.new.self c.args.spool.now c.read.new.self c.rename.new.self
+          (lent_by o) c.args.name.now c.as_slice.result.now c.in-Some.text.items (outcome_seen c.step.result) disposal.Rename c.rename.result c.rename.result (dealt_so c.rename.result)
           c.as_slice.ensures.value (sym c.in-Rename.is ∙ c.disposal_by-fate.ensures)
-          (given_one g.V.Vault o o1 _
+          (given_one g.V.Vault o c.step.new.self _
           (outcome_seen c.step.result) c.step.ensures.clean c.step.ensures.stands c.step.ensures.admitted c.step.ensures.counted c.step.ensures.cause c.step.ensures.up c.step.ensures.stop)
           c.step.ensures.outcome c.in-Some.ensures.called c.rename.ensures.called;
     }
 
 pub returns-clause-works : goal.returns-clause-works
 returns-clause-works g c =
-    let o = c.args.self.now.office in
-    let o1 = c.step.new.self in
-    let out = outcome_seen c.step.result in
-    let n = c.args.name.now in
     record {
       wire = refl;
       listener = refl;
       part =
-          tries_read g.V.Vault g.S.Spool.asked o o1 c.args.spool.now c.read.new.self c.read.new.self
-          (lent_by o) n c.as_slice.result.now c.in-Some.text.items out disposal.Leave false false refl
+          tries_read g.V.Vault g.S.Spool.asked c.args.self.now.office c.step.new.self c.args.spool.now c.read.new.self c.read.new.self
+          (lent_by c.args.self.now.office) c.args.name.now c.as_slice.result.now c.in-Some.text.items (outcome_seen c.step.result) disposal.Leave false false refl
           c.as_slice.ensures.value (sym c.in-Leave.is ∙ c.disposal_by-fate.ensures)
-          (given_one g.V.Vault o o1 _
+          (given_one g.V.Vault c.args.self.now.office c.step.new.self _
           (outcome_seen c.step.result) c.step.ensures.clean c.step.ensures.stands c.step.ensures.admitted c.step.ensures.counted c.step.ensures.cause c.step.ensures.up c.step.ensures.stop)
           c.step.ensures.outcome c.in-Some.ensures.called (λ before k. subst (g.S.Spool.asked c.read.new.self) (sym (append-nil before)) k);
     }

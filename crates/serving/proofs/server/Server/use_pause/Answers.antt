@@ -17,14 +17,13 @@ pub returns-then-prepare_file-clause-pauses : goal.returns-then-prepare_file-cla
 returns-then-prepare_file-clause-pauses g c =
     let coming : c.prepare_file.result ≡ true = search rules in
     let o = c.args.self.now.office in
-    let o1 = c.prepare_file.new.self.office in
     record {
       is_coming = true;
       links_are = refl;
       asked_files = c.prepare_file.ensures.spool.called;
       maintains =
-          file_maintains g.V.Vault c.args.quits.now.is_preparing true _ o o1 refl
-          (subst (λ b. PreparesFile g.V.Vault b o o1) coming c.prepare_file.ensures.prepares);
+          file_maintains g.V.Vault c.args.quits.now.is_preparing true _ o c.prepare_file.new.self.office refl
+          (subst (λ b. PreparesFile g.V.Vault b o c.prepare_file.new.self.office) coming c.prepare_file.ensures.prepares);
     }
 
 pub returns-clause-pauses : goal.returns-clause-pauses
@@ -33,10 +32,9 @@ returns-clause-pauses g c =
     let waits : c.poll_now.result ≡ false = search rules in
     let p = c.args.quits.now.is_preparing in
     let l = c.args.links.now in
-    let o = c.args.self.now.office in
     let o1 = c.prepare_file.new.self.office in
     let o2 = c.maintain.new.self in
-    let same : o1 ≡ o = file_idle g.V.Vault o o1 (subst (λ b. PreparesFile g.V.Vault b o o1) none c.prepare_file.ensures.prepares) in
+    let same : o1 ≡ c.args.self.now.office = file_idle g.V.Vault c.args.self.now.office o1 (subst (λ b. PreparesFile g.V.Vault b c.args.self.now.office o1) none c.prepare_file.ensures.prepares) in
     record {
       is_coming = false;
       links_are = refl;

@@ -52,21 +52,18 @@ returns-in-Count-clause-serves g c = λ seats these has before T elsewhere s cle
 pub returns-in-Later-clause-serves : goal.returns-in-Later-clause-serves
 returns-in-Later-clause-serves g c = λ seats these has before T elsewhere s clean.
     (let lent = c.owed-lent.result.now in
-    let number = c.args.seat.link.number in
-    let connection = c.args.seat.connection in
-    let now = trace_of T.base s.log in
     let no : c.is_empty.result ≡ false = search rules in
     let some = lent_some c.is_empty.result (length lent) c.is_empty.ensures no in
-    let here = lent_open now connection (length lent) lent (c.owed-lent.ensures.lent now s.stands) some (omega arith) in
+    let here = lent_open (trace_of T.base s.log) c.args.seat.connection (length lent) lent (c.owed-lent.ensures.lent (trace_of T.base s.log) s.stands) some (omega arith) in
     let at_k = seat_owns s.owner seats c.args.seat has s.seated.own in
     record {
       log = s.log;
-      told = has_written s.told number Later [];
+      told = has_written s.told c.args.seat.link.number Later [];
       owner = s.owner;
       stands = s.stands;
       admitted = s.admitted;
       tells = c.in-Later.ensures.told (record { pop = s.told; admin = elsewhere.admin }) s.tells;
-      served = served_written_none s.told s.owner T.base s.log number connection s.served at_k here;
+      served = served_written_none s.told s.owner T.base s.log c.args.seat.link.number c.args.seat.connection s.served at_k here;
       seated = s.seated;
       adds = s.adds;
     })
@@ -103,39 +100,34 @@ returns-in-End-clause-serves g c = λ seats these has before T elsewhere s clean
 
 pub returns-then-is_empty-clause-works : goal.returns-then-is_empty-clause-works
 returns-then-is_empty-clause-works g c =
-    let o = c.args.self.now.office in
-    let seat = c.args.seat in
     let e : c.is_empty.result ≡ true = search rules in
     does_none g.V.Vault g.W.Wire g.L.Listener c.args.self.now _
-    (wrote_none g.V.Vault o seat
-    (λ B L s k. nothing_left (rest (trace_of B L) seat.connection) (length c.owed-lent.result.now) c.is_empty.result (c.owed-lent.ensures.exact (trace_of B L) s) c.is_empty.ensures e))
+    (wrote_none g.V.Vault c.args.self.now.office c.args.seat
+    (λ B L s k. nothing_left (rest (trace_of B L) c.args.seat.connection) (length c.owed-lent.result.now) c.is_empty.result (c.owed-lent.ensures.exact (trace_of B L) s) c.is_empty.ensures e))
 
 pub returns-in-Count-clause-works : goal.returns-in-Count-clause-works
 returns-in-Count-clause-works g c =
-    let o = c.args.self.now.office in
     let seat = c.args.seat in
     let n = c.in-Count.count in
     let lent = c.owed-lent.result.now in
     let x = c.step_with_account-report in
-    does_event g.V.Vault g.W.Wire g.L.Listener o x.new.self c.args.self.now.listener c.on_account.new.self c.args.self.now.wire c.write.new.self
+    does_event g.V.Vault g.W.Wire g.L.Listener c.args.self.now.office x.new.self c.args.self.now.listener c.on_account.new.self c.args.self.now.wire c.write.new.self
     (Wrote Pop seat.link (length lent) (Count n) (take n lent)) (event.Took seat.connection n) (outcome_seen x.result.outcome) seat.connection x.result.account _ (λ T. refl)
     x.ensures.clean x.ensures.stands x.ensures.admitted x.ensures.counted x.ensures.cause x.ensures.up x.ensures.stop x.ensures.account c.in-Count.ensures.called c.on_account.ensures.heard
-    (wrote_some g.V.Vault o x.new.self seat (length lent) n
+    (wrote_some g.V.Vault c.args.self.now.office x.new.self seat (length lent) n
     (take n lent) (event_tag_of (outcome_seen x.result.outcome)) c.in-Count.ensures.within.0 (λ B L s. c.owed-lent.ensures.exact (trace_of B L) s))
 
 pub returns-in-Later-clause-works : goal.returns-in-Later-clause-works
 returns-in-Later-clause-works g c =
     let o = c.args.self.now.office in
-    let seat = c.args.seat in
     let lent = c.owed-lent.result.now in
-    does_call g.V.Vault g.W.Wire g.L.Listener o c.args.self.now.listener c.args.self.now.wire c.write.new.self (Wrote Pop seat.link (length lent) Later []) _ c.in-Later.ensures.called
-    (wrote_later g.V.Vault o seat (length lent) [] (λ B L s. c.owed-lent.ensures.exact (trace_of B L) s))
+    does_call g.V.Vault g.W.Wire g.L.Listener o c.args.self.now.listener c.args.self.now.wire c.write.new.self (Wrote Pop c.args.seat.link (length lent) Later []) _ c.in-Later.ensures.called
+    (wrote_later g.V.Vault o c.args.seat (length lent) [] (λ B L s. c.owed-lent.ensures.exact (trace_of B L) s))
 
 pub returns-in-End-clause-works : goal.returns-in-End-clause-works
 returns-in-End-clause-works g c =
     let office = c.args.self.now.office in
-    let seat = c.args.seat in
-    let connection = seat.connection in
+    let connection = c.args.seat.connection in
     let x = c.step_with_account-report-in-End in
     let o = outcome_seen x.result.outcome in
     let io = c.write.result in
@@ -145,9 +137,9 @@ returns-in-End-clause-works g c =
     let some = lent_some c.is_empty.result (length lent) c.is_empty.ensures no in
     let octets = counted io lent in
     does_event g.V.Vault g.W.Wire g.L.Listener office x.new.self c.args.self.now.listener c.on_account-in-End.new.self c.args.self.now.wire c.write.new.self
-    (Wrote Pop seat.link (length lent) io octets) (event.Gone connection) o connection x.result.account _ (λ T. refl)
+    (Wrote Pop c.args.seat.link (length lent) io octets) (event.Gone connection) o connection x.result.account _ (λ T. refl)
     x.ensures.clean x.ensures.stands x.ensures.admitted x.ensures.counted x.ensures.cause x.ensures.up x.ensures.stop x.ensures.account c.write.ensures.called c.on_account-in-End.ensures.heard
-    (wrote_cut g.V.Vault office x.new.self seat (length lent) io octets
+    (wrote_cut g.V.Vault office x.new.self c.args.seat (length lent) io octets
     (event_tag_of o) fault (λ B L s. c.owed-lent.ensures.exact (trace_of B L) s)
     (λ B L s k.
     (let now = trace_of B L in

@@ -19,8 +19,6 @@ once n e = rw e (omega arith)
 
 pub loop-times-preserved : goal.loop-times-preserved
 loop-times-preserved g c =
-    let Holds = g.V.Vault.holds in
-    let IsClean = g.V.Vault.is_clean in
     let s = c.args.self.now in
     let k = c.loop-times in
     let x = c.write_once-count in
@@ -31,12 +29,11 @@ loop-times-preserved g c =
     let sum = c.saturating_add-written.result in
     let fits : sum ≤ k.written + n = search rules in
     let once_more = subst (λ b. Does g.V.Vault g.W.Wire g.L.Listener k.self x.new.self
-    (IsWritten Holds IsClean k.self.office x.new.self.office c.args.seat (if n == 0 then 0 else 1) 1 n b)) goes x.ensures.works in
+    (IsWritten g.V.Vault.holds g.V.Vault.is_clean k.self.office x.new.self.office c.args.seat (if n == 0 then 0 else 1) 1 n b)) goes x.ensures.works in
     record {
       serves = λ seats these has before T elsewhere s clean. x.ensures.serves seats these has before T elsewhere
           (k.invariant.serves seats these has before T elsewhere s (x.ensures.works.was_given.clean clean)) clean;
-      works = does_then g.V.Vault g.W.Wire g.L.Listener s k.self x.new.self _ _ _
-          (λ g1 g2 c1 c2 wa wb a b.
+      works = does_then g.V.Vault g.W.Wire g.L.Listener s k.self x.new.self _ _ _ (λ g1 g2 c1 c2 wa wb a b.
           written_less g.V.Vault s.office x.new.self.office c.args.seat
           (k._times + (if n == 0 then 0 else 1)) (k._times + 1) (k._times + 1) (k.written + n) sum true _ _ (omega (arith, one)) fits
           (written_then g.V.Vault s.office k.self.office x.new.self.office c.args.seat k._times
@@ -45,40 +42,34 @@ loop-times-preserved g c =
 
 pub returns-then-count-eq0-clause-works : goal.returns-then-count-eq0-clause-works
 returns-then-count-eq0-clause-works g c =
-    let Holds = g.V.Vault.holds in
-    let IsClean = g.V.Vault.is_clean in
-    let s = c.args.self.now in
     let k = c.loop-times in
     let x = c.write_once-count in
     let n = x.result in
     let none : (n == 0) ≡ true = search rules in
     let ends : not (n == 0) ≡ false = ap not none in
     let once_more = subst (λ b. Does g.V.Vault g.W.Wire g.L.Listener k.self x.new.self
-    (IsWritten Holds IsClean k.self.office x.new.self.office c.args.seat (if n == 0 then 0 else 1) 1 n b)) ends x.ensures.works in
+    (IsWritten g.V.Vault.holds g.V.Vault.is_clean k.self.office x.new.self.office c.args.seat (if n == 0 then 0 else 1) 1 n b)) ends x.ensures.works in
     let room : k._times < 64 = search rules in
-    does_then g.V.Vault g.W.Wire g.L.Listener s k.self x.new.self _ _ _
-    (λ g1 g2 c1 c2 wa wb a b.
-    written_ended g.V.Vault s.office x.new.self.office c.args.seat (k._times + (if n == 0 then 0 else 1)) (k._times + 1) (k.written + n) c.args.share _ _ (omega (arith, room))
-    (written_then g.V.Vault s.office k.self.office x.new.self.office c.args.seat k._times
+    does_then g.V.Vault g.W.Wire g.L.Listener c.args.self.now k.self x.new.self _ _ _ (λ g1 g2 c1 c2 wa wb a b.
+    written_ended g.V.Vault c.args.self.now.office x.new.self.office c.args.seat (k._times + (if n == 0 then 0 else 1)) (k._times + 1) (k.written + n) c.args.share _ _ (omega (arith, room))
+    (written_then g.V.Vault c.args.self.now.office k.self.office x.new.self.office c.args.seat k._times
     (if n == 0 then 0 else 1) k._times 1 k.written n false g1 g2 c1 c2 wa wb a b)) k.invariant.works once_more
 
 pub returns-then-written-share-clause-works : goal.returns-then-written-share-clause-works
 returns-then-written-share-clause-works g c =
     let Holds = g.V.Vault.holds in
     let IsClean = g.V.Vault.is_clean in
-    let s = c.args.self.now in
     let k = c.loop-times in
     let x = c.write_once-count in
     let n = x.result in
-    let sum = c.saturating_add-written.result in
-    let fits : sum ≤ k.written + n = search rules in
-    let enough : c.args.share ≤ sum = search rules in
+    let fits : c.saturating_add-written.result ≤ k.written + n = search rules in
+    let enough : c.args.share ≤ c.saturating_add-written.result = search rules in
     let room : k._times < 64 = search rules in
-    does_then g.V.Vault g.W.Wire g.L.Listener s k.self x.new.self _ _ _
+    does_then g.V.Vault g.W.Wire g.L.Listener c.args.self.now k.self x.new.self _ _ _
     (λ g1 g2 c1 c2 wa wb a b.
-    written_share g.V.Vault s.office x.new.self.office c.args.seat
+    written_share g.V.Vault c.args.self.now.office x.new.self.office c.args.seat
     (k._times + (if n == 0 then 0 else 1)) (k._times + 1) (k.written + n) c.args.share _ _ _ (omega (arith, room)) (omega (arith, fits, enough))
-    (written_then g.V.Vault s.office k.self.office x.new.self.office c.args.seat k._times
+    (written_then g.V.Vault c.args.self.now.office k.self.office x.new.self.office c.args.seat k._times
     (if n == 0 then 0 else 1) k._times 1 k.written n _ g1 g2 c1 c2 wa wb a b)) k.invariant.works x.ensures.works
 
 pub returns-clause-works : goal.returns-clause-works

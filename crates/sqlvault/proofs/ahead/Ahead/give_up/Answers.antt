@@ -10,8 +10,7 @@ returns-in-None-clause-looks g c =
     c.self.inside.vault None None (Ok tt) (ap (λ (v : Prepared g.row.S.Denot). v.vault) c.self.view_is)
     (sym (ap (λ (v : Prepared g.row.S.Denot). v.under_way) c.self.view_is) ∙ sym c.in-None.ensures.value)
     c.in-None.ensures.after (counts_none c.self.inside.vault.faults tt)
-    (prepares_none g.S.Store c.self.inside.vault.conn None refl)
-    (λ db o m. g.met.S.Store.settled c.args.self.now.vault.conn.store db o m)
+    (prepares_none g.S.Store c.self.inside.vault.conn None refl) (λ db o m. g.met.S.Store.settled c.args.self.now.vault.conn.store db o m)
 
 pub returns-in-Some-clause-looks : goal.returns-in-Some-clause-looks
 returns-in-Some-clause-looks g c =

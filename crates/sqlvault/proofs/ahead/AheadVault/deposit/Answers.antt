@@ -19,8 +19,7 @@ returns-in-Some-clause-commits g c =
     deposit_commits g.S.Store {old = c.args.self.now} {new = record { vault = c.finish_deposit.new.self; under_way = c.self.inside.work }}
     c.self.inside.vault c.in-Some.coming c.args.maildrop.now c.args.class.now c.args.id.now c.args.text.now c.finish_deposit.result
     (ap (λ (v : Prepared g.row.S.Denot). v.vault) c.self.view_is ∙ c.in-Some.ensures.same) c.in-Some.ensures.taken.0
-    c.finish_deposit.ensures.counted
-    (of_names g.S.Store c.in-Some.coming c.args.maildrop.now c.args.class.now c.args.id.now c.args.text.now c.finish_deposit.result
+    c.finish_deposit.ensures.counted (of_names g.S.Store c.in-Some.coming c.args.maildrop.now c.args.class.now c.args.id.now c.args.text.now c.finish_deposit.result
     c.in-Some.ensures.taken.2 c.in-Some.ensures.taken.3 c.in-Some.ensures.taken.4 c.finish_deposit.ensures.finishes)
 
 pub returns-clause-done : goal.returns-clause-done

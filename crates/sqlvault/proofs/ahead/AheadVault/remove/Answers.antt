@@ -11,8 +11,7 @@ returns-in-Some-clause-done g c =
     c.self.inside.vault c.in-Some.removing c.args.maildrop.now c.args.keys.now c.finish_removal.result
     (ap (λ (v : Prepared g.row.S.Denot). v.vault) c.self.view_is ∙ c.in-Some.ensures.same) c.in-Some.ensures.taken.0
     (ap (λ (v : Prepared g.row.S.Denot). v.under_way) c.self.view_is ∙ c.in-Some.ensures.taken.1)
-    (of_these g.S.Store c.in-Some.removing c.args.maildrop.now c.args.keys.now c.finish_removal.result
-    c.in-Some.ensures.taken.2 c.in-Some.ensures.taken.3 c.finish_removal.ensures.finishes)
+    (of_these g.S.Store c.in-Some.removing c.args.maildrop.now c.args.keys.now c.finish_removal.result c.in-Some.ensures.taken.2 c.in-Some.ensures.taken.3 c.finish_removal.ensures.finishes)
 
 pub returns-in-Some-clause-commits : goal.returns-in-Some-clause-commits
 returns-in-Some-clause-commits g c =

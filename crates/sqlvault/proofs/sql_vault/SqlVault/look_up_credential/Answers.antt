@@ -12,11 +12,8 @@ use Rattle.sqlvault.proofs.sql_vault.SqlVault.look_up_credential.Goals as goal
 
 pub returns-clause-sees : goal.returns-clause-sees
 returns-clause-sees g c =
-    sees_told g.S.Store
-    (λ (k : Contents) (a : Result (Option Credential) VaultFault).
-    IsAnswer (Ok (credential_in c.args.clerk.now k.clerks)) a)
-    c.args.self.now.conn c.self.inside.conn c.told.new.self.conn c.find_credential-answer.new.conn
-    c.find_credential-answer.result c.told.result
+    sees_told g.S.Store (λ (k : Contents) (a : Result (Option Credential) VaultFault). IsAnswer (Ok (credential_in c.args.clerk.now k.clerks)) a)
+    c.args.self.now.conn c.self.inside.conn c.told.new.self.conn c.find_credential-answer.new.conn c.find_credential-answer.result c.told.result
     (ap (λ (o : Opened g.row.S.Denot). o.conn) c.self.view_is)
     c.told.ensures.conn c.told.ensures.answer c.find_credential-answer.ensures.sees
 
@@ -26,6 +23,5 @@ returns-clause-beside g c =
     (λ (k : Contents) (a : Result (Option Credential) VaultFault).
     IsAnswer (Ok (credential_in c.args.clerk.now k.clerks)) a)
     c.args.self.now.conn c.self.inside.conn c.told.new.self.conn c.find_credential-answer.new.conn
-    c.find_credential-answer.result c.told.result
-    (ap (λ (o : Opened g.row.S.Denot). o.conn) c.self.view_is)
+    c.find_credential-answer.result c.told.result (ap (λ (o : Opened g.row.S.Denot). o.conn) c.self.view_is)
     c.told.ensures.conn c.told.ensures.answer c.find_credential-answer.ensures.beside
