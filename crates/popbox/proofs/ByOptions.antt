@@ -49,7 +49,7 @@ pub ran_by : {V W S H C : Type 0} (vault : a_vault.Ghosts V) (wires : a_wire.Gho
     (links_then : Links) (office_then : Office V) (wire_then : W) (spool_then : S) (listener_then : H) (clock_then : C) → AreSetBy options links → most ≡ turns_by options.turns
     → (run : HasRun vault wires.asked spools.asked listeners.heard Gave most
     links office wire spool listener clock links_then office_then wire_then spool_then listener_then clock_then)
-    → (gone : HasGoneOn vault wires.asked spools.asked listeners.heard T run.moments
+    → (gone : HasGoneOn vault wires.asked spools.asked listeners.heard T run.moments run.row
     links office wire spool listener links_then office_then run.wire_left spool_then listener_then)
     → HasRunBy vault wires spools listeners T options office wire spool listener run.stopped office_then wire_then spool_then listener_then gone.given
 ran_by vault wires spools listeners Gave T options most links office wire spool listener clock links_then office_then wire_then spool_then listener_then clock_then begun is run gone = record {
@@ -57,6 +57,7 @@ ran_by vault wires spools listeners Gave T options most links office wire spool 
   begun = begun;
   links_then = links_then;
   moments = run.moments;
+  row = run.row;
   wire_left = run.wire_left;
   turns = gone.turns;
   last = run.last;

@@ -24,13 +24,13 @@ use Rattle.popbox.specs.declared.options.ServeOptions.{ServeOptions}
 -- each turn gives one Tick
 turn_moments : {V W S H : Type 0} (vault : a_vault.Ghosts V) (Asked : W → List Call → Type 0) (AskedFiles : S → List FileCall → Type 0)
     (Heard : H → List Hearing → Type 0) (T : Trace)
-    (l : Links) (o : Office V) (w : W) (s : S) (h : H) (times : List ℕ) (given : Log) (l2 : Links) (o2 : Office V) (w2 : W) (s2 : S) (h2 : H)
-    → AreTurns vault Asked AskedFiles Heard T l o w s h times given l2 o2 w2 s2 h2 → length (moments given) ≡ length times
-turn_moments vault Asked AskedFiles Heard T l o w s h _ _ _ _ _ _ _ NoTurn = refl
-turn_moments vault Asked AskedFiles Heard T l o w s h _ _ _ _ _ _ _ (OneMore times given l1 o1 w1 s1 h1 now l2 o2 w2 s2 h2 l3 o3 s3 before turn left paused) =
+    (l : Links) (o : Office V) (w : W) (s : S) (h : H) (times : List ℕ) (row : ℕ) (given : Log) (l2 : Links) (o2 : Office V) (w2 : W) (s2 : S) (h2 : H)
+    → AreTurns vault Asked AskedFiles Heard T l o w s h times row given l2 o2 w2 s2 h2 → length (moments given) ≡ length times
+turn_moments vault Asked AskedFiles Heard T l o w s h _ _ _ _ _ _ _ _ NoTurn = refl
+turn_moments vault Asked AskedFiles Heard T l o w s h _ _ _ _ _ _ _ _ (OneMore times row given l1 o1 w1 s1 h1 now l2 o2 w2 s2 h2 l3 o3 s3 before turn left paused few) =
     (let one : length (moments (given_in turn.seen ++ given)) ≡ suc (length (moments given)) =
     ap length (filter_map-append moment_of (given_in turn.seen) given) ∙ ap (λ xs. length (xs ++ moments given)) turn.ticks.once in
-    let rest : length (moments given) ≡ length times = turn_moments vault Asked AskedFiles Heard T l o w s h times given l1 o1 w1 s1 h1 before in
+    let rest : length (moments given) ≡ length times = turn_moments vault Asked AskedFiles Heard T l o w s h times row given l1 o1 w1 s1 h1 before in
     let more : length (times ++ now ∷ []) ≡ length times + 1 = length-append times (now ∷ []) in
     omega (arith, one, rest, more))
 
@@ -41,7 +41,7 @@ module _ {V W S H : Type 0} (vault : a_vault.Ghosts V) (wires : a_wire.Ghosts W)
       → HasRunBy vault wires spools listeners T options office wire spool listener stopped o w s h given → length (moments given) ≤ turns_by options.turns
   ran_within wire spool listener stopped o w s h given run =
       subst (λ n. n ≤ turns_by options.turns)
-      (sym (turn_moments vault wires.asked spools.asked listeners.heard T run.links office wire spool listener run.moments given run.links_then o run.wire_left s h run.turns)) run.within
+      (sym (turn_moments vault wires.asked spools.asked listeners.heard T run.links office wire spool listener run.moments run.row given run.links_then o run.wire_left s h run.turns)) run.within
 
   -- what one did, by its answer
   loop_ended : (wire : W) (spool : S) (listener : H) (answer : Result ℕ Fault) (o : Office V) (w : W) (s : S) (h : H) (given : Log)

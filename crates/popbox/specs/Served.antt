@@ -104,11 +104,12 @@ pub record HasRunBy {V W S H : Type 0} (vault : a_vault.Ghosts V) (wires : a_wir
   pub begun : AreSetBy options links
   pub links_then : Links
   pub moments : List ℕ
+  pub row : ℕ
   -- the wire after the last turn that was done
   pub wire_left : W
   pub turns : AreTurns vault wires.asked spools.asked listeners.heard T
       links office wire spool listener
-      moments given links_then office_then wire_left spool_then listener_then
+      moments row given links_then office_then wire_left spool_then listener_then
   pub last : WaitsOnceMore wires.asked stopped links_then wire_left wire_then
   pub within : length moments ≤ turns_by options.turns
   pub all : stopped ≡ false → length moments ≡ turns_by options.turns

@@ -25,6 +25,7 @@ use Rattle.serving.specs.ClientParts.{IsPassed}
 use Rattle.serving.specs.declared.links.Seat.{Seat}
 use Rattle.serving.specs.declared.requests.Exchange.{Exchange}
 use Rattle.adminhttp.specs.Sites.{Site}
+use Rattle.serving.specs.Quits.{in_a_row, most_in_a_row}
 use Rattle.serving.specs.Running.{NoTurn, OneMore, HasGoneOn, LeavesAsFound, Maintains, Maintained, Prepared, Deferred, Pauses, PreparesFile, FilePrepared, NotPrepared, answers, HasTurned, WasServed}
 use Rattle.serving.specs.declared.links.Links.{Links}
 use Rattle.serving.proofs.Working.{newly_then, grown_more, asked_then}
@@ -119,22 +120,23 @@ pub unserved : {V : Type 0} (Holds : V → Contents → Type 0) (Faults : V → 
 unserved Holds Faults T o stands = record { stands = stands; admitted = tt; counted = omega arith; failed = λ e. cc }
 
 module _ {V W S H : Type 0} (vault : Ghosts V) (Asked : W → List Call → Type 0) (AskedFiles : S → List FileCall → Type 0) (Heard : H → List Hearing → Type 0) (T : Trace) where
-  gone_none : (l : Links) (o : Office V) (w : W) (s : S) (h : H) → StandsFor vault.holds o T → HasGoneOn vault Asked AskedFiles Heard T [] l o w s h l o w s h
+  gone_none : (l : Links) (o : Office V) (w : W) (s : S) (h : H) → StandsFor vault.holds o T → HasGoneOn vault Asked AskedFiles Heard T [] 0 l o w s h l o w s h
   gone_none l o w s h stands = record { given = []; turns = NoTurn; served = unserved vault.holds vault.faults T o stands }
 
-  gone_more : (moments : List ℕ) (l : Links) (o : Office V) (w : W) (s : S) (h : H) (l1 : Links) (o1 : Office V) (w1 : W) (s1 : S) (h1 : H) (now : ℕ)
+  gone_more : (moments : List ℕ) (row : ℕ) (l : Links) (o : Office V) (w : W) (s : S) (h : H) (l1 : Links) (o1 : Office V) (w1 : W) (s1 : S) (h1 : H) (now : ℕ)
       (l2 : Links) (o2 : Office V) (w2 : W) (s2 : S) (h2 : H) (l3 : Links) (o3 : Office V) (s3 : S)
-      → (a : HasGoneOn vault Asked AskedFiles Heard T moments l o w s h l1 o1 w1 s1 h1)
+      → (a : HasGoneOn vault Asked AskedFiles Heard T moments row l o w s h l1 o1 w1 s1 h1)
       → (turn : Works vault Asked AskedFiles Heard (trace_of T.base (a.given ++ T.log)) now l1 o1 w1 s1 h1 o2 l2 w2 s2 h2)
       → LeavesAsFound now l1 l2
       → Pauses vault AskedFiles turn.seen.is_preparing l2 o2 s2 l3 o3 s3
+      → in_a_row turn.seen.is_preparing row ≤ most_in_a_row
       → ((U : Trace) → StandsFor vault.holds o2 U → StandsFor vault.holds o3 U)
-      → HasGoneOn vault Asked AskedFiles Heard T (moments ++ now ∷ []) l o w s h l3 o3 w2 s3 h2
-  gone_more moments l o w s h l1 o1 w1 s1 h1 now l2 o2 w2 s2 h2 l3 o3 s3 a turn left kept still =
+      → HasGoneOn vault Asked AskedFiles Heard T (moments ++ now ∷ []) (in_a_row turn.seen.is_preparing row) l o w s h l3 o3 w2 s3 h2
+  gone_more moments row l o w s h l1 o1 w1 s1 h1 now l2 o2 w2 s2 h2 l3 o3 s3 a turn left kept few still =
       let more : vault.faults (vault_of o2) ≤ vault.faults (vault_of o3) = maintained_more vault turn.seen.is_preparing kept.is_coming l3 o2 o3 kept.maintains in
       record {
         given = given_in turn.seen ++ a.given;
-        turns = OneMore moments a.given l1 o1 w1 s1 h1 now l2 o2 w2 s2 h2 l3 o3 s3 a.turns turn left kept;
+        turns = OneMore moments row a.given l1 o1 w1 s1 h1 now l2 o2 w2 s2 h2 l3 o3 s3 a.turns turn left kept few;
         served = record {
           stands = subst (λ x. StandsFor vault.holds o3 (trace_of T.base x)) (sym (append_assoc (given_in turn.seen) a.given T.log))
               (still (trace_of T.base (given_in turn.seen ++ (a.given ++ T.log))) turn.stands);
@@ -154,38 +156,41 @@ module _ {V W S H : Type 0} (vault : Ghosts V) (Asked : W → List Call → Type
 
 module _ {V W S H C : Type 0} (vault : Ghosts V) (Asked : W → List Call → Type 0) (AskedFiles : S → List FileCall → Type 0) (Heard : H → List Hearing → Type 0) (Gave : C → List (Option ℕ) → Type 0)
     (l : Links) (o : Office V) (w : W) (s : S) (h : H) (k : C) where
-  pub turned_none : HasTurned vault Asked AskedFiles Heard Gave false [] l o w s h k l o w s h k
+  pub turned_none : HasTurned vault Asked AskedFiles Heard Gave false [] 0 l o w s h k l o w s h k
   turned_none = record {
     gave = λ before g. subst (Gave k) (none_yet before) g;
     each = λ T stands clean. gone_none vault Asked AskedFiles Heard T l o w s h stands;
   }
 
-  pub turned_more : (moments : List ℕ) (l1 : Links) (o1 : Office V) (w1 : W) (s1 : S) (h1 : H) (k1 : C) (now : ℕ)
+  pub turned_more : (moments : List ℕ) (row : ℕ) (l1 : Links) (o1 : Office V) (w1 : W) (s1 : S) (h1 : H) (k1 : C) (now : ℕ)
       (l2 : Links) (o2 : Office V) (w2 : W) (s2 : S) (h2 : H) (p : Bool) (l3 : Links) (o3 : Office V) (s3 : S) (k2 : C)
-      → HasTurned vault Asked AskedFiles Heard Gave false moments l o w s h k l1 o1 w1 s1 h1 k1
+      → HasTurned vault Asked AskedFiles Heard Gave false moments row l o w s h k l1 o1 w1 s1 h1 k1
       → ((before : List (Option ℕ)) → Gave k1 before → Gave k2 (before ++ Some now ∷ []))
       → (vault.is_clean (vault_of o2) → vault.is_clean (vault_of o1))
       → ((T : Trace) → StandsFor vault.holds o1 T → vault.is_clean (vault_of o2)
       → (turn : Works vault Asked AskedFiles Heard T now l1 o1 w1 s1 h1 o2 l2 w2 s2 h2) × (turn.seen.is_preparing ≡ p))
       → LeavesAsFound now l1 l2
       → Pauses vault AskedFiles p l2 o2 s2 l3 o3 s3
+      → in_a_row p row ≤ most_in_a_row
       → ((U : Trace) → StandsFor vault.holds o2 U → vault.is_clean (vault_of o3) → StandsFor vault.holds o3 U)
-      → HasTurned vault Asked AskedFiles Heard Gave false (moments ++ now ∷ []) l o w s h k l3 o3 w2 s3 h2 k2
-  turned_more moments l1 o1 w1 s1 h1 k1 now l2 o2 w2 s2 h2 p l3 o3 s3 k2 a called clean works left kept still = record {
+      → HasTurned vault Asked AskedFiles Heard Gave false (moments ++ now ∷ []) (in_a_row p row) l o w s h k l3 o3 w2 s3 h2 k2
+  turned_more moments row l1 o1 w1 s1 h1 k1 now l2 o2 w2 s2 h2 p l3 o3 s3 k2 a called clean works left kept few still = record {
     gave = λ before g. subst (Gave k2) (one_more before moments now) (called (before ++ answers false moments) (a.gave before g));
     each = λ T stands z.
         (let z2 = maintained_clean vault p kept.is_coming l3 o2 o3 kept.maintains z in
         let g = a.each T stands (clean z2) in
         let turn = works (trace_of T.base (g.given ++ T.log)) g.served.stands z2 in
-        gone_more vault Asked AskedFiles Heard T moments l o w s h l1 o1 w1 s1 h1 now l2 o2 w2 s2 h2 l3 o3 s3 g
-        turn.0 left (subst (λ b. Pauses vault AskedFiles b l2 o2 s2 l3 o3 s3) (sym turn.1) kept) (λ U st. still U st z));
+        subst (λ b. HasGoneOn vault Asked AskedFiles Heard T (moments ++ now ∷ []) (in_a_row b row) l o w s h l3 o3 w2 s3 h2) turn.1
+        (gone_more vault Asked AskedFiles Heard T moments row l o w s h l1 o1 w1 s1 h1 now l2 o2 w2 s2 h2 l3 o3 s3 g
+        turn.0 left (subst (λ b. Pauses vault AskedFiles b l2 o2 s2 l3 o3 s3) (sym turn.1) kept)
+        (subst (λ b. in_a_row b row ≤ most_in_a_row) (sym turn.1) few) (λ U st. still U st z)));
   }
 
-  pub turned_stopped : (moments : List ℕ) (l1 : Links) (o1 : Office V) (w1 : W) (s1 : S) (h1 : H) (k1 k2 : C)
-      → HasTurned vault Asked AskedFiles Heard Gave false moments l o w s h k l1 o1 w1 s1 h1 k1
+  pub turned_stopped : (moments : List ℕ) (row : ℕ) (l1 : Links) (o1 : Office V) (w1 : W) (s1 : S) (h1 : H) (k1 k2 : C)
+      → HasTurned vault Asked AskedFiles Heard Gave false moments row l o w s h k l1 o1 w1 s1 h1 k1
       → ((before : List (Option ℕ)) → Gave k1 before → Gave k2 (before ++ None ∷ []))
-      → HasTurned vault Asked AskedFiles Heard Gave true moments l o w s h k l1 o1 w1 s1 h1 k2
-  turned_stopped moments l1 o1 w1 s1 h1 k1 k2 a called = record {
+      → HasTurned vault Asked AskedFiles Heard Gave true moments row l o w s h k l1 o1 w1 s1 h1 k2
+  turned_stopped moments row l1 o1 w1 s1 h1 k1 k2 a called = record {
     gave = λ before g. subst (Gave k2) (none_more before moments) (called (before ++ answers false moments) (a.gave before g));
     each = a.each;
   }

@@ -20,6 +20,7 @@ use Rattle.serving.specs.Seen.{given_in}
 use Rattle.serving.specs.HttpTurns.{AllGoOn, AreFew}
 use Rattle.serving.specs.Newcomers.{AllHaveSeats}
 use Rattle.serving.specs.Guesses.{AllArePacing}
+use Rattle.serving.specs.Quits.{in_a_row, most_in_a_row}
 use Rattle.serving.specs.Settings.{settings}
 use Rattle.serving.specs.Turns.{Works, millis_of}
 use Rattle.serving.specs.declared.links.Links.{Links}
@@ -70,7 +71,7 @@ pub data Maintains {V : Type 0} (vault : Ghosts V) (is_preparing is_coming : Boo
   Deferred : millis_of links ≡ 0 → office_then ≡ office
       → Maintains vault is_preparing is_coming links office office_then
 
--- The next turn doesn't wait only if it didn't before, or the spool answered that a file is coming.
+-- The next turn doesn't wait only if it didn't before, or a spool answered that a file is coming.
 abbrev pub PollsForFile : {S : Type 0} (IsComing : S → Bool → Type 0) (before now : Bool) → Type 0
 PollsForFile {S} IsComing before now =
     now ≡ true → (before ≡ true) ⊎ ((spool : S) × IsComing spool true)
@@ -95,25 +96,29 @@ pub record Pauses {V S : Type 0} (vault : Ghosts V) (AskedFiles : S → List Fil
   pub maintains : Maintains vault is_preparing is_coming links_then office office_then
 
 -- The turns of these moments were done, the oldest first, and gave these events: each turn works,
--- from the trace with the events of those before it; and after each there is a pause.
+-- from the trace with the events of those before it; and after each there is a pause. In each of
+-- the last `row` turns a QUIT stayed unread; in no more than 1,000 in a row did one.
 pub data AreTurns {V W S H : Type 0} (vault : Ghosts V)
     (Asked : W → List Call → Type 0) (AskedFiles : S → List FileCall → Type 0)
     (Heard : H → List Hearing → Type 0) (T : Trace)
     (links : Links) (office : Office V) (wire : W) (spool : S) (listener : H)
-    : (moments : List ℕ) → (given : Log) → Links → Office V → W → S → H → Type 0 where
+    : (moments : List ℕ) → (row : ℕ) → (given : Log) → Links → Office V → W → S → H
+    → Type 0 where
   NoTurn : AreTurns vault Asked AskedFiles Heard T links office wire spool listener
-      [] [] links office wire spool listener
-  OneMore : (moments : List ℕ) (given : Log) (links1 : Links) (office1 : Office V) (wire1 : W)
-      (spool1 : S) (listener1 : H) (now : ℕ) (links2 : Links) (office2 : Office V) (wire2 : W)
-      (spool2 : S) (listener2 : H) (links3 : Links) (office3 : Office V) (spool3 : S)
+      [] 0 [] links office wire spool listener
+  OneMore : (moments : List ℕ) (row : ℕ) (given : Log) (links1 : Links) (office1 : Office V)
+      (wire1 : W) (spool1 : S) (listener1 : H) (now : ℕ) (links2 : Links) (office2 : Office V)
+      (wire2 : W) (spool2 : S) (listener2 : H) (links3 : Links) (office3 : Office V) (spool3 : S)
       → AreTurns vault Asked AskedFiles Heard T links office wire spool listener
-      moments given links1 office1 wire1 spool1 listener1
+      moments row given links1 office1 wire1 spool1 listener1
       → (turn : Works vault Asked AskedFiles Heard (trace_of T.base (given ++ T.log)) now
       links1 office1 wire1 spool1 listener1 office2 links2 wire2 spool2 listener2)
       → LeavesAsFound now links1 links2
       → Pauses vault AskedFiles turn.seen.is_preparing links2 office2 spool2 links3 office3 spool3
+      → in_a_row turn.seen.is_preparing row ≤ most_in_a_row
       → AreTurns vault Asked AskedFiles Heard T links office wire spool listener
-      (moments ++ now ∷ []) (given_in turn.seen ++ given) links3 office3 wire2 spool3 listener2
+      (moments ++ now ∷ []) (in_a_row turn.seen.is_preparing row) (given_in turn.seen ++ given)
+      links3 office3 wire2 spool3 listener2
 
 -- What came of an office that was given these events since a trace: it stands for that trace with
 -- them.
@@ -130,13 +135,13 @@ pub record WasServed {V : Type 0} (Holds : V → Contents → Type 0) (Faults : 
 -- So an office went on since a trace, turn by turn, by the events of the turns.
 pub record HasGoneOn {V W S H : Type 0} (vault : Ghosts V)
     (Asked : W → List Call → Type 0) (AskedFiles : S → List FileCall → Type 0)
-    (Heard : H → List Hearing → Type 0) (T : Trace) (moments : List ℕ)
+    (Heard : H → List Hearing → Type 0) (T : Trace) (moments : List ℕ) (row : ℕ)
     (links : Links) (office : Office V) (wire : W) (spool : S) (listener : H)
     (links_then : Links) (office_then : Office V) (wire_then : W) (spool_then : S)
     (listener_then : H) : Type 0 where
   pub given : Log
   pub turns : AreTurns vault Asked AskedFiles Heard T links office wire spool listener
-      moments given links_then office_then wire_then spool_then listener_then
+      moments row given links_then office_then wire_then spool_then listener_then
   pub served : WasServed vault.holds vault.faults T office office_then given
 
 -- what a clock answered: these moments, and after them none, if it stopped
@@ -147,14 +152,14 @@ answers stopped moments = map (λ m. Some m) moments ++ (if stopped then None �
 pub record HasTurned {V W S H C : Type 0} (vault : Ghosts V)
     (Asked : W → List Call → Type 0) (AskedFiles : S → List FileCall → Type 0)
     (Heard : H → List Hearing → Type 0) (Gave : C → List (Option ℕ) → Type 0)
-    (stopped : Bool) (moments : List ℕ)
+    (stopped : Bool) (moments : List ℕ) (row : ℕ)
     (links : Links) (office : Office V) (wire : W) (spool : S) (listener : H) (clock : C)
     (links_then : Links) (office_then : Office V) (wire_then : W) (spool_then : S)
     (listener_then : H) (clock_then : C) : Type 0 where
   pub gave : (before : List (Option ℕ)) → Gave clock before
       → Gave clock_then (before ++ answers stopped moments)
   pub each : (T : Trace) → StandsFor vault.holds office T → vault.is_clean (vault_of office_then)
-      → HasGoneOn vault Asked AskedFiles Heard T moments
+      → HasGoneOn vault Asked AskedFiles Heard T moments row
       links office wire spool listener links_then office_then wire_then spool_then listener_then
 
 -- If the clock stopped, the wire was asked for one wait more, and for nothing else.
@@ -173,10 +178,11 @@ pub record HasRun {V W S H C : Type 0} (vault : Ghosts V)
     (links_then : Links) (office_then : Office V) (wire_then : W) (spool_then : S)
     (listener_then : H) (clock_then : C) : Type 0 where
   pub moments : List ℕ
+  pub row : ℕ
   pub stopped : Bool
   -- the wire after the last turn that was done
   pub wire_left : W
-  pub turned : HasTurned vault Asked AskedFiles Heard Gave stopped moments
+  pub turned : HasTurned vault Asked AskedFiles Heard Gave stopped moments row
       links office wire spool listener clock
       links_then office_then wire_left spool_then listener_then clock_then
   pub last : WaitsOnceMore Asked stopped links_then wire_left wire_then

@@ -1,6 +1,6 @@
 //! What a turn does for the clients whose links are open: it writes what they are owed, and reads
 //! what comes.
-ghost use Rattle.std.specs.Prelude.{◌≡◌, ◌≤◌, ◌==◌, ◌||◌, not, true, false};
+ghost use Rattle.std.specs.Prelude.{◌≡◌, ◌<◌, ◌≤◌, ◌==◌, ◌||◌, not, true, false};
 ghost use Rattle.std.specs.Prelude.{[], length, if◌then◌else◌};
 ghost use Rattle.office.specs.Events.{Trace};
 ghost use Rattle.office.specs.Trace.{history};
@@ -11,7 +11,7 @@ ghost use Rattle.serving.specs.Newcomers.{newcomer, lies_unread, AreSettled, Set
 ghost use Rattle.serving.specs.Paces.{releases_lock};
 ghost use Rattle.serving.specs.Parts.{Does, KeepsServing, KeepsServingOne, Also, PollsBy};
 ghost use Rattle.serving.specs.Parts.{KeepsSeats, ReleasesMore, ReleasesLock};
-ghost use Rattle.serving.specs.Quits.{PreparesMore};
+ghost use Rattle.serving.specs.Quits.{PreparesMore, KeepsCount};
 ghost use Rattle.serving.specs.Settings.{settings_of};
 ghost use Rattle.serving.specs.ClientParts.{IsWritten, IsWrittenOut, IsReadOnce, IsReadPiece};
 ghost use Rattle.serving.specs.ClientParts.{HasLookedForQuit};
@@ -178,6 +178,7 @@ impl<V: Vault, W: Wire, L: Listener> Server<V, W, L> {
         ensures serves { KeepsServingOne V.Vault W.Wire seat self.old self.new }
         ensures kept { result ≡ true → quits.new.is_preparing ≡ true }
         ensures prepares { PreparesMore quits.old.is_preparing quits.new.is_preparing result }
+        ensures counts { KeepsCount quits.old quits.new }
         ensures works { Does V.Vault W.Wire L.Listener self.old self.new
             (HasLookedForQuit V.holds self.old.office seat result) }
     {
@@ -261,6 +262,7 @@ impl<V: Vault, W: Wire, L: Listener> Server<V, W, L> {
             (clients.new.poll_now || result))) }
         ensures prepares { PreparesMore quits.old.is_preparing quits.new.is_preparing
             (clients.new.poll_now || result) }
+        ensures counts { KeepsCount quits.old quits.new }
     {
         let share = share_of(clients);
         if self.write_owed(seat, share) {
@@ -292,6 +294,7 @@ impl<V: Vault, W: Wire, L: Listener> Server<V, W, L> {
             || clients.new.lock_released)) clients.new.poll_now)) }
         ensures prepares { PreparesMore quits.old.is_preparing quits.new.is_preparing
             clients.new.poll_now }
+        ensures counts { KeepsCount quits.old quits.new }
     {
         let was_logged_in = self.office.is_logged_in(seat.connection);
         let more = self.serve_link(clients, quits, seat, now);
@@ -308,6 +311,8 @@ impl<V: Vault, W: Wire, L: Listener> Server<V, W, L> {
             clients.new.newcomers.newcomers.items }
         ensures releases { clients.new.lock_released ≡ true → clients.new.poll_now ≡ true }
         ensures prepares { quits.new.is_preparing ≡ true → clients.new.poll_now ≡ true }
+        ensures left { quits.new.is_preparing ≡ true → 0 < quits.old.turns_left }
+        ensures counts { quits.new.turns_left ≡ quits.old.turns_left }
         ensures works { Does V.Vault W.Wire L.Listener self.old self.new
             (Also (WereServed V.holds V.is_clean self.old.office self.new.office
             (settings_of clients.old) now clients.old.newcomers.newcomers.items

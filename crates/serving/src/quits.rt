@@ -1,6 +1,6 @@
 //! Long QUITs, whose lines stay unread while the store prepares what they remove.
-ghost use Rattle.std.specs.Prelude.{◌≡◌, true, false, IfSome};
-ghost use Rattle.serving.specs.Quits.{PreparesMore};
+ghost use Rattle.std.specs.Prelude.{◌≡◌, ◌<◌, ℕ, true, false, IfSome};
+ghost use Rattle.serving.specs.Quits.{PreparesMore, HasStayedFor, in_a_row};
 
 /// For how many turns in a row QUITs stay unread at most.
 const MOST_TURNS: u32 = 1_000;
@@ -20,12 +20,14 @@ pub(crate) struct Quits {
     /// The store can prepare more of it.
     has_more: bool,
     /// For how many more turns QUITs may stay unread.
-    turns_left: u32,
+    pub(crate) turns_left: u32,
 }
 
 impl Quits {
     /// None stays unread yet.
-    pub(crate) fn new() -> Quits {
+    pub(crate) fn new() -> Quits
+        ensures { HasStayedFor 0 result }
+    {
         Quits::for_turns(MOST_TURNS)
     }
 
@@ -34,7 +36,9 @@ impl Quits {
         Quits::for_turns(0)
     }
 
-    fn for_turns(turns_left: u32) -> Quits {
+    fn for_turns(turns_left: u32) -> Quits
+        ensures { result.turns_left ≡ turns_left }
+    {
         Quits {
             is_preparing: false,
             connection: None,
@@ -46,14 +50,17 @@ impl Quits {
 
     /// Begins to serve the links of a turn.
     pub(crate) fn begin_turn(&mut self)
-        ensures { self.new.is_preparing ≡ false }
+        ensures none { self.new.is_preparing ≡ false }
+        ensures counts { self.new.turns_left ≡ self.old.turns_left }
     {
         self.is_preparing = false;
         self.was_met = false;
     }
 
     /// Whether a QUIT may stay unread in this turn.
-    pub(crate) fn may_keep(&self) -> bool {
+    pub(crate) fn may_keep(&self) -> bool
+        ensures { result ≡ true → 0 < self.now.turns_left }
+    {
         self.turns_left > 0
     }
 
@@ -62,6 +69,7 @@ impl Quits {
     pub(crate) fn keep(&mut self, connection: u64) -> bool
         ensures kept { result ≡ true → self.new.is_preparing ≡ true }
         ensures prepares { PreparesMore self.old.is_preparing self.new.is_preparing result }
+        ensures counts { self.new.turns_left ≡ self.old.turns_left }
     {
         match self.connection {
             None => {
@@ -85,6 +93,9 @@ impl Quits {
     /// Whose QUIT the store is to prepare before the next turn, if any stayed unread in this one.
     pub(crate) fn next(&mut self) -> Option<u64>
         ensures some { IfSome result (λ _. self.old.is_preparing ≡ true) }
+        ensures counts { (row : ℕ) → HasStayedFor row self.old
+            → (self.old.is_preparing ≡ true → 0 < self.old.turns_left)
+            → HasStayedFor (in_a_row self.old.is_preparing row) self.new }
     {
         if !self.is_preparing {
             self.connection = None;
@@ -99,7 +110,9 @@ impl Quits {
     }
 
     /// Notes whether the store can prepare more of it.
-    pub(crate) fn note_progress(&mut self, has_more: bool) {
+    pub(crate) fn note_progress(&mut self, has_more: bool)
+        ensures { self.new.turns_left ≡ self.old.turns_left }
+    {
         self.has_more = has_more;
     }
 }

@@ -1,5 +1,5 @@
 //! Serving turn by turn, as long as a clock gives moments.
-ghost use Rattle.std.specs.Prelude.{◌≡◌, ℕ, false, List, ◌∷◌, [], ◌++◌, Option};
+ghost use Rattle.std.specs.Prelude.{◌≡◌, ◌<◌, ℕ, true, false, List, ◌∷◌, [], ◌++◌, Option};
 ghost use Rattle.office.specs.Events.{Trace};
 ghost use Rattle.office.specs.Stands.{OfEachTrace, StandsFor, vault_of};
 ghost use Rattle.serving.specs.Served.{Serves};
@@ -8,6 +8,7 @@ ghost use Rattle.serving.specs.HttpTurns.{AreFew};
 ghost use Rattle.serving.specs.HttpWorks.{AreShort};
 ghost use Rattle.serving.specs.Newcomers.{AllHaveSeats};
 ghost use Rattle.serving.specs.Guesses.{AllArePacing};
+ghost use Rattle.serving.specs.Quits.{HasStayedFor, in_a_row};
 ghost use Rattle.serving.specs.Running.{HasRun, PreparesFile, Pauses, PollsForFile};
 ghost use Rattle.serving.specs.Spools.{FileAct};
 ghost use Rattle.serving.specs.NotedFiles.{StaysAsItWas};
@@ -81,6 +82,9 @@ impl<V: Vault, W: Wire, L: Listener> Server<V, W, L> {
         ensures told { (a : List FileAct) → S.tells spool.old a → S.tells spool.new a }
         ensures wire { self.new.wire ≡ self.old.wire }
         ensures listener { self.new.listener ≡ self.old.listener }
+        ensures counts { (row : ℕ) → HasStayedFor row quits.old
+            → (quits.old.is_preparing ≡ true → 0 < quits.old.turns_left)
+            → HasStayedFor (in_a_row quits.old.is_preparing row) quits.new }
     {
         if let Some(connection) = quits.next() {
             let prepared = self.office.prepare_quit(connection, QUIT_LINE);

@@ -1,5 +1,5 @@
 //! One turn of serving.
-ghost use Rattle.std.specs.Prelude.{◌≡◌, ℕ, false, List, [], ◌∷◌};
+ghost use Rattle.std.specs.Prelude.{◌≡◌, ◌<◌, ℕ, true, false, List, [], ◌∷◌};
 ghost use Rattle.office.specs.Events.{Trace};
 ghost use Rattle.office.specs.Trace.{is_open};
 ghost use Rattle.office.specs.Taken.{AreAdmitted};
@@ -112,6 +112,8 @@ impl<V: Vault, W: Wire, L: Listener> Server<V, W, L> {
             self.new.office links.new self.new.wire spool.new self.new.listener)
             × (turn.seen.is_preparing ≡ quits.new.is_preparing) }
         ensures left { LeavesAsFound now links.old links.new }
+        ensures turns_left { quits.new.is_preparing ≡ true → 0 < quits.old.turns_left }
+        ensures counts { quits.new.turns_left ≡ quits.old.turns_left }
     {
         links.clients.poll_now = false;
         self.tick(now);

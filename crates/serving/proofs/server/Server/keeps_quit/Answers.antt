@@ -1,4 +1,4 @@
-use Rattle.std.proofs.Common.{rules, ◌≡◌, true, false, take}
+use Rattle.std.proofs.Common.{rules, ◌≡◌, true, false, take, refl, inl, inr}
 use Rattle.serving.specs.Calls.{Looked}
 use Rattle.serving.specs.ClientParts.{NotLooked, NotKept}
 use Rattle.serving.specs.Wires.{counted}
@@ -59,3 +59,20 @@ returns-then-not-is_long_quit-clause-prepares g c = prepares_same c.args.quits.n
 
 pub returns-in_default-clause-prepares : goal.returns-in_default-clause-prepares
 returns-in_default-clause-prepares g c = prepares_same c.args.quits.now.is_preparing false
+
+pub returns-then-not-may_keep-clause-counts : goal.returns-then-not-may_keep-clause-counts
+returns-then-not-may_keep-clause-counts g c = record { same = refl; left = λ e. inl e }
+
+pub returns-then-not-may_quit_long-clause-counts : goal.returns-then-not-may_quit_long-clause-counts
+returns-then-not-may_quit_long-clause-counts g c = record { same = refl; left = λ e. inl e }
+
+pub returns-then-not-is_long_quit-clause-counts : goal.returns-then-not-is_long_quit-clause-counts
+returns-then-not-is_long_quit-clause-counts g c = record { same = refl; left = λ e. inl e }
+
+pub returns-in_default-clause-counts : goal.returns-in_default-clause-counts
+returns-in_default-clause-counts g c = record { same = refl; left = λ e. inl e }
+
+pub returns-else-not-is_long_quit-clause-counts : goal.returns-else-not-is_long_quit-clause-counts
+returns-else-not-is_long_quit-clause-counts g c =
+    let may : c.may_keep.result ≡ true = search rules in
+    record { same = c.keep.ensures.counts; left = λ e. inr (c.may_keep.ensures may) }

@@ -167,3 +167,6 @@ returns-then-keeps_quit-clause-settles g c = record { lies = false; is = c.settl
 
 pub returns-then-write_owed-clause-settles : goal.returns-then-write_owed-clause-settles
 returns-then-write_owed-clause-settles g c = record { lies = false; is = c.settle.ensures.newcomers }
+
+pub returns-then-write_owed-clause-counts : goal.returns-then-write_owed-clause-counts
+returns-then-write_owed-clause-counts g c = record { same = refl; left = λ e. inl e }

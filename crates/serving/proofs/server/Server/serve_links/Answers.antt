@@ -34,10 +34,12 @@ loop-place-init g c =
       settled = settled_none c.args.now newcomers;
       touched = λ n. inl refl;
       releases = λ e. cc;
-      prepares = λ e. absurd (true≢false (sym e ∙ c.begin_turn.ensures));
+      prepares = λ e. absurd (true≢false (sym e ∙ c.begin_turn.ensures.none));
+      left = λ e. absurd (true≢false (sym e ∙ c.begin_turn.ensures.none));
+      counts = c.begin_turn.ensures.counts;
       works = does_none g.V.Vault g.W.Wire g.L.Listener c.args.self.now _ (
         were_none g.V.Vault c.args.self.now.office
-            (settings_of clients) c.args.now newcomers preparing clients.poll_now newcomers clients.seats.items c.begin_turn.ensures,
+            (settings_of clients) c.args.now newcomers preparing clients.poll_now newcomers clients.seats.items c.begin_turn.ensures.none,
         λ e. is_left (clients.poll_now || (preparing || false)) false (is_left clients.poll_now (preparing || false) e),
       );
     }
@@ -75,6 +77,10 @@ loop-place-preserved g c =
           old.seats.items seats k.place no_seat same within lies.is k.invariant.touched;
       releases = λ e. ⊎_elim (λ (b : k.clients.lock_released ≡ true). polled (k.invariant.releases b)) (λ (h : served.poll_now ≡ true). h) (releases.more.poll_now e);
       prepares = λ e. ⊎_elim (λ (b : was ≡ true). polled (k.invariant.prepares b)) (λ (h : served.poll_now ≡ true). h) (more.polled e);
+      left = λ e.
+          ⊎_elim (λ (b : was ≡ true). k.invariant.left b)
+          (λ (h : 0 < k.quits.turns_left). subst (λ n. 0 < n) k.invariant.counts h) (x.ensures.counts.left e);
+      counts = x.ensures.counts.same ∙ k.invariant.counts;
       works = does_then g.V.Vault g.W.Wire g.L.Listener s s1 s2 _ _ _
           (λ g1 g2 c1 c2 wa wb a b. (
             were_next g.V.Vault s.office s1.office s2.office

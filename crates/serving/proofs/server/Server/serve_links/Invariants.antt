@@ -1,4 +1,4 @@
-use Rattle.std.proofs.Common.{◌≡◌, ◌-◌, ◌||◌, [], take, true}
+use Rattle.std.proofs.Common.{◌≡◌, ◌<◌, ◌-◌, ◌||◌, [], take, true}
 use Rattle.arrayvec.specs.ArrayVec.{array_vec_len}
 use Rattle.serving.specs.Parts.{Does, KeepsServing, KeepsSeats}
 use Rattle.serving.specs.Settings.{settings_of}
@@ -16,6 +16,8 @@ invariant-loop-place g l = record {
   touched : AreTouched l.fn.clients.newcomers.newcomers.items l.clients.newcomers.newcomers.items (take l.place l.fn.clients.seats.items);
   releases : l.clients.lock_released ≡ true → l.clients.poll_now ≡ true;
   prepares : l.quits.is_preparing ≡ true → l.clients.poll_now ≡ true;
+  left : l.quits.is_preparing ≡ true → 0 < l.fn.quits.turns_left;
+  counts : l.quits.turns_left ≡ l.fn.quits.turns_left;
   works : Does g.V.Vault g.W.Wire g.L.Listener l.fn.self l.self
       (Also (WereServed g.V.Vault.holds g.V.Vault.is_clean l.fn.self.office l.self.office
       (settings_of l.fn.clients) l.fn.now l.fn.clients.newcomers.newcomers.items

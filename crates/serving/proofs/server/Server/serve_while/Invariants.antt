@@ -7,6 +7,7 @@ use Rattle.serving.specs.HttpTurns.{AreFew}
 use Rattle.serving.specs.HttpWorks.{AreShort}
 use Rattle.serving.specs.Newcomers.{AllHaveSeats}
 use Rattle.serving.specs.Guesses.{AllArePacing}
+use Rattle.serving.specs.Quits.{HasStayedFor}
 use Rattle.serving.specs.Running.{HasTurned}
 use Rattle.serving.proofs.server.Server.serve_while.Given as goal
 
@@ -17,8 +18,8 @@ invariant-loop-turn g l = record {
       → g.V.Vault.is_clean (vault_of l.self.office)
       → Serves g.V.Vault.holds g.W.Wire.tells g.S.Spool.tells T l.self.office l.self.wire l.spool l.links.clients.seats.items l.links.requests.exchanges.items l.links.site;
   clean : g.V.Vault.is_clean (vault_of l.self.office) → g.V.Vault.is_clean (vault_of l.fn.self.office);
-  turned : (moments : List ℕ) × (length moments ≡ l._turn)
-      × HasTurned g.V.Vault g.W.Wire.asked g.S.Spool.asked g.L.Listener.heard g.C.Clock.gave false moments
+  turned : (moments : List ℕ) × (row : ℕ) × (length moments ≡ l._turn) × HasStayedFor row l.quits
+      × HasTurned g.V.Vault g.W.Wire.asked g.S.Spool.asked g.L.Listener.heard g.C.Clock.gave false moments row
       l.fn.links l.fn.self.office l.fn.self.wire l.fn.spool l.fn.self.listener l.fn.clock l.links l.self.office l.self.wire l.spool l.self.listener l.clock;
   few : AreFew l.fn.links → AreFew l.links;
   seated : AllHaveSeats l.fn.links → AllHaveSeats l.links;

@@ -1,4 +1,5 @@
-use Rattle.std.proofs.Common.{rules, ◌≡◌, true, false, refl, sym, ◌∙◌, subst, inl}
+use Rattle.std.proofs.Common.{rules, ◌≡◌, ◌+◌, true, false, refl, sym, ◌∙◌, subst, ap, inl}
+use Rattle.serving.specs.Quits.{in_a_row}
 use Rattle.serving.specs.Running.{Maintained, Prepared, Maintains, PreparesFile}
 use Rattle.serving.proofs.Going.{waits_idle, file_maintains, file_idle}
 use Rattle.serving.proofs.server.Server.use_pause.Goals as goal
@@ -47,3 +48,7 @@ returns-clause-pauses g c =
 pub returns-clause-stands : goal.returns-clause-stands
 returns-clause-stands g c = λ T stands clean.
     c.maintain.ensures.stands T (c.prepare_file.ensures.stands T stands (c.maintain.ensures.looks.clean clean)) clean
+
+pub returns-in-Some-clause-counts : goal.returns-in-Some-clause-counts
+returns-in-Some-clause-counts g c = λ row stayed left.
+    ap (λ n. in_a_row c.args.quits.now.is_preparing row + n) c.note_progress.ensures ∙ c.next.ensures.counts row stayed left
