@@ -43,10 +43,10 @@ pub record HasTalked {V : Type 0} (Holds : V → Contents → Type 0) (new : V) 
   pub keeps : Keeps (Holds new) (trace_of T.base log)
   pub on : TalksOn grown T octets written AtEnd log
 
--- A fault broke a conversation off over an office that stood for T: L is the log of a trace that goes
--- on from T by it alone, and of which that holds which holds at this fault; an event failed only
--- if the store counted a refusal, and a fault of the source or of the sink came only if one of
--- its calls failed: `reads` and `writes` say so.
+-- A fault broke off a conversation over an office that stood for T. L is the log of a trace that
+-- continues T by it alone, and meets the condition of this fault; an event failed only if the store
+-- counted a refusal, and a fault of the source or of the sink came only if one of its calls failed:
+-- `reads` and `writes` say so.
 pub record BreaksOn (grown reads writes : Bool) (T : Trace) (octets written : List ℕ)
     (AtEnd : Type 0) (fault : TalkFault) (L : Log) : Type 0 where
   pub own : Extends (next_number T.log) T.log L

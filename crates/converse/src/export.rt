@@ -19,13 +19,11 @@ use crate::streams::Sink;
 use crate::texts::{Texts, marks_of, print_differing, sift};
 use crate::writing::write_text;
 use creds::{Name, Uid};
+use office::PAGE_OCTETS;
 use std::alloc::Global;
 use std::io;
 use std::io::Write;
 use vault::{Head, MessageKey, Vault, VaultFault};
-
-/// How many octets of a message are read at once.
-const PAGE_OCTETS: usize = 16_384;
 
 /// Puts each message of a maildrop, the oldest first, as a file into a folder, and prints
 /// `ok, N messages` to `out`, which is flushed, once the names of the files last a power cut. The

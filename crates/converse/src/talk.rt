@@ -15,11 +15,8 @@ ghost use Rattle.converse.specs.Conversing.{GoesOn, Waits, Midway, IsPaid, IsDon
 ghost use Rattle.converse.specs.Conversing.{opened_by, memory_by};
 
 use crate::streams::{Sink, Source};
-use office::{Event, Office, Outcome};
+use office::{Event, MOST_IN_A_PIECE, Office, Outcome};
 use vault::Vault;
-
-/// How many octets are read at once: the most that an office takes in one piece.
-const MOST_AT_ONCE: usize = 4096;
 
 /// Why a conversation was broken off.
 #[derive(Clone, Copy, Debug, PartialEq, Eq)]
@@ -114,7 +111,7 @@ fn listen<V: Vault, R: Source, W: Sink>(
     ensures counted { V.faults (vault_of office.old) ≤ V.faults (vault_of office.new) }
     ensures clean { V.is_clean (vault_of office.new) → V.is_clean (vault_of office.old) }
 {
-    let mut room = [0; MOST_AT_ONCE];
+    let mut room = [0; MOST_IN_A_PIECE];
     let Ok(count) = reader.read(&mut room) else {
         return Err(TalkFault::Read);
     };

@@ -29,12 +29,12 @@ is_atoms at_front (b ∷ bs) =
     else if b == 46 then not at_front && is_atoms true bs
     else is_atext b && is_atoms false bs
 
--- what stands behind the @: a literal, or atoms
+-- what stands after the @: a literal, or atoms
 abbrev pub is_right : List ℕ → Bool
 is_right [] = false
 is_right (b ∷ bs) = if b == 91 then is_literal bs else is_atoms true (b ∷ bs)
 
--- atoms with dots between them, @, and what stands behind it
+-- atoms with dots between them, @, and what stands after it
 abbrev pub is_left : (at_front : Bool) → List ℕ → Bool
 is_left at_front [] = false
 is_left at_front (b ∷ bs) =
@@ -65,7 +65,7 @@ abbrev pub behind_blank : List ℕ → List ℕ
 behind_blank [] = []
 behind_blank (b ∷ bs) = if b == 32 || b == 9 then bs else b ∷ bs
 
--- the Message-ID of a line, if it is all that stands behind the name
+-- the Message-ID of a line, if it is all that stands after the name
 abbrev pub id_of : List ℕ → Option (List ℕ)
 id_of text = if is_message_id text then Some text else None
 

@@ -221,7 +221,7 @@ abbrev pub who_text : Option ℕ → (address : List ℕ) → List ℕ
 who_text None address = client_text address
 who_text (Some n) address = numbered_text n address
 
--- the session's clerk and maildrop behind a space
+-- the session's clerk and maildrop after a space
 abbrev pub behind_name : Option LoginName → List ℕ
 behind_name None = []
 behind_name (Some name) = codes " " ++ name_text name
@@ -280,7 +280,7 @@ abbrev pub waited_text : (seconds : ℕ) → List ℕ
 waited_text zero = []
 waited_text (suc seconds) = codes " waited=" ++ decimal (suc seconds)
 
--- what stands behind an account's line: of a login how long it waited, and of a session's QUIT its
+-- what stands after an account's line: of a login how long it waited, and of a session's QUIT its
 -- commands
 abbrev pub behind_account : Account → Client → List ℕ
 behind_account (account.Login name by verdict) client = waited_text client.waited

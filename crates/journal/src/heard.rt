@@ -177,7 +177,7 @@ fn sent_text(alloc: Global, uid: Uid) -> Result<String, AllocError>
     Ok(text)
 }
 
-/// A session's clerk and maildrop behind a space.
+/// A session's clerk and maildrop after a space.
 fn spaced_name(alloc: Global, name: &LoginName) -> Result<String, AllocError>
     ensures { IfOk result (λ text. string_bytes text ≡ behind_name (Some name.now)) }
 {

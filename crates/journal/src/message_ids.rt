@@ -142,8 +142,8 @@ fn only_id_line(head: &[u8]) -> Option<&[u8]>
     found
 }
 
-/// The Message-ID that a mail's head tells: on one line alone, which has nothing else behind its
-/// name and one blank at most, in 200 octets at most. `None` if it tells none so.
+/// The Message-ID of a mail's head, if just one of its lines has one, in this form: nothing else
+/// after the field's name and at most one blank, and at most 200 octets. Otherwise `None`.
 pub fn message_id(head: &[u8]) -> Option<&[u8]>
     ensures { option_map (λ id. id.now) result ≡ message_id_in head.now }
 {

@@ -1,5 +1,5 @@
--- A QUIT that comes: whether a piece of a connection's octets brings one of its session, and whether
--- it may remove many messages.
+-- A QUIT that comes: whether a piece of a connection's octets brings one of its session, and
+-- whether it may remove many messages.
 use Rattle.std.specs.Prelude.{ℕ, Bool, true, false, ◌&&◌, nat_lt, List, length}
 use Rattle.std.specs.Prelude.{Option, Some, None, Result, Err, if◌then◌else◌}
 use Rattle.popline.specs.Cutting.{Cut}
@@ -29,7 +29,7 @@ next_is_quit T c piece =
 abbrev pub brings_quit : Trace → ℕ → (piece : List ℕ) → Bool
 brings_quit T c piece = if is_ready T c then next_is_quit T c piece else false
 
--- a reference to a number finds a message, be it marked
+-- a reference to a number finds a message, even a marked one
 abbrev pub is_found : Result Head Pick → Bool
 is_found (Err NoSuch) = false
 is_found _ = true
@@ -58,6 +58,7 @@ marks_many T c =
     let G = history T in
     live G c && are_many (length (marked (marks G c) (view T.base G c)))
 
--- with this piece, a connection's next line is a QUIT of its session, which has marked many messages
+-- with this piece, a connection's next line is a QUIT of its session, which has marked many
+-- messages
 abbrev pub brings_long_quit : Trace → ℕ → (piece : List ℕ) → Bool
 brings_long_quit T c piece = brings_quit T c piece && marks_many T c

@@ -299,8 +299,8 @@ impl Account {
         }
     }
 
-    /// The account of a command that was answered so, if this is what it tells when it is done: of
-    /// one at which the store failed nothing is told.
+    /// The account of a command with this outcome: this one if it was done, and nothing if the
+    /// store failed.
     pub(crate) fn if_done(self, outcome: LineOutcome) -> Account
         ensures { result ≡ told_if_done outcome self }
     {

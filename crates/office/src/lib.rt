@@ -51,6 +51,7 @@ pub use history_laws::{
 };
 pub use limits::{AdminAccess, Limits};
 pub use numbers::read_number;
-pub use office::{Office, OpenFault};
+pub use office::{MOST_IN_A_PIECE, Office, OpenFault};
+pub use reading::PAGE_OCTETS;
 pub use stop_laws::{step_and_open, stop_between_events};
 pub use transcript::{RunFault, Step, Transcript};

@@ -43,8 +43,8 @@ use vault::{Vault, VaultFault};
 
 /// How many connections may be open at once.
 const MOST_OPEN: usize = 64;
-/// How many octets a piece may have.
-const MOST_IN_A_PIECE: usize = 4096;
+/// How many octets a piece of what a connection sends may have.
+pub const MOST_IN_A_PIECE: usize = 4096;
 
 /// Why an office wasn't opened.
 #[derive(Clone, Copy, Debug, PartialEq, Eq)]
@@ -422,8 +422,8 @@ impl<V: Vault> Office<V> {
     /// Does one event, as [`Office::step`] does, and says what it judged: the report has its
     /// outcome and its account. The account is that of the line that acted, also if the store
     /// failed; or why the connection ended, if it is gone, memory was wanting, a page was refused
-    /// or a command ended its session; or that all that was owed is taken, if the line that acts
-    /// then tells nothing. Other events have none, nor has one that is ignored.
+    /// or a command ended its session; or, if the line that acts then has no account, that all that
+    /// was owed is taken. Other events have none, nor has one that is ignored.
     pub fn step_with_account(&mut self, event: Event<'_>) -> EventReport
         ensures stands { OfEachTrace V.Vault self.old self.new (λ T.
             StandsFor V.holds self.new (followed_by T (event_seen event.entry) result.outcome)) }

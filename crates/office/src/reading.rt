@@ -20,7 +20,7 @@ use vault::{MessageKey, Vault, VaultFault};
 /// At most so many octets are lent at once; while more are owed, so many at least stand ready.
 pub const MOST_LENT: usize = 16_384;
 /// How many octets of a message are read from the store at once.
-const PAGE_OCTETS: usize = 16_384;
+pub const PAGE_OCTETS: usize = 16_384;
 /// How many octets a page has at most once its dots are doubled.
 const STUFFED_OCTETS: usize = 32_768;
 

@@ -196,7 +196,7 @@ fn replay_verbosely<S: Read + Drop, W: Write + Drop, E: Write>(
 }
 
 /// Prints what the system answered to a script, if it refused; or which of its lines isn't an
-/// event, and why. Of a script whose lines all are it prints nothing.
+/// event, and why. If all of its lines are events, it prints nothing.
 fn tell_script<R, E: Write>(alloc: Global, err: &mut E, name: &str, script: &Keeping<R>) {
     if script.refusal().is_some() {
         tell_refusal(err, name, script.refusal());

@@ -31,7 +31,7 @@ has_line (x ∷ xs) = if x == 10 then true else has_line xs
 
 -- ---- what is recorded
 
--- inside t is told, and u outside: u's octets stand after a first line, and that is a PROXY line
+-- t is recorded inside, and u outside: u's octets come after a first line, which is a PROXY line
 pub record TellsBehind (t u : Told) : Type 0 where
   pub accepted : u.accepted ≡ t.accepted
   pub read : (k : ℕ) → u.read k ≡ behind_line (t.read k)

@@ -2,6 +2,7 @@
 use Rattle.std.specs.Prelude.{ℕ, Bool, true, false, ◌==◌, ◌+◌, ◌&&◌, if◌then◌else◌}
 use Rattle.std.specs.Prelude.{List, [], ◌∷◌, ◌++◌, filter_map, Option, Some, None}
 use Rattle.std.specs.List.{list_any}
+use Rattle.office.specs.Expected.{most_in_a_piece}
 use Rattle.serving.specs.Wires.{is_fault}
 use Rattle.serving.specs.declared.wire.Link.{Link}
 use Rattle.serving.specs.declared.wire.Port.{Port}
@@ -68,7 +69,7 @@ is_admin _ = false
 
 -- how many octets are asked for at once at most
 abbrev pub most_at_once : ℕ
-most_at_once = 4096
+most_at_once = most_in_a_piece
 
 -- a client's link was read from, whatever that gave, and as many octets were asked for as may be at
 -- once

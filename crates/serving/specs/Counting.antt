@@ -32,6 +32,6 @@ abbrev pub counted_with : Port → Option Link → Counts → Counts
 counted_with port None counts = counts
 counted_with port (Some link) counts = one_more_at port counts
 
--- so many are told of
+-- a wire's record has so many
 abbrev pub AreCounted : Counts → ToldOfPorts → Type 0
 AreCounted counts t = (counts.clients ≡ t.pop.accepted) × (counts.requests ≡ t.admin.accepted)

@@ -10,7 +10,7 @@ use Rattle.adminhttp.specs.Sites.{Site}
 use Rattle.serving.specs.Wires.{is_fault}
 use Rattle.serving.specs.Calls.{Call, Accepted, Read, Wrote, Closed}
 use Rattle.serving.specs.Requests.{octets_of, HasOneMore, IsGiven}
-use Rattle.serving.specs.Works.{most_at_once, most_writes}
+use Rattle.serving.specs.Works.{most_at_once, most_writes, share_among_others}
 use Rattle.serving.specs.HttpTurns.{is_late_at, most_exchanges}
 pub use Rattle.serving.specs.HttpTurns.{most_asked, IsShort, AreShort}
 use Rattle.serving.specs.declared.wire.Link.{Link}
@@ -83,7 +83,7 @@ pub data HasRead (site : Site) (B : Records) (L : Log) (e e_then : Exchange) : L
 -- how many octets of it are offered at each write at most; once so many or more were written in a
 -- turn, no more is
 abbrev pub admin_share : ℕ
-admin_share = 16384
+admin_share = share_among_others
 
 -- writes on a link, from so many octets of its response on: each was offered all that follow, or
 -- the first 16,384 of them, and each that took octets took the next ones

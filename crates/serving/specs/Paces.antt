@@ -19,12 +19,12 @@ abbrev pub is_paced : (now : ℕ) → (origin : Option ℕ) → LoginName → Li
 is_paced now None name refusals = false
 is_paced now (Some origin) name refusals = holds_back now (refusal_of origin name refusals)
 
--- for how many seconds a login is kept back behind refusals at most, however many come meanwhile
+-- for how many seconds a login is kept back after refusals at most, however many come meanwhile
 abbrev pub most_paced : ℕ
 most_paced = 15
 
--- A login is kept back, whatever its maildrop: behind a session that ended in this turn, so that in
--- the next turn those who wait for its maildrop are tried by number; or behind a refusal.
+-- A login is kept back, whatever its maildrop: after a session that ended in this turn, so that in
+-- the next turn those who wait for its maildrop are tried by number; or after a refusal.
 abbrev pub keeps : Pace → List Refusal → (login : Option LoginName) → Bool
 keeps pace refusals None = false
 keeps pace refusals (Some name) = pace.is_shut

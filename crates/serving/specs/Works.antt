@@ -72,10 +72,14 @@ link_of_seat s = s.link
 abbrev pub most_writes : ℕ
 most_writes = 64
 
+-- one full write
+abbrev pub share_among_others : ℕ
+share_among_others = 16384
+
 -- how many octets are written on a link in one turn, and then no more: many if it is alone, and one
 -- full write if others are open
 abbrev pub share_by : (links : ℕ) → ℕ
-share_by links = if nat_le links 1 then 1048576 else 16384
+share_by links = if nat_le links 1 then 1048576 else share_among_others
 
 -- so many writes were made on a client's link, or its share was written
 abbrev pub is_written_out : (share : ℕ) → Link → List Call → Bool

@@ -19,20 +19,17 @@ ghost use Rattle.serving.specs.ClientParts.{HadOwnTurn, WereServed, may_keep, ma
 ghost use Rattle.serving.specs.Works.{share_by, reads_by_line};
 ghost use Rattle.arrayvec.specs.ArrayVec.{array_vec_len};
 
-use crate::links::{Clients, MOST_AT_ONCE, MOST_WRITES, Seat};
+use crate::links::{Clients, MOST_WRITES, SHARE_AMONG_OTHERS, Seat};
 use crate::listener::{LinkEvent, Listener};
 use crate::pace::{next_part, note_guess, pace_at};
 use crate::quits::Quits;
 use crate::server::Server;
 use crate::wire::{Io, Port, Wire};
-use office::{Event, Office};
+use office::{Event, MOST_IN_A_PIECE, Office};
 use vault::Vault;
 
 /// How many octets are written in one turn on a link that is alone: 64 full writes.
 const SHARE_ALONE: usize = 1_048_576;
-
-/// How many if others are open, so that none of them waits long: one full write.
-const SHARE_AMONG_OTHERS: usize = 16_384;
 
 /// The share of each link.
 fn share_of(clients: &Clients) -> usize
@@ -188,7 +185,7 @@ impl<V: Vault, W: Wire, L: Listener> Server<V, W, L> {
         if !may_quit_long(&self.office, seat.connection) {
             return false;
         }
-        let mut room = [0; MOST_AT_ONCE];
+        let mut room = [0; MOST_IN_A_PIECE];
         match self.wire.look(Port::Pop, seat.link, &mut room) {
             Io::Count(count) => {
                 if !is_long_quit(&self.office, seat.connection, &room[..count]) {
@@ -230,7 +227,7 @@ impl<V: Vault, W: Wire, L: Listener> Server<V, W, L> {
             return false;
         }
         let before = self.office.refusals(seat.connection);
-        let mut room = [0; MOST_AT_ONCE];
+        let mut room = [0; MOST_IN_A_PIECE];
         if !self.read_once(seat, &mut room[..part.count]) {
             return false;
         }

@@ -125,8 +125,8 @@ impl<V: Vault, W: Wire, L: Listener> Server<V, W, L> {
         self.end_seat(clients, seat, now);
     }
 
-    /// Ends the connection of each client that hasn't logged in and of whose login seconds so many
-    /// or more are over. 0 means no limit: none is ended.
+    /// Ends the connection of each client that hasn't logged in although so many or more of its
+    /// login seconds are over. 0 means no limit: none is ended.
     pub(crate) fn end_late_ones(&mut self, clients: &mut Clients, now: u64, seconds: u64)
         ensures serves { KeepsServing V.Vault W.Wire self.old self.new
             clients.old.seats.items [] clients.new.seats.items [] }

@@ -12,13 +12,13 @@ use arrayvec::ArrayVec;
 use creds::LoginName;
 use std::net::{IpAddr, Ipv6Addr};
 
-/// Of how many origins and names the last refusal is known at most.
+/// How many refusals are kept at most: the last one of each origin and name.
 const MOST_REFUSALS: usize = 1024;
 
 /// For how many seconds a first refusal keeps the next login back.
 const FIRST_SECONDS: u64 = 1;
 
-/// For how many seconds any refusal does at most, and for how many a login is kept back at most,
+/// How many seconds a refusal keeps the next login back at most, and a login is kept back at most,
 /// however many others are refused meanwhile.
 pub(crate) const MOST_SECONDS: u64 = 15;
 

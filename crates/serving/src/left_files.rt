@@ -11,7 +11,8 @@ const MOST: usize = 100;
 const REST: u64 = 1;
 
 /// The files that were tried and left: they couldn't be read, or the store didn't take them. Others
-/// are tried before them.
+/// are tried before them. Only [`MOST`] of them are remembered, and any others are tried as if they
+/// were new.
 #[derive(Drop)]
 pub(crate) struct LeftFiles {
     names: Vec<FileName>,

@@ -25,11 +25,12 @@ pub struct Seat {
 /// turn, at most.
 pub const MOST_LINKS: usize = 64;
 
-/// How many octets are read from a link at once: as many as an office takes in one piece.
-pub(crate) const MOST_AT_ONCE: usize = 4096;
-
 /// How many writes a link has in one turn at most.
 pub(crate) const MOST_WRITES: usize = 64;
+
+/// How many octets are written in one turn on a link of a client while others are open, and on one
+/// of the administration: one full write. So no client waits long for the others.
+pub(crate) const SHARE_AMONG_OTHERS: usize = 16_384;
 
 /// For how many seconds a login may wait at most. It is far below the idle time of any office.
 const MOST_WAIT: u64 = 60;
@@ -127,9 +128,9 @@ impl Links {
     /// the same name from the same address isn't read for a second, and after each further refusal
     /// for twice as long, at most 15 seconds, until one is accepted or none was refused for ten
     /// minutes. No login is kept back so for more than 15 seconds, however many others are refused
-    /// meanwhile. An IPv6 address counts by its first 64 bits. Of 1,024 addresses and names
-    /// refusals are known, the newest ones. Until a client has logged in its lines are read one at
-    /// a time. Links begin with fast ones.
+    /// meanwhile. An IPv6 address counts by its first 64 bits. The refusals of the newest 1,024
+    /// pairs of address and name are kept. Until a client has logged in its lines are read one at a
+    /// time. Links begin with fast ones.
     pub fn set_slow_guesses(&mut self, slow: bool)
         ensures settings { settings self.new ≡ with_slow_guesses slow (settings self.old) }
         ensures slow { self.new.clients.guesses.are_slow ≡ slow }
@@ -148,7 +149,8 @@ impl Links {
         self.clients.wait
     }
 
-    /// How many seconds each client has for its login; 0 if it has all that the office gives.
+    /// How many seconds each client has for its login; 0 if it has all that the office gives. Only
+    /// tests call it.
     pub fn login_seconds(&self) -> u64
         ensures { result ≡ (settings self.now).login_seconds }
     {
@@ -156,14 +158,14 @@ impl Links {
     }
 
     /// How many seconds each client has for its login while the house is full; 0 if that changes
-    /// nothing.
+    /// nothing. Only tests call it.
     pub fn full_house_seconds(&self) -> u64
         ensures { result ≡ (settings self.now).full_house_seconds }
     {
         self.clients.newcomers.full_house_seconds
     }
 
-    /// Whether guesses are slow.
+    /// Whether guesses are slow. Only tests call it.
     pub fn slow_guesses(&self) -> bool
         ensures { result ≡ (settings self.now).slow_guesses }
     {
@@ -184,7 +186,7 @@ impl Links {
         self.clients.poll_now || self.requests.poll_now
     }
 
-    /// How many links of the administration are open.
+    /// How many links of the administration are open. Only tests call it.
     pub fn requests(&self) -> usize
         ensures { result ≡ length self.now.requests.exchanges.items }
     {

@@ -62,7 +62,7 @@ impl Newcomer {
     }
 }
 
-/// Since when a login lies unread that does at this moment.
+/// The moment since which a login that lies unread now has done so.
 fn held_at(held: Option<u64>, now: u64) -> Option<u64>
     ensures { result ≡ held_at_by now held }
 {
@@ -72,8 +72,8 @@ fn held_at(held: Option<u64>, now: u64) -> Option<u64>
     }
 }
 
-/// From which moment on seconds count that counted from one before: later by as many as a login has
-/// lain unread.
+/// The moment from which the seconds count: the one before, moved later by the time that a login
+/// has lain unread.
 fn since_at(held: Option<u64>, since: u64, now: u64) -> u64
     ensures { result ≡ since_at_by now held since }
 {

@@ -11,9 +11,9 @@ use crate::spool::{Coming, Spool};
 
 /// A spool that does what the one inside does, and notes it.
 ///
-/// Of any spool inside, `tells` holds of this one: what each call was answered is what it tells.
-/// The notes are in the proofs alone and take no memory. What a folder really holds is no more
-/// known than before: a read gave this text, a removal was told to be done.
+/// Of any spool inside, `tells` holds of this one: its record is what each call was answered. The
+/// notes are in the proofs alone and take no memory. What a folder really holds is no more known
+/// than before: a read gave this text, a removal was reported as done.
 #[derive(Drop)]
 pub struct NotedSpool<S: Spool> {
     pub spool: S,

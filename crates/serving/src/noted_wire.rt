@@ -14,7 +14,7 @@ use std::net::{IpAddr, SocketAddr};
 
 /// A wire that does what the one inside does, and notes it.
 ///
-/// Of any wire inside, `tells` holds of this one: what each call was answered is what it tells. The
+/// Of any wire inside, `tells` holds of this one: its record is what each call was answered. The
 /// notes are in the proofs alone and take no memory. What a link of the one inside really carries
 /// is no more known than before: a read gave these octets, a write counted those.
 ///

@@ -17,10 +17,10 @@ ghost use Rattle.serving.specs.Parts.{NotesGuesses};
 ghost use Rattle.serving.specs.Paces.{first_line as first_line_of, part_by};
 
 use crate::guesses::{Guesses, MOST_SECONDS, origin_of};
-use crate::links::{Clients, MOST_AT_ONCE, Seat};
+use crate::links::{Clients, Seat};
 use crate::wire::{Io, Port, Wire};
 use creds::LoginName;
-use office::Office;
+use office::{MOST_IN_A_PIECE, Office};
 use vault::Vault;
 
 /// How what comes on a client's link is read at a moment.
@@ -224,13 +224,13 @@ pub(crate) fn next_part<V: Vault, W: Wire>(
     ensures alone { pace.by_line ≡ false → wire.new ≡ wire.old }
 {
     let all = Part {
-        count: MOST_AT_ONCE,
+        count: MOST_IN_A_PIECE,
         login: None,
     };
     if !pace.by_line {
         return all;
     }
-    let mut room = [0; MOST_AT_ONCE];
+    let mut room = [0; MOST_IN_A_PIECE];
     match wire.look(Port::Pop, seat.link, &mut room) {
         Io::Count(count) => part_of_piece(office, guesses, seat.connection, &room[..count], pace),
         _ => all,

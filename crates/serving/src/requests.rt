@@ -25,7 +25,7 @@ ghost use Rattle.serving.specs.Requests.{octets_of, IsResponseTo, HasAsked, HasO
 ghost use Rattle.serving.specs.Requests.{StillAnswers, StillAsked, AllStillAnswer, AllStillAsked};
 
 use crate::ends::close_link;
-use crate::links::{MOST_AT_ONCE, MOST_WRITES};
+use crate::links::{MOST_WRITES, SHARE_AMONG_OTHERS};
 use crate::listener::{AdminRequest, LinkEvent, Listener};
 use crate::octets::part_of;
 use crate::server::Server;
@@ -34,7 +34,7 @@ use adminhttp::{
     Content, Got, Method, Refusal, Request, RequestLine, Target, policy_response, response,
 };
 use creds::HostName;
-use office::{Account, AdminCommand, Answer, Event, Office, Outcome};
+use office::{Account, AdminCommand, Answer, Event, MOST_IN_A_PIECE, Office, Outcome};
 use policy::PolicyFault;
 use std::alloc::{AllocError, Global};
 use vault::Vault;
@@ -45,10 +45,6 @@ pub const MOST_REQUESTS: usize = 8;
 /// A link of the administration is closed, finished or not, in the first turn that is so many
 /// seconds or more after its acceptance.
 const MOST_SECONDS: u64 = 60;
-
-/// How many octets of a response are offered at each write. Once so many or more were written in a
-/// turn, no more is written in it, so that no client waits long for it.
-const SHARE: usize = 16_384;
 
 /// The response to a request.
 #[derive(Drop)]
@@ -362,7 +358,7 @@ fn write_some<W: Wire, L: Listener>(
         exchange.is_over = true;
         return 0;
     }
-    let part = part_of(octets, exchange.written, SHARE);
+    let part = part_of(octets, exchange.written, SHARE_AMONG_OTHERS);
     match wire.write(Port::Admin, exchange.link, part) {
         Io::Count(count) => {
             listener.on_link(wire, Port::Admin, exchange.link, LinkEvent::WasWritten);
@@ -398,7 +394,7 @@ fn write_response<W: Wire, L: Listener>(
             return false;
         }
         written = written.saturating_add(count);
-        if written >= SHARE {
+        if written >= SHARE_AMONG_OTHERS {
             return true;
         }
     }
@@ -463,7 +459,7 @@ impl<V: Vault, W: Wire, L: Listener> Server<V, W, L> {
         if exchange.response.is_some() {
             return;
         }
-        let mut room = [0; MOST_AT_ONCE];
+        let mut room = [0; MOST_IN_A_PIECE];
         match self.wire.read(Port::Admin, exchange.link, &mut room) {
             Io::Count(count) => {
                 let piece = &room[..count];

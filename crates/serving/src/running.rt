@@ -103,11 +103,11 @@ impl<V: Vault, W: Wire, L: Listener> Server<V, W, L> {
 
     /// Does one turn after the other, until so many were done. Each waits, and then asks the clock
     /// for its moment. If the clock gives none it ends there: it accepts, reads and writes nothing
-    /// more, and the office is told nothing. After a turn that has nothing more to do, the store
-    /// does what it has put off. A QUIT that removes many messages stays unread at first: before
-    /// each further turn the store prepares a part of what it removes, while the turns serve
-    /// others. The QUIT is read once no more can be prepared, or the store refuses. So it is with a
-    /// large file of the spool, which is also read in pieces.
+    /// more, and the office gets no event. After a turn that has nothing more to do, the store does
+    /// what it has put off. A QUIT that removes many messages stays unread at first: before each
+    /// further turn the store prepares a part of what it removes, while the turns serve others. The
+    /// QUIT is read once no more can be prepared, if the store refuses, or after 1,000 turns. So it
+    /// is with a large file of the spool, which is also read in pieces.
     ///
     /// What held before the first turn holds before each: the settings and the site are the same,
     /// all who haven't logged in have seats, and a refusal keeps a login back for 1 to 15 seconds.

@@ -113,15 +113,15 @@ pub struct SocketWire {
     poll: Poll,
     events: Events,
     door: Door,
-    /// That for the administration, if there is one.
+    /// The listener for the administration, if there is one.
     admin_door: Option<Door>,
     places: Vec<Place>,
     /// How many links were accepted at each port: the number of its next one.
     counts: Counts,
     /// Every turn at reading so far has a smaller number.
     turns: u64,
-    /// In the last wait the system told of a client's link that its other end has ended. Its place
-    /// is free once that is read, so whoever came meanwhile is accepted after the next wait.
+    /// The last wait reported that the other end of a client's link has ended. Its place is free
+    /// once that is read, so whoever came meanwhile is accepted after the next wait.
     has_ended: bool,
 }
 
@@ -197,7 +197,7 @@ fn is_same_port(one: Port, other: Port) -> bool
 }
 
 impl SocketWire {
-    /// Listens for clients at an address, and tells the port: that of the address, or if this is
+    /// Listens for clients at an address, and returns the port: that of the address, or if this is
     /// 0 one that the system chose. No clause speaks of it: of sockets nothing is known.
     pub fn bind<R: Net>(rt: &R, alloc: Global, at: SocketAddr) -> io::Result<(SocketWire, u16)> {
         let poll = Poll::new(rt)?;
@@ -217,8 +217,8 @@ impl SocketWire {
         Ok((wire, port))
     }
 
-    /// Listens for the administration at an address, and tells the port, as [`SocketWire::bind`]
-    /// does, and no clause speaks of it either.
+    /// Listens for the administration at an address, and returns the port, as
+    /// [`SocketWire::bind`] does, and no clause speaks of it either.
     pub fn bind_admin<R: Net>(&mut self, rt: &R, at: SocketAddr) -> io::Result<u16> {
         let (door, port) = Door::open(rt, &self.poll, ADMIN_LISTENER, at)?;
         self.admin_door = Some(door);

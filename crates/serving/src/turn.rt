@@ -50,10 +50,11 @@ impl<V: Vault, W: Wire, L: Listener> Server<V, W, L> {
         let _ = self.office.step(Event::Tick(now));
     }
 
-    /// One turn: waits for at most a second, and not at all if more can be done at once; tells the
-    /// office the moment, in seconds; accepts the links that came, at most 64 at each port; serves
-    /// each client's link, and then each link of the administration; ends the clients that took too
-    /// long to log in; closes the links whose connections ended; and tries one file of the spool.
+    /// One turn: waits for at most a second, and not at all if more can be done at once; sends the
+    /// office a Tick of this moment, in seconds; accepts the links that came, at most 64 at each
+    /// port; serves each client's link, and then each link of the administration; ends the clients
+    /// that took too long to log in; closes the links whose connections ended; and tries one file
+    /// of the spool.
     /// The listener hears of each connection that is opened, what was judged of what came on it,
     /// that it was idle or late, and what the administration was asked.
     ///

@@ -52,7 +52,7 @@ pub enum Refusal {
 /// 0 on, in the order in which they were accepted. `asked w calls`: `calls` is a true record of
 /// what w was asked and answered. Of a wire over sockets neither is known.
 /// `address_of w port link`: from where a link came, as far as w knows by now; `peer_of` is its
-/// other end. `closed_for w link`: for what w closed a client's link by itself.
+/// other end. `closed_for w link`: why w itself closed a client's link.
 pub trait Wire {
     ghost use Rattle.serving.specs.Wires.{IsWithin, IsAccepted, SayAlikeOfPorts};
 
@@ -68,7 +68,7 @@ pub trait Wire {
     /// `peer_of w port link`: what w gives as the other end of a link.
     ghost peer_of: { Self → Peers };
 
-    /// `closed_for w link`: for what w closed a client's link by itself.
+    /// `closed_for w link`: why w itself closed a client's link.
     ghost closed_for: { Self → Refusals };
 
     /// Waits until a link may be accepted, read or written, at most so many milliseconds.

@@ -15,7 +15,7 @@ use crate::refusal::Refusal;
 use httparse::Status;
 use httparse::spans::{HeaderSpan, RequestSpans, parse_request};
 
-/// Where the parts of a head lie that a text is as a whole.
+/// The places of a head's parts; `None` unless the whole text is a head.
 fn parse_head(text: &[u8], headers: &mut [HeaderSpan]) -> Option<RequestSpans>
     requires { length headers.old ≡ most_headers }
     ensures within { IfSome result (IsRequestWithin text.now headers.new) }

@@ -37,7 +37,7 @@ pub fn read_target(alloc: Global, target: &[u8]) -> Result<Target, NoCommand>
     }
 }
 
-/// What a path names, of which this route was found.
+/// What a path names, if this is its route.
 fn read_found(route: Option<Route>, path: &[u8]) -> Option<Target>
     ensures { result ≡ found_on route path.now }
 {
