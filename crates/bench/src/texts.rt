@@ -28,23 +28,23 @@ fn send(alloc: Global, kept: &MailText) -> Result<Vec<u8>, AllocError> {
     Ok(sent)
 }
 
-/// How many octets are sent of a text that comes in pages of 4,096 octets.
-fn send_pages(text: &[u8], out: &mut [u8]) -> usize {
+/// How many octets are sent of a text that comes in pieces of 4,096 octets.
+fn send_pieces(text: &[u8], out: &mut [u8]) -> usize {
     let mut stuffer = Stuffer::new();
     let mut sent = 0usize;
-    for page in text.chunks(4096) {
-        let (_, put) = stuffer.feed(page, out);
+    for piece in text.chunks(4096) {
+        let (_, put) = stuffer.feed(piece, out);
         sent = sent.wrapping_add(put);
     }
     sent
 }
 
-/// Sends a text by pages through a buffer of 16,384 octets. Answers how many octets are sent, and
+/// Sends a text by pieces through a buffer of 16,384 octets. Answers how many octets are sent, and
 /// how many of the text in a microsecond.
 fn streaming(rt: &(impl AllocGlobal + Clock), kept: &MailText) -> io::Result<(usize, u64)> {
     let mut out = vec![in rt.alloc(); 0u8; 16_384]?;
     let start = Instant::now(rt)?;
-    let sent = send_pages(kept.bytes(), &mut out);
+    let sent = send_pieces(kept.bytes(), &mut out);
     Ok((sent, rate(kept.octets() as u64, since(rt, start)?)))
 }
 

@@ -12,8 +12,8 @@ static TAKINGS: [usize; 3] = [1, 512, usize::MAX];
 /// How many lines the body of the long message has.
 const LINES: usize = 6000;
 
-/// How many octets a page has.
-const PAGE: usize = 4096;
+/// How many octets a sheet has: a text is kept in these.
+const SHEET: usize = 4096;
 
 /// Takes `most` of the octets that a connection is lent, or all if they are fewer. Whether that was
 /// done.
@@ -286,7 +286,7 @@ fn a_refused_page(rt: HostRuntime) -> Result<(), Fail> {
     assert!(rt; 0 < with_line && 0 < later);
     assert_eq!(rt;
         with_line.saturating_add(later),
-        kept_octets(&text).div_ceil(PAGE)
+        kept_octets(&text).div_ceil(SHEET)
     );
     Ok(())
 }

@@ -76,11 +76,11 @@ fn is_last(vault: &mut Store, count: usize, text: &MailText) -> Result<bool, Fai
         return Ok(false);
     };
     let key = head.key;
-    let mut page = [0; 4096];
+    let mut sheet = [0; 4096];
     let mut from = 0usize;
     for _ in 0..=text.octets() / 4096 {
-        let read = vault.page(key, from as u64, &mut page)?;
-        let (Some(rest), Some(got)) = (text.bytes().get(from..), page.get(..read)) else {
+        let read = vault.page(key, from as u64, &mut sheet)?;
+        let (Some(rest), Some(got)) = (text.bytes().get(from..), sheet.get(..read)) else {
             return Ok(false);
         };
         if !rest.starts_with(got) {
@@ -176,10 +176,10 @@ fn a_deposit_beside_gives_one_up(rt: HostRuntime) -> Result<(), Fail> {
 /// Looks at the message of this key, for a clerk, and at a maildrop without messages. Whether that
 /// was answered.
 fn is_looked_at(vault: &mut Store, key: MessageKey, other: &Name) -> Result<bool, Fail> {
-    let mut page = [0; 4096];
-    let has_page = vault.page(key, 0, &mut page)? == 7;
+    let mut sheet = [0; 4096];
+    let has_text = vault.page(key, 0, &mut sheet)? == 7;
     let has_clerk = vault.credential(other)?.is_some();
-    Ok(has_page && !has_clerk && vault.heads(other)?.is_empty())
+    Ok(has_text && !has_clerk && vault.heads(other)?.is_empty())
 }
 
 /// The key of the oldest message.

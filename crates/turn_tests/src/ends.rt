@@ -55,8 +55,8 @@ impl Listener for Ends {
     fn on_request(&mut self, _link: Link, _request: &AdminRequest<'_>) {}
 }
 
-/// What is heard of silent clients, of whom so many come before the turn at each of these moments,
-/// if each has so many seconds for its login, and so many while all places are taken.
+/// What is heard of silent clients: so many come before the turn at each of these moments, and each
+/// has so many seconds for its login, and so many while all places are taken.
 fn ends_by(
     alloc: Global,
     login_seconds: u64,

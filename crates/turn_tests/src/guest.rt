@@ -1,5 +1,5 @@
-//! What one link must get, reckoned by an office that is given each line, and each request,
-//! whole and only when it may act, and of which all is taken at once.
+//! What one link must get, computed by an office that gets each line and each request whole, once
+//! it may act, and whose output is all taken at once.
 use crate::heard::Heard;
 use crate::stream::{Stream, front, line_len};
 use adminhttp::{Got, Request, response};

@@ -133,7 +133,7 @@ static OCTETS: [&str; 14] = [
     "P", "A", "S", "S", " ", "s", "3", " ", "c", "r", "e", "t", "\r", "\n",
 ];
 
-/// It waits, each octet of which came by itself.
+/// It waits, although each of its octets came by itself.
 static AN_OCTET_A_PACKET: [Act; 5] = [
     Act::Turns(2, 14),
     Act::Told(1, SECOND_TOLD, 1),

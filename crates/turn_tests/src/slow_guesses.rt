@@ -257,7 +257,7 @@ fn seconds_double_until_15(rt: HostRuntime) -> Result<(), Fail> {
     Ok(())
 }
 
-/// By which number an IPv6 address counts that ends so.
+/// The number that an IPv6 address with this ending counts by.
 fn origin_of_six(d: u16, g: u16, h: u16) -> u64 {
     origin_of(&IpAddr::V6(Ipv6Addr::new(0x2001, 0xdb8, 0, d, 0, 0, g, h)))
 }
