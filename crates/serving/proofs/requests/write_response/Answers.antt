@@ -59,8 +59,8 @@ returns-then-count-eq0-clause-works g c =
       polled_same false (c1 ++ c2),
     )) k.invariant.works x.ensures.works
 
-pub returns-then-written-ge-SHARE-clause-works : goal.returns-then-written-ge-SHARE-clause-works
-returns-then-written-ge-SHARE-clause-works g c =
+pub returns-then-written-ge-SHARE_AMONG_OTHERS-clause-works : goal.returns-then-written-ge-SHARE_AMONG_OTHERS-clause-works
+returns-then-written-ge-SHARE_AMONG_OTHERS-clause-works g c =
     let k = c.loop-times in
     let x = c.write_some-count in
     let n = x.result in
