@@ -76,21 +76,31 @@ fn bobs(alloc: Global) -> Result<Vec<u8>, AllocError> {
     Ok(octets)
 }
 
-/// What is seen after so many turns: whether ann's QUIT is answered, how many octets bob got, and
-/// how many messages are there.
-fn seen_after(alloc: Global, turns: u64) -> Result<(bool, usize, usize), Fail> {
+/// A server of both, on which nothing was served yet. The first link is ann's.
+fn new_server(alloc: Global) -> Result<Server<Store, ScriptWire, NoListener>, Fail> {
     let mut waiting = Vec::new(alloc);
     waiting.push(bobs(alloc)?)?;
     waiting.push(anns(alloc)?)?;
-    let mut server = Server {
+    Ok(Server {
         office: office_of_many(alloc)?,
         wire: ScriptWire::new(alloc, waiting, PIECE),
         listener: NoListener,
-    };
+    })
+}
+
+/// Whether ann's QUIT is answered.
+fn is_answered(wire: &ScriptWire) -> bool {
+    wire.written(0).ends_with(b"+OK bye\r\n")
+}
+
+/// What is seen after so many turns: whether ann's QUIT is answered, how many octets bob got, and
+/// how many messages are there.
+fn seen_after(alloc: Global, turns: u64) -> Result<(bool, usize, usize), Fail> {
+    let mut server = new_server(alloc)?;
     let mut spool = ScriptSpool::new(alloc);
     let mut links = server.begin(alloc, &spool);
     server.serve_while(&mut links, &mut spool, &mut Still, turns);
-    let is_answered = server.wire.written(0).ends_with(b"+OK bye\r\n");
+    let is_answered = is_answered(&server.wire);
     let told = server.wire.written(1).len();
     let mut vault = server.office.into_vault();
     let left = vault.heads(&name("orders")?)?.len();
@@ -118,5 +128,37 @@ fn others_are_served_while_a_long_quit_is_prepared(rt: HostRuntime) -> Result<()
             return Err(Fail::new("answered in another turn"));
         }
     }
+    Ok(())
+}
+
+/// In how many turns nobody sends a long QUIT: ann's is seen in the next one.
+const BEFORE: u64 = 488;
+
+/// What is seen after so many turns from the one in which ann's QUIT is seen, if a file comes in in
+/// each of them: whether it is answered, how many messages are left, and how many came in.
+fn seen_beside_files(alloc: Global, turns: u64) -> Result<(bool, usize, usize), Fail> {
+    let mut server = new_server(alloc)?;
+    let mut spool = ScriptSpool::new(alloc);
+    let mut links = server.begin(alloc, &spool);
+    server.serve_while(&mut links, &mut spool, &mut Still, BEFORE);
+    for n in 0..turns {
+        let file = format!(in alloc; "notes.note.f{n}.eml")?;
+        spool.put(file.as_str(), b"Subject: a\n\nhi\n")?;
+    }
+    server.serve_while(&mut links, &mut spool, &mut Still, turns);
+    let is_answered = is_answered(&server.wire);
+    let mut vault = server.office.into_vault();
+    let left = vault.heads(&name("orders")?)?.len();
+    let came = vault.heads(&name("notes")?)?.len();
+    Ok((is_answered, left, came))
+}
+
+/// Each deposit of a file gives up what was prepared. In the pauses after the first three turns a
+/// part is prepared, and the files of the second, third and fourth give it up; then none is
+/// prepared, and the QUIT is read in the fifth turn, where the store removes all at once.
+#[test]
+fn a_long_quit_that_is_given_up_again_and_again_ends(rt: HostRuntime) -> Result<(), Fail> {
+    assert!(rt; seen_beside_files(rt.alloc(), 4)? == (false, 300, 4));
+    assert!(rt; seen_beside_files(rt.alloc(), 5)? == (true, 0, 5));
     Ok(())
 }

@@ -1,6 +1,7 @@
 //! Turns by chance in which clients remove many messages at once, over a store that prepares such a
-//! removal in parts while others are served; beside a reckoning that removes them at once.
-ghost use Rattle.std.specs.Prelude.{None};
+//! removal in parts while others are served, and the deposit of a large file too; beside a
+//! reckoning that removes them at once, and knows of no file.
+ghost use Rattle.std.specs.Prelude.{None, ⊤};
 
 use crate::chance::Chance;
 use crate::heard::Heard;
@@ -9,8 +10,9 @@ use crate::reckoning::Reckoning;
 use crate::sent::{MAILDROPS, some_line};
 use crate::two_clerks::{admit_two, name, office_of_two};
 use creds::{DepositId, Name};
+use mailtext::canon;
 use office::{AdminCommand, Answer, Event, Limits, Office, Outcome, read_number};
-use serving::{Clock, Io, Link, Links, Port, Refusal, ScriptSpool, Server, Wire};
+use serving::{Clock, Coming, FileName, Io, Link, Links, Port, Refusal, Server, Spool, Wire};
 use sqlite::MemStore;
 use sqlvault::{Ahead, SqlVault};
 use std::alloc::{AllocError, Global};
@@ -30,6 +32,12 @@ const FILE: &str = "long-turns";
 const TURNS: u64 = 100;
 
 const IN_A_SECOND: u64 = 4;
+
+/// How many octets the large file has: more than are prepared in two parts.
+const LARGE: usize = 600_000;
+
+/// In which pause the file comes again, counted from the one in which it was prepared.
+const AGAIN: u32 = 7;
 
 /// A clock that goes on with the turns.
 #[derive(Drop)]
@@ -163,13 +171,85 @@ impl Wire for BusyWire {
     }
 }
 
+/// A spool with a large file that is prepared again and again, and gone in the end: nobody may see
+/// anything of it.
+#[derive(Drop)]
+struct GoneSpool {
+    file: Coming,
+    /// In which pause it comes, counted from this one.
+    rest: u32,
+    /// In how many pauses it was coming, and after how many of them no more could be prepared.
+    came: u64,
+    prepared: u64,
+}
+
+impl Spool for GoneSpool {
+    ghost tells = { λ _ _. ⊥ };
+
+    ghost asked = { λ _ _. ⊥ };
+
+    ghost is_coming = { λ _ _. ⊤ };
+
+    ghost tells_once = { λ spool a b h k. absurd h };
+
+    fn next_name(&mut self, _last: &Option<FileName>) -> Option<FileName> {
+        None
+    }
+
+    fn read(&mut self, _name: &FileName) -> Option<Vec<u8>> {
+        None
+    }
+
+    fn remove(&mut self, _name: &FileName) -> bool {
+        false
+    }
+
+    fn rename(&mut self, _name: &FileName) -> bool {
+        false
+    }
+
+    fn coming(&self) -> Option<&Coming> {
+        if self.rest > 0 {
+            return None;
+        }
+        Some(&self.file)
+    }
+
+    fn read_on(&mut self) {
+        self.rest = self.rest.saturating_sub(1);
+        if self.rest == 0 {
+            self.came = self.came.saturating_add(1);
+        }
+    }
+
+    fn note_prepared(&mut self) {
+        self.rest = AGAIN;
+        self.prepared = self.prepared.saturating_add(1);
+    }
+}
+
+/// A spool whose file is coming.
+fn new_spool(alloc: Global) -> Result<GoneSpool, Fail> {
+    let octets = vec![in alloc; b'a'; LARGE]?;
+    let text = canon(alloc, octets.as_slice())?;
+    Ok(GoneSpool {
+        file: Coming {
+            name: FileName::read(b"bills.note.large.eml").ok_or("name")?,
+            text: Some(text),
+        },
+        rest: 0,
+        came: 0,
+        prepared: 0,
+    })
+}
+
 /// A server, its spool and its clock.
 #[derive(Drop)]
 struct Game {
     alloc: Global,
     server: Server<Ahead<MemStore>, BusyWire, Heard>,
     links: Links,
-    spool: ScriptSpool,
+    spool: GoneSpool,
     clock: Turns,
     /// How many messages were deposited.
     messages: u64,
@@ -197,7 +277,7 @@ fn new_game(alloc: Global, seed: u64, messages: u64) -> Result<Game, Fail> {
         is_fast: true,
         is_calm: false,
     };
-    let spool = ScriptSpool::new(alloc);
+    let spool = new_spool(alloc)?;
     let server = Server {
         office: office_over_tables(alloc)?,
         wire: BusyWire {
@@ -319,9 +399,13 @@ fn long_quits_by_chance(rt: HostRuntime) -> Result<(), Fail> {
     let reckoning = &game.server.wire.wire.reckoning;
     let fault = reckoning.fault.unwrap_or("");
     let (lines, long) = (reckoning.counts.lines, game.server.listener.long_quits());
+    let (came, prepared) = (game.spool.came, game.spool.prepared);
     println!(rt; "seed {seed}, {rounds} rounds of {TURNS} turns, {messages} messages")?;
-    println!(rt; "{lines} lines, {long} long quits")?;
+    println!(rt;
+        "{lines} lines, {long} long quits, a file prepared {prepared} times in {came} pauses"
+    )?;
     assert!(rt; fault.is_empty(), "{fault}");
     assert!(rt; long >= rounds / 2, "too few");
+    assert!(rt; came > prepared, "nothing was prepared of the file");
     Ok(())
 }
