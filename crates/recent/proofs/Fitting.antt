@@ -19,7 +19,7 @@ use Rattle.vault.specs.Plain.{capped_total}
 use Rattle.vault.proofs.ListLemmas.{bytes_are, not_false}
 use Rattle.vault.proofs.TotalLemmas.{totals_are}
 use Rattle.recent.specs.declared.totals.KeptTotal.{KeptTotal}
-use Rattle.recent.specs.Recalling.{KeptHeads, without, Fits, HoldsFitting, TotalsFit, RowsFit, marked, changed_in, total_by, fresh}
+use Rattle.recent.specs.Recalling.{KeptHeads, without, Fits, HoldsFitting, TotalsFit, RowsFit, marked, changed_in, total_by, fresh, is_of_deposit, heads_after, totals_after}
 use Rattle.recent.proofs.Keeping.{FitsOne}
 use Rattle.recent.proofs.Sums.{DifferIn, rows_differ, added_elsewhere, removed_elsewhere, fresh_rows_are}
 
@@ -93,9 +93,15 @@ same_beside d c n apart = ap (λ (b : Bool). heads_if b (heads n c)) (still_ther
 pub told_so : (d : List ℕ) (c : Contents) (hs lent : List Head) → heads_result d c ≡ Ok hs → lent ≡ hs → heads_result d c ≡ Ok lent
 told_so d c hs lent e l = e ∙ ap (λ (xs : List Head). heads_told xs) (sym l)
 
+-- after a fault what is kept is left as it was, or forgotten
+still_held : (Holds : Contents → Type 0) (kept : List KeptHeads) (rows : Option (List KeptTotal)) (c : Contents) (b : Bool) → Fits kept c → TotalsFit rows c → Holds c
+    → HoldsFitting Holds (if b then kept else []) (if b then rows else None) c
+still_held Holds kept rows c true fits fit held = record { inside = held; fits = fits; sums = fit }
+still_held Holds kept rows c false fits fit held = record { inside = held; fits = tt; sums = tt }
+
 pub deposit_fits : (Holds : Contents → Type 0) (kept : List KeptHeads) (rows : Option (List KeptTotal)) (c : Contents) (d class id text : List ℕ) (r : Result Deposited VaultFault)
     → Fits kept c → TotalsFit rows c → IsDeposited Holds c d class id text r
-    → IsDeposited (HoldsFitting Holds (if is_ok r then without d kept else []) (if is_ok r then marked d rows else None)) c d class id text r
+    → IsDeposited (HoldsFitting Holds (heads_after d r kept) (totals_after d r rows)) c d class id text r
 deposit_fits Holds kept rows c d class id text (Ok (stored.New uid)) fits fit done = record {
   answer = done.answer;
   held = (
@@ -116,12 +122,12 @@ deposit_fits Holds kept rows c d class id text (Ok (stored.Known uid)) fits fit 
 }
 deposit_fits Holds kept rows c d class id text (Err e) fits fit done = record {
   answer = done.answer;
-  held = record { inside = done.held; fits = tt; sums = tt };
+  held = still_held Holds kept rows c (is_of_deposit e) fits fit done.held;
 }
 
 pub remove_fits : (Holds : Contents → Type 0) (kept : List KeptHeads) (rows : Option (List KeptTotal)) (c : Contents) (d keys : List ℕ) (r : Result (Unit {0}) VaultFault)
     → Fits kept c → TotalsFit rows c → AreRemoved Holds c d keys r
-    → AreRemoved (HoldsFitting Holds (if is_ok r then without d kept else []) (if is_ok r then marked d rows else None)) c d keys r
+    → AreRemoved (HoldsFitting Holds (heads_after d r kept) (totals_after d r rows)) c d keys r
 remove_fits Holds kept rows c d keys (Ok x) fits fit done = record {
   answer = done.answer;
   held = record {
@@ -133,7 +139,7 @@ remove_fits Holds kept rows c d keys (Ok x) fits fit done = record {
 }
 remove_fits Holds kept rows c d keys (Err e) fits fit done = record {
   answer = done.answer;
-  held = record { inside = done.held; fits = tt; sums = tt };
+  held = still_held Holds kept rows c (is_of_deposit e) fits fit done.held;
 }
 
 pub drop_fits : (Holds : Contents → Type 0) (kept : List KeptHeads) (c : Contents) (d : List ℕ) (r : Result (Unit {0}) VaultFault)

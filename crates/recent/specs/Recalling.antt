@@ -1,11 +1,13 @@
 -- What is kept of a vault's answers, and when it fits the contents.
 use Rattle.std.specs.Prelude.{◌≡◌, ℕ, Bool, true, false, not, List, [], ◌∷◌, length, map}
-use Rattle.std.specs.Prelude.{filter, sum_by, ⊤, Option, Some, None, Ok}
+use Rattle.std.specs.Prelude.{filter, sum_by, ⊤, Option, Some, None, Result, Ok, Err, if◌then◌else◌}
 use Rattle.std.specs.Option.{option_map}
 use Rattle.std.specs.Str.{bytes_eq}
 use Rattle.creds.specs.Names.{by_name}
 use Rattle.vault.specs.declared.answer.Head.{Head}
 use Rattle.vault.specs.declared.answer.Total.{Total}
+use Rattle.vault.specs.declared.fault.VaultFault.{VaultFault}
+use Rattle.vault.specs.declared.fault.VaultFault.TheVariants as fault
 use Rattle.vault.specs.declared.record.Keyed.{Keyed}
 use Rattle.vault.specs.Changes.{Contents}
 use Rattle.vault.specs.Calls.{heads_result}
@@ -73,6 +75,27 @@ RowsFit rows c =
 abbrev pub TotalsFit : Option (List KeptTotal) → Contents → Type 0
 TotalsFit None c = ⊤
 TotalsFit (Some rows) c = RowsFit rows c
+
+-- ---- after a deposit or a removal
+
+-- a deposit with this fault was refused because of what the vault holds
+abbrev pub is_of_deposit : VaultFault → Bool
+is_of_deposit fault.NoMaildrop = true
+is_of_deposit fault.Conflict = true
+is_of_deposit fault.Full = true
+is_of_deposit e = false
+
+-- the heads that are kept then: after such a fault all, after any other none
+abbrev pub heads_after : {A : Type 0} → List ℕ → Result A VaultFault → List KeptHeads
+    → List KeptHeads
+heads_after d (Ok x) kept = without d kept
+heads_after d (Err e) kept = if is_of_deposit e then kept else []
+
+-- the totals that are kept then
+abbrev pub totals_after : {A : Type 0} → List ℕ → Result A VaultFault
+    → Option (List KeptTotal) → Option (List KeptTotal)
+totals_after d (Ok x) rows = marked d rows
+totals_after d (Err e) rows = if is_of_deposit e then rows else None
 
 -- ---- a vault, and what is kept of its answers
 

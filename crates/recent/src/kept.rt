@@ -5,16 +5,17 @@ ghost use Rattle.std.specs.Str.{bytes_eq};
 ghost use Rattle.vault.specs.Changes.{Contents};
 ghost use Rattle.vault.specs.Calls.{heads_result};
 ghost use Rattle.vault.specs.Records.{most_messages};
-ghost use Rattle.recent.specs.Recalling.{count, kept_heads, marked, without, Fits, KeptHeads};
+ghost use Rattle.recent.specs.Recalling.{count, kept_heads, without, Fits, KeptHeads};
+ghost use Rattle.recent.specs.Recalling.{is_of_deposit, heads_after, totals_after};
 
 use crate::totals::{Totals, mark_kept};
 use creds::Name;
 use std::alloc::Global;
 use std::marker::Model;
-use vault::{Head, VaultFault};
+use vault::{Head, MAX_MESSAGES, VaultFault};
 
 /// How many heads are kept at most, of all maildrops together: those of a full one.
-const MOST_HEADS: usize = 10_000;
+const MOST_HEADS: usize = MAX_MESSAGES;
 
 /// The heads of a maildrop, as it was last asked for.
 #[derive(Drop)]
@@ -255,8 +256,20 @@ pub(crate) fn after_change<T>(
     answer
 }
 
+/// Whether a deposit with this fault was refused because of what the vault holds, and not because
+/// the device failed or memory is wanting.
+fn is_of_deposit(fault: VaultFault) -> bool
+    ensures { result ≡ is_of_deposit fault }
+{
+    match fault {
+        VaultFault::NoMaildrop | VaultFault::Conflict | VaultFault::Full => true,
+        _ => false,
+    }
+}
+
 /// Hands on the answer of a call that changes messages of this maildrop alone. Forgets its heads,
-/// and marks its total as stale; if the answer is a fault, forgets what is kept of all maildrops.
+/// and marks its total as stale. If the answer is such a fault of a deposit, all is kept; if it is
+/// another fault, forgets what is kept of all maildrops.
 pub(crate) fn after_mail<T>(
     kept: &mut AllKept,
     totals: &mut Option<Totals>,
@@ -264,8 +277,8 @@ pub(crate) fn after_mail<T>(
     answer: Result<T, VaultFault>,
 ) -> Result<T, VaultFault>
     ensures answer { result ≡ answer }
-    ensures kept { kept.new ≡ (if is_ok answer then without maildrop.now kept.old else []) }
-    ensures totals { totals.new ≡ (if is_ok answer then marked maildrop.now totals.old else None) }
+    ensures kept { kept.new ≡ heads_after maildrop.now answer kept.old }
+    ensures totals { totals.new ≡ totals_after maildrop.now answer totals.old }
 {
     match answer {
         Ok(value) => {
@@ -273,7 +286,12 @@ pub(crate) fn after_mail<T>(
             mark_kept(totals, maildrop);
             Ok(value)
         }
-        Err(fault) => after_look(kept, totals, Err(fault)),
+        Err(fault) => {
+            if is_of_deposit(fault) {
+                return Err(fault);
+            }
+            after_change(kept, totals, Err(fault))
+        }
     }
 }
 

@@ -12,10 +12,11 @@ use std::marker::Model;
 use vault::{ClerkKind, Deposited, Head, MessageKey, Progress, Total, Vault, VaultFault};
 
 /// A vault around another one, which keeps the heads of the maildrops that were asked for, and the
-/// totals of all maildrops, and answers the same question again from them. Every fault forgets
-/// them, and so does every call that may change records, but for deposits, removals and drops of a
+/// totals of all maildrops, and answers the same question again from them. A fault forgets them,
+/// and so does every call that may change records, but for deposits, removals and drops of a
 /// maildrop: those forget the heads of their maildrop alone. A deposit or a removal keeps the
-/// totals, of which the maildrop's own is counted again, by its heads, when they are asked for.
+/// totals, of which the maildrop's own is counted again, by its heads, when they are asked for. A
+/// deposit that is refused with `NoMaildrop`, `Conflict` or `Full` forgets nothing.
 ///
 /// At most 10,000 heads are kept in all, and 1,000 totals. If there is no room for the heads of one
 /// more maildrop, those of the maildrops that were asked for longest ago go. If there is no memory

@@ -11,10 +11,10 @@ ghost use Rattle.recent.specs.Counting.{summed, CountsOne, CountsRows, CountsKep
 use creds::Name;
 use std::alloc::{AllocError, Global};
 use std::marker::Model;
-use vault::{Head, Total, Vault, VaultFault};
+use vault::{Head, MAX_MAILDROPS, Total, Vault, VaultFault};
 
 /// How many totals are kept at most: those of a full store.
-const MOST_TOTALS: usize = 1000;
+const MOST_TOTALS: usize = MAX_MAILDROPS;
 
 /// A maildrop's total, and whether something may have changed in the maildrop since it was counted.
 #[derive(Clone, Copy, PartialEq, Eq)]
