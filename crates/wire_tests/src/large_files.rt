@@ -223,6 +223,26 @@ fn large_files_that_are_changed(rt: HostRuntime) -> Result<(), Fail> {
     Ok(())
 }
 
+/// A large file that is never noted as prepared is read at once after 1,000 pauses.
+#[test]
+fn a_large_file_comes_for_1000_pauses(rt: HostRuntime) -> Result<(), Fail> {
+    new_folder(&rt, "endless-of-a-test")?;
+    let text = text_of(rt.alloc(), LARGE, b"\n")?;
+    fs::write(&rt, "endless-of-a-test/orders.note.x.eml", text.as_slice())?;
+    let name = FileName::read(NAME).ok_or("name")?;
+    let mut spool = spool_of(&rt, "endless-of-a-test");
+    assert!(rt; spool.read(&name).is_none());
+    for _ in 0..1_000u32 {
+        spool.read_on();
+    }
+    assert!(rt; is_whole(&spool) && spool.read(&name).is_none());
+    spool.read_on();
+    assert!(rt; spool.coming().is_none());
+    assert!(rt; spool.read(&name).ok_or("text")?.as_slice() == text.as_slice());
+    fs::remove_dir_all(&rt, "endless-of-a-test")?;
+    Ok(())
+}
+
 /// A clock that stands still.
 #[derive(Clone, Copy)]
 struct Still;
