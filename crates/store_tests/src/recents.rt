@@ -6,12 +6,14 @@ use std::alloc::Global;
 use std::test::Fail;
 use vault::{PlainVault, Refusing, Vault, VaultFault};
 
-/// A call of a vault. `Deposit` has a maildrop and an id; `Remove` removes the first message.
+/// A call of a vault. `Deposit` has a maildrop and an id, and so has `Other`, which is of another
+/// text; `Remove` removes the first message.
 #[derive(Clone, Copy)]
 enum Call {
     Add(&'static str),
     Drop(&'static str),
     Deposit(&'static str, &'static str),
+    Other(&'static str, &'static str),
     Remove(&'static str),
     Heads(&'static str),
     Totals,
@@ -39,7 +41,7 @@ static HEADS: [(Call, u64, &str); 15] = [
 ];
 
 /// The same of two maildrops: a deposit, a removal or a drop forgets the heads of its own alone,
-/// and a fault forgets those of both.
+/// and a fault of a look forgets those of both.
 static TWO: [(Call, u64, &str); 20] = [
     (Call::Add("orders"), 1, "done"),
     (Call::Add("billing"), 1, "done"),
@@ -61,6 +63,26 @@ static TWO: [(Call, u64, &str); 20] = [
     (Call::Heads("orders"), 1, "no such maildrop"),
     (Call::Heads("billing"), 1, "1"),
     (Call::Heads("billing"), 0, "1"),
+];
+
+/// The same: a deposit without a maildrop, and one that is in conflict with an earlier one, forget
+/// nothing.
+static REFUSED: [(Call, u64, &str); 15] = [
+    (Call::Add("orders"), 1, "done"),
+    (Call::Add("billing"), 1, "done"),
+    (Call::Deposit("orders", "d1"), 1, "done"),
+    (Call::Heads("orders"), 1, "1"),
+    (Call::Heads("billing"), 1, "0"),
+    (Call::Totals, 1, "1"),
+    (Call::Deposit("nobody", "d1"), 1, "no such maildrop"),
+    (Call::Heads("orders"), 0, "1"),
+    (Call::Heads("billing"), 0, "0"),
+    (Call::Totals, 0, "1"),
+    (Call::Other("orders", "d1"), 1, "conflict"),
+    (Call::Heads("orders"), 0, "1"),
+    (Call::Heads("billing"), 0, "0"),
+    (Call::Totals, 0, "1"),
+    (Call::Policy, 1, "done"),
 ];
 
 /// The same of three maildrops of 3,400 messages each, whose heads aren't all kept: those of the
@@ -100,6 +122,9 @@ static TOTALS: [(Call, u64, &str); 19] = [
     (Call::Totals, 1, "1"),
 ];
 
+/// The text of a message.
+const TEXT: &[u8] = b"Subject: a\n\nhi\n";
+
 fn name(text: &str) -> Result<Name, Fail> {
     Ok(Name::read(text.as_bytes()).ok_or("a name")?)
 }
@@ -108,6 +133,7 @@ fn name(text: &str) -> Result<Name, Fail> {
 fn word_of(fault: VaultFault) -> &'static str {
     match fault {
         VaultFault::NoMaildrop => "no such maildrop",
+        VaultFault::Conflict => "conflict",
         VaultFault::Store => "store failed",
         _ => "another fault",
     }
@@ -126,15 +152,16 @@ fn word_of_count(count: usize) -> &'static str {
     ["0", "1", "2"].get(count).copied().unwrap_or("more")
 }
 
-/// Deposits a text into the maildrop.
+/// Deposits this text into the maildrop.
 fn deposit<V: Vault>(
     alloc: Global,
     vault: &mut V,
     maildrop: &str,
     id: &str,
+    text: &[u8],
 ) -> Result<&'static str, Fail> {
     let id = DepositId::read(id.as_bytes()).ok_or("an id")?;
-    let text = canon(alloc, b"Subject: a\n\nhi\n")?;
+    let text = canon(alloc, text)?;
     let answer = vault.deposit(&name(maildrop)?, &name("note")?, &id, &text);
     Ok(word_of_done(answer))
 }
@@ -176,7 +203,8 @@ fn said<V: Vault>(alloc: Global, vault: &mut V, call: Call) -> Result<&'static s
     match call {
         Call::Add(maildrop) => Ok(word_of_done(vault.add_maildrop(&name(maildrop)?))),
         Call::Drop(maildrop) => Ok(word_of_done(vault.drop_maildrop(&name(maildrop)?))),
-        Call::Deposit(maildrop, id) => deposit(alloc, vault, maildrop, id),
+        Call::Deposit(maildrop, id) => deposit(alloc, vault, maildrop, id, TEXT),
+        Call::Other(maildrop, id) => deposit(alloc, vault, maildrop, id, b"another text"),
         Call::Remove(maildrop) => remove(vault, maildrop),
         Call::Heads(maildrop) => count(vault, maildrop),
         Call::Totals => Ok(count_all(vault)),
@@ -230,6 +258,17 @@ fn each_maildrop_keeps_its_own(rt: HostRuntime) -> Result<(), Fail> {
     Ok(())
 }
 
+#[test]
+fn refused_deposits_forget_nothing(rt: HostRuntime) -> Result<(), Fail> {
+    for n in 0..10 {
+        assert!(rt;
+            refusals(rt.alloc(), PlainVault::new(rt.alloc()), &REFUSED, n)? == n.min(1),
+            "{n}"
+        );
+    }
+    Ok(())
+}
+
 /// Deposits 3,400 messages into a new maildrop.
 fn fill(alloc: Global, vault: &mut PlainVault, maildrop: &str) -> Result<(), Fail> {
     if word_of_done(vault.add_maildrop(&name(maildrop)?)) != "done" {
@@ -237,7 +276,7 @@ fn fill(alloc: Global, vault: &mut PlainVault, maildrop: &str) -> Result<(), Fai
     }
     for number in 0..3400 {
         let id = format!(in alloc; "{number}")?;
-        if deposit(alloc, vault, maildrop, id.as_str())? != "done" {
+        if deposit(alloc, vault, maildrop, id.as_str(), TEXT)? != "done" {
             return Err(Fail::from("a deposit"));
         }
     }
