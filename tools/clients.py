@@ -1,6 +1,5 @@
 """What the checks over the built server share: a server, its clients, and cases of both."""
 
-import atexit
 import contextlib
 import hashlib
 import http.client
@@ -343,11 +342,10 @@ def read(file):
 
 
 class Case(cases.Case):
-    """A case over servers, which end with it, also if it is interrupted."""
+    """A case over servers, which end with it."""
 
     def setUp(self):
         super().setUp()
-        atexit.register(self.doCleanups)
         # By how much large texts and stores are smaller.
         self.shorter = 100 if self.short else 1
 
