@@ -50,11 +50,11 @@ class Hostile(Case):
 
     @classmethod
     def setUpClass(cls):
-        if cls.short:
-            return
         atexit.register(cls.doClassCleanups)
-        chance = random.Random(1)
-        cls.texts = [make_text(octets, chance) for octets in (50, 100_000, 10_000_000)]
+        # By how much what is large is smaller.
+        cls.less, chance = 10 if cls.short else 1, random.Random(1)
+        sizes = (50, 100_000 // cls.less, 10_000_000 // cls.less)
+        cls.texts = [make_text(octets, chance) for octets in sizes]
         folder = cls.enterClassContext(tempfile.TemporaryDirectory())
         server = Server(cls.program, folder, "--admin-site", "localhost")
         cls.server = cls.enterClassContext(server)
@@ -68,8 +68,7 @@ class Hostile(Case):
 
     @classmethod
     def tearDownClass(cls):
-        if not cls.short:
-            print(f"  the server has {cls.server.memory() - cls.before} kB more")
+        print(f"  the server has {cls.server.memory() - cls.before} kB more")
 
     @classmethod
     def seconds_of_another(cls):
@@ -90,8 +89,6 @@ class Hostile(Case):
 
     def setUp(self):
         super().setUp()
-        if self.short:
-            self.skipTest("it takes messages of 10 MB")
         self.longest = 0.0
         # This comes after all that the case began has ended.
         self.addCleanup(self.stands)
@@ -123,14 +120,14 @@ class Hostile(Case):
     def test_long_line(self):
         """A line of 10 MB, and NOOP: `line too long`, once, and the reply to NOOP."""
         it = self.log_in()
-        it.send(b"x" * 10_000_000)
+        it.send(b"x" * (10_000_000 // self.less))
         self.serves_others()
         it.asks(b"\r\nNOOP\r\n", TOO_LONG + OK)
 
     def test_endless_line(self):
         """10 MB without an end of line, and a close: no octet."""
         it = self.come()
-        it.send(b"USER ann/orders" * 700_000)
+        it.send(b"USER ann/orders" * (700_000 // self.less))
         self.serves_others()
         it.shuts()
         it.ends()
@@ -297,12 +294,12 @@ class Hostile(Case):
 
     def test_unread_retrs(self):
         """1,000 RETRs of 100 KB in one write, read 3 s later: each message, in 1 MB of memory."""
-        before, it = self.server.memory(), self.log_in()
-        it.send(b"RETR 2\r\n" * 1000)
+        before, it, count = self.server.memory(), self.log_in(), 1000 // self.less
+        it.send(b"RETR 2\r\n" * count)
         time.sleep(3)
         self.serves_others()
         grown = self.server.memory() - before
-        it.takes(retrieved(self.texts[1]) * 1000)
+        it.takes(retrieved(self.texts[1]) * count)
         self.assertLess(grown, 1024)
 
     def test_slow_reader(self):
