@@ -2,7 +2,6 @@
 
 import contextlib
 import hashlib
-import http.client
 import os
 import re
 import select
@@ -15,6 +14,8 @@ import sys
 import tempfile
 import threading
 import time
+from http.client import HTTPConnection, HTTPException
+from subprocess import SubprocessError
 
 import cases
 from cases import PROGRAM, TOP, compile_preload  # noqa: F401
@@ -47,14 +48,7 @@ class Wrong(AssertionError):
 
 
 # What a case can fail by.
-FAULTS = (
-    Wrong,
-    OSError,
-    TypeError,
-    ValueError,
-    subprocess.SubprocessError,
-    http.client.HTTPException,
-)
+FAULTS = (Wrong, OSError, TypeError, ValueError, SubprocessError, HTTPException)
 
 
 def wants(found, wanted):
@@ -257,7 +251,7 @@ class Server:
 
     def ask(self, method, path, body=None, headers=()):
         """The status of the response too."""
-        line = http.client.HTTPConnection("127.0.0.1", self.admin, timeout=REPLY)
+        line = HTTPConnection("127.0.0.1", self.admin, timeout=REPLY)
         line.request(method, path, body, dict(headers))
         response = line.getresponse()
         answer = response.status, response.read().decode()
@@ -319,14 +313,6 @@ def stopped(server):
         os.kill(server.run.pid, signal.SIGCONT)
 
 
-def preload(folder, *names, **settings):
-    """The environment of a program that has the loader put these of tools/preload, by name, before
-    the C library, with their files in a folder."""
-    libraries = [compile_preload(name, folder) for name in names]
-    files = {it.upper(): f"{folder}/{it}" for it in ("clock", "seen", "date", "calls", "gate")}
-    return {**os.environ, **files, **settings, "LD_PRELOAD": ":".join(libraries)}
-
-
 def put(file, text):
     """Gives a file this text, at once."""
     with open(f"{file}.new", "w", encoding="ascii") as new:
@@ -349,17 +335,19 @@ class Case(cases.Case):
         # By how much large texts and stores are smaller.
         self.shorter = 100 if self.short else 1
 
+    def renew(self):
+        """Gives the case another empty folder, for another server."""
+        super().setUp()
+
     def inner(self, name):
         """A new folder in the case's own."""
         os.mkdir(place := f"{self.folder}/{name}")
         return place
 
-    def serve(self, *words, folder=None, **how):
-        """A server over a folder, or the case's own, whose standard error is the file `err`
-        there."""
-        folder = folder or self.folder
-        with open(f"{folder}/err", "wb") as err:
-            server = Server(self.program, folder, *words, **{"stderr": err} | how)
+    def serve(self, *words, **how):
+        """A server over the case's folder, whose standard error is the file `err` there."""
+        with open(f"{self.folder}/err", "wb") as err:
+            server = Server(self.program, self.folder, *words, **{"stderr": err} | how)
         self.addCleanup(server.end)
         return server
 
@@ -373,9 +361,9 @@ class Case(cases.Case):
         """A client of a server, or of another port, until the case ends."""
         return self.enterContext(server.connect(*where, **how))
 
-    def errors(self, folder=None):
+    def errors(self):
         """What a server has written to standard error, but that it isn't proved."""
-        return without_slow(read(f"{folder or self.folder}/err").decode())
+        return without_slow(read(f"{self.folder}/err").decode())
 
     def run_program(self, *words, **how):
         """Runs the program in the case's folder, and gives its status and what it printed."""
@@ -388,15 +376,23 @@ class Case(cases.Case):
         self.assertEqual((ran.returncode, ran.stderr), (status, b""))
         return ran.stdout
 
-    def still(self, *names, folder=None):
-        """The environment of a server whose clock stands at 0 until it is set on."""
-        return preload(folder or self.folder, "clock", *names, STILL="1")
+    def preload(self, *names, **settings):
+        """The environment of a program that has the loader put these of tools/preload before the C
+        library, with their files in the case's folder."""
+        libraries = ":".join(compile_preload(name, self.folder) for name in names)
+        files = ("clock", "seen", "date", "calls", "gate")
+        files = {it.upper(): f"{self.folder}/{it}" for it in files}
+        return {**os.environ, **files, **settings, "LD_PRELOAD": libraries}
 
-    def set_on(self, seconds, folder=None):
+    def still(self, *names):
+        """The environment of a server whose clock stands at 0 until it is set on."""
+        return self.preload("clock", *names, STILL="1")
+
+    def set_on(self, seconds):
         """Sets the clock of a server with preload/clock.c on, and waits until it has seen it."""
-        folder, text = folder or self.folder, str(seconds)
-        put(f"{folder}/clock", text)
-        wait_for(lambda: read(f"{folder}/seen") == text.encode(), "the clock isn't seen")
+        put(f"{self.folder}/clock", str(seconds))
+        is_seen = lambda: read(f"{self.folder}/seen") == b"%d" % seconds
+        wait_for(is_seen, "the clock isn't seen")
 
 
 # What a tool looks at itself.

@@ -13,7 +13,7 @@ import socket
 import time
 
 from clients import EMPTY, FAILED, IN_USE, OK, REPLY, SEND_PASS, STATE, Case, Client, log_in
-from clients import preload, proxied, put, read, retrieved, stopped, wait_for
+from clients import proxied, put, read, retrieved, stopped, wait_for
 
 DAY = 86_400
 # How many octets a connection is lent at once, and how many a link beside others is sent in a turn.
@@ -35,14 +35,14 @@ class Times(Case):
         # In these a count of the seconds, or of the milliseconds, passes what it may be kept in.
         runs += [(IDLE, [], at - 1000) for at in (2**16, DAY, 2**31 // 1000, 2**32 // 1000)]
         for idle, words, first in runs:
-            folder = self.inner(first)
-            with self.office(*words, folder=folder, env=preload(folder, "clock")) as it:
-                self.ends_after(it, folder, idle, first)
+            self.renew()
+            with self.office(*words, env=self.preload("clock")) as it:
+                self.ends_after(it, idle, first)
 
-    def ends_after(self, server, folder, idle, first):
+    def ends_after(self, server, idle, first):
         """A client that comes so many seconds after the start, and marked a message, is ended so
         many seconds after its last line."""
-        self.set_on(first, folder)
+        self.set_on(first)
         text = b"stays\r\n"
         server.deposit("orders.note.d1.eml", text)
         with server.connect() as client, server.connect() as silent:
@@ -50,13 +50,13 @@ class Times(Case):
             client.asks(b"DELE 1\r\n", b"+OK message 1 deleted\r\n")
             # What is left of its time is for a slow machine.
             step = idle - 60
-            self.set_on(first + step, folder)
+            self.set_on(first + step)
             client.asks(b"NOOP\r\n", OK)
             silent.waits(1)
-            self.set_on(first + 2 * step, folder)
+            self.set_on(first + 2 * step)
             client.asks(b"NOOP\r\n", OK)
             silent.ends()
-            self.set_on(first + 2 * step + idle + 10, folder)
+            self.set_on(first + 2 * step + idle + 10)
             client.ends()
         with server.connect() as client:
             log_in(client, text)
@@ -64,7 +64,7 @@ class Times(Case):
     def test_clients_have_the_longest_times_by_the_clock(self):
         """The largest values of --idle, --wait and --login-seconds are kept to."""
         words = ["--idle", "86400", "--wait", "60", "--login-seconds", "600"]
-        it = self.office(*words, env=preload(self.folder, "clock"))
+        it = self.office(*words, env=self.preload("clock"))
         log_in(first := self.client(it))
         silent, second = self.client(it), self.client(it)
         second.tries()
@@ -83,38 +83,38 @@ class Times(Case):
         """A date that is set back or on changes no wait; the log goes by it."""
         words = ["--wait", "10", "--login-seconds", "100", "--slow-guesses", "--log"]
         for step in (-300, -DAY, 200_000):
-            folder = self.inner(step)
-            with self.office(*words, folder=folder, env=self.still(folder=folder)) as it:
-                self.waits_by_its_own_clock(it, folder, step)
-            lines = self.errors(folder).splitlines()
+            self.renew()
+            with self.office(*words, env=self.still()) as it:
+                self.waits_by_its_own_clock(it, step)
+            lines = self.errors().splitlines()
             # The log shows that the step was seen.
             dates = [datetime.datetime.fromisoformat(line.split()[0]) for line in lines]
             turned = max(abs((b - a).total_seconds()) for a, b in zip(dates, dates[1:]))
             self.assertTrue(abs(step) - REPLY < turned < abs(step) + REPLY, (step, turned))
 
-    def waits_by_its_own_clock(self, server, folder, step):
+    def waits_by_its_own_clock(self, server, step):
         """The date is set by so many seconds. A login that waits for a maildrop waits as long as
         ever, so does one after a guess, a silent client is ended at its time, and a session goes
         on."""
         with server.connect() as first, server.connect() as second, server.connect() as silent:
             log_in(first)
             second.tries()
-            put(f"{folder}/date", str(step))
-            self.set_on(9, folder)
+            put(f"{self.folder}/date", str(step))
+            self.set_on(9)
             second.waits()
             first.asks(b"NOOP\r\n", OK)
-            self.set_on(11, folder)
+            self.set_on(11)
             second.takes(IN_USE)
             # A maildrop that nobody has isn't in use.
             second.tries(b"ann/sales", b"wrong")
             second.takes(FAILED)
             second.tries(b"ann/sales", b"wrong")
             second.waits()
-            self.set_on(13, folder)
+            self.set_on(13)
             second.takes(FAILED)
-            self.set_on(99, folder)
+            self.set_on(99)
             silent.waits()
-            self.set_on(101, folder)
+            self.set_on(101)
             silent.ends()
             first.asks(b"NOOP\r\n", OK)
 
@@ -178,12 +178,12 @@ class Turns(Case):
         """--turns N is N turns, each of which tries a file; past 32 bits, or without it, no end."""
         many, endless = 100, (2**32 + 1, 2**64 - 1, None)
         for turns in (0, 1, 3, many, *endless):
-            folder = self.inner(turns)
-            os.mkdir(f"{folder}/spool")
+            self.renew()
+            spool = self.inner("spool")
             for k in range(many + 5):
-                put(f"{folder}/spool/orders.note.d{k}.eml", "")
+                put(f"{spool}/orders.note.d{k}.eml", "")
             words = [] if turns is None else ["--turns", str(turns)]
-            with self.subTest(turns=turns), self.serve(*words, folder=folder) as it:
+            with self.subTest(turns=turns), self.serve(*words) as it:
                 if turns in endless:
                     wait_for(
                         lambda it=it: stand_aside(it) == many + 5 or it.run.poll() is not None,
@@ -408,7 +408,7 @@ class Calls(Case):
     def test_a_reply_is_sent_by_calls_of_all_that_is_lent(self):
         """Each send offers all that is lent, and each recv asks for 4,096 octets."""
         text = (b"x" * 78 + b"\r\n") * 600
-        it = self.office(env=preload(self.folder, "calls"))
+        it = self.office(env=self.preload("calls"))
         it.deposit("orders.note.d1.eml", text)
         log_in(client := self.client(it), text)
         client.asks(b"RETR 1\r\n", retrieved(text))
@@ -425,12 +425,12 @@ class Calls(Case):
     def test_a_login_in_one_piece_is_judged_without_a_wait(self):
         """A login that comes in one piece is answered without a wait for more, by any option."""
         for words in ([], ["--wait", "10"], ["--slow-guesses"], ["--proxy-protocol"]):
-            folder = self.inner("".join(words) or "none")
+            self.renew()
             # What a proxy says first comes in the same piece.
             first = proxied(b"203.0.113.7") if "--proxy-protocol" in words else b""
-            with self.office(*words, folder=folder, env=preload(folder, "calls")) as it:
+            with self.office(*words, env=self.preload("calls")) as it:
                 log_in(client := self.client(it), first=first)
-                port, told = port_of(client), calls_before(folder, client)
+                port, told = port_of(client), calls_before(self.folder, client)
             begun = next(k for k, it in enumerate(told) if it[:2] == ("recv", port) and it[3] > 0)
             waits, sent = [], 0
             for call in told[begun:]:
@@ -442,19 +442,19 @@ class Calls(Case):
             self.assertEqual([it for it in waits if it[0] > 0 and it[1] == 0], [], words)
             self.assertEqual(sent, len(SEND_PASS + EMPTY))
 
-    def retr_by_turns(self, folder, takes, is_alone):
+    def retr_by_turns(self, takes, is_alone):
         """How many sends of a RETR each turn made, and how many octets these took, if a send takes
         so many at most: of all turns but the last one."""
         text = (b"z" * 78 + b"\r\n") * 500
-        env = preload(folder, "calls", TAKES=str(takes))
-        with self.office(folder=folder, env=env) as it:
+        self.renew()
+        with self.office(env=self.preload("calls", TAKES=str(takes))) as it:
             it.deposit("orders.note.d1.eml", text)
             client = self.client(it)
             if not is_alone:
                 self.client(it)
             log_in(client, text)
             client.asks(b"RETR 1\r\n", retrieved(text))
-            told, port = calls_before(folder, client), port_of(client)
+            told, port = calls_before(self.folder, client), port_of(client)
         turns = sends_by_turns(told[last_recv(told, client) :], [port])
         self.assertEqual(sum(map(sum, turns)), len(retrieved(text)))
         return [(len(it), sum(it)) for it in turns[:-1]]
@@ -463,6 +463,6 @@ class Calls(Case):
         """A turn sends 64 times on a link, and beside others until 16,384 octets are taken."""
         # How many octets a send takes, whether no other client is there, how often a turn sends.
         rows = [(100, True, WRITES), (100, False, WRITES), (LENT, False, 1), (LENT - 1, False, 2)]
-        for number, (takes, is_alone, times) in enumerate(rows):
-            turns = self.retr_by_turns(self.inner(number), takes, is_alone)
+        for takes, is_alone, times in rows:
+            turns = self.retr_by_turns(takes, is_alone)
             self.assertEqual({*turns}, {(times, times * takes)}, (takes, is_alone))

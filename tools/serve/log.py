@@ -42,16 +42,17 @@ OTHERS += " admin-site=localhost"
 class LogCase(Case):
     """Servers that log to the file `err` of their folder, over the store office.db."""
 
-    def log(self, *words, folder=None, **how):
-        folder = folder or self.folder
-        how |= {"cwd": folder, "stdin": subprocess.DEVNULL}
-        return self.serve("--store", "office.db", "--log", *words, folder=folder, **how)
+    def log(self, *words, **how):
+        how |= {"cwd": self.folder, "stdin": subprocess.DEVNULL}
+        return self.serve("--store", "office.db", "--log", *words, **how)
 
-    def fill(self, server, *names):
-        """Two maildrops with two clerks, and messages that come by the spool."""
+    def filled(self, *words, mail=(), **how):
+        """A server with two maildrops, two clerks, and messages that came by the spool."""
+        server = self.log(*words, **how)
         server.fill(("orders", "sales"), CLERKS, POLICY)
-        for name in names:
+        for name in mail:
             server.deposit(f"{name}.eml", CHAIR)
+        return server
 
     def drop(self, server, form, texts):
         """Messages that come by the spool at once, by numbered names."""
@@ -68,15 +69,15 @@ class LogCase(Case):
         client.close()
         self.wait_told(f"event=closed connection={number} ")
 
-    def lines(self, *kinds, folder=None):
+    def lines(self, *kinds):
         """The log's lines, or those of these kinds."""
         starts = tuple(f"event={kind} " for kind in kinds)
-        lines = self.errors(folder).splitlines()
+        lines = self.errors().splitlines()
         return [it for it in lines if not kinds or it.partition(" ")[2].startswith(starts)]
 
-    def answers(self, kind, folder=None):
+    def answers(self, kind):
         """What the log's lines of a kind say from their answer on."""
-        return [it.partition(" answer=")[2] for it in self.lines(kind, folder=folder)]
+        return [it.partition(" answer=")[2] for it in self.lines(kind)]
 
     def compare(self, lines, wanted):
         """Fails unless lines are as wanted, each after a moment, and have nothing that was sent.
@@ -90,13 +91,13 @@ class LogCase(Case):
             self.assertNotIn(it, "\n".join(lines))
 
     def without_and_with(self, option, do):
-        """The folders of two servers with which a function does something, without an option and
-        with it."""
+        """Does something with two servers, first without an option and then with it; gives after
+        each whether it had it."""
         for words in ((), (option,)):
-            folder = self.inner(len(words))
-            with self.log(*words, folder=folder) as server:
+            self.renew()
+            with self.filled(*words) as server:
                 do(server)
-            yield folder
+            yield bool(words)
 
     def in_force(self, options):
         """What a start logs last: whether the program is proved, and the options in force."""
@@ -266,33 +267,33 @@ def limit_files():
 class Starts(LogCase):
     """What a start logs, what the store refuses, and logs that nobody takes."""
 
-    def start(self, options, folder):
+    def start(self, options):
         """Starts a server with those of these options that are other than by default; fails unless
         it logs them."""
         words = [it.partition("=") for it in {*options.split()} - {*IN_FORCE.split()}]
         words = [f"--{name}" if value == "yes" else f"--{name}={value}" for name, _, value in words]
-        with self.log(*words, folder=folder):
+        self.renew()
+        with self.log(*words):
             # It prints its ports before it logs its start.
-            wait_for(lambda: self.lines("start", folder=folder), "no start is logged", SPOOL)
-        (line,) = self.lines("start", folder=folder)
+            wait_for(lambda: self.lines("start"), "no start is logged", SPOOL)
+        (line,) = self.lines("start")
         told = " maildrops=0 messages=0 octets=0" + self.in_force(options)
         self.assertEqual(line[-len(told) :], told)
 
     def test_options_of_a_start(self):
         """A start logs the value in force of each option."""
-        self.start(OTHERS, self.folder)
+        self.start(OTHERS)
 
     def test_options_of_a_start_one_by_one(self):
         """A start logs of each option alone that it is in force, and that the others aren't."""
         for flag in re.findall(r"([\w-]+)=yes", OTHERS):
-            self.start(IN_FORCE.replace(f"{flag}=no", f"{flag}=yes"), self.inner(flag))
+            self.start(IN_FORCE.replace(f"{flag}=no", f"{flag}=yes"))
 
     def test_seventy_messages(self):
         """A QUIT logs the unique-ids that it removed, 32 on a line; a start what is there, how
         large the store's file and log are, and that others may read it."""
         count, store = 70, f"{self.folder}/office.db"
-        with self.log() as it:
-            self.fill(it)
+        with self.filled() as it:
             self.drop(it, "orders.note.n-{:03}.eml", [CHAIR] * count)
             Mail(it).say(*ANN, *[f"DELE {number}" for number in range(1, count)], "QUIT")
             self.wait_told("event=quit")
@@ -422,8 +423,7 @@ class Links(LogCase):
 
     def test_waits_of_one_client(self):
         """A login that didn't wait logs no wait, however long the link was read before."""
-        with self.log("--wait", "10") as it:
-            self.fill(it)
+        with self.filled("--wait", "10") as it:
             bob = Mail(it)
             bob.apop("bob/orders", WRONG)
             time.sleep(2.5)
@@ -433,8 +433,7 @@ class Links(LogCase):
 
     def test_login_that_waited(self):
         """A login that waited for a maildrop in use logs how long, and no other one does."""
-        with self.log("--wait", "10") as it:
-            self.fill(it)
+        with self.filled("--wait", "10") as it:
             ann, bob = Mail(it), Mail(it)
             ann.say(*ANN)
             began = time.monotonic()
@@ -450,8 +449,7 @@ class Links(LogCase):
 
     def test_login_behind_guesses(self):
         """A login that waited because of three refused ones, by --slow-guesses, logs how long."""
-        with self.log("--slow-guesses") as it:
-            self.fill(it)
+        with self.filled("--slow-guesses") as it:
             Mail(it).say(*3 * GUESS)
             ann, began = Mail(it), time.monotonic()
             ann.say(*ANN)
@@ -501,9 +499,8 @@ class Sessions(LogCase):
     def test_two_sessions(self):
         """With two sessions open each removal is logged with its own clerk, and the end of a lost
         session with the messages that it had marked."""
-        with self.log() as it:
-            drops = ("orders", "sales")
-            self.fill(it, *[f"{drop}.note.n-{n}" for drop in drops for n in range(1, 6)])
+        mail = [f"{drop}.note.n-{n}" for drop in ("orders", "sales") for n in range(1, 6)]
+        with self.filled(mail=mail) as it:
             ann, bob = Mail(it), Mail(it)
             ann.say(*ANN, "DELE 1", "DELE 2")
             bob.apop("bob/sales", SECRET)
@@ -528,9 +525,8 @@ class Sessions(LogCase):
     def test_denials_of_two_sessions(self):
         """A denied DELE, RETR or TOP is logged once of each command, message and rule, with clerk
         and maildrop; and the end of a session says how often it was denied, and what was read."""
-        with self.log() as it:
-            names = ("payment.p-1", "note.n-1")
-            self.fill(it, *[f"{drop}.{name}" for drop in ("orders", "sales") for name in names])
+        mail = ["orders.payment.p-1", "orders.note.n-1", "sales.payment.p-1", "sales.note.n-1"]
+        with self.filled(mail=mail) as it:
             ann, bob = Mail(it), Mail(it)
             ann.say(*ANN, "DELE 1", "RETR 1", "DELE 1", "DELE 9")
             bob.apop("bob/sales", SECRET)
@@ -554,8 +550,7 @@ class Sessions(LogCase):
 
     def test_denials_beyond_64(self):
         """A connection's denials have 64 lines at most; the end of its session counts them all."""
-        with self.log() as it:
-            self.fill(it)
+        with self.filled() as it:
             self.drop(it, "orders.payment.p-{}.eml", [CHAIR] * 66)
             Mail(it).say(*ANN, *[f"DELE {number}" for number in range(1, 67)], "QUIT")
             self.wait_told("event=quit ")
@@ -565,14 +560,14 @@ class Sessions(LogCase):
         self.compare(self.lines("denied", "quit"), wanted)
 
     def read_some(self, server):
-        self.fill(server, "orders.note.n-1", "orders.payment.p-1")
+        for name in ("orders.note.n-1.eml", "orders.payment.p-1.eml"):
+            server.deposit(name, CHAIR)
         ann = Mail(server)
         ann.say(*ANN, "RETR 2", "TOP 1 0", "DELE 1")
         ann.say("RETR 1", "RETR 3", "RSET", "RETR 1", "RETR 2", "QUIT")
 
     def test_reads(self):
         """With --log-reads each RETR that begins to send a message has a line, otherwise none."""
-        without, with_it = self.without_and_with("--log-reads", self.read_some)
         ann, rest = "clerk=ann maildrop=orders", "retr=3/30 top=1/10 denied=0"
         quits = f'event=quit @1 {ann} marked=0 answer="bye" dele=1 rset=1 {rest}'
         reads = f"""
@@ -580,8 +575,8 @@ class Sessions(LogCase):
             event=retr @1 {ann} uid=note.1 octets=10
             event=retr @1 {ann} uid=payment.1 octets=10
             """
-        self.compare(self.lines("retr", "denied", "quit", folder=without), quits)
-        self.compare(self.lines("retr", "denied", "quit", folder=with_it), reads + quits)
+        for has_reads in self.without_and_with("--log-reads", self.read_some):
+            self.compare(self.lines("retr", "denied", "quit"), reads * has_reads + quits)
 
     def leave_unread(self, server, line, number):
         """Logs in as ann, asks many times for a message, and goes once some of it came."""
@@ -593,8 +588,7 @@ class Sessions(LogCase):
 
     def test_message_broken_off(self):
         """The end of a connection names the message, by RETR or TOP, of which not all was taken."""
-        with self.log() as it:
-            self.fill(it, "orders.note.n-1")
+        with self.filled(mail=["orders.note.n-1"]) as it:
             it.deposit("orders.note.n-2.eml", LONG)
             self.leave_unread(it, "RETR 2", 1)
             self.leave_unread(it, "TOP 2 2000", 2)
@@ -738,8 +732,7 @@ class Spool(LogCase):
         """A file that is taken and can't be removed is logged as that once, and once as known; and
         what becomes of it when it can."""
         name = "orders.note.n-1.eml"
-        with self.log(preexec_fn=may_write_no_more) as it:
-            self.fill(it)
+        with self.filled(preexec_fn=may_write_no_more) as it:
             with stopped(it):
                 it.drop(name, CHAIR)
                 os.chmod(it.spool, 0o500)
@@ -759,26 +752,23 @@ class Spool(LogCase):
     def test_files_that_come_once_more(self):
         """Each file that the store has already is logged, however many they are."""
         form, count = "orders.note.n-{:03}.eml", 300
-        with self.log() as it:
-            self.fill(it)
+        with self.filled() as it:
             for _ in range(2):
                 self.drop(it, form, [CHAIR] * count)
         told = f"event=deposit file={form} answer=known "
         self.told_once([told.format(number) for number in range(1, count + 1)])
 
     def leave_heads(self, server):
-        self.fill(server)
         texts = [f"{head}\n\nA chair.\n".encode() for head in IDS + NO_IDS]
         self.drop(server, "orders.note.n-{:02}.eml", texts)
 
     def test_message_ids(self):
         """With --log-message-ids a deposit's line has the Message-ID of a head; otherwise none."""
-        without, with_it = self.without_and_with("--log-message-ids", self.leave_heads)
-        wanted = [f"new uid=note.{number}" for number in range(1, len(IDS + NO_IDS) + 1)]
-        self.assertEqual(self.answers("deposit", folder=without), wanted)
-        for number, head in enumerate(IDS):
-            wanted[number] += f" message-id={re.search('<.*>', head)[0]}"
-        self.assertEqual(self.answers("deposit", folder=with_it), wanted)
+        for has_ids in self.without_and_with("--log-message-ids", self.leave_heads):
+            wanted = [f"new uid=note.{number}" for number in range(1, len(IDS + NO_IDS) + 1)]
+            for number, head in enumerate(IDS * has_ids):
+                wanted[number] += f" message-id={re.search('<.*>', head)[0]}"
+            self.assertEqual(self.answers("deposit"), wanted)
 
     def test_no_spool(self):
         """A spool that isn't there is named, by the log once, and without a log by a note."""

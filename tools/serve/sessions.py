@@ -375,9 +375,9 @@ class Stranger:
 class Strangers(Case):
     """Clerks beside strangers who guess, under --slow-guesses. How long a login took is printed."""
 
-    def house(self, *words, **how):
+    def house(self, *words):
         """A server with a clerk and a maildrop of each name."""
-        server = self.serve("--slow-guesses", *words, **how)
+        server = self.serve("--slow-guesses", *words)
         server.fill(CLERKS, [(name, "pass s3 cret") for name in CLERKS])
         return server
 
@@ -440,10 +440,11 @@ class Strangers(Case):
         print(f"  ann after three guesses: {took:.1f} s", flush=True)
         self.assertGreaterEqual(took, 3)
 
-    def count(self, what, names, places, folder):
+    def count(self, what, names, places):
         """Counts a stranger's guesses, beside a clerk who logs in each second."""
+        self.renew()
         slowest = 0
-        with self.house(folder=folder) as it, Stranger(it, names, places) as stranger:
+        with self.house() as it, Stranger(it, names, places) as stranger:
             start = time.monotonic()
             while time.monotonic() < start + COUNTED:
                 slowest = max(slowest, seconds_of_login(it, "bob"))
@@ -458,11 +459,11 @@ class Strangers(Case):
         """A connection has one guess at a name in 15 seconds, and others are served at once."""
         for places in (1, 60):
             what, names = f"{places} connections at one name", itertools.repeat(b"ann/ann")
-            guesses, seconds = self.count(what, names, places, self.inner(places))
+            guesses, seconds = self.count(what, names, places)
             # Each place is answered at most once in 15 seconds, but for the first five refusals.
             self.assertLessEqual(guesses, places * (seconds / 15 + 1) + 5, what)
         fresh = (b"clerk-%d/ann" % number for number in itertools.count(1))
-        self.count("8 connections, each guess at another name", fresh, 8, self.inner("fresh"))
+        self.count("8 connections, each guess at another name", fresh, 8)
 
 
 class Proxies(Case):

@@ -9,7 +9,7 @@ import subprocess
 import tempfile
 import time
 
-from clients import OK, POLICY, REPLY, Case, log_in, preload, put, read, stopped, wait_for
+from clients import OK, POLICY, REPLY, Case, log_in, put, read, stopped, wait_for
 
 LARGEST = 26_214_400
 
@@ -117,7 +117,7 @@ class Spool(Case):
         """A symbolic link that takes a file's place, just before it is opened, isn't followed."""
         # No clause refuses a spool that compares what it opened with what the link leads to.
         put(secret := f"{self.folder}/secret", "not for the clerks\n")
-        it = self.office(env=preload(self.folder, "calls", SWAP=secret))
+        it = self.office(env=self.preload("calls", SWAP=secret))
         it.drop("orders.note.d1.eml", b"one\n")
         place = f"{it.spool}/orders.note.d1.eml"
         wait_for(lambda: os.path.islink(place), "no file is opened")
@@ -182,22 +182,20 @@ class Losses(Case):
         client.ends()
         self.assertEqual(server.run.wait(REPLY), 1)
         why = f"why: {store}: {told} while the server had it open\n"
-        said = self.errors(server.folder).partition("popbox: ")[2]
+        said = self.errors().partition("popbox: ")[2]
         self.assertEqual(said, f"Store\n{why}")
 
     def test_a_lost_store_ends_its_server(self):
         """A server whose store is lost says so and ends; no client is answered, no file taken."""
-        for number, (told, lose) in enumerate(LOSSES):
-            folder = self.inner(number)
-            store = f"{self.inner(f'{number}/store')}/mail.db"
-            with self.subTest(told=told), self.office(
-                "--verbose", "--store", store, folder=folder
-            ) as it, it.connect() as client:
-                log_in(client)
-                lose(store)
-                it.drop("orders.note.d1.eml", b"one\n")
-                self.ends(it, client, store, told)
-                self.assertEqual(os.listdir(it.spool), ["orders.note.d1.eml"])
+        for told, lose in LOSSES:
+            self.renew()
+            store = f"{self.inner('store')}/mail.db"
+            it = self.office("--verbose", "--store", store)
+            log_in(client := self.client(it))
+            lose(store)
+            it.drop("orders.note.d1.eml", b"one\n")
+            self.ends(it, client, store, told)
+            self.assertEqual(os.listdir(it.spool), ["orders.note.d1.eml"])
 
     def test_a_lost_store_of_a_link_ends_its_server(self):
         """The log of a store that a link names lies beside the file, and is missed if it's lost."""
@@ -211,7 +209,7 @@ class Losses(Case):
 
     def test_a_lost_store_leaves_the_spool(self):
         """After a clock that was set back, a server misses its store as a file comes."""
-        it = self.office(env=preload(self.folder, "clock"))
+        it = self.office(env=self.preload("clock"))
         for seconds in (1000, 0):
             self.set_on(seconds)
             time.sleep(1.5)
@@ -222,7 +220,7 @@ class Losses(Case):
 
     def test_a_look_at_the_store_that_fails_is_no_loss(self):
         """If the system refuses a look at the store, the server goes on."""
-        it = self.office(env=preload(self.folder, "disk", FAILS="look *mail.db*"))
+        it = self.office(env=self.preload("disk", FAILS="look *mail.db*"))
         log_in(client := self.client(it))
         put(f"{self.folder}/gate", "")
         # It looks each tenth of a second at most, and before each file.
@@ -312,7 +310,7 @@ class Stores(Case):
     def test_a_store_has_what_was_answered_if_a_sync_fails(self):
         """Whichever sync fails, a deposit that was answered is in the store."""
         self.prints("replay", given=b"maildrop add orders\n")
-        env = preload(self.folder, "disk")
+        env = self.preload("disk")
         _, *said, told = self.replay_more(env)
         self.assertEqual(said, [2, 0, b""])
         answers = [k for k, it in enumerate(told) if it.startswith("write pipe:")]
