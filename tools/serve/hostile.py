@@ -375,36 +375,22 @@ class Hostile(Case):
 
     def test_other_sites(self):
         """Requests of other sites, by Host, Origin and Sec-Fetch-Site: 403; of its own: 200."""
-        drop, there = b"DELETE /clerks/ann HTTP/1.1\r\n", b"GET /clerks/ann HTTP/1.1\r\n"
-        absolute = b"DELETE http://localhost/clerks/ann HTTP/1.1\r\n"
-        wanted = [(drop + it, b"403") for it in OTHER_SITES]
-        wanted += [(there + it, b"200") for it in OWN_SITE]
-        wanted += [(absolute + b"Host: evil.test\r\n", b"403")]
-        wanted += [(absolute + b"Host: localhost\r\n", b"404")]
-        for head, status in wanted:
-            self.assertEqual(self.status(head + b"\r\n"), status, head)
+        absolute = "DELETE http://localhost/clerks/ann"
+        wanted = [("DELETE /clerks/ann", it, b"403") for it in OTHER_SITES]
+        wanted += [("GET /clerks/ann", it, b"200") for it in OWN_SITE]
+        wanted += [(absolute, "Host: evil.test", b"403"), (absolute, "Host: localhost", b"404")]
+        for asked, head, status in wanted:
+            lines = [f"{asked} HTTP/1.1", *filter(None, head.split(", ")), "", ""]
+            self.assertEqual(self.status("\r\n".join(lines).encode()), status, (asked, head))
 
 
-OTHER_SITES = (
-    b"",
-    b"Host:\r\n",
-    b"Host: evil.test\r\n",
-    b"Host: EVIL.test:1111\r\n",
-    b"Host: localhost.\r\n",
-    b"Host: localhost.evil.test\r\n",
-    b"Host: 127.1\r\n",
-    b"Host: 127.0.0.1.evil.test:1111\r\n",
-    b"Host: localhost\r\nHost: localhost\r\n",
-    b"Host: localhost\r\nHost: evil.test\r\n",
-    b"Host: localhost\r\nOrigin: http://evil.test\r\n",
-    b"Host: localhost\r\nOrigin: http://localhost:3000\r\n",
-    b"Host: localhost\r\nOrigin: null\r\n",
-    b"Host: localhost\r\nSec-Fetch-Site: cross-site\r\n",
-    b"Host: localhost\r\nSec-Fetch-Site: same-site\r\n",
-)
-OWN_SITE = (
-    b"Host: LOCALHOST:1111\r\n",
-    b"Host: 127.9.9.9\r\n",
-    b"Host: [::1]:1111\r\n",
-    b"Host: localhost\r\nOrigin: http://localhost\r\nSec-Fetch-Site: same-origin\r\n",
-)
+# Lines of requests' heads, with a comma between two.
+OTHER_SITES = ["", "Host:", "Host: evil.test", "Host: EVIL.test:1111", "Host: localhost."]
+OTHER_SITES += ["Host: localhost.evil.test", "Host: 127.1", "Host: 127.0.0.1.evil.test:1111"]
+OTHER_SITES += ["Host: localhost, Host: localhost", "Host: localhost, Host: evil.test"]
+OTHER_SITES += ["Host: localhost, Origin: http://evil.test", "Host: localhost, Origin: null"]
+OTHER_SITES += ["Host: localhost, Origin: http://localhost:3000"]
+OTHER_SITES += ["Host: localhost, Sec-Fetch-Site: cross-site"]
+OTHER_SITES += ["Host: localhost, Sec-Fetch-Site: same-site"]
+OWN_SITE = ["Host: LOCALHOST:1111", "Host: 127.9.9.9", "Host: [::1]:1111"]
+OWN_SITE += ["Host: localhost, Origin: http://localhost, Sec-Fetch-Site: same-origin"]
