@@ -41,6 +41,8 @@ OK, BYE, STATE = b"+OK\r\n", b"+OK bye\r\n", b"-ERR wrong state\r\n"
 SEND_PASS, EMPTY = b"+OK send PASS\r\n", b"+OK maildrop has 0 messages (0 octets)\r\n"
 FAILED, CLOSING = b"-ERR login failed\r\n", b"-ERR login failed, closing\r\n"
 IN_USE = b"-ERR [IN-USE] maildrop is in use\r\n"
+UNKNOWN, TOO_LONG = b"-ERR unknown command\r\n", b"-ERR line too long\r\n"
+LOGIN = b"USER ann/orders\r\nPASS s3 cret\r\n"
 
 
 class Wrong(AssertionError):
@@ -59,6 +61,11 @@ def wants(found, wanted):
 def without_slow(text):
     """A text without the line that an unproved server says of itself."""
     return "".join(line for line in text.splitlines(True) if not line.startswith(SLOW))
+
+
+def maildrop_has(messages, octets):
+    """What a login, and RSET, say of a maildrop."""
+    return b"+OK maildrop has %d messages (%d octets)\r\n" % (messages, octets)
 
 
 def retrieved(text):
@@ -289,8 +296,8 @@ class Server:
 
 def log_in(client, *texts, first=b""):
     """Logs in to the maildrop `orders`, which has these texts, after sending `first`."""
-    reply = b"+OK maildrop has %d messages (%d octets)\r\n" % (len(texts), sum(map(len, texts)))
-    client.asks(first + b"USER ann/orders\r\nPASS s3 cret\r\n", SEND_PASS + reply)
+    has = maildrop_has(len(texts), sum(map(len, texts)))
+    client.asks(first + LOGIN, SEND_PASS + has)
 
 
 def proxied(source):

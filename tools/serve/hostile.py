@@ -15,18 +15,16 @@ import re
 import tempfile
 import time
 
-from clients import BYE, CLOSING, FAILED, IN_USE, OK, SEND_PASS, STATE, Case, Client, Server, Wrong
-from clients import log_in, retrieved, wait_for
+from clients import BYE, CLOSING, FAILED, IN_USE, LOGIN, OK, SEND_PASS, STATE, TOO_LONG, UNKNOWN
+from clients import Case, Client, Server, Wrong, log_in, maildrop_has, retrieved, wait_for
 
 CLERKS = {"ann": "pass s3 cret", "bob": "apop tanstaaf", "eve": "pass quiet"}
 # How many seconds another clerk's session may take, or how many times as long as without an attack
 # if that is longer.
 PATIENCE, TIMES = 5, 300
 PLACES = 64
-TOO_LONG, UNKNOWN = b"-ERR line too long\r\n", b"-ERR unknown command\r\n"
 ARGUMENTS, NONE = b"-ERR bad arguments\r\n", b"-ERR no such message\r\n"
 DELETED = b"+OK message 1 deleted\r\n"
-LOGIN = b"USER ann/orders\r\nPASS %s\r\n"
 
 
 def make_text(octets, chance):
@@ -76,8 +74,7 @@ class Hostile(Case):
         begun = time.monotonic()
         with cls.server.connect() as client:
             said = b"USER eve/quiet\r\nPASS quiet\r\nRETR 1\r\nQUIT\r\n"
-            replies = SEND_PASS + b"+OK maildrop has 1 messages (7 octets)\r\n"
-            client.asks(said, replies + retrieved(b"hello\r\n") + BYE)
+            client.asks(said, SEND_PASS + maildrop_has(1, 7) + retrieved(b"hello\r\n") + BYE)
             client.ends()
         return time.monotonic() - begun
 
@@ -165,11 +162,10 @@ class Hostile(Case):
     def test_single_octets(self):
         """A session's octets, each in a packet of its own: what it gets in one packet."""
         it = self.come()
-        for octet in LOGIN % b"s3 cret" + b"NOOP\r\nRETR 1\r\nQUIT\r\n":
+        for octet in LOGIN + b"NOOP\r\nRETR 1\r\nQUIT\r\n":
             it.send(bytes([octet]))
             time.sleep(0.002)
-        has = (len(self.texts), sum(map(len, self.texts)))
-        it.takes(SEND_PASS + b"+OK maildrop has %d messages (%d octets)\r\n" % has)
+        it.takes(SEND_PASS + maildrop_has(len(self.texts), sum(map(len, self.texts))))
         it.takes(OK + retrieved(self.texts[0]) + BYE)
         it.ends()
 
@@ -242,15 +238,16 @@ class Hostile(Case):
         took = []
         for password in (b"s3\0cret", b"s3 cret\0", b"x" * 240, b"s3 cret "):
             begun = time.monotonic()
-            self.come().asks(LOGIN % password, SEND_PASS + FAILED)
+            self.come().asks(LOGIN.replace(b"s3 cret", password), SEND_PASS + FAILED)
             took.append(time.monotonic() - begun)
         # With --slow-guesses the first one waits for nothing, and the fourth one four seconds.
         self.assertLessEqual(took[-1] - took[0], 3, "guesses wait, though nobody asked for that")
 
     def test_fourth_password(self):
         """Three wrong passwords and the right one in one write: the third closes."""
-        it, words = self.come(), (b"a", b"b", b"c", b"s3 cret")
-        it.send(b"".join(LOGIN % word for word in words) + b"STAT\r\n")
+        it = self.come()
+        wrong = b"".join(LOGIN.replace(b"s3 cret", word) for word in (b"a", b"b", b"c"))
+        it.send(wrong + LOGIN + b"STAT\r\n")
         it.takes((SEND_PASS + FAILED) * 2 + SEND_PASS + CLOSING)
         it.ends()
 
@@ -283,7 +280,7 @@ class Hostile(Case):
     def test_logins_in_use(self):
         """500 logins into a maildrop that another session has: `[IN-USE]` 500 times."""
         holder, it = self.log_in(), self.come()
-        it.asks(LOGIN % b"s3 cret" * 500, (SEND_PASS + IN_USE) * 500)
+        it.asks(LOGIN * 500, (SEND_PASS + IN_USE) * 500)
         holder.asks(b"NOOP\r\n", OK)
 
     # Much, and slowly

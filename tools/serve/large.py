@@ -2,7 +2,7 @@
 
 import os
 
-from clients import EMPTY, OK, POLICY, SEND_PASS, Case, log_in, put, read, retrieved
+from clients import EMPTY, OK, POLICY, SEND_PASS, Case, log_in, maildrop_has, put, read, retrieved
 
 LARGEST, MOST = 26_214_400, 10_000
 
@@ -17,10 +17,6 @@ def escaped(octets):
 def many(lines):
     """The lines of a reply after its first, byte-stuffed, and its end."""
     return b"".join(b"." * line.startswith(b".") + line + b"\r\n" for line in lines) + b".\r\n"
-
-
-def maildrop_has(messages, octets):
-    return b"+OK maildrop has %d messages (%d octets)\r\n" % (messages, octets)
 
 
 class Script:

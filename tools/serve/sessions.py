@@ -9,11 +9,9 @@ import subprocess
 import threading
 import time
 
-from clients import BYE, CLOSING, EMPTY, FAILED, IN_USE, OK, POLICY, REPLY, SEND_PASS, STATE, Case
-from clients import Wrong, is_silent, log_in, proxied, retrieved, stopped
-
-UNKNOWN, TOO_LONG = b"-ERR unknown command\r\n", b"-ERR line too long\r\n"
-LOGIN = b"USER ann/orders\r\nPASS s3 cret\r\n"
+from clients import BYE, CLOSING, EMPTY, FAILED, IN_USE, LOGIN, OK, POLICY, REPLY, SEND_PASS, STATE
+from clients import TOO_LONG, UNKNOWN, Case, Wrong, is_silent, log_in, maildrop_has, proxied
+from clients import retrieved, stopped
 
 
 def seconds_of(client, password, reply):
@@ -75,7 +73,7 @@ class Sessions(Case):
                 (b"OP\r\n", STATE),
                 (b"USER ann/orders\r", b""),
                 (b"\nPASS s3 ", SEND_PASS),
-                (b"cret\r\nRETR 1\r\n", b"+OK maildrop has 1 messages (5 octets)\r\n"),
+                (b"cret\r\nRETR 1\r\n", maildrop_has(1, 5)),
                 (b"", retrieved(b"one\r\n")),
                 (b"QUIT\r\n", BYE),
             ):
