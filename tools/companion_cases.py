@@ -1,10 +1,10 @@
 """The cases of tools/check-scripts of the page's companions, answer-review and answer-policies, as
-nginx asks them. What nginx and the page do with them, tools/check-page tries by hand."""
+nginx asks them. What nginx and the page do with them, page/check tries by hand."""
 
 import os
 import subprocess
 
-from clients import POLICY, wants
+from clients import POLICY, TOP, wants
 from scripts import LIMIT, case, office
 
 # By this nobody may remove.
@@ -24,7 +24,7 @@ def answered(place, name, request, port=1):
     env["POPBOX_SET_POLICY"] = f"{place.packaging}/popbox-set-policy"
     for folder in ("kept", "tmp"):
         os.makedirs(f"{place.folder}/{folder}", exist_ok=True)
-    _, said, _ = place.run(f"page/{name}", said=request, env=env)
+    _, said, _ = place.run(f"{TOP}/page/{name}", said=request, env=env)
     wants(os.listdir(f"{place.folder}/tmp"), [])
     head, _, body = said.partition("\r\n\r\n")
     return (int(head.split()[1]), body) if head else None

@@ -1,4 +1,4 @@
-"""The cases of tools/check-page in a browser of what means harm and of what fails: HTML in a
+"""The cases of page/check in a browser of what means harm and of what fails: HTML in a
 policy, other sites, a companion that is down, an answer that is lost, a full house."""
 
 import http.server
@@ -13,9 +13,9 @@ import time
 from selenium.common.exceptions import WebDriverException
 
 from clients import wait_for, wants
-from page import OFFICE, TOP, browser, case, site
-from page_browsers import FOREIGN
-from page_drawn import DRAFT, may_be_put
+from place import OFFICE, TOP, browser, case, site
+from browsers import FOREIGN
+from drawn import DRAFT, may_be_put
 
 HTML = "<img src=x onerror=alert(1)><script>alert(2)</script>"
 # The page itself, which no other site can read, as nginx writes it into its log.

@@ -1,4 +1,4 @@
-"""The cases of tools/check-page in a browser: what the page draws, and what it changes."""
+"""The cases of page/check in a browser: what the page draws, and what it changes."""
 
 import base64
 import csv
@@ -15,7 +15,7 @@ import time
 from selenium.webdriver.common.keys import Keys
 
 from clients import Wrong, wants
-from page import OFFICE, TOP, browser, case, site
+from place import OFFICE, TOP, browser, case, site
 
 # Gives eve what the desk has, takes from dan, and leaves a rule that never decides.
 DRAFT = (

@@ -1,4 +1,4 @@
-"""The cases of tools/check-page of nginx's site and the companions: what strangers, other sites and
+"""The cases of page/check of nginx's site and the companions: what strangers, other sites and
 broken requests come to, and what the page is answered."""
 
 import contextlib
@@ -11,7 +11,7 @@ import threading
 import time
 
 from clients import stopped, wait_for, wants
-from page import OFFICE, PASSWORD, case, site
+from place import OFFICE, PASSWORD, case, site
 
 OWN = ["Sec-Fetch-Site: same-origin"]
 # The password of the user admin.

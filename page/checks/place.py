@@ -1,5 +1,5 @@
-"""What tools/check-page runs and looks at: popbox behind the page's own nginx and companions, and a
-browser. nginx's site is that of packaging/page, with other paths and a name of this machine."""
+"""What page/check runs and looks at: popbox behind the page's own nginx and companions, and a
+browser. nginx's site is that of page, with other paths and a name of this machine."""
 
 import base64
 import contextlib
@@ -19,10 +19,10 @@ from selenium.common.exceptions import WebDriverException
 from selenium.webdriver.common.by import By
 
 from clients import Cases, Server, Wrong, wait_for
-from page_browsers import Chromium, Firefox
+from browsers import Chromium, Firefox
 
-TOP = os.path.dirname(os.path.dirname(os.path.realpath(__file__)))
-PAGE = f"{TOP}/packaging/page"
+TOP = os.path.dirname(os.path.dirname(os.path.dirname(os.path.realpath(__file__))))
+PAGE = f"{TOP}/page"
 with open(f"{TOP}/examples/office.toml", encoding="utf-8") as file:
     OFFICE = file.read()
 USER, PASSWORD = "admin", "correct horse"
