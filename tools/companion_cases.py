@@ -1,6 +1,7 @@
 """The cases of tools/check-scripts of the page's companions, answer-review and answer-policies, as
 nginx asks them. What nginx and the page do with them, page/check tries by hand."""
 
+import hashlib
 import os
 import subprocess
 
@@ -110,7 +111,7 @@ def a_companion_puts_a_policy_in_force(place):
         ):
             status, said = policies("set", first, draft)
             wants((draft, status, words in said, in_force()), (draft, 422, True, first))
-        status, said = policies("set", first, READ_ONLY)
+        status, said = policies("set", first, f"# Why.\n{READ_ONLY}", WHO="eve")
         kept = f"{place.folder}/kept/port-{server.admin}"
         wants((status, said.startswith(f"in force: 1 rules; what was before: {kept}/")), (200, True))
         second = in_force()
@@ -121,7 +122,11 @@ def a_companion_puts_a_policy_in_force(place):
                 file.write("x")
             wants((it, policies(it, "")), (it, (404, "not found\n")))
         status, names = policies("list", "")
-        wants((status, names.count("\n")), (200, 1))
-        wants(policies(names.strip(), ""), (200, first))
+        kept, put = (line.split() for line in names.splitlines())
+        wants((status, kept[0], put[0], put[3]), (200, "kept", "put", "eve"))
+        wants(policies(kept[1], ""), (200, first))
+        # The text with its comments, by the digest of what is in force.
+        wants(put[2], hashlib.sha256(second.encode()).hexdigest())
+        wants(policies(put[2], ""), (200, f"# Why.\n{READ_ONLY}"))
         wants(policies("set", second, "# Nobody.\n", NOBODY="yes")[0], 200)
         wants(in_force(), "")

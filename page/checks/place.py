@@ -25,7 +25,7 @@ TOP = os.path.dirname(os.path.dirname(os.path.dirname(os.path.realpath(__file__)
 PAGE = f"{TOP}/page"
 with open(f"{TOP}/examples/office.toml", encoding="utf-8") as file:
     OFFICE = file.read()
-USER, PASSWORD = "admin", "correct horse"
+USER, PASSWORD, COOKIE = "admin", "correct horse", "0123456789abcdef" * 2
 # How long a page may take to show something, in seconds; a review by an unproved program is slow.
 SHOWN = 120
 # All cases of the tool.
@@ -107,6 +107,7 @@ class Site:
             ("127.0.0.1:1111", f"127.0.0.1:{self.admin}"),
             ("/run/popbox-", f"{self.folder}/popbox-"),
             ('    #"~^desk', '    "~^desk'),
+            ("default COOKIE;", f"default {COOKIE};"),
         ):
             if old not in site:
                 raise Wrong(f"nginx.conf has no {old}")
@@ -196,12 +197,13 @@ class Site:
                     pieces.append(piece)
         return b"".join(pieces).decode()
 
-    def asked(self, method, path, *headers, body=b"", user=USER, page=True, host="localhost"):
+    def asked(self, method, path, *headers, body=b"", user=USER, page=True, host="localhost", known=True):
         """The status and the body of a request's answer; 0 if there is none."""
         lines = [f"{method} {path} HTTP/1.1", f"Host: {host}", "Connection: close", *headers]
         if user:
             token = base64.b64encode(f"{user}:{PASSWORD}".encode()).decode()
             lines.append(f"Authorization: Basic {token}")
+        lines += [f"Cookie: popbox={COOKIE}"] * known
         lines += ["X-Popbox-Page: 1"] * page + [f"Content-Length: {len(body)}"] * (body != b"")
         answer = self.said("\r\n".join([*lines, "", ""]).encode() + body)
         head, _, text = answer.partition("\r\n\r\n")
