@@ -68,9 +68,9 @@ class Place:
         return file.name
 
     def note_calls(self):
-        """What has tools/disk.c note a script's calls in the file `calls`."""
+        """What has tools/preload/disk.c note a script's calls in the file `calls`."""
         library = f"{self.folder}/disk.so"
-        words = ["cc", "-O2", "-shared", "-fPIC", "-o", library, f"{TOP}/tools/disk.c"]
+        words = ["cc", "-O2", "-shared", "-fPIC", "-o", library, f"{TOP}/tools/preload/disk.c"]
         subprocess.run(words, check=True)
         return {"LD_PRELOAD": library, "CALLS": f"{self.folder}/calls"}
 
