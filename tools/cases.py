@@ -1,7 +1,7 @@
 """Runs the cases of a folder: what tools/check-scripts and tools/check-serve have in common.
 
-Each file of the folder has the cases of one subject: methods `test_WHAT` of a class of `Case`, whose
-docstrings say what is promised. Python's unittest finds, selects and reports them.
+Each file of the folder has the cases of one subject: methods `test_WHAT` of classes of `Case` whose
+docstrings say the promise. Python's unittest finds, selects and reports them.
 """
 
 import argparse
@@ -26,6 +26,13 @@ class Case(unittest.TestCase):
 
     def setUp(self):
         self.folder = os.path.realpath(self.enterContext(tempfile.TemporaryDirectory()))
+
+    def run(self, result=None):
+        try:
+            return super().run(result)
+        finally:
+            # Also if the run is broken off.
+            self.doCleanups()
 
 
 def needs(*commands):
