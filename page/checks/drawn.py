@@ -1,48 +1,52 @@
-"""The cases of page/check in a browser: what the page draws, and what it changes."""
+"""What the page draws: the table, an opened cell, and how it looks by day, in the dark, on a phone
+and on paper."""
 
 import base64
 import csv
 import io
 import json
 import os
-import poplib
 import random
 import re
 import subprocess
-import sys
 import time
 
+from place import DRAFT, OFFICE, TOP, PageCase
 from selenium.webdriver.common.keys import Keys
 
-from clients import Wrong, wants
-from place import OFFICE, TOP, browser, case, site
-
-# Gives eve what the desk has, takes from dan, and leaves a rule that never decides.
-DRAFT = (
-    OFFICE.replace('"dan"]', '"dan", "eve"]')
-    .replace('class = "legal"', 'class = "*"')
-    .replace('name = "dan-support"', 'name = "dans-support"')
-)
-SAME = "The draft says what is in force."
+OTHERS = "(others)"
 
 
-# ---- what is drawn
+class Decisions(PageCase):
+    def decisions(self, new, old=None):
+        """What `review-policy --format csv` prints: by clerk and maildrop, by class and action,
+        whether it is allowed, and the rule."""
+        words = [self.program, "review-policy", "--format", "csv"]
+        words += ["--against", self.write("old.toml", old)] if old is not None else []
+        words.append(self.write("new.toml", new))
+        ran = subprocess.run(words, capture_output=True, text=True, check=False)
+        table = {}
+        for row in [*csv.reader(io.StringIO(ran.stdout))][1:]:
+            clerk, maildrop, kind, action, allowed, rule = row
+            cell = table.setdefault((clerk, maildrop), {})
+            cell[kind, action] = (allowed == "allow", rule)
+        return table
 
+    def same(self, page, table, mark, clerks=(), maildrops=()):
+        """Fails unless the table has these cells, as `mark` says them; those that only the server
+        has are as (others)."""
+        rows, columns = ({it[n] for it in table} | {*more}
+                         for n, more in ((0, clerks), (1, maildrops)))
 
-def decisions(program, folder, new, old=None):
-    """What `review-policy --format csv` prints: by clerk and maildrop, by class and action, whether
-    it is allowed, and the rule."""
-    words = [program, "review-policy", "--format", "csv"]
-    for name, text in (("old", old), ("new", new)):
-        with open(f"{folder}/{name}.toml", "w", encoding="utf-8") as file:
-            file.write(text or "")
-    words += ["--against", f"{folder}/old.toml"] if old is not None else []
-    words.append(f"{folder}/new.toml")
-    ran = subprocess.run(words, capture_output=True, text=True, check=False)
-    table = {}
-    for clerk, maildrop, kind, action, allowed, rule in [*csv.reader(io.StringIO(ran.stdout))][1:]:
-        table.setdefault((clerk, maildrop), {})[kind, action] = (allowed == "allow", rule)
-    return table
+        def at(clerk, maildrop):
+            clerk = clerk if any(it[0] == clerk for it in table) else OTHERS
+            return clerk, maildrop if any(it[1] == maildrop for it in table) else OTHERS
+
+        want = {(c, m): mark(at(c, m)) for c in rows for m in columns}
+        found = drawn(page)
+        names = [it for it in {**found, **want} if found.get(it) != want.get(it)]
+        some = [(it, found.get(it), want.get(it)) for it in names[:3]]
+        self.assertEqual((len(names), some), (0, []))
 
 
 def mark_of(cell):
@@ -50,175 +54,167 @@ def mark_of(cell):
     reads = [is_so for (_, action), (is_so, _) in cell.items() if action == "read"]
     removes = [is_so for (_, action), (is_so, _) in cell.items() if action == "remove"]
     if not cell["", "open"][0]:
-        return "!" if any(reads + removes) else "·"
-    marks = ["R" if all(reads) else "r" * any(reads), "D" if all(removes) else "d" * any(removes)]
-    return " ".join(it for it in marks if it) or "o"
+        return "slip" if any(reads + removes) else "nothing"
+    if not any(reads):
+        return "opens"
+    if not all(reads):
+        return "takes-some" if any(removes) else "some"
+    return "all" if all(removes) else "removes" if any(removes) else "reads"
 
 
 def change_of(old, new):
+    """` gives`, ` takes`, both or nothing, as a cell's class."""
     pairs = [(old[it][0], new[it][0]) for it in old]
     gives, takes = any(now > was for was, now in pairs), any(now < was for was, now in pairs)
-    return "▲" * gives + "▼" * takes
+    return " gives" * gives + " takes" * takes
 
 
 DRAWN = """
 const heads = [...document.querySelectorAll('#grid thead th')].map((it) => it.textContent);
 return [...document.querySelectorAll('#grid tbody tr')].flatMap((row) => [...row.cells].slice(1)
-  .map((td, n) => [row.cells[0].textContent, heads[n + 1], td.firstChild.textContent]));
+  .map((td, n) => [row.cells[0].textContent, heads[n + 1], td.className]));
 """
-HEADS = "return [...document.querySelectorAll('#grid tbody th')].map((it) => it.innerText)"
+HEADS = "return [...document.querySelectorAll('#grid tbody th')].map((it) => it.textContent)"
 
 
-def same(found, want):
-    """Fails unless the tables have the same cells and marks; shows three that differ."""
-    names = [it for it in {**found, **want} if found.get(it) != want.get(it)]
-    if names:
-        told = [f"{it}: {found.get(it)!r}, not {want.get(it)!r}" for it in names[:3]]
-        raise Wrong(f"{len(names)} cells differ, as {'; '.join(told)}")
+def name(shown):
+    return OTHERS if shown == "any other" else shown.removesuffix(" *")
 
 
 def drawn(page):
-    """Each cell's mark, by clerk and maildrop as they are shown."""
-    return {
-        (clerk.removesuffix(" *"), maildrop.removesuffix(" *")): mark
-        for clerk, maildrop, mark in page.js(DRAWN)
-    }
+    """Each cell's colour and change, by clerk and maildrop."""
+    return {(name(clerk), name(drop)): mark for clerk, drop, mark in page.js(DRAWN)}
 
 
-OPENED = """
-return [...document.querySelectorAll('#cell tbody tr')].map((row) =>
-  [...row.children].map((cell) => cell.firstChild ? cell.textContent : ''));
-"""
+def whole(page, table, more=0):
+    """Waits until a table is drawn, row by row."""
+    count = len(table) + more
+    page.wait(lambda: len(page.js(DRAWN)) == count, f"the table hasn't {count} cells")
 
 
 def told(is_so, rule):
-    return f"{'yes' if is_so else 'no'}, {rule}"
-
-
-def opened(page, clerk, maildrop, cell, then=None):
-    """Fails unless the opened cell says which rule decides each question, and the draft's."""
-
-    def line(question):
-        now = told(*cell[question])
-        if not then or then[question] == cell[question]:
-            return now
-        was, will = cell[question][0], then[question][0]
-        mark = "▲" * (will and not was) + "▼" * (was and not will)
-        return f"{now}{mark} draft: {told(*then[question])}"
-
-    page.js("location.hash = arguments[0]", f"#table/{clerk}/{maildrop}")
-    title = f"{clerk} · {maildrop}"
-    is_open = f"Close{title}"
-    page.wait(lambda: page.text("cell").startswith(is_open), f"{title} isn't open")
-    kinds = [kind for kind, action in cell if action == "read"]
-    want = [["open", line(("", "open"))]]
-    want += [[kind, line((kind, "read")), line((kind, "remove"))] for kind in kinds]
-    wants((title, page.js(OPENED)), (title, want))
+    return f"{'yes' if is_so else 'no'}, {'no rule' if rule == 'default' else rule}"
 
 
 def show(page, **view):
     """Sets the filters, and waits until the table is drawn by them."""
     page.js("document.querySelector('#grid tbody').dataset.old = 1")
-    for name, value in view.items():
-        it = page.find(f"f-{name}")
-        key = "checked" if isinstance(value, bool) else "value"
-        page.js("arguments[0][arguments[1]] = arguments[2]", it, key, value)
-    page.js("document.getElementById('filters').dispatchEvent(new Event('input'))")
+    page.fill(None, **{f"f-{key}": value for key, value in view.items()})
     is_old = "return document.querySelector('#grid tbody').dataset.old"
     page.wait(lambda: not page.js(is_old), "the table isn't drawn")
 
 
-@case
-def the_table_is_that_of_csv(program, folder):
-    with site(program, folder) as place, browser(place) as page:
-        table = decisions(program, folder, OFFICE)
-        same(drawn(page), {names: mark_of(cell) for names, cell in table.items()})
+class Table(Decisions):
+    def opened(self, page, clerk, maildrop, cell, then=None):
+        """Fails unless the opened cell says which rule decides each question, and the draft's."""
+
+        def line(question):
+            now = told(*cell[question])
+            if not then or then[question] == cell[question]:
+                return now
+            was, will = cell[question][0], then[question][0]
+            mark = "▲ " * (will and not was) + "▼ " * (was and not will)
+            return f"{now}{mark}draft: {told(*then[question])}"
+
+        page.js("location.hash = arguments[0]", f"#table/{clerk}/{maildrop}")
+        shown = [it.replace(OTHERS, "any other") for it in (clerk, maildrop)]
+        page.wait(lambda: page.text("cell-title") == " in ".join(shown), f"{shown} isn't open")
+        kinds = [kind for kind, action in cell if action == "read"]
+        want = [["opens the maildrop", line(("", "open"))], ["class", "reads", "removes"]]
+        want += [[it.replace(OTHERS, "any other"), line((it, "read")), line((it, "remove"))]
+                 for it in kinds]
+        self.assertEqual(page.cells("cell"), want)
+
+    def test_the_table_is_that_of_csv(self):
+        """Each cell has popbox's decision, and opened the rule; the filters show a part, and say
+        so; a clerk whom no rule names has a row, decided as (others)."""
+        place, page = self.office()
+        table = self.decisions(OFFICE)
+        self.same(page, table, lambda it: mark_of(table[it]), ["old"])
+        self.assertEqual(page.text("table-of"), "By the policy in force. 5 clerks and 3 maildrops.")
+        self.assertFalse(page.shows("legend"))
         for (clerk, maildrop), cell in table.items():
-            opened(page, clerk, maildrop, cell)
-        # As README has it.
-        cell = page.js("return document.querySelectorAll('#grid tbody tr')[1].cells[2].innerText")
-        wants("reads all but complaint; removes what is read but payment" in cell, True)
-        # Whom no rule names stands with (others), and is found there.
+            self.opened(page, clerk, maildrop, cell)
+        rows = page.cells("grid")
+        self.assertEqual(rows[1][2], "reads all but complaint; removes these too, except payment")
+        self.assertEqual(rows[2][1], "reads everything; removes all except payment")
         show(page, clerks="cat")
-        wants({clerk for clerk, _ in drawn(page)}, {"cat"})
-        show(page, clerks="", maildrops="bill")
-        wants({maildrop for _, maildrop in drawn(page)}, {"billing"})
+        self.assertEqual({clerk for clerk, _ in drawn(page)}, {"cat"})
+        self.assertIn("The filters hide the rest.", page.text("table-of"))
         # What is typed while the table is loaded again is left alone.
-        page.js(
-            "arguments[0].click(); arguments[1].value = 'da';"
-            "arguments[1].dispatchEvent(new Event('input', { bubbles: true }));",
-            page.find("reload"),
-            page.find("f-clerks"),
-        )
+        page.js("arguments[0].click()", page.find("reload"))
+        page.fill(None, f_clerks="da")
         page.loaded()
         page.wait(lambda: {clerk for clerk, _ in drawn(page)} == {"dan"}, "dan isn't alone")
-        wants(page.value("f-clerks"), "da")
-        show(page, clerks="")
-        # Who may remove payments.
-        show(page, maildrops="", kind="payment")
+        self.assertEqual(page.value("f-clerks"), "da")
+        show(page, clerks="", kind="payment")
         asked = [("", "open"), ("payment", "read"), ("payment", "remove")]
-        of_payments = {names: {it: cell[it] for it in asked} for names, cell in table.items()}
-        same(drawn(page), {names: mark_of(cell) for names, cell in of_payments.items()})
-        wants({clerk for (clerk, _), mark in drawn(page).items() if "D" in mark}, {"ann"})
+        few = {names: {it: cell[it] for it in asked} for names, cell in table.items()}
+        self.same(page, few, lambda it: mark_of(few[it]), ["old"])
+        self.assertEqual({it[0] for it, mark in drawn(page).items() if mark == "all"}, {"ann"})
 
+    def test_rows_stand_in_the_order_of_their_numbers(self):
+        """c2 before c10; the server's maildrops have columns; equal clerks may be one row."""
+        text = OFFICE.replace('"dan"]', '"dan", "c10", "c2"]')
+        place = self.site(policy=text)
+        for it in ("c2", "c10", "c1"):
+            place.put(f"/clerks/{it}", "pass x")
+        place.put("/maildrops/sales")
+        page = self.browser(place)
+        names = ["ann", "bob", "c1", "c2", "c10", "cat", "dan", "old", "any other"]
+        self.assertEqual(page.js(HEADS), names)
+        self.assertIn(("c1", "sales"), drawn(page))
+        show(page, equal=True)
+        self.assertIn("c2, c10", page.js(HEADS))
+        page.view("table/c10/support")
+        page.says("cell", "The same: c2")
 
-@case
-def the_drafts_table_is_that_of_csv(program, folder):
-    with site(program, folder) as place, browser(place) as page:
+    def test_the_drafts_table_is_that_of_csv(self):
+        """The draft's cells are its own, with what it gives and takes; an opened cell has both
+        rules, and is green no more if the draft says no."""
+        place, page = self.office()
         page.draft(DRAFT)
-        old = decisions(program, folder, OFFICE, DRAFT)
-        new = decisions(program, folder, DRAFT, OFFICE)
+        old, new = self.decisions(OFFICE, DRAFT), self.decisions(DRAFT, OFFICE)
         page.view("table")
-        # A mark for whom the server doesn't have.
-        names = ["ann", "bob", "cat", "dan", "eve *", "(others)"]
+        names = ["ann", "bob", "cat", "dan", "eve *", "old", "any other"]
         page.wait(lambda: page.js(HEADS) == names, f"the rows aren't {names}")
         for which, table in (("force", old), ("draft", new)):
             show(page, which=which)
-            want = {
-                names: f"{mark_of(cell)} {change_of(old[names], new[names])}".strip()
-                for names, cell in table.items()
-            }
-            same(drawn(page), want)
+            mark = lambda it, table=table: mark_of(table[it]) + change_of(old[it], new[it])
+            self.same(page, table, mark, ["old"])
+        self.assertIn("By the draft, which is not in force. The draft changes 2 cells", page.text("table-of"))
         for (clerk, maildrop), cell in old.items():
-            opened(page, clerk, maildrop, cell, new[clerk, maildrop])
+            self.opened(page, clerk, maildrop, cell, new[clerk, maildrop])
+        page.view("table/dan/support")
+        green = "return [...document.querySelectorAll('#cell td.yes')].map((it) => it.textContent)"
+        page.says("cell-title", "dan")
+        self.assertFalse([it for it in page.js(green) if "draft: no" in it])
         show(page, changed=True)
-        changed = {names for names in old if change_of(old[names], new[names])}
-        clerks, maildrops = {clerk for clerk, _ in changed}, {name for _, name in changed}
-        wants(set(drawn(page)), {(clerk, name) for clerk in clerks for name in maildrops})
+        self.assertEqual({*drawn(page)}, {("dan", "support"), ("eve", "support")})
 
-
-def large(folder):
-    """The two policies of tools/large-policies."""
-    short = ["--short"] * ("--short" in sys.argv)
-    subprocess.run([f"{TOP}/tools/large-policies", folder, *short], check=True)
-    texts = []
-    for name in ("old", "new"):
-        with open(f"{folder}/{name}.toml", encoding="utf-8") as file:
-            texts.append(file.read())
-    return texts
-
-
-@case
-def a_large_table_is_that_of_csv(program, folder):
-    old_text, new_text = large(folder)
-    with site(program, folder, policy=old_text) as place, browser(place) as page:
+    def test_a_large_table_is_that_of_csv(self):
+        """The two policies of tools/large-policies, in force and as the draft; their changes are
+        folded, and opened one by one."""
+        short = ["--short"] * self.short
+        subprocess.run([f"{TOP}/tools/large-policies", self.folder, *short], check=True)
+        with open(f"{self.folder}/old.toml") as one, open(f"{self.folder}/new.toml") as two:
+            texts = one.read(), two.read()
+        place, page = self.office(policy=texts[0])
         show(page, equal=False)
-        count = len(decisions(program, folder, old_text))
-        page.wait(lambda: len(page.js(DRAWN)) == count, "the table isn't whole")
-        page.draft(new_text)
-        old = decisions(program, folder, old_text, new_text)
-        new = decisions(program, folder, new_text, old_text)
+        more = [[*json.loads(it)] for it in ('["ann","bob","cat","dan","old"]', '["orders","billing","support"]')]
+        page.draft(texts[1])
+        old, new = self.decisions(*texts), self.decisions(*texts[::-1])
+        self.assertEqual(page.js("return document.querySelectorAll('#review table').length"), 0)
+        clerk = page.js("const it = document.querySelector('#review details'); it.open = true;"
+                        "return it.textContent")
+        self.assertRegex(clerk, r"^[a-z0-9-]+: (▲ \d+ allowed)?(, )?(▼ \d+ denied)?, in \d+ maildrop")
         page.view("table")
         show(page, which="draft", equal=False)
-        page.wait(lambda: len(page.js(DRAWN)) == len(new), "the table isn't whole")
-        want = {
-            names: f"{mark_of(cell)} {change_of(old[names], cell)}".strip()
-            for names, cell in new.items()
-        }
-        same(drawn(page), want)
-        some = random.Random(1939).sample(sorted(old), 20)
-        for clerk, maildrop in some:
-            opened(page, clerk, maildrop, old[clerk, maildrop], new[clerk, maildrop])
+        rows, columns = {it[0] for it in new} | {*more[0]}, {it[1] for it in new} | {*more[1]}
+        page.wait(lambda: len(page.js(DRAWN)) == len(rows) * len(columns), "it isn't whole")
+        self.same(page, new, lambda it: mark_of(new[it]) + change_of(old[it], new[it]), *more)
+        for names in random.Random(1939).sample(sorted(old), 20):
+            self.opened(page, *names, old[names], new[names])
 
 
 # Stands for popbox as it reviews: a policy is written as it is, and has one of two tables.
@@ -229,174 +225,102 @@ case "$*" in
 *) grep -q other draft && cat FOLDER/1.json || cat FOLDER/0.json ;;
 esac
 """
-ONE = "".join(
-    f"{it}\n"
-    for it in (
-        "[[rule]]", 'name = "one"', 'effect = "allow"', 'clerk = "ann"', 'maildrop = "orders"',
-        'class = "*"', 'actions = ["open"]',
-    )
-)
-
-
-def chances(folder):
-    """A program that gives such reviews, of decisions by chance over 200 clerks, 100 maildrops and
-    20 classes, and those of its two tables as `decisions` has them."""
-    clerks = [*(f"clerk-{n:03}" for n in range(200)), "(others)"]
-    maildrops = [*(f"drop-{n:03}" for n in range(100)), "(others)"]
-    classes = [*(f"kind-{n:02}" for n in range(20)), "(others)"]
-    told = {"classes": classes, "rules": [f"rule-{n + 1}" for n in range(1000)]}
-    chance, tables = random.Random(1939), []
-    by = [(clerk, maildrop) for clerk in clerks for maildrop in maildrops]
-    for number in range(2):
-        cells = {} if number == 0 else dict(tables[0])
-        for names in by if number == 0 else chance.sample(by, 500):
-            lowest = chance.choice((-1000, -200, 1))
-            numbers = [chance.randint(lowest, 1000) for _ in range(43)]
-            cells[names] = [numbers[0], numbers[1:22], numbers[22:43]]
-        tables.append(cells)
-        keys = ("clerk", "maildrop", "open", "read", "remove")
-        rows = [dict(zip(keys, (*names, *cells[names]))) for names in by]
-        with open(f"{folder}/{number}.json", "w", encoding="ascii") as file:
-            json.dump({**told, "cells": rows}, file, separators=(",", ":"))
-        os.chmod(file.name, 0o644)
-    with open(f"{folder}/stands", "w", encoding="ascii") as file:
-        file.write(STAND_IN.replace("FOLDER", folder))
-    os.chmod(file.name, 0o755)
-    return file.name, [{it: as_csv(told, cells[it]) for it in by} for cells in tables]
-
-
-def as_csv(told, cell):
-    """A cell of JSON as `decisions` has it."""
-    opens, reads, removes = cell
-
-    def one(number):
-        name = told["rules"][abs(number) - 1] if number else "default"
-        return number > 0, name
-
-    found = {("", "open"): one(opens)}
-    for kind, read, remove in zip(told["classes"], reads, removes):
-        found |= {(kind, "read"): one(read), (kind, "remove"): one(remove)}
-    return found
-
-
-def first_rows(page):
-    """After how many seconds a load shows the first rows of the table."""
-    page.driver.get("about:blank")
-    page.driver.get(f"{page.site.url}/")
-    asked = "return document.querySelector('#grid tbody td') && performance.now() / 1000"
-    page.wait(lambda: page.js(asked), "there are no rows")
-    return page.js(asked)
-
-
+ONE = """[[rule]]
+name = "one"
+effect = "allow"
+clerk = "ann"
+maildrop = "orders"
+class = "*"
+actions = ["open"]
+"""
 WAITS = """
 window.waits = [];
 document.addEventListener('keydown', (it) => waits.push(performance.now() - it.timeStamp), true);
 """
 
 
-def longest_wait(page, field, keys):
-    """How many seconds a key waits, of some that are pressed in a field, at most."""
-    page.js("waits.length = 0")
-    page.find(field).click()
-    for key in keys:
-        page.keys(key)
-        time.sleep(0.1)
-    page.wait(lambda: page.value(field) == keys, "keys are lost")
-    return page.js("return Math.max(...waits)") / 1000
+def as_csv(told, cell):
+    """A cell of JSON as `decisions` has it."""
+    opens, reads, removes = cell
+    one = lambda number: (number > 0, told["rules"][abs(number) - 1] if number else "default")
+    found = {("", "open"): one(opens)}
+    for kind, read, remove in zip(told["classes"], reads, removes):
+        found |= {(kind, "read"): one(read), (kind, "remove"): one(remove)}
+    return found
 
 
-@case
-def a_table_of_20_301_cells_is_drawn_soon(program, folder):
-    os.chmod(folder, 0o711)
-    os.mkdir(f"{folder}/site")
-    reviews, (old, new) = chances(folder)
-    with site(program, f"{folder}/site", policy=ONE, reviews=reviews) as place:
-        with browser(place) as page:
-            page.loaded()
-            soonest = min(first_rows(page) for _ in range(3))
-            page.loaded()
-            show(page, equal=False)
-            page.wait(lambda: len(page.js(DRAWN)) == len(old), "the table isn't whole")
-            same(drawn(page), {names: mark_of(cell) for names, cell in old.items()})
-            page.js(WAITS)
-            filtering = longest_wait(page, "f-clerks", "clerk-19")
-            page.wait(lambda: len(page.js(DRAWN)) == 10 * 101, "the rows aren't ten")
-            show(page, clerks="")
-            page.view("policy")
-            writing = longest_wait(page, "draft", "# other, as it is written")
-            page.reviewed()
-            wants(page.text("draft-of"), "popbox has reviewed it.")
-            page.view("table")
-            show(page, which="draft", equal=False)
-            page.wait(lambda: len(page.js(DRAWN)) == len(new), "the table isn't whole")
-            want = {
-                names: f"{mark_of(cell)} {change_of(old[names], cell)}".strip()
-                for names, cell in new.items()
-            }
-            same(drawn(page), want)
-            # A machine with more to do than it has processors has longer.
-            slower = max(1, os.getloadavg()[0] / os.cpu_count())
-            found = f"rows after {soonest:.1f} s, keys after {filtering:.2f} s and {writing:.2f} s"
-            is_soon = soonest < 2 * slower, max(filtering, writing) < 0.1 * slower
-            wants((found, is_soon), (found, (True, True)))
+class Speed(Decisions):
+    def chances(self):
+        """A program that gives reviews of decisions by chance over 200 clerks, 100 maildrops and
+        20 classes, and those of its two tables as `decisions` has them."""
+        clerks = [*(f"clerk-{n:03}" for n in range(200)), OTHERS]
+        maildrops = [*(f"drop-{n:03}" for n in range(100)), OTHERS]
+        classes = [*(f"kind-{n:02}" for n in range(20)), OTHERS]
+        told = {"classes": classes, "rules": [f"rule-{n + 1}" for n in range(1000)]}
+        chance, tables = random.Random(1939), []
+        by = [(clerk, maildrop) for clerk in clerks for maildrop in maildrops]
+        for number in range(2):
+            cells = {} if number == 0 else dict(tables[0])
+            for names in by if number == 0 else chance.sample(by, 500):
+                lowest = chance.choice((-1000, -200, 1))
+                numbers = [chance.randint(lowest, 1000) for _ in range(43)]
+                cells[names] = [numbers[0], numbers[1:22], numbers[22:43]]
+            tables.append(cells)
+            keys = ("clerk", "maildrop", "open", "read", "remove")
+            rows = [dict(zip(keys, (*names, *cells[names]))) for names in by]
+            self.write(f"{number}.json", json.dumps({**told, "cells": rows}, separators=(",", ":")))
+        stands = self.write("stands", STAND_IN.replace("FOLDER", self.folder), 0o755)
+        return stands, [{it: as_csv(told, cells[it]) for it in by} for cells in tables]
+
+    def first_rows(self, page):
+        """After how many seconds a load shows the first rows of the table."""
+        page.driver.get("about:blank")
+        page.driver.get(f"{page.site.url}/")
+        asked = "return document.querySelector('#grid tbody td') && performance.now() / 1000"
+        page.wait(lambda: page.js(asked), "there are no rows")
+        return page.js(asked)
+
+    def longest_wait(self, page, field, keys):
+        """How many seconds a key waits, of some that are pressed in a field, at most."""
+        page.js("waits.length = 0")
+        page.find(field).click()
+        for key in keys:
+            page.keys(key)
+            time.sleep(0.1)
+        page.wait(lambda: page.value(field).endswith(keys), "keys are lost")
+        return page.js("return Math.max(...waits)") / 1000
+
+    def test_a_table_of_20_301_cells_is_drawn_soon(self):
+        """The first rows come within 2 s of popbox's answer, and no key waits 0.1 s, on a machine
+        that has nothing else to do."""
+        reviews, (old, new) = self.chances()
+        place, page = self.office(policy=ONE, reviews=reviews)
+        soonest = min(self.first_rows(page) for _ in range(3))
+        page.loaded()
+        show(page, equal=False)
+        more = [["ann", "bob", "cat", "dan", "old"], ["orders", "billing", "support"]]
+        page.wait(lambda: len(page.js(DRAWN)) == 206 * 104, "the table isn't whole")
+        self.same(page, old, lambda it: mark_of(old[it]), *more)
+        page.js(WAITS)
+        filtering = self.longest_wait(page, "f-clerks", "clerk-19")
+        page.wait(lambda: len(page.js(DRAWN)) == 10 * 104, "the rows aren't ten")
+        show(page, clerks="")
+        page.draft(ONE)
+        writing = self.longest_wait(page, "draft", "# other, as it is written")
+        page.reviewed()
+        page.says("draft-of", "The draft allows 1 more than what is in force.")
+        page.view("table")
+        show(page, which="draft", equal=False)
+        page.wait(lambda: len(page.js(DRAWN)) == 206 * 104, "the table isn't whole")
+        self.same(page, new, lambda it: mark_of(new[it]) + change_of(old[it], new[it]), *more)
+        # A machine with more to do than it has processors has longer.
+        slower = max(1, os.getloadavg()[0] / os.cpu_count())
+        found = f"rows after {soonest:.1f} s, keys after {filtering:.2f} s and {writing:.2f} s"
+        print(found, flush=True)
+        self.assertTrue(soonest < 2 * slower and max(filtering, writing) < 0.1 * slower, found)
 
 
-@case
-def equal_clerks_are_one_row(program, folder):
-    text = OFFICE.replace('"dan"]', '"dan", "eve", "fay"]')
-    with site(program, folder, policy=text) as place, browser(place) as page:
-        show(page, equal=True)
-        names = {clerk for clerk, _ in drawn(page)}
-        wants("eve *, fay" in names, True)
-        page.view("table/fay/support")
-        page.wait(lambda: "The same: eve" in page.text("cell"), "the row's others aren't named")
-
-
-# ---- by keyboard, phone, in the dark
-
-
-@case
-def everything_is_reached_by_the_keyboard(program, folder):
-    with site(program, folder) as place, browser(place) as page:
-
-        def focused(key, wanted):
-            page.wait(lambda: page.focused().get_attribute(key) == wanted, f"{wanted} has no focus")
-
-        page.js("document.querySelector('#grid td').focus()")
-        page.keys(Keys.ARROW_DOWN, Keys.ARROW_RIGHT)
-        focused("aria-label", "bob, orders: reads some classes")
-        page.keys(Keys.ENTER)
-        focused("id", "cell-title")
-        wants(page.text("cell-title"), "bob · orders")
-        page.all('#cell a[href$="/2"]')[0].send_keys(Keys.ENTER)
-        focused("id", "rule-2")
-        page.keys(Keys.ESCAPE)
-        wants(page.js("return location.hash"), "#policy/rule/2")
-        wants('name = "keep-payments"' in page.focused().text, True)
-        page.driver.back()
-        focused("id", "cell-title")
-        page.keys(Keys.ESCAPE)
-        focused("aria-label", "bob, orders: reads some classes")
-        controls = (
-            "return [...document.querySelectorAll('header :is(a, button),"
-            " section:not([hidden]) :is(a, button, input:not([type=file]), select, textarea)')]"
-            ".filter((it) => it.offsetParent && !it.disabled).length"
-        )
-        at = (
-            "const it = document.activeElement; it.dataset.at ??= Math.random();"
-            "return /^(A|BUTTON|INPUT|SELECT|TEXTAREA)$/.test(it.tagName) ? it.dataset.at : null"
-        )
-        for view in ("table", "policy", "maildrops", "clerks", "sessions"):
-            page.view(view)
-            page.js("document.activeElement.blur()")
-            count = page.js(controls)
-            reached = set()
-            for _ in range(count + 12):
-                page.keys(Keys.TAB)
-                reached.add(page.js(at))
-            wants((view, len(reached - {None}) >= count), (view, True))
-
-
+# The texts whose contrast is less than WCAG's 4.5, with it.
 CONTRAST = """
 const light = (rgb) => { const [r, g, b] = rgb.map((it) => { it /= 255;
   return it <= .03928 ? it / 12.92 : ((it + .055) / 1.055) ** 2.4; });
@@ -411,331 +335,140 @@ return [...document.querySelectorAll('body *')].filter((it) => it.offsetParent &
   return [it.tagName + '.' + it.className + ' ' + it.textContent.slice(0, 20),
     (Math.max(a, b) + .05) / (Math.min(a, b) + .05)]; }).filter(([, ratio]) => ratio < 4.5);
 """
+# What is cut off at the right: of the page, or of a list.
+CUT = """
+return [document.documentElement, ...document.querySelectorAll('.list, .bar, form')]
+  .filter((it) => it.checkVisibility())
+  .filter((it) => it.getBoundingClientRect().right > innerWidth + 1 || it.scrollWidth > innerWidth + 1)
+  .map((it) => it.tagName + it.id);
+"""
+AT = """
+const it = document.activeElement; it.dataset.at ??= Math.random();
+return /^(A|BUTTON|INPUT|SELECT|TEXTAREA|SUMMARY)$/.test(it.tagName) ? it.dataset.at : null;
+"""
+CONTROLS = """
+return [...document.querySelectorAll('header :is(a, button),'
+  + ' section:not([hidden]) :is(a, button, input:not([type=file]), select, textarea)')]
+  .filter((it) => it.checkVisibility() && !it.disabled).length;
+"""
+TOP_OF = "return document.querySelector(arguments[0]).getBoundingClientRect().top"
+HIGH_OF = "return document.querySelector(arguments[0]).getBoundingClientRect().height"
 
 
-def looks_well(program, folder, **how):
-    with site(program, folder) as place, browser(place, **how) as page:
+class Looks(PageCase):
+    def looks_well(self, **how):
+        page = self.browser(self.site(), **how)
         page.draft(DRAFT)
-        for view in ("table/bob/orders", "policy", "maildrops/orders", "clerks", "sessions"):
-            page.view(view)
-            wants((view, page.js(CONTRAST)), (view, []))
-            wants((view, page.driver.nameless()), (view, []))
-            wide = "return document.documentElement.scrollWidth - innerWidth"
-            wants((view, page.js(wide) <= 1), (view, True))
+        for view in ("table/bob/orders", "policy", "maildrops/orders", "clerks", "history"):
+            with self.subTest(view):
+                page.view(view)
+                self.assertEqual(page.js(CONTRAST), [])
+                self.assertEqual(page.driver.nameless(), [])
+                self.assertEqual(page.js(CUT), [])
+        return page
 
+    def test_it_is_read_by_day(self):
+        """Contrast is at least 4.5, all has a name for a screen reader, and nothing is cut off;
+        a form has one line at 1,280 px."""
+        page = self.looks_well(width=1280)
+        page.view("clerks")
+        self.assertLess(page.js(HIGH_OF, "#c-form"), 50)
 
-@case
-def it_is_read_by_day(program, folder):
-    looks_well(program, folder)
+    def test_it_is_read_in_the_dark(self):
+        """The same in dark colours."""
+        self.looks_well(is_dark=True)
 
+    def test_it_is_read_on_a_phone(self):
+        """The same at 400 px, where the table begins on the first screen, and a clerk's buttons
+        have one line."""
+        page = self.looks_well(is_phone=True, width=400, height=844)
+        page.view("clerks")
+        self.assertLess(page.js(HIGH_OF, "#c-list .buttons"), 60)
+        page.view("table")
+        page.js("scrollTo(0, 0)")
+        self.assertLess(page.js(TOP_OF, "#grid"), 500)
 
-@case
-def it_is_read_in_the_dark(program, folder):
-    looks_well(program, folder, is_dark=True)
+    def test_heads_stand_while_others_scroll(self):
+        """A table's row of maildrops and its column of clerks stay in view."""
+        place = self.site()
+        for n in range(40):
+            place.put(f"/maildrops/m-{n}")
+            place.put(f"/clerks/c-{n}", "pass x")
+        page = self.browser(place, width=700, height=600)
+        show(page, equal=False)
+        page.wait(lambda: len(page.js(HEADS)) == 46, "the rows aren't there")
+        at = ("const [box, cell] = ['#view-table .scroll', arguments[0]].map((it) =>"
+              " document.querySelector(it)); box.scrollTo(arguments[1], arguments[2]);"
+              " const [a, b] = [box, cell].map((it) => it.getBoundingClientRect());"
+              " return [Math.abs(a.left - b.left) < 3, Math.abs(a.top - b.top) < 3]")
+        self.assertEqual(page.js(at, "#grid thead th:nth-child(9)", 200, 300), [False, True])
+        self.assertEqual(page.js(at, "#grid tbody tr:nth-child(20) th", 200, 300), [True, False])
 
+    def test_everything_is_reached_by_the_keyboard(self):
+        """Arrows lead through the table, Enter opens a cell, Escape closes it, and Tab reaches all
+        that can be pressed."""
+        place, page = self.office()
 
-@case
-def it_is_read_on_a_phone(program, folder):
-    looks_well(program, folder, is_phone=True, width=390, height=844)
+        def focused(key, wanted):
+            page.wait(lambda: page.focused().get_attribute(key) == wanted, f"{wanted} has no focus")
 
+        page.js("document.querySelector('#grid td').focus()")
+        page.keys(Keys.ARROW_DOWN, Keys.ARROW_RIGHT)
+        focused("aria-label", "bob, orders: reads and removes some classes")
+        page.keys(Keys.ENTER)
+        focused("id", "cell-title")
+        page.driver.find_elements("css selector", '#cell a[href$="/2"]')[0].send_keys(Keys.ENTER)
+        focused("id", "rule-2")
+        page.keys(Keys.ESCAPE)
+        self.assertEqual(page.js("return location.hash"), "#policy/rule/2")
+        self.assertIn('name = "keep-payments"', page.focused().text)
+        page.driver.back()
+        focused("id", "cell-title")
+        page.keys(Keys.ESCAPE)
+        focused("aria-label", "bob, orders: reads and removes some classes")
+        for view in ("table", "policy", "maildrops", "clerks", "history"):
+            with self.subTest(view):
+                page.view(view)
+                page.js("document.activeElement.blur()")
+                count, reached = page.js(CONTROLS), set()
+                for _ in range(count + 12):
+                    page.keys(Keys.TAB)
+                    reached.add(page.js(AT))
+                self.assertGreaterEqual(len(reached - {None}), count)
 
-def printed(page):
-    """The text of the page as it is printed."""
-    words = ["pdftotext", "-layout", "-", "-"]
-    pages = base64.b64decode(page.driver.print_page())
-    return subprocess.run(words, input=pages, capture_output=True, check=True).stdout.decode()
+    def printed(self, page):
+        """The text of the page as it is printed."""
+        words = ["pdftotext", "-layout", "-", "-"]
+        pages = base64.b64decode(page.driver.print_page())
+        return subprocess.run(words, input=pages, capture_output=True, check=True).stdout.decode()
 
-
-@case
-def it_is_printed_whole(program, folder):
-    clerks = [f"clerk-{n}" for n in range(100, 180)]
-    rules = [
-        f'[[rule]]\nname = "of-{it}"\neffect = "allow"\nclerk = "{it}"\nmaildrop = "orders"\n'
-        'class = "*"\nactions = ["open", "read"]\n'
-        for it in clerks
-    ]
-    with site(program, folder, policy="\n".join(rules)) as place, browser(place) as page:
+    def test_it_is_printed_whole(self):
+        """On paper stands what is shown, whole, and nothing that can be pressed."""
+        clerks = [f"clerk-{n}" for n in range(100, 180)]
+        rules = [
+            ONE.replace("one", f"of-{it}").replace("ann", it).replace('"]', '", "read"]')
+            for it in clerks
+        ]
+        place, page = self.office(policy="\n".join(rules))
         show(page, equal=False)
         page.view("table/clerk-179/orders")
-        text = printed(page)
-        wants(re.findall(r"^ *(clerk-\d+) \* +R", text, re.MULTILINE), clerks)
-        wants("yes, of-clerk-179" in text, True)
-        wants([it for it in ("Reload", "Sessions", "part of a name", "Close") if it in text], [])
+        text = self.printed(page)
+        self.assertEqual(re.findall(r"^ *(clerk-\d+) \* ", text, re.MULTILINE), clerks)
+        self.assertIn("yes, of-clerk-179", text)
         page.draft("\n".join(rules[1:]))
-        text = printed(page)
+        text += self.printed(page)
         names = re.findall(r'^ *\d+ +name = "of-(.*)"$', text, re.MULTILINE)
-        wants((names, "Become denied: 2" in text, "Put in" in text), (clerks, True, False))
+        self.assertEqual((names, "clerk-100: ▼ 2 denied" in text), (clerks, True))
+        pressed = ("Reload", "Maildrops", "part of a name", "Close", "Put in", "Change")
+        self.assertEqual([it for it in pressed if it in text], [])
 
-
-# ---- a draft
-
-
-def may_be_put(page):
-    return page.js("return !document.getElementById('d-put').disabled")
-
-
-@case
-def a_fault_is_shown_at_its_line(program, folder):
-    with site(program, folder) as place, browser(place) as page:
-        bad = OFFICE.replace('class = "legal"', 'class = "lEgal"')
-        page.draft(bad)
-        line = bad[: bad.index('name = "dan-no-legal"')].count("\n")
-        wants("rule 9: BadName" in page.text("fault"), True)
-        wants((f"Go to line {line}" in page.text("fault"), may_be_put(page)), (True, False))
-        page.js("document.querySelector('#fault button').click()")
-        chosen = "const [it] = arguments; return it.value.slice(it.selectionStart, it.selectionEnd)"
-        wants(page.js(chosen, page.find("draft")), "[[rule]]")
-        wants(page.js("return document.querySelector('#gutter .at').textContent"), f"▶ {line}")
-        page.draft("# a\n\nx =\n")
-        wants(("NotToml" in page.text("fault"), "Go to line 3" in page.text("fault")), (True, True))
-
-
-@case
-def a_draft_is_reviewed_put_in_force_and_taken_back(program, folder):
-    with site(program, folder) as place, browser(place) as page:
-        first = place.get("/policy")
-        page.view("policy")
-        page.click("d-take")
-        page.reviewed()
-        wants((page.text("draft-of"), may_be_put(page)), (SAME, False))
-        page.js("document.getElementById('draft').value = ''")
-        page.draft(DRAFT)
-        said = page.text("review")
-        for wanted in ("Become allowed: 6", "Become denied: 7", "never decides", "was rule 11"):
-            wants((wanted, wanted in said), (wanted, True))
-        page.click("d-put")
-        asked = page.asks()
-        for wanted in ("become allowed: 6; denied: 7.", "Rules that never decide: 1."):
-            wants((wanted, wanted in asked), (wanted, True))
-        # "No" has the focus, and Escape is no.
-        wants(page.focused().get_attribute("id"), "ask-no")
-        page.keys(Keys.ESCAPE)
-        is_open = "return document.getElementById('ask').open"
-        page.wait(lambda: not page.js(is_open), "Escape closes nothing")
-        wants((place.get("/policy"), os.listdir(place.keep)), (first, []))
-        page.click("d-put")
-        page.agree()
-        page.wait(lambda: page.text("status").startswith("in force: 11 rules"), "it isn't put")
-        second = place.get("/policy")
-        wants(("dans-support" in second, page.text("draft-of")), (True, SAME))
-        wants("# Ann runs the office" in page.value("draft"), True)
-        # Back, from the folder of popbox-set-policy.
-        page.js("document.querySelector('#before-list button').click()")
-        page.agree()
-        page.wait(lambda: page.value("draft") == first, "it isn't taken")
-        page.wait(lambda: may_be_put(page), "it can't be put")
-        page.click("d-put")
-        page.agree()
-        page.wait(lambda: place.get("/policy") == first, "it isn't back")
-
-
-@case
-def another_administrator_is_not_overwritten(program, folder):
-    with site(program, folder) as place, browser(place) as page:
-        page.draft(DRAFT)
-        other = OFFICE.replace('name = "ann-all"', 'name = "ann-any"')
-        place.put("/policy", other)
-        page.click("d-put")
-        page.agree()
-        page.wait(lambda: "another policy is in force" in page.text("status"), "nothing is said")
-        wants(("ann-any" in place.get("/policy"), "eve" in place.get("/policy")), (True, False))
-        page.wait(lambda: "ann-any" in page.text("force"), "it isn't shown")
-        page.wait(lambda: may_be_put(page), "there is no new review")
-        # Nor is an old review left, if another comes into force while somebody looks at clerks.
-        page.view("clerks")
-        place.put("/policy", DRAFT)
-        form(page, "clerks", c_name="gil", c_kind="pass", c_secret="x")
-        wants(sent(page, "clerks", "c-told"), "gil: added")
-        page.wait(lambda: page.text("draft-of") == SAME, "the old review is left")
-
-
-@case
-def that_nobody_may_open_is_warned_of(program, folder):
-    with site(program, folder) as place, browser(place) as page:
-        page.draft("# nothing\n")
-        page.click("d-put")
-        wants("nobody may open any maildrop" in page.asks(), True)
-        page.click("ask-no")
-        page.reload()
-        wants(place.get("/policy") != "", True)
-
-
-@case
-def a_reload_and_a_second_tab_keep_the_draft(program, folder):
-    with site(program, folder) as place, browser(place) as page:
-        page.draft(DRAFT)
-        page.click("d-table")
-        page.view("table/dan/support")
-        page.driver.refresh()
-        page.loaded()
-        page.wait(lambda: "draft: no, dan-no-legal" in page.text("cell"), "the cell isn't open")
-        wants((page.value("draft"), page.value("f-which")), (DRAFT, "draft"))
-        wants(page.js("return document.getElementById('f-changed').checked"), True)
-        first = page.driver.current_window_handle
-        page.driver.switch_to.new_window("tab")
-        page.open()
-        wants(page.value("draft"), DRAFT)
-        page.draft(DRAFT + "# more\n")
-        page.driver.switch_to.window(first)
-        hidden = "return document.getElementById('d-other').hidden"
-        page.wait(lambda: not page.js(hidden), "nothing is said of the other tab")
-        page.click("d-take-other")
-        wants((page.value("draft"), page.js(hidden)), (DRAFT + "# more\n", True))
-
-
-# ---- maildrops, clerks, sessions
-
-
-def form(page, view, **values):
-    page.view(view)
-    for name, value in values.items():
-        page.js("arguments[0].value = arguments[1]", page.find(name.replace("_", "-")), value)
-
-
-def sent(page, view, output, agree=False):
-    """Sends the view's form, and gives what is then said."""
-    page.js("document.getElementById(arguments[0]).textContent = ''", output)
-    page.js("document.querySelector(arguments[0]).requestSubmit()", f"#view-{view} form")
-    if agree:
-        page.agree()
-    page.wait(lambda: page.text(output), "nothing is said")
-    page.loaded()
-    return page.text(output)
-
-
-def removed(page, name, output):
-    page.loaded()
-    page.js("document.getElementById(arguments[0]).textContent = ''", output)
-    page.js("document.querySelector(arguments[0]).click()", f'[aria-label="{name}"]')
-    page.agree()
-    page.wait(lambda: page.text(output), "nothing is said")
-    return page.text(output)
-
-
-@case
-def clerks_are_added_replaced_and_removed(program, folder):
-    with site(program, folder) as place, browser(place) as page:
-        form(page, "clerks", c_name="gil", c_kind="pass", c_secret="a good one")
-        wants(sent(page, "clerks", "c-told"), "gil: added")
-        client = poplib.POP3("127.0.0.1", place.server.pop)
-        client.user("gil/orders")
-        try:
-            client.pass_("a good one")
-        except poplib.error_proto as error:
-            wants("denied by rule default" in str(error), True)
-        client.close()
-        # No password stays anywhere.
-        wants((page.value("c-secret"), page.value("c-name")), ("", ""))
-        stays = (
-            "return JSON.stringify({...localStorage, ...sessionStorage, hash: location.hash})"
-            " + document.documentElement.outerHTML"
-        )
-        wants("a good one" in page.js(stays), False)
-        form(page, "clerks", c_name="gil", c_kind="apop", c_secret="two")
-        wants(sent(page, "clerks", "c-told", agree=True), "gil: replaced")
-        wants(place.get("/clerks/gil"), "apop\n")
-        # popbox's own words, for a secret that it refuses.
-        form(page, "clerks", c_name="gil", c_kind="apop", c_secret="café")
-        wants(sent(page, "clerks", "c-told", agree=True), "gil: bad request")
-        form(page, "clerks", c_name="Gil Bates")
-        wants(page.js("return document.getElementById('c-form').checkValidity()"), False)
-        page.click("c-make")
-        wants(len(page.value("c-secret")), 20)
-        wants(removed(page, "Remove clerk gil", "c-told"), "gil: dropped")
-        wants(place.get("/clerks/gil"), "no such clerk\n")
-
-
-CLERKS = """
-return [...document.querySelectorAll('#c-list tbody tr')]
-  .map((it) => it.cells[0].textContent + ', ' + it.cells[1].textContent);
-"""
-
-
-@case
-def a_clerk_whom_no_rule_names_is_shown(program, folder):
-    with site(program, folder) as place:
-        place.server.administer("DELETE", "/clerks/dan")
-        with browser(place) as page:
-            want = ["ann, password", "bob, APOP", "cat, password"]
-            want += ["dan, no such clerk", "old, password"]
-            wants((page.js(CLERKS), page.text("c-of").strip()), (want, "4 clerks."))
-            # The list is asked for, and nobody by name.
-            asked = place.read("access.log")
-            found = asked.count("GET /api/clerks 200"), "/api/clerks/" in asked
-            wants(found, (1, False))
-            # In the table that clerk is found with those of whom no rule speaks.
-            wants(page.js(HEADS), ["ann", "bob", "cat", "dan *", "(others)"])
-            show(page, clerks="old")
-            wants({clerk for clerk, _ in drawn(page)}, {"(others)"})
-            page.view("table/old/orders")
-            told = "All whom no rule names; on the server: old."
-            page.wait(lambda: told in page.text("cell"), "(others) aren't said")
-            form(page, "clerks", c_name="old", c_kind="apop", c_secret="another")
-            wants(sent(page, "clerks", "c-told", agree=True), "old: replaced")
-            wants(("old, APOP" in page.js(CLERKS), place.get("/clerks/old")), (True, "apop\n"))
-            wants(removed(page, "Remove clerk old", "c-told"), "old: dropped")
-            page.loaded()
-            wants((page.js(CLERKS), page.text("c-of").strip()), (want[:-1], "3 clerks."))
-            wants(place.get("/clerks/old"), "no such clerk\n")
-
-
-@case
-def without_a_list_the_policys_clerks_are_shown(program, folder):
-    with site(program, folder, has_list=False) as place, browser(place) as page:
-        want = ["ann, password", "bob, APOP", "cat, password", "dan, password"]
-        said = "The server does not list its clerks (serve --list-clerks)"
-        wants((page.js(CLERKS), said in page.text("c-of")), (want, True))
-        # Who was added from here stays; whom another administrator added isn't known.
-        form(page, "clerks", c_name="gil", c_kind="pass", c_secret="x")
-        wants(sent(page, "clerks", "c-told"), "gil: added")
-        place.put("/clerks/hal", "pass x")
-        page.reload()
-        wants(page.js(CLERKS), [*want, "gil, password"])
-
-
-@case
-def maildrops_are_added_and_removed(program, folder):
-    with site(program, folder) as place, browser(place) as page:
-        form(page, "maildrops", m_name="sales")
-        wants(sent(page, "maildrops", "m-told"), "sales: added")
-        wants(removed(page, "Remove maildrop sales", "m-told"), "sales: dropped")
-        wants(removed(page, "Remove maildrop orders", "m-told"), "orders: not empty")
-        client = poplib.POP3("127.0.0.1", place.server.pop)
-        client.user("ann/orders")
-        client.pass_("s3 cret")
-        wants(removed(page, "Remove maildrop orders", "m-told"), "orders: in use")
-        counts = place.get("/maildrops").split("\n")[1].split()
-        cells = (
-            "return [...document.querySelectorAll('#m-list tbody tr')[1].cells]"
-            ".map((it) => it.textContent)"
-        )
-        wants(page.js(cells)[:3], counts)
-        page.view("maildrops/orders")
-        page.wait(lambda: "complaint" in page.text("m-one"), "no classes are shown")
-        counts = (
-            "return [...document.querySelectorAll('#m-one tbody tr')]"
-            ".map((it) => it.cells[0].textContent + it.cells[1].textContent)"
-        )
-        wants(sorted(page.js(counts)), ["complaint1", "note2", "payment1"])
-        page.view("sessions")
-        page.reload()
-        number = place.get("/sessions").split()[0]
-        wants(removed(page, f"End session {number} of ann", "s-told"), f"{number}: ended")
-        try:
-            client.noop()
-            raise Wrong("the session goes on")
-        except (OSError, EOFError, poplib.error_proto):
-            pass
-
-
-def take_pictures(program, folder, into):
-    """The two pictures of the documents: an opened cell, and a draft that is reviewed."""
-    with site(program, folder) as place, browser(place, width=1240, height=780) as page:
+    def test_pictures(self):
+        """The two pictures of docs/: an opened cell, and a draft that is reviewed."""
+        if not os.environ.get("POPBOX_PICTURES"):
+            self.skipTest("POPBOX_PICTURES names no folder")
+        page = self.browser(self.site(), width=1240, height=780)
         page.view("table/bob/orders")
-        time.sleep(1)
-        page.save_picture(f"{into}/page-table.png")
+        page.driver.save_screenshot(f"{os.environ['POPBOX_PICTURES']}/page-table.png")
         page.draft(DRAFT)
-        page.js("document.getElementById('draft').scrollTop = 500")
-        page.js("scrollTo(0, 150)")
-        time.sleep(1)
-        page.save_picture(f"{into}/page-draft.png")
+        page.says("review", "Lines")
+        page.driver.save_screenshot(f"{os.environ['POPBOX_PICTURES']}/page-draft.png")

@@ -20,7 +20,8 @@ export function drawClerks() {
 
 function drawClerk([name, kind]) {
   const maildrops = state.sessions.filter((it) => it.clerk === name).map((it) => it.maildrop);
-  const [text, what] = kind ? ['New password', 'New credential for'] : ['Add', 'Add'];
+  const text = { apop: 'New secret', null: 'Add' }[kind] ?? 'New password';
+  const what = kind ? 'New credential for' : 'Add';
   const credential = button(text, () => beginClerk(name, kind), `${what} ${name}`, 'weak');
   const remove = kind ? button('Remove…', () => removeClerk(name), `Remove clerk ${name}`, 'weak bad') : '';
   const by = h('td', { class: kind ? null : 'down' }, KINDS[kind] ?? 'no such clerk');

@@ -137,6 +137,7 @@ export async function kindOf(name) {
 
 /** The text of a policy as its author wrote it, with comments, if it was put in force from here. */
 export async function textOf(digest, written) {
+  if (!putOf(digest).at) return written;
   const { status, text } = await ask('GET', `/policies/${digest}`);
   return status === 200 ? text : written;
 }
