@@ -32,7 +32,7 @@ DRAFT = (
 USER, PASSWORD, COOKIE = "admin", "correct horse", "0123456789abcdef" * 2
 OWN = ["Sec-Fetch-Site: same-origin"]
 # How long a page may take to show something, in seconds; a review by an unproved program is slow.
-SHOWN = 120
+SHOWN = 60
 NEEDED = ("nginx", "openssl", "systemd-socket-activate", "curl", "pdftotext")
 
 
@@ -51,7 +51,8 @@ def made(*words):
 
 def make_key(folder, name, subject):
     """A key and a certificate that it signs itself."""
-    words = ["openssl", "req", "-x509", "-newkey", "rsa:2048", "-nodes", "-days", "2"]
+    words = ["openssl", "req", "-x509", "-newkey", "ec", "-nodes", "-days", "2"]
+    words += ["-pkeyopt", "ec_paramgen_curve:P-256"]
     words += ["-subj", f"/CN={subject}", "-addext", f"subjectAltName=DNS:{subject}"]
     made(*words, "-keyout", f"{folder}/{name}.key", "-out", f"{folder}/{name}.pem")
 
@@ -107,8 +108,8 @@ class Site:
             self.put(f"/clerks/{name}", f"pass {name}")
         self.put("/policy", policy)
         for number, kind in enumerate(("payment", "note", "note", "complaint")):
-            text = b"Subject: a chair\n\nA chair.\n"
-            self.server.deposit(f"orders.{kind}.d{number}.eml", text)
+            self.server.drop(f"orders.{kind}.d{number}.eml", b"Subject: a chair\n\nA chair.\n")
+        self.server.wait_for_spool()
 
     def write_configuration(self):
         """The package's site, with other paths, and Debian's nginx.conf around it in short."""
@@ -172,7 +173,7 @@ class Site:
         os.chmod(path, 0o666)
 
     def wait_for_policies(self):
-        """Waits until no companion puts a policy in force; one that does so has the folder locked."""
+        """Waits until no companion puts a policy in force: one that does has the folder locked."""
         folder = os.open(self.keep, os.O_RDONLY)
         try:
             fcntl.flock(folder, fcntl.LOCK_EX)
@@ -283,7 +284,10 @@ class Browser:
     def says(self, name, *words):
         """Waits until an element has these words, and gives its text."""
         has = lambda: all(word in self.text(name) for word in words)
-        self.wait(has, f"{name} hasn't {words}, but {self.text(name)[:400]!r}")
+        try:
+            self.wait(has, f"{name} hasn't {words}")
+        except Wrong as error:
+            raise Wrong(f"{error}; {name} is {self.text(name)[:400]!r}") from error
         return self.text(name)
 
     def loaded(self):

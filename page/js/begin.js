@@ -1,10 +1,10 @@
 // Draws the three steps of a server that is new: a maildrop, a clerk, the first rule.
 
-import { $, button, dim, h } from './dom.js';
+import { $, button, h } from './dom.js';
 import { editRule, replaceDraft } from './draft.js';
 import { existing, hasDraft, state } from './store.js';
 
-const EXAMPLE = `# An example to begin with. The first rule that matches decides; if none matches, the answer is no.
+const EXAMPLE = `# An example. The first rule that matches decides; if none does, the answer is no.
 
 # Ann runs the office.
 [[rule]]
@@ -45,17 +45,19 @@ export function begin() {
     button('Write the first rule…', () => editRule(0, first), null, 'strong'), ' or ',
     button('Begin with an example', () => replaceDraft(EXAMPLE)),
   ];
-  $('begin').replaceChildren(h('h3', null, 'Three steps, and the first clerk can log in'), h('ol', null,
+  const title = h('h3', null, 'Three steps, and the first clerk can log in');
+  $('begin').replaceChildren(title, h('ol', null,
     step(maildrops.length, 'A maildrop', 'is an address that several clerks read, as orders.',
       add('maildrops', 'm-name', 'Add a maildrop')),
     step(clerks.length, 'A clerk', 'logs in with a name and a password.',
       add('clerks', 'c-name', 'Add a clerk')),
-    step(hasRule, 'A rule', 'says who may open, read and remove what. Without one, nobody may.', rule)));
+    step(hasRule, 'A rule', 'says who may open, read and remove what.', rule)));
 }
 
 function step(isDone, what, told, todo) {
   const title = h('b', null, isDone ? `✓ ${what}` : what);
-  return h('li', { class: isDone ? 'done' : null }, title, ' ', told, isDone ? '' : dim(todo));
+  const rest = isDone ? null : h('p', { class: 'bar' }, todo);
+  return h('li', { class: isDone && 'done' }, title, ' ', told, rest);
 }
 
 /** Leads to a form. */

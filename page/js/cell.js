@@ -1,5 +1,4 @@
-// Draws an opened cell: what a clerk may do in a maildrop, class by class, and the rule that decides
-// each.
+// Draws an opened cell: what a clerk may do in a maildrop, class by class, and which rule decides.
 
 import { OTHERS, allows, shownName, words } from './decisions.js';
 import { $, button, dim, h, rowHead } from './dom.js';

@@ -2,7 +2,9 @@
 
 import { change } from './ask.js';
 import { allows } from './decisions.js';
-import { $, agrees, button, byName, counted, data, dim, h, paragraph, rowHead, tableHead, tell } from './dom.js';
+import {
+  $, agrees, button, byName, counted, data, dim, h, paragraph, removing, rowHead, tableHead, tell,
+} from './dom.js';
 import { load } from './load.js';
 import { existing, kindOf, state } from './store.js';
 
@@ -23,7 +25,7 @@ function drawClerk([name, kind]) {
   const text = { apop: 'New secret', null: 'Add' }[kind] ?? 'New password';
   const what = kind ? 'New credential for' : 'Add';
   const credential = button(text, () => beginClerk(name, kind), `${what} ${name}`, 'weak');
-  const remove = kind ? button('Remove…', () => removeClerk(name), `Remove clerk ${name}`, 'weak bad') : '';
+  const remove = kind ? removing('clerk', name, removeClerk) : '';
   const by = h('td', { class: kind ? null : 'down' }, KINDS[kind] ?? 'no such clerk');
   const buttons = h('td', { class: 'buttons' }, credential, ' ', remove);
   return h('tr', null, rowHead(name), by, data(maildrops.join(', ')), buttons);
@@ -48,8 +50,8 @@ export function showSecret(isShown) {
 /** What popbox refuses in a password is said before it is sent. */
 export function checkSecret() {
   const [odd] = $('c-secret').value.match(/[^ -~]/u) ?? [];
-  const told = odd ? `“${odd}” can't be in a password: it has letters without accents, digits, spaces and `
-    + 'the signs of an American keyboard' : '';
+  const told = odd ? `“${odd}” can't be in a password: it has letters without accents, digits, `
+    + 'spaces and the signs of an American keyboard' : '';
   $('c-secret').setCustomValidity(told);
   if (told) tell('c-told', told, true);
   else if ($('c-told').textContent.includes('can\'t be in')) tell('c-told', '', false);
@@ -60,7 +62,8 @@ export async function putClerk(event) {
   const [name, secret, way] = [$('c-name').value, $('c-secret').value, $('c-kind').value];
   const { kind, told } = await kindOf(name);
   if (kind === '?') {
-    tell('c-told', `${name}: nothing was sent, since whether there is such a clerk isn't known: ${told}`, true);
+    const why = `whether there is such a clerk isn't known: ${told}`;
+    tell('c-told', `${name}: nothing was sent, since ${why}`, true);
     return;
   }
   const body = [paragraph('The password or secret that the clerk has now works no more.')];
@@ -81,7 +84,8 @@ export async function putClerk(event) {
 function showMade(name, way, secret) {
   const copied = h('output', null);
   const copy = button('Copy', async () => {
-    await navigator.clipboard.writeText(secret).catch(() => getSelection().selectAllChildren($('made-secret')));
+    const mark = () => getSelection().selectAllChildren($('made-secret'));
+    await navigator.clipboard.writeText(secret).catch(mark);
     copied.textContent = ' copied, or marked to be copied';
   });
   const clerk = state.alone?.clerks.indexOf(name) ?? -1;
@@ -91,12 +95,13 @@ function showMade(name, way, secret) {
   }) ?? [];
   const users = places.length ? places.map((it) => `${name}/${it}`) : [`${name}/MAILDROP`];
   const line = (what, ...told) => h('tr', null, rowHead(what), data(...told));
+  const title = h('h3', null, `For ${name}'s mail program`);
   $('made').replaceChildren(
-    h('div', { class: 'head' }, h('h3', null, `For ${name}'s mail program`), button('Close', closeMade)),
+    h('div', { class: 'head' }, title, button('Close', closeMade)),
     h('table', { class: 'plain' }, h('tbody', null,
-      line(way === 'apop' ? 'APOP secret' : 'password', h('code', { id: 'made-secret' }, secret), ' ', copy, copied),
+      line(KINDS[way], h('code', { id: 'made-secret' }, secret), ' ', copy, copied),
       line('user name', users.map((it) => h('div', null, h('code', null, it)))),
-      line('server', 'POP3, port 995 with TLS if your proxy does it, else port 1110 or as popbox was started'))),
+      line('server', 'POP3; port 995 if a proxy does TLS, else 1110, or as popbox was started'))),
     dim('The password is shown nowhere again once this is closed.'),
   );
   $('made').hidden = false;
@@ -109,7 +114,7 @@ export function closeMade() {
 
 async function removeClerk(name) {
   const body = [
-    paragraph('A session that the clerk is in goes on: end it under “What happened”.'),
+    paragraph('A session that the clerk is in goes on: end it under “History”.'),
     paragraph('The policy keeps the name.'),
   ];
   if (!await agrees(`Remove the clerk ${name}?`, body, 'Remove')) return;

@@ -45,7 +45,8 @@ export class Table {
   about(kind) {
     const only = (cell) => ({ ...cell, read: [cell.read[kind]], remove: [cell.remove[kind]] });
     const cells = this.cells.map(only);
-    return new Table({ ...this.told, classes: [this.classes[kind]], cells }, cells.map(marksOf), this);
+    const told = { ...this.told, classes: [this.classes[kind]], cells };
+    return new Table(told, cells.map(marksOf), this);
   }
 
   /** The same table, with the clerks and maildrops that the server has now. */

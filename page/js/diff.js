@@ -93,16 +93,17 @@ export function nearest(name, names) {
   return far[0]?.[0] <= Math.max(1, name.length / 3) ? far[0][1] : null;
 }
 
-/** How many letters are added, left out or changed from one name to the other. */
+/** How many letters are added, left out, changed or swapped from one name to the other. */
 function distance(a, b) {
-  let row = [...Array(b.length + 1).keys()];
+  let past = [], row = [...Array(b.length + 1).keys()];
   for (let x = 1; x <= a.length; x++) {
     const next = [x];
     for (let y = 1; y <= b.length; y++) {
-      const swap = row[y - 1] + (a[x - 1] === b[y - 1] ? 0 : 1);
-      next.push(Math.min(swap, row[y] + 1, next[y - 1] + 1));
+      const isSwap = a[x - 1] === b[y - 2] && a[x - 2] === b[y - 1];
+      const other = row[y - 1] + (a[x - 1] === b[y - 1] ? 0 : 1);
+      next.push(Math.min(other, row[y] + 1, next[y - 1] + 1, isSwap ? past[y - 2] + 1 : other));
     }
-    row = next;
+    [past, row] = [row, next];
   }
   return row[b.length];
 }

@@ -30,6 +30,11 @@ export function button(text, onclick, label, colour) {
   return h('button', { type: 'button', onclick, 'aria-label': label, class: colour }, text);
 }
 
+/** The button that removes a maildrop or a clerk. */
+export function removing(what, name, remove) {
+  return button('Remove…', () => remove(name), `Remove ${what} ${name}`, 'weak bad');
+}
+
 export function tableHead(...names) {
   return h('thead', null, h('tr', null, names.map((name) => h('th', { scope: 'col' }, name))));
 }

@@ -1,7 +1,7 @@
 // The draft: its text with the numbers of its lines, and whether it still stands on the policy in
 // force. The browser keeps it, and the policy on which it began.
 
-import { merged, diff } from './diff.js';
+import { diff, merged } from './diff.js';
 import { $, agrees, button, folded, on, paragraph, say } from './dom.js';
 import { drawLinesOf, faultLine, forgetReview, reviewDraft } from './review.js';
 import { askRule, ruleAt, tablesOf } from './rules.js';
@@ -65,10 +65,11 @@ function takeOther() {
 
 /** Whether the text came into the draft. */
 export async function replaceDraft(text) {
-  const isOther = hasDraft() && ![text, state.force, state.base].includes(state.draft);
+  const isSame = state.review !== null && state.review.written === state.force;
+  const isOther = hasDraft() && !isSame && ![text, state.base].includes(state.draft);
   const body = [paragraph('What the draft says now is lost.')];
   if (isOther && !await agrees('Replace the draft?', body, 'Replace')) return false;
-  if (isOther) state.draft = null;
+  state.draft = null;
   setDraft(text);
   location.hash = '#policy';
   return true;
@@ -79,15 +80,14 @@ export async function beginDraft() {
   if (!hasDraft()) await replaceDraft(await textOf(state.digest, state.force));
 }
 
-/** Changes rule N of the draft by the form, or adds one if N is 0; begins a draft if there is none. */
+/** Changes rule N of the draft by the form, or adds one if N is 0; may begin a draft. */
 export async function editRule(n, begin) {
   const text = hasDraft() ? state.draft : await textOf(state.digest, state.force);
   const done = await askRule(text, n, begin);
   if (!done) return;
   setDraft(done.text);
   location.hash = '#policy';
-  const [at] = tablesOf(state.draft.split('\n'), 'rule').slice(done.at - 1);
-  if (done.at && at) goToLine(at.head + 1);
+  goToRule(done.at);
 }
 
 async function discard() {
@@ -141,7 +141,7 @@ export function drawGutter(fault = faultAt) {
   $('gutter').scrollTop = area.scrollTop - from * high;
 }
 
-export function goToLine(line) {
+function goToLine(line) {
   const area = $('draft'), all = area.value.split('\n');
   const from = all.slice(0, line - 1).reduce((n, it) => n + it.length + 1, 0);
   area.focus();
@@ -149,6 +149,11 @@ export function goToLine(line) {
   area.scrollTop = Math.max(0, (line - 4) * parseFloat(getComputedStyle(area).lineHeight));
   drawGutter();
   nameRule();
+}
+
+export function goToRule(n) {
+  const at = tablesOf(state.draft.split('\n'), 'rule')[n - 1];
+  if (at) goToLine(at.head + 1);
 }
 
 /** The button that changes the rule in which the cursor stands. */

@@ -65,7 +65,8 @@ export async function drawTable() {
   const mine = ++drawing;
   if (!state.alone) {
     $('grid').replaceChildren();
-    $('table-of').textContent = `There is no table: popbox's review can't be had (${state.noTable}).`;
+    const why = `popbox's review can't be had (${state.noTable})`;
+    $('table-of').textContent = `There is no table: ${why}.`;
     return;
   }
   const focused = focusedNames();
@@ -120,15 +121,17 @@ function toldOfTable() {
   const isWhole = isAll && columns.length === force.maildrops.length;
   const told = [isDraft ? 'By the draft, which is not in force.' : 'By the policy in force.'];
   if (draft) {
-    const all = [...force.clerks.keys()].flatMap((c) => force.maildrops.map((_, m) => change(c, m)));
-    const count = all.filter((it) => it.gives || it.takes).length;
-    told.push(` The draft changes ${counted(count, 'cell')} of ${all.length.toLocaleString()}.`);
+    const changes = force.clerks.flatMap((_, c) => force.maildrops.map((_, m) => change(c, m)));
+    const count = changes.filter((it) => it.gives || it.takes).length;
+    const all = changes.length.toLocaleString();
+    told.push(` The draft changes ${counted(count, 'cell')} of ${all}.`);
   }
   told.push(` ${countedNames(clerks.map((c) => force.clerks[c]), 'clerk')} and `);
   told.push(`${countedNames(columns.map((m) => force.maildrops[m]), 'maildrop')}.`);
   if (!isWhole) told.push(' The filters hide the rest.');
   const labels = [...force.clerks.map(clerkLabel), ...force.maildrops.map(maildropLabel)];
-  if (labels.some(([text]) => text.endsWith(' *'))) told.push(' A * marks a name that the server does not have.');
+  const lacks = labels.some(([text]) => text.endsWith(' *'));
+  if (lacks) told.push(' A * marks a name that the server does not have.');
   return told;
 }
 

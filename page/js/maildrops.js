@@ -1,7 +1,10 @@
 // Draws the maildrops, the messages of one, and the form that adds one.
 
 import { ask, change, lines, rows } from './ask.js';
-import { $, agrees, button, counted, data, h, number, paragraph, rowHead, tableHead, tell, warning } from './dom.js';
+import {
+  $, agrees, counted, data, folded, h, number, paragraph, removing, rowHead, tableHead, tell,
+  warning,
+} from './dom.js';
 import { load } from './load.js';
 import { state } from './store.js';
 
@@ -18,7 +21,7 @@ export function drawMaildrops() {
 
 function drawMaildrop({ name, n, octets }) {
   const link = h('a', { href: `#maildrops/${name}` }, name);
-  const remove = button('Remove…', () => removeMaildrop(name), `Remove maildrop ${name}`, 'weak bad');
+  const remove = removing('maildrop', name, removeMaildrop);
   return h('tr', null, rowHead(link), number(n), number(octets), data(remove));
 }
 
@@ -59,6 +62,6 @@ function drawMessages(text) {
   const some = [...all.slice(0, 2000), ...more].map((it) => h('div', null, it));
   return [
     h('table', null, tableHead('class', 'messages', 'octets'), body),
-    h('details', null, h('summary', null, 'unique-ids and octets'), h('div', { class: 'code' }, some)),
+    folded('unique-ids and octets', () => [h('div', { class: 'code' }, some)]),
   ];
 }

@@ -3,16 +3,18 @@
 
 import { openCell, closeCell } from './cell.js';
 import { addMaildrop, showMaildrop } from './maildrops.js';
-import { checkSecret, closeMade, forgetSecret, makeSecret, putClerk, showSecret } from './clerks.js';
+import {
+  checkSecret, closeMade, forgetSecret, makeSecret, putClerk, showSecret,
+} from './clerks.js';
 import { $, on } from './dom.js';
-import { drawGutter, goToLine, isKeeping, keepDraft, listenToDraft, showDraft } from './draft.js';
+import { drawGutter, goToRule, isKeeping, keepDraft, listenToDraft, showDraft } from './draft.js';
 import { drawTable, listenToTable, shown } from './grid.js';
 import { load } from './load.js';
 import { placeInHash, VIEWS } from './place.js';
 import { showRule } from './policy.js';
 import { putInForce } from './putting.js';
 import { reviewDraft } from './review.js';
-import { listenToRule, tablesOf } from './rules.js';
+import { listenToRule } from './rules.js';
 import { hasDraft, setView, state } from './store.js';
 
 function showView() {
@@ -36,8 +38,7 @@ function showInPolicy(where, n) {
   document.querySelector('#force .here')?.classList.remove('here');
   drawGutter();
   if (where === 'rule') showRule(n);
-  const [at] = hasDraft() && where === 'draft' ? tablesOf(state.draft.split('\n'), 'rule').slice(n - 1) : [];
-  if (at) goToLine(at.head + 1);
+  if (where === 'draft' && hasDraft()) goToRule(n);
 }
 
 async function reload() {

@@ -4,7 +4,7 @@ import { ask } from './ask.js';
 import { $, button, counted, data, dim, h, tableHead } from './dom.js';
 import { putOf, state, textOf } from './store.js';
 
-/** Each `[[rule]]` and `[[group]]` is a block, with the numbers of its lines; `edit` changes one. */
+/** Each `[[rule]]` and `[[group]]` is a block, with its lines' numbers; `edit` changes one. */
 export function drawForce(edit) {
   const blocks = [];
   let count = 0;

@@ -16,7 +16,7 @@ export async function putInForce() {
     never.length ? warning(`Rules that never decide: ${never.length}.`) : null,
     nobody ? warning('By this draft nobody may open any maildrop.') : null,
     paragraph('It binds at once, also clerks who are in.'),
-    paragraph('What is in force now is kept: “What happened” gives it back.'),
+    paragraph('What is in force now is kept: “History” gives it back.'),
   ];
   if (!await agrees('Put the draft in force?', body, 'Put in force')) return;
   $('d-put').disabled = true;

@@ -7,7 +7,7 @@ import { besideOf, OTHERS, tableFrom } from './decisions.js';
 import { goToFault } from './draft.js';
 import { drawTable } from './grid.js';
 import { tablesOf } from './rules.js';
-import { addClerks, classesHeld, existing, hasDraft, isStale, serverNames, state } from './store.js';
+import { addClerks, classesHeld, hasDraft, isStale, serverNames, state } from './store.js';
 
 let aborter = null;
 export function forgetReview() {
@@ -130,7 +130,8 @@ function firstOf(all, most) {
   return all.length > most ? [...some, h('div', null, `and ${all.length - most} more`)] : some;
 }
 
-const CHANGE = /^(\S+) (\S+) (?:(\S+) )?(open|read|remove): \w+ by rule (\S+) -> (\w+) by rule (\S+)$/;
+const RULE = '(\\w+) by rule (\\S+)';
+const CHANGE = new RegExp(`^(\\S+) (\\S+) (?:(\\S+) )?(open|read|remove): ${RULE} -> ${RULE}$`);
 
 /** The changes as lists by clerk and maildrop, which open one by one. */
 function drawClerks(all, isOpen) {
@@ -138,20 +139,20 @@ function drawClerks(all, isOpen) {
   const changes = all.map((line) => CHANGE.exec(line)).filter(Boolean);
   return by(1, changes).map(([clerk, some]) => {
     const drops = by(2, some);
-    return folded(summary(clerk, some, counted(drops.length, 'maildrop')), () => {
-      return drops.map(([drop, few]) => folded(summary(drop, few), () => drawDecisions(few), isOpen));
-    }, isOpen);
+    const drop = ([name, few]) => folded(summary(name, few), () => drawDecisions(few), isOpen);
+    const title = summary(clerk, some, counted(drops.length, 'maildrop'));
+    return folded(title, () => drops.map(drop), isOpen);
   });
 }
 
 function summary(name, some, where) {
-  const gives = some.filter((it) => it[6] === 'allow').length, takes = some.length - gives;
+  const gives = some.filter((it) => it[7] === 'allow').length, takes = some.length - gives;
   const told = [gives ? `▲ ${gives} allowed` : null, takes ? `▼ ${takes} denied` : null];
   return `${name}: ${told.filter(Boolean).join(', ')}${where ? `, in ${where}` : ''}`;
 }
 
 function drawDecisions(some) {
-  const line = ([, , , kind, action, old, effect, rule]) => h('tr', null,
+  const line = ([, , , kind, action, , old, effect, rule]) => h('tr', null,
     h('td', { class: effect === 'allow' ? 'up' : 'down' }, effect === 'allow' ? '▲' : '▼'),
     h('td', null, [action, kind].filter(Boolean).join(' ')),
     h('td', null, `${effect === 'allow' ? 'allowed' : 'denied'} by ${rule}`),
@@ -159,7 +160,7 @@ function drawDecisions(some) {
   return [h('table', { class: 'plain' }, h('tbody', null, some.map(line)))];
 }
 
-/** The lines of two texts with their marks; of long runs that are equal, three lines at each end. */
+/** The lines of two texts with their marks; of a long run that is equal, three at each end. */
 export function drawLinesOf(all) {
   const near = new Set();
   all.forEach(([mark], n) => {
@@ -181,20 +182,20 @@ export function drawLinesOf(all) {
 
 /** The names of the draft that the server doesn't have, each with the nearest that it has. */
 async function drawLacking(signal) {
-  const { draft } = state.beside, names = serverNames(), told = [];
+  const { draft } = state.beside, { clerks, maildrops } = serverNames(), told = [];
   const lacks = (what, all, has, isLacking) => {
     for (const name of all.filter((it) => it !== OTHERS && isLacking(it))) {
       const near = nearest(name, has);
       told.push(`No ${what} ${name}${near ? `; there is ${near}` : ''}`);
     }
   };
-  lacks('clerk', draft.named, existing(), (name) => state.clerks.get(name) === null);
-  const { maildrops } = names;
+  lacks('clerk', draft.named, clerks, (name) => state.clerks.get(name) === null);
   lacks('maildrop', draft.namedMaildrops, maildrops, (name) => !maildrops.includes(name));
-  const known = new Set(state.alone?.classes), isNew = (name) => name !== OTHERS && !known.has(name);
+  const known = new Set(state.alone?.classes), isNew = (name) => !known.has(name);
   if (draft.classes.some(isNew)) (await classesHeld(30)).forEach((name) => known.add(name));
   lacks('class', draft.classes, [...known].filter((it) => it !== OTHERS), isNew);
   if (signal.aborted || told.length === 0) return;
   const title = h('h3', null, 'Names that the server does not have');
-  $('lacking').replaceChildren(title, h('ul', { class: 'fault' }, told.map((it) => h('li', null, it))));
+  const list = h('ul', { class: 'fault' }, told.map((it) => h('li', null, it)));
+  $('lacking').replaceChildren(title, list);
 }

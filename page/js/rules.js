@@ -13,9 +13,10 @@ const headOf = (kind) => new RegExp(`^\\s*\\[\\[\\s*${kind}\\s*\\]\\]`);
 export function tablesOf(lines, kind) {
   const heads = [...lines.keys()].filter((n) => /^\s*\[\[/.test(lines[n]));
   const from = (n) => (n > 0 && lines[n - 1].trimStart().startsWith('#') ? from(n - 1) : n);
-  return heads.map((head, n) => {
-    return { head, from: from(head), end: n + 1 < heads.length ? from(heads[n + 1]) : lines.length };
-  }).filter(({ head }) => headOf(kind).test(lines[head]));
+  const end = (n) => (n + 1 < heads.length ? from(heads[n + 1]) : lines.length);
+  return heads.map((head, n) => ({ head, from: from(head), end: end(n) })).filter(({ head }) => {
+    return headOf(kind).test(lines[head]);
+  });
 }
 
 /** A line `key = value  # comment` in its parts; nothing if it is written in another way. */
@@ -78,7 +79,8 @@ export function ruleAt(text, line) {
 
 /** Gives each field of names what may stand there. */
 function fillNames() {
-  const groups = [...state.force.matchAll(/^\[\[group\]\]\nname = "(.*)"$/gm)].map((it) => `@${it[1]}`);
+  const form = /^\[\[group\]\]\nname = "(.*)"$/gm;
+  const groups = [...state.force.matchAll(form)].map((it) => `@${it[1]}`);
   const { clerks, maildrops } = serverNames(), classes = state.alone?.classes ?? [];
   const all = { clerk: ['*', ...groups, ...clerks], maildrop: ['*', ...maildrops] };
   all.class = ['*', ...classes.filter((name) => !name.startsWith('('))];
@@ -114,7 +116,8 @@ function fill(lines, n, begin) {
   fillPlaces(lines, n);
 }
 
-const NEW = { effect: ['allow'], clerk: ['*'], maildrop: ['*'], class: ['*'], actions: ['open', 'read'] };
+const ANY = ['*'], NEW = { clerk: ANY, maildrop: ANY, class: ANY, actions: ['open', 'read'] };
+NEW.effect = ['allow'];
 
 /** Asks for rule N of a text, or for a new one if N is 0; gives the text with it, and the number
  *  that the rule has then; null if the person breaks off. */

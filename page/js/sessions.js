@@ -33,7 +33,8 @@ async function endSession(session) {
   const body = [paragraph('It removes nothing, and its connection is closed.')];
   if (!await agrees(`End the session of ${clerk} in ${maildrop}?`, body, 'End')) return;
   const other = await isStill(session);
-  const answer = other ? { told: `nothing was ended: ${other}` } : await change('DELETE', `/api/sessions/${n}`);
+  const answer = other ? { told: `nothing was ended: ${other}` }
+    : await change('DELETE', `/api/sessions/${n}`);
   await load();
   tell('s-told', `${n}: ${answer.told}`, answer.status !== 200);
 }

@@ -25,7 +25,8 @@ export const kept = {
 };
 
 // Which of the two tables is shown, and the filters; `equal` is null until somebody chooses.
-export const VIEW = { which: 'force', equal: null, changed: false, clerks: '', maildrops: '', kind: '' };
+const NO_FILTER = { changed: false, clerks: '', maildrops: '', kind: '' };
+export const VIEW = { which: 'force', equal: null, ...NO_FILTER };
 
 export const state = {
   user: '', // who is signed in
