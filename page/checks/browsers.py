@@ -1,4 +1,4 @@
-"""The browsers for the cases of tools/check-page: Debian's Chromium and Firefox, without a screen."""
+"""The browsers for the cases of page/check: Debian's Chromium and Firefox, without a screen."""
 
 import contextlib
 import json

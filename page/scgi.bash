@@ -5,7 +5,7 @@ umask 077
 export LC_ALL=C
 # How many octets a policy may have: popbox's own limit.
 most=1048576
-length='' what='' old='' nobody=''
+length='' what='' old='' nobody='' who=''
 
 # answer STATUS FILE [TYPE]: the answer, and the end.
 answer() {
@@ -32,6 +32,7 @@ read_head() {
         WHAT) what=$value ;;
         OLD) old=$value ;;
         NOBODY) nobody=$value ;;
+        WHO) who=$value ;;
         esac
     done <head
     [[ $(head -c 1) = , ]] || exit 1
