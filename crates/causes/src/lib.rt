@@ -19,9 +19,6 @@ pub use keeping::Keeping;
 use std::io::{Error, Write};
 pub use watched::Watched;
 
-/// What faults call standard input.
-pub const STANDARD_INPUT: &str = "standard input";
-
 /// Prints that a file, or standard input, can't be opened or read. Gives the exit status.
 pub fn tell_unread<E: Write>(err: &mut E, is_verbose: bool, name: &str, error: &Error) -> u8
     ensures { result ≡ 1 }

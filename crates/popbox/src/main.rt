@@ -1,31 +1,21 @@
 //! popbox, a POP3 server for shared maildrops: the program.
 #![tactic(auto)]
 
-mod command_line;
-mod copies;
-mod looking;
-mod options;
-mod resting;
-mod serve;
-mod store_file;
-mod stored;
-mod version;
-
+use arguments::{
+    CheckPolicyOptions, Input, ReplayOptions, ServeOptions, Subcommand, TalkOptions, make_command,
+};
+use at_rest::{is_log_alone, make_file, run_check, run_export, run_review, tell_readers};
 use causes::{
-    Keeping, STANDARD_INPUT, Watched, tell_bad_line, tell_bad_policy, tell_closed_store, tell_host,
-    tell_refusal, tell_stop, tell_unread,
+    Keeping, Watched, tell_bad_line, tell_bad_policy, tell_closed_store, tell_host, tell_refusal,
+    tell_stop, tell_unread,
 };
 use clap::error::ErrorKind;
-use command_line::make_command;
 use converse::check_policy::{check_policy, write_policy};
 use converse::script::{ScriptFault, read_script};
 use converse::{Fault, Flushed, Noted, tell_fault};
 use jobs::{Job, Replaying, Talking, open_do_close};
 use journal::FileId;
-use looking::run_review;
-use options::{CheckPolicyOptions, Input, ReplayOptions, ServeOptions, Subcommand, TalkOptions};
-use resting::{run_check, run_export};
-use serve::{note_store, serve_over};
+use server::{admin_site, note_store, serve_over};
 use sqlite::{Error, Wary};
 use std::alloc::Global;
 use std::io::{BufWriter, Read, Stderr, Write};
@@ -34,7 +24,6 @@ use std::process::ExitCode;
 use std::rt::{Env, Files};
 use std::time::Clock;
 use std::{env, fs, io};
-use store_file::{is_log_alone, make_file, tell_readers};
 use vault::{PlainVault, Vault, VaultFault};
 
 /// The exit status if the command line can't be read.
@@ -268,7 +257,7 @@ fn talk_verbosely<E: Write>(
     };
     if left.status != 0 {
         tell_host(err, options.host);
-        tell_refusal(err, STANDARD_INPUT, left.reader.inner.refusal());
+        tell_refusal(err, Input::Standard.name(), left.reader.inner.refusal());
         tell_refusal(err, "standard output", left.writer.inner.refusal());
     }
     Ok(left.status)
@@ -291,7 +280,7 @@ fn run_serve<E: Write>(
         }
         return Ok(1);
     };
-    if options.site().is_err() {
+    if admin_site(options).is_err() {
         return Ok(tell_bad_site(err, options));
     }
     let boot = milliseconds(rt)?;
@@ -464,7 +453,7 @@ struct Serving<'a, 'w> {
 
 impl Job for Serving<'_, '_> {
     ghost use Rattle.std.specs.Prelude.{⊤};
-    ghost use Rattle.popbox.specs.Served.{HasServedStore};
+    ghost use Rattle.server.specs.Served.{HasServedStore};
 
     type Answer = Result<u8, Fault>;
 
