@@ -1,4 +1,4 @@
-"""Runs the cases of a folder: what tools/check-scripts and tools/check-serve have in common.
+"""Runs the cases of a folder, for tools/check-serve, tools/check-scripts and page/check.
 
 Each file of the folder has the cases of one subject: methods `test_WHAT` of classes of `Case` whose
 docstrings say the promise. Python's unittest finds, selects and reports them.

@@ -228,8 +228,8 @@ class Table(Decisions):
         """Of 1,000 rules, 200 clerks and 100 maildrops each cell is popbox's, in force and in the
         draft; the changes are folded; on a machine that has nothing else to do the first rows and a
         review come within 2 s, the policy is in force within 3 s, and no key waits 0.1 s."""
-        short = ["--short"] * self.short
-        subprocess.run([f"{TOP}/tools/large-policies", self.folder, *short], check=True)
+        write = [f"{TOP}/trials/measure", "policies", "--into", self.folder]
+        subprocess.run([*write, *["--short"] * self.short], check=True)
         with open(f"{self.folder}/old.toml") as one, open(f"{self.folder}/new.toml") as two:
             texts = one.read(), two.read()
         place, page = self.office(policy=texts[0])

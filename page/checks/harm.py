@@ -237,7 +237,7 @@ class Failures(PageCase):
     def test_a_long_draft_is_kept(self):
         """Of 8,399 lines only those in view have a number of their own, and all are kept."""
         page = self.page
-        subprocess.run([f"{TOP}/tools/large-policies", self.folder], check=True)
+        subprocess.run([f"{TOP}/trials/measure", "policies", "--into", self.folder], check=True)
         with open(f"{self.folder}/new.toml", encoding="utf-8") as file:
             text = file.read()
         self.place.stop("review")

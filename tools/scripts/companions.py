@@ -90,7 +90,7 @@ class Companions(ScriptCase):
     def test_a_companion_puts_a_policy_in_force(self):
         """answer-policies sets a policy only in the place of the one that was looked at, keeps
         that, and shows what it kept and nothing else that lies there."""
-        server = self.enterContext(self.office())
+        server = self.office()
         self.port = server.admin
         policies = lambda *words, **headers: self.ask(POLICIES, *words, **headers)
         in_force = lambda: server.administer("GET", "/policy")
