@@ -274,11 +274,8 @@ class Server:
 
     def wait_for_spool(self):
         """Waits until the spool has no file that may be taken."""
-        wait_for(
-            lambda: not any(it.endswith(".eml") for it in os.listdir(self.spool)),
-            "the spool keeps a file",
-            SPOOL,
-        )
+        is_empty = lambda: not any(it.endswith(".eml") for it in os.listdir(self.spool))
+        wait_for(is_empty, "the spool keeps a file", SPOOL)
 
     def connect(self, receives=None, host="localhost", source=None, first=b""):
         """A client that has taken its greeting, after sending `first`."""
