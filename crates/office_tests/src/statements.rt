@@ -50,13 +50,9 @@ fn has_no_ann(alloc: Global, store: &mut Store) -> Result<bool, Error> {
     Ok(clerks::find_clerk(alloc, store, b"ann")?.is_none())
 }
 
-#[test]
-fn credentials_of_both_kinds(rt: HostRuntime) -> Result<(), Fail> {
-    let mut store = new_store(rt.alloc())?;
-    assert!(rt; has_both(rt.alloc(), &mut store)?);
-    assert!(rt; has_ann_anew(rt.alloc(), &mut store)?);
-    assert!(rt; has_no_ann(rt.alloc(), &mut store)?);
-    Ok(())
+// Whether a clerk has the credential of either kind that was last given, until he is dropped.
+fn has_credentials(alloc: Global, store: &mut Store) -> Result<bool, Error> {
+    Ok(has_both(alloc, store)? && has_ann_anew(alloc, store)? && has_no_ann(alloc, store)?)
 }
 
 // Adds two maildrops. Whether the first name is then refused, and there are two.
@@ -87,13 +83,9 @@ fn is_dropped(store: &mut Store) -> Result<bool, Error> {
     Ok(!is_there && maildrops::has_maildrop(store, b"Books")?)
 }
 
-#[test]
-fn a_name_taken_twice(rt: HostRuntime) -> Result<(), Fail> {
-    let mut store = new_store(rt.alloc())?;
-    assert!(rt; is_taken_once(&mut store)?);
-    assert!(rt; are_maildrops(rt.alloc(), &mut store)?);
-    assert!(rt; is_dropped(&mut store)?);
-    Ok(())
+// Whether a name is taken once, until its maildrop is dropped.
+fn has_names(alloc: Global, store: &mut Store) -> Result<bool, Error> {
+    Ok(is_taken_once(store)? && are_maildrops(alloc, store)? && is_dropped(store)?)
 }
 
 fn has_octets(sheet: &Option<Sheet>, octets: &[u8]) -> bool {
@@ -152,16 +144,16 @@ fn has_between(
     Ok(all)
 }
 
-#[test]
-fn a_text_as_sheets(rt: HostRuntime) -> Result<(), Fail> {
+// Whether a text of more than a sheet is kept as two, of which each part is found.
+fn has_text(alloc: Global, store: &mut Store) -> Result<bool, Error> {
     let mut text = [0; 4097];
     text[4096] = 255;
-    let mut store = new_store(rt.alloc())?;
-    let key = add_text(&mut store, &text)?;
-    assert!(rt; has_sheets(rt.alloc(), &mut store, key)?);
-    assert!(rt; has_between(rt.alloc(), &mut store, key, 0, 2, &[4096, 1])?);
-    assert!(rt; has_between(rt.alloc(), &mut store, key, 1, 9, &[1])?);
-    Ok(())
+    let key = add_text(store, &text)?;
+    Ok(
+        has_sheets(alloc, store, key)?
+            && has_between(alloc, store, key, 0, 2, &[4096, 1])?
+            && has_between(alloc, store, key, 1, 9, &[1])?,
+    )
 }
 
 // Adds the maildrop `orders` with a count, a deposit and a message. Answers its key.
@@ -217,14 +209,16 @@ fn loses_mail(alloc: Global, store: &mut Store, key: i64) -> Result<bool, Error>
     Ok(is_kept && has_mail(alloc, store, 0)?)
 }
 
-#[test]
-fn a_message_and_its_deposit(rt: HostRuntime) -> Result<(), Fail> {
-    let mut store = new_store(rt.alloc())?;
-    let key = add_message(&mut store)?;
-    assert!(rt; has_count(rt.alloc(), &mut store)? && has_deposit(rt.alloc(), &mut store)?);
-    assert!(rt; has_mail(rt.alloc(), &mut store, 1)? && is_last_key(rt.alloc(), &mut store, key)?);
-    assert!(rt; loses_mail(rt.alloc(), &mut store, key)?);
-    Ok(())
+// Whether a message, its deposit and its count are kept until it is removed.
+fn has_message(alloc: Global, store: &mut Store) -> Result<bool, Error> {
+    let key = add_message(store)?;
+    Ok(
+        has_count(alloc, store)?
+            && has_deposit(alloc, store)?
+            && has_mail(alloc, store, 1)?
+            && is_last_key(alloc, store, key)?
+            && loses_mail(alloc, store, key)?,
+    )
 }
 
 // Whether the mark is of version 2, and the only one.
@@ -260,13 +254,49 @@ fn are_rules(alloc: Global, store: &mut Store) -> Result<bool, Error> {
     Ok(all.len() == 1000 && all[999].name.as_slice() == b"rule999".as_slice())
 }
 
+// Whether a thousand rules are kept in their order, and are there again after a rollback.
+fn has_rules(alloc: Global, store: &mut Store) -> Result<bool, Fail> {
+    let is_marked = is_marked(alloc, store)?;
+    add_rules(alloc, store)?;
+    let were_rules = are_rules(alloc, store)?;
+    clear_and_roll_back(store)?;
+    Ok(is_marked && were_rules && are_rules(alloc, store)?)
+}
+
+// What is tried of the statements, each over a store of its own.
+#[derive(Clone, Copy)]
+enum Part {
+    Credentials,
+    Names,
+    Text,
+    Message,
+    Rules,
+}
+
+static PARTS: [(&str, Part); 5] = [
+    ("credentials of both kinds", Part::Credentials),
+    ("a name taken twice", Part::Names),
+    ("a text as sheets", Part::Text),
+    ("a message and its deposit", Part::Message),
+    ("rules in order and a rollback", Part::Rules),
+];
+
+fn is_kept(alloc: Global, store: &mut Store, part: Part) -> Result<bool, Fail> {
+    match part {
+        Part::Credentials => Ok(has_credentials(alloc, store)?),
+        Part::Names => Ok(has_names(alloc, store)?),
+        Part::Text => Ok(has_text(alloc, store)?),
+        Part::Message => Ok(has_message(alloc, store)?),
+        Part::Rules => has_rules(alloc, store),
+    }
+}
+
+// The only function that has a store to drop, which costs a proof the most.
 #[test]
-fn rules_in_order_and_a_rollback(rt: HostRuntime) -> Result<(), Fail> {
-    let mut store = new_store(rt.alloc())?;
-    assert!(rt; is_marked(rt.alloc(), &mut store)?);
-    add_rules(rt.alloc(), &mut store)?;
-    assert!(rt; are_rules(rt.alloc(), &mut store)?);
-    clear_and_roll_back(&mut store)?;
-    assert!(rt; are_rules(rt.alloc(), &mut store)?);
+fn statements(rt: HostRuntime) -> Result<(), Fail> {
+    for (name, part) in &PARTS {
+        let mut store = new_store(rt.alloc())?;
+        assert!(rt; is_kept(rt.alloc(), &mut store, *part)?, "{name}");
+    }
     Ok(())
 }

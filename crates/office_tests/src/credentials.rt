@@ -1,5 +1,4 @@
 //! The test vectors of public standards, and texts at the limits of each form.
-use crate::expecting::expect;
 use creds::{
     Credential, DepositId, HostName, LoginName, Name, Proof, Secret, Uid, apop_digest, pass_digest,
     text_digest,
@@ -7,6 +6,7 @@ use creds::{
 use std::alloc::Global;
 use std::fmt::Write;
 use std::test::Fail;
+use transcripts::playing::expect;
 
 static STAMP: &[u8] = b"<1896.697170952@dbc.mtview.ca.us>";
 

@@ -1,13 +1,14 @@
-//! What no clause says: that the calls succeed if there is memory, the sample policy, and the
-//! lanes of a large one. The faults of texts are tested by tools/transcripts.
+//! What no clause says: that the calls succeed if there is memory, the sample policy, one of
+//! groups, and the lanes of a large one. The faults of texts are tested by tools/transcripts.
 use creds::Name;
-use policy::{Action, Actions, Clerks, Decision, Effect, Pattern, Policy, PolicyFault, Rule};
+use policy::{
+    Action, Actions, Clerks, Decision, Effect, Group, Pattern, Policy, PolicyFault, Rule,
+};
 use std::alloc::{AllocError, Global};
-use std::str;
 use std::test::Fail;
 
 /// The sample policy, as `Policy::write` writes it.
-static SAMPLE: &str = r#"[[rule]]
+const SAMPLE: &str = r#"[[rule]]
 name = "ann-all"
 effect = "allow"
 clerk = "ann"
@@ -72,64 +73,149 @@ class = "*"
 actions = ["open"]
 "#;
 
-/// Whether a policy is written after a text, or nothing of it if memory is refused.
-fn is_written_or_not(alloc: Global, policy: &Policy) -> bool {
-    let mut text = Vec::new(alloc);
-    let before = match text.push(b'#') {
+/// A policy of two groups and a rule about each, as `Policy::write` writes it.
+const TWO: &str = r#"[[group]]
+name = "sales"
+members = ["ann", "bob"]
+
+[[group]]
+name = "default"
+members = ["cat"]
+
+[[rule]]
+name = "d-deny"
+effect = "deny"
+clerk = "@default"
+maildrop = "*"
+class = "*"
+actions = ["open", "read", "remove"]
+
+[[rule]]
+name = "s-read"
+effect = "allow"
+clerk = "@sales"
+maildrop = "orders"
+class = "note"
+actions = ["read"]
+"#;
+
+/// A policy's text, whether its rules are a policy without its groups, and clerks and maildrops,
+/// with how many of its rules are about both.
+type Row = (
+    &'static str,
+    bool,
+    &'static [(&'static str, &'static str, usize)],
+);
+
+static ROWS: [Row; 2] = [
+    (
+        SAMPLE,
+        true,
+        &[
+            ("bob", "orders", 4),
+            ("eve", "nowhere", 1),
+            ("dan", "orders", 0),
+        ],
+    ),
+    (
+        TWO,
+        false,
+        &[
+            ("ann", "orders", 1),
+            ("cat", "orders", 1),
+            ("dan", "orders", 0),
+        ],
+    ),
+];
+
+/// The policy that a text is, without the clauses of `Policy::read`.
+pub(super) fn read(alloc: Global, text: &str) -> Result<Policy, PolicyFault> {
+    Policy::read(alloc, text)
+}
+
+/// Whether a policy is written after an octet as this text, or nothing of it if memory is refused.
+fn is_written_or_not(alloc: Global, policy: &Policy, text: &str) -> bool {
+    let mut out = Vec::new(alloc);
+    let before = match out.push(b'#') {
         Ok(()) => b"#".as_slice(),
         Err(_) => b"".as_slice(),
     };
-    match policy.write(&mut text) {
-        Ok(()) => text.starts_with(before) && text.ends_with(SAMPLE.as_bytes()),
-        Err(_) => text.as_slice() == before,
+    match policy.write(&mut out) {
+        Ok(()) => {
+            out.starts_with(before)
+                && out.ends_with(text.as_bytes())
+                && out.len() == before.len().saturating_add(text.len())
+        }
+        Err(_) => out.as_slice() == before,
     }
 }
 
-/// Whether a policy's copy has its rules, or memory for it is refused.
+/// Whether two policies have the same rules, and groups of the same names and members.
+fn are_alike(policy: &Policy, other: &Policy) -> bool {
+    let mut all = policy.groups().len() == other.groups().len();
+    for (group, copy) in policy.groups().iter().zip(other.groups()) {
+        all = all && group.name() == copy.name() && group.members() == copy.members();
+    }
+    all && policy.rules() == other.rules()
+}
+
+/// Whether a policy's copy is like it, or memory for it is refused.
 fn is_copied_or_not(policy: &Policy) -> bool {
     match policy.try_copy() {
-        Ok(copy) => copy.rules() == policy.rules(),
+        Ok(copy) => are_alike(policy, &copy),
         Err(_) => true,
+    }
+}
+
+/// Whether a text is read, written and copied, or memory is refused for one of these.
+fn is_kept_or_not(alloc: Global, text: &str) -> bool {
+    match read(alloc, text) {
+        Ok(policy) => is_written_or_not(alloc, &policy, text) && is_copied_or_not(&policy),
+        Err(fault) => fault == PolicyFault::NoMemory,
     }
 }
 
 /// A call whose growth of memory is refused answers so, and changes nothing. Run with each
 /// allocation failing in turn.
 #[test]
-fn refused_growths(rt: HostRuntime) -> Result<(), Fail> {
-    let policy = match Policy::read(rt.alloc(), SAMPLE) {
-        Ok(policy) => policy,
-        Err(fault) => {
-            assert_eq!(rt; fault, PolicyFault::NoMemory);
-            return Ok(());
-        }
-    };
-    assert!(rt; is_written_or_not(rt.alloc(), &policy));
-    assert!(rt; is_copied_or_not(&policy));
-    Ok(())
+fn refused_growths_of_policies(rt: HostRuntime) {
+    for (text, _, _) in &ROWS {
+        assert!(rt; is_kept_or_not(rt.alloc(), *text), "{text}");
+    }
 }
 
-pub(super) fn written(alloc: Global, policy: &Policy) -> Result<Vec<u8>, Fail> {
-    let mut text = Vec::new(alloc);
-    policy.write(&mut text)?;
-    Ok(text)
+/// Whether a policy is written as this text.
+pub(super) fn is_written_as(
+    alloc: Global,
+    policy: &Policy,
+    text: &str,
+) -> Result<bool, AllocError> {
+    let mut out = Vec::new(alloc);
+    policy.write(&mut out)?;
+    Ok(out.as_slice() == text.as_bytes())
 }
 
-/// Whether a text is read, its copy is written as that text, and what is written, read again, is
-/// written the same.
-fn is_read_and_written(alloc: Global, text: &str) -> Result<bool, Fail> {
-    let policy = Policy::read(alloc, text)?.try_copy()?;
-    let kept = written(alloc, &policy)?;
-    let again = Policy::read(alloc, str::from_utf8(&kept)?)?;
-    Ok(kept.as_slice() == text.as_bytes() && written(alloc, &again)?.as_slice() == kept.as_slice())
+/// Copies of groups.
+fn copies_of(alloc: Global, groups: &[Group]) -> Result<Vec<Group>, AllocError> {
+    let mut copies = Vec::new(alloc);
+    for group in groups {
+        copies.push(group.try_copy()?)?;
+    }
+    Ok(copies)
 }
 
-/// The policy that is made of the rules of a text.
-fn rules_of(alloc: Global, text: &str) -> Result<Policy, Fail> {
-    let policy = Policy::read(alloc, text)?.try_copy()?;
+/// The policy that is made of another's groups and rules, if they are sound.
+fn of_parts(alloc: Global, policy: &Policy) -> Result<Option<Policy>, AllocError> {
     let mut rules = Vec::new(alloc);
     rules.extend_from_slice(policy.rules())?;
-    Ok(Policy::from_rules(rules)?.ok_or("not sound")?)
+    Policy::from_parts(copies_of(alloc, policy.groups())?, rules)
+}
+
+/// The policy that is made of another's rules alone, if they are sound.
+fn of_rules(alloc: Global, policy: &Policy) -> Result<Option<Policy>, AllocError> {
+    let mut rules = Vec::new(alloc);
+    rules.extend_from_slice(policy.rules())?;
+    Policy::from_rules(rules)
 }
 
 /// Questions to the sample policy: the clerk, the class, the action, whether it is allowed, and by
@@ -169,27 +255,60 @@ fn are_decided(policy: &Policy) -> Result<bool, Fail> {
     Ok(true)
 }
 
-#[test]
-fn sample_policy(rt: HostRuntime) -> Result<(), Fail> {
-    assert!(rt; is_read_and_written(rt.alloc(), SAMPLE)?);
-    let policy = rules_of(rt.alloc(), SAMPLE)?;
-    assert!(rt; policy.len() == 8);
-    assert!(rt; !policy.is_empty() && Policy::new(rt.alloc()).is_empty());
-    assert!(rt; are_decided(&policy)?);
-    Ok(())
+/// Whether a policy is the sample policy: its rules, and what it decides.
+fn is_sample(policy: &Policy) -> Result<bool, Fail> {
+    Ok(policy.len() == 8 && !policy.is_empty() && are_decided(policy)?)
 }
 
-/// How many rules of the sample policy are about the clerk and the maildrop.
-pub(super) fn places(policy: &Policy, clerk: &str, maildrop: &str) -> Result<usize, Fail> {
-    Ok(policy.lane(&name(clerk)?, &name(maildrop)?).places())
+/// Whether so many rules of a policy are about each clerk and maildrop.
+fn has_places(policy: &Policy, places: &[(&str, &str, usize)]) -> Result<bool, Fail> {
+    for (clerk, maildrop, count) in places {
+        if policy.lane(&name(*clerk)?, &name(*maildrop)?).places() != *count {
+            return Ok(false);
+        }
+    }
+    Ok(true)
+}
+
+/// Whether another policy, made of parts of one, is written as this text.
+fn is_made_as(alloc: Global, made: Option<Policy>, text: &str) -> Result<bool, AllocError> {
+    match &made {
+        Some(policy) => is_written_as(alloc, policy, text),
+        None => Ok(false),
+    }
+}
+
+/// Whether the rules alone are the sample policy, or none if they may not be one.
+fn are_sound_alone(alloc: Global, policy: &Policy, may_be: bool) -> Result<bool, Fail> {
+    match &of_rules(alloc, policy)? {
+        Some(alone) => Ok(may_be && is_sample(alone)?),
+        None => Ok(!may_be),
+    }
+}
+
+/// Whether a policy is written as its row's text, so that it is read again as it was, and so is its
+/// copy and the policy of its parts.
+fn is_as_its_row(alloc: Global, policy: &Policy, row: &Row) -> Result<bool, Fail> {
+    let (text, is_sound, places) = row;
+    Ok(
+        is_written_as(alloc, policy, *text)?
+            && is_written_as(alloc, &policy.try_copy()?, *text)?
+            && is_made_as(alloc, of_parts(alloc, policy)?, *text)?
+            && are_sound_alone(alloc, policy, *is_sound)?
+            && has_places(policy, *places)?,
+    )
 }
 
 #[test]
-fn sample_lanes(rt: HostRuntime) -> Result<(), Fail> {
-    let policy = Policy::read(rt.alloc(), SAMPLE)?;
-    assert_eq!(rt; places(&policy, "bob", "orders")?, 4);
-    assert_eq!(rt; places(&policy, "eve", "nowhere")?, 1);
-    assert_eq!(rt; places(&policy, "dan", "orders")?, 0);
+fn policies_and_their_parts(rt: HostRuntime) -> Result<(), Fail> {
+    for row in &ROWS {
+        assert!(rt;
+            is_as_its_row(rt.alloc(), &read(rt.alloc(), row.0)?, row)?,
+            "{}",
+            row.0
+        );
+    }
+    assert!(rt; Policy::new(rt.alloc()).is_empty());
     Ok(())
 }
 
@@ -255,7 +374,7 @@ fn a_thousand_rules(alloc: Global) -> Result<Policy, Fail> {
             "[[rule]]\nname = \"r{n}\"\nclerk = \"{clerk}\"\nmaildrop = \"{maildrop}\"\n{rest}"
         )?;
     }
-    Ok(Policy::read(alloc, text.as_str())?)
+    Ok(read(alloc, text.as_str())?)
 }
 
 fn fits(pattern: &Pattern, name: &Name) -> bool {
