@@ -5,13 +5,10 @@ import hashlib
 import os
 import re
 import select
-import shutil
 import signal
 import socket
 import struct
 import subprocess
-import sys
-import tempfile
 import threading
 import time
 from http.client import HTTPConnection, HTTPException
@@ -49,7 +46,7 @@ class Wrong(AssertionError):
     """What came is another thing than what must come."""
 
 
-# What a case can fail by.
+# What a check over a server can fail by.
 FAULTS = (Wrong, OSError, TypeError, ValueError, SubprocessError, HTTPException)
 
 
@@ -277,11 +274,8 @@ class Server:
 
     def wait_for_spool(self):
         """Waits until the spool has no file that may be taken."""
-        wait_for(
-            lambda: not any(it.endswith(".eml") for it in os.listdir(self.spool)),
-            "the spool keeps a file",
-            SPOOL,
-        )
+        is_empty = lambda: not any(it.endswith(".eml") for it in os.listdir(self.spool))
+        wait_for(is_empty, "the spool keeps a file", SPOOL)
 
     def connect(self, receives=None, host="localhost", source=None, first=b""):
         """A client that has taken its greeting, after sending `first`."""
@@ -400,64 +394,3 @@ class Case(cases.Case):
         put(f"{self.folder}/clock", str(seconds))
         is_seen = lambda: read(f"{self.folder}/seen") == b"%d" % seconds
         wait_for(is_seen, "the clock isn't seen")
-
-
-# What a tool looks at itself.
-FLAGS = ("--short", "--firefox")
-
-
-class Cases:
-    """The cases of a tool: functions of the program and of a new folder, each of which fails by an
-    exception. What is called by `preload` needs a C compiler."""
-
-    def __init__(self, text):
-        self.text, self.tool, self.runs = text, os.path.basename(sys.argv[0]), []
-
-    def __call__(self, run):
-        """Adds a function to the cases, by its name."""
-        self.runs.append((run.__name__.replace("_", " "), run))
-        return run
-
-    def play(self, run, program, folder):
-        run(program, folder)
-
-    def outcome(self, run, program):
-        """What differs in a case: nothing if all is as it must be."""
-        with tempfile.TemporaryDirectory() as folder:
-            try:
-                self.play(run, program, folder)
-            except FAULTS as error:
-                return str(error) or type(error).__name__
-        return ""
-
-    def lacks(self, run):
-        """What a case needs that isn't there."""
-        is_lacking = "preload" in run.__code__.co_names and not shutil.which("cc")
-        return "no C compiler" if is_lacking else ""
-
-    def run(self, program, words):
-        """Runs the cases whose names have one of the words, or all; gives how many differ."""
-        ran, differs, start = 0, 0, time.monotonic()
-        for name, run in self.runs:
-            if words and not any(word in name for word in words):
-                continue
-            if lacks := self.lacks(run):
-                print(f"{self.tool}: {lacks}: {name} isn't run", flush=True)
-                continue
-            found = self.outcome(run, program)
-            ran, differs = ran + 1, differs + (found != "")
-            print(f"{name}: {found or 'as it must be'}", flush=True)
-        seconds = time.monotonic() - start
-        print(f"{self.tool}: {ran} cases, {differs} differences, {seconds:.0f} s")
-        return differs
-
-    def run_by_words(self):
-        """Does what the command line asks for, and exits."""
-        if "--help" in sys.argv[1:]:
-            print(self.text.strip())
-            sys.exit()
-        program, *words = [it for it in sys.argv[1:] if it not in FLAGS] or [PROGRAM]
-        program = os.path.abspath(program)
-        if not os.access(program, os.X_OK):
-            sys.exit(f"{program} isn't there: tools/build builds it")
-        sys.exit(1 if self.run(program, words) else 0)

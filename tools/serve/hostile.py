@@ -92,10 +92,8 @@ class Hostile(Case):
 
     def stands(self):
         """Fails unless `orders` is free again, or soon, and holds what it held."""
-        wait_for(
-            lambda: "ann" not in self.server.administer("GET", "/sessions"),
-            "the maildrop is still in use",
-        )
+        is_free = lambda: "ann" not in self.server.administer("GET", "/sessions")
+        wait_for(is_free, "the maildrop is still in use")
         with self.server.connect() as client:
             log_in(client, *self.texts)
             client.asks(b"RETR 1\r\nQUIT\r\n", retrieved(self.texts[0]) + BYE)

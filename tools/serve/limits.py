@@ -58,8 +58,7 @@ class Times(Case):
             silent.ends()
             self.set_on(first + 2 * step + idle + 10)
             client.ends()
-        with server.connect() as client:
-            log_in(client, text)
+        log_in(self.client(server), text)
 
     def test_clients_have_the_longest_times_by_the_clock(self):
         """The largest values of --idle, --wait and --login-seconds are kept to."""
@@ -185,10 +184,7 @@ class Turns(Case):
             words = [] if turns is None else ["--turns", str(turns)]
             with self.subTest(turns=turns), self.serve(*words) as it:
                 if turns in endless:
-                    wait_for(
-                        lambda it=it: stand_aside(it) == many + 5 or it.run.poll() is not None,
-                        "a file stays",
-                    )
+                    wait_for(lambda: stand_aside(it) == many + 5, "a file stays")
                     self.assertIsNone(it.run.poll())
                     it.connect().close()
                 else:

@@ -242,9 +242,12 @@ NO_LIST = [(404, "not found\n")] * 2
 LIST = [(200, "abe apop\nann pass\n"), (405, "method not allowed\n")]
 WAITS = [NOTHING, NOTHING, IN_USE.decode().rstrip()]
 GUESS, PASS = "-ERR login failed", SEND_PASS.decode().rstrip()
+SLOWED = [GUESS, NOTHING, GUESS]
 NEW, NEW_ID = "new uid=note.2", "new uid=note.2 message-id=<chair.1@b.example>"
+RETR = "clerk=ann maildrop=orders uid=note.1 octets=7"
 FAULT = ["popbox: bad address"]
 WHY = 'why: --listen "none": four numbers of 0 to 255, as 192.0.2.7'
+NOTE = "note: none: No such file or directory (os error 2)\n"
 TABLE = {
     "which_store_is_made": {"": "status 2", "--store kept.db": "kept.db"},
     "which_spool_is_read": {"": "status 2", "--spool kept": "kept/orders.note.d1.eml.bad"},
@@ -270,23 +273,14 @@ TABLE = {
         "--full-house-seconds 30": ENDS,
     },
     "a_client_that_says_nothing": {"": ENDS, "--idle 700": ENDS},
-    "guesses_one_after_the_other": {
-        "": [GUESS, GUESS],
-        "--slow-guesses": [GUESS, NOTHING, GUESS],
-    },
+    "guesses_one_after_the_other": {"": [GUESS, GUESS], "--slow-guesses": SLOWED},
     "a_line_of_a_proxy": {"": ["-ERR unknown command", PASS], "--proxy-protocol": [PASS, CLOSED]},
     "lines_one_by_one": {"": "goes on", "--turns 40": "status 0"},
     "events_of_a_login": {"": [], "--log": ["open", "start", "connect", "login"]},
     "the_line_of_a_deposit": {"": [NEW], "--log-message-ids": [NEW_ID]},
-    "the_line_of_a_retr": {
-        "": [],
-        "--log-reads": ["clerk=ann maildrop=orders uid=note.1 octets=7"],
-    },
+    "the_line_of_a_retr": {"": [], "--log-reads": [RETR]},
     "lines_of_a_fault": {"": FAULT, "--verbose": [*FAULT, WHY]},
-    "a_spool_that_isnt_there": {
-        "": "",
-        "--verbose": "note: none: No such file or directory (os error 2)\n",
-    },
+    "a_spool_that_isnt_there": {"": "", "--verbose": NOTE},
 }
 
 

@@ -67,11 +67,9 @@ class Spool(Case):
         # coarse as a file system may give it.
         for name, ahead, seconds in (("d1", 3600, 2.5), ("d2", 0, 1.5)):
             file = f"orders.note.{name}.eml"
+            comes = lambda: self.comes_unseen(it, client, file, time.time() + ahead, seconds)
             # On a machine with much other work not each try is in time.
-            wait_for(
-                lambda: self.comes_unseen(it, client, file, time.time() + ahead, seconds),
-                "no file comes in time",
-            )
+            wait_for(comes, "no file comes in time")
             it.wait_for_spool()
 
     def test_a_crowded_spool_is_seen_whole(self):
@@ -299,11 +297,9 @@ class Stores(Case):
         noted."""
         inner = tempfile.mkdtemp(dir=self.folder)
         shutil.copy(f"{self.folder}/mail.db", inner)
-        ran = self.run_program(
-            *("replay", "--store", f"{inner}/mail.db"),
-            input=b"deposit orders note n1 one\ndeposit orders note n2 two\n",
-            env={**env, "CALLS": f"{inner}/calls"},
-        )
+        script = b"deposit orders note n1 one\ndeposit orders note n2 two\n"
+        how = {"input": script, "env": {**env, "CALLS": f"{inner}/calls"}}
+        ran = self.run_program("replay", "--store", f"{inner}/mail.db", **how)
         told = read(f"{inner}/calls").decode().splitlines()
         return inner, ran.stdout.count(b"answer new note."), ran.returncode, ran.stderr, told
 
