@@ -215,7 +215,7 @@ class Draft(PageCase):
         page.loaded()
         page.says("cell", "draft: no, dan-no-legal")
         self.assertEqual((page.value("draft"), page.value("f-which")), (DRAFT, "draft"))
-        self.assertTrue(page.find("f-changed").is_selected())
+        self.assertTrue(page.js("return document.getElementById('f-changed').checked"))
         first = page.driver.current_window_handle
         page.driver.switch_to.new_window("tab")
         page.open()
