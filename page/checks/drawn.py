@@ -216,7 +216,7 @@ class Table(Decisions):
         for key in keys:
             page.keys(key)
             time.sleep(0.1)
-        page.wait(lambda: page.value(field).endswith(keys), "keys are lost")
+        page.wait(lambda: keys in page.value(field), "keys are lost")
         return page.js("return Math.max(...waits)") / 1000
 
     def timed(self, run):

@@ -58,7 +58,7 @@ export function showDraft() {
 /** Takes the draft that another tab has kept. */
 function takeOther() {
   $('d-other').hidden = true;
-  [state.draft, state.base] = [kept.get('draft', null), kept.get('base', null)];
+  [state.draft, state.base] = [kept.get('draft', null) || null, kept.get('base', '')];
   reviewLater();
   showDraft();
 }
