@@ -24,7 +24,8 @@ export async function reviewDraft() {
   forgetReview();
   const { signal } = aborter;
   try {
-    if (hasDraft()) await reviewNow(state.draft, state.force, signal);
+    if (hasDraft() && state.force === null) noReview('what is in force is not known');
+    else if (hasDraft()) await reviewNow(state.draft, state.force, signal);
   } catch (error) {
     if (error.name === 'AbortError') return;
     noReview(error.message);

@@ -80,7 +80,7 @@ export function ruleAt(text, line) {
 /** Gives each field of names what may stand there. */
 function fillNames() {
   const form = /^\[\[group\]\]\nname = "(.*)"$/gm;
-  const groups = [...state.force.matchAll(form)].map((it) => `@${it[1]}`);
+  const groups = [...(state.force ?? '').matchAll(form)].map((it) => `@${it[1]}`);
   const { clerks, maildrops } = serverNames(), classes = state.alone?.classes ?? [];
   const all = { clerk: ['*', ...groups, ...clerks], maildrop: ['*', ...maildrops] };
   all.class = ['*', ...classes.filter((name) => !name.startsWith('('))];
