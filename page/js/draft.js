@@ -78,7 +78,7 @@ export async function replaceDraft(text) {
 }
 
 /** Begins with what is in force, with its author's comments if they are known. */
-export async function beginDraft() {
+async function beginDraft() {
   if (!hasDraft()) await replaceDraft(await textOf(state.digest, state.force));
 }
 
