@@ -268,6 +268,16 @@ class TwoPeople(PageCase):
         page.put_in_force()
         self.assertNotIn("old", place.get("/policy"))
 
+    def test_no_old_review_is_left(self):
+        """If what a draft says comes into force from elsewhere, the next answer shows it."""
+        place, page = self.office()
+        page.draft(DRAFT)
+        place.put("/policy", DRAFT)
+        page.fill("clerks", c_name="gil", c_secret="x")
+        self.assertEqual(page.sent("clerks", "c-told"), "gil: added")
+        page.says("draft-of", SAME)
+        self.assertFalse(page.may_be_put())
+
     def test_two_browsers_lose_nothing(self):
         """Of two drafts that began on one policy, the second is put in force only with the first
         in it; and what the first put in force isn't a draft that undoes the second."""
