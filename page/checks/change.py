@@ -215,7 +215,7 @@ class Draft(PageCase):
         page.loaded()
         page.says("cell", "draft: no, dan-no-legal")
         self.assertEqual((page.value("draft"), page.value("f-which")), (DRAFT, "draft"))
-        self.assertTrue(page.find("f-changed").is_selected())
+        self.assertTrue(page.js("return document.getElementById('f-changed').checked"))
         first = page.driver.current_window_handle
         page.driver.switch_to.new_window("tab")
         page.open()
@@ -267,6 +267,16 @@ class TwoPeople(PageCase):
         page.says("review", '- members = ["bob", "dan", "old"]')
         page.put_in_force()
         self.assertNotIn("old", place.get("/policy"))
+
+    def test_no_old_review_is_left(self):
+        """If what a draft says comes into force from elsewhere, the next answer shows it."""
+        place, page = self.office()
+        page.draft(DRAFT)
+        place.put("/policy", DRAFT)
+        page.fill("clerks", c_name="gil", c_secret="x")
+        self.assertEqual(page.sent("clerks", "c-told"), "gil: added")
+        page.says("draft-of", SAME)
+        self.assertFalse(page.may_be_put())
 
     def test_two_browsers_lose_nothing(self):
         """Of two drafts that began on one policy, the second is put in force only with the first

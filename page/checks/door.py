@@ -74,8 +74,9 @@ class Door(PageCase):
         self.assertEqual(found[-4:], ["503", "200", "503", "200"])
         said = self.place.said(self.place.head("GET", "/", known=False) + b"\r\n")
         self.assertIn(f"Set-Cookie: popbox={COOKIE}; Secure; HttpOnly; SameSite=Strict", said)
-        said = self.place.said(self.place.head("GET", "/", known=False, user="") + b"\r\n")
-        self.assertNotIn("Set-Cookie", said)
+        for path in ("/", "/favicon.ico", "/page.css", "/nothing", "/api/policy", "/policies"):
+            said = self.place.said(self.place.head("GET", path, known=False, user="") + b"\r\n")
+            self.assertNotIn(COOKIE, said)
 
     def test_another_site_is_refused(self):
         """A request that another site's page has a browser send changes and reads nothing."""

@@ -216,7 +216,7 @@ class Table(Decisions):
         for key in keys:
             page.keys(key)
             time.sleep(0.1)
-        page.wait(lambda: page.value(field).endswith(keys), "keys are lost")
+        page.wait(lambda: keys in page.value(field), "keys are lost")
         return page.js("return Math.max(...waits)") / 1000
 
     def timed(self, run):
@@ -327,6 +327,8 @@ class Looks(PageCase):
         page = self.looks_well(width=1280)
         page.view("clerks")
         self.assertLess(page.js(HIGH_OF, "#c-form"), 50)
+        page.view("table")
+        self.assertLess(page.js(HIGH_OF, "#filters"), 60)
 
     def test_it_is_read_in_the_dark(self):
         """The same in dark colours."""
@@ -410,7 +412,7 @@ class Looks(PageCase):
         text += self.printed(page)
         names = re.findall(r'^ *\d+ +name = "of-(.*)"$', text, re.MULTILINE)
         self.assertEqual((names, "clerk-100: ▼ 2 denied" in text), (clerks, True))
-        pressed = ("Reload", "Maildrops", "part of a name", "Close", "Put in", "Change")
+        pressed = ("Reload", "Maildrops", "Close", "Put in", "Change")
         self.assertEqual([it for it in pressed if it in text], [])
 
     def test_pictures(self):

@@ -19,7 +19,7 @@ function placed(named, more) {
 /** Who may do what by a policy. A decision is a number: N above 0 if rule N allows, below 0 if rule
  *  -N denies, 0 if no rule matches. The clerks and maildrops of the server have a row and a column
  *  even if no rule names them. */
-export class Table {
+class Table {
   constructor(told, marks, server) {
     Object.assign(this, { classes: told.classes, rules: told.rules, cells: told.cells });
     Object.assign(this, { told, allMarks: marks });

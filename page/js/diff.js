@@ -3,30 +3,33 @@
 // If so many lines differ, all count as other ones.
 const MOST = 1500;
 
-/** Which lines of two lists stand in both, as pairs of places: Myers's shortest edit. */
+/** Which lines of two lists stand in both, as pairs of places: Myers's shortest edit. `ends` has
+ *  how far each diagonal k leads, at `zero + k`. */
 function common(a, b) {
-  const ends = new Map([[1, 0]]), past = [];
-  for (let d = 0; d <= Math.min(a.length + b.length, MOST); d++) {
-    past.push(new Map(ends));
+  const most = Math.min(a.length + b.length, MOST), zero = most + 1;
+  const ends = new Int32Array(2 * most + 3), past = [];
+  for (let d = 0; d <= most; d++) {
+    past.push(ends.slice());
     for (let k = -d; k <= d; k += 2) {
-      const down = k === -d || (k !== d && ends.get(k - 1) < ends.get(k + 1));
-      let x = down ? ends.get(k + 1) : ends.get(k - 1) + 1;
+      const at = zero + k;
+      let x = isDown(ends, at, k, d) ? ends[at + 1] : ends[at - 1] + 1;
       while (x < a.length && x - k < b.length && a[x] === b[x - k]) x++;
-      ends.set(k, x);
-      if (x >= a.length && x - k >= b.length) return walked(a, b, past);
+      ends[at] = x;
+      if (x >= a.length && x - k >= b.length) return walked(a, b, past, zero);
     }
   }
   return [];
 }
 
+const isDown = (ends, at, k, d) => k === -d || (k !== d && ends[at - 1] < ends[at + 1]);
+
 /** The way back through Myers's table. */
-function walked(a, b, past) {
+function walked(a, b, past, zero) {
   const pairs = [];
   let [x, y] = [a.length, b.length];
   for (let d = past.length - 1; d >= 0; d--) {
-    const ends = past[d], k = x - y;
-    const down = k === -d || (k !== d && ends.get(k - 1) < ends.get(k + 1));
-    const [fromX, fromK] = down ? [ends.get(k + 1), k + 1] : [ends.get(k - 1), k - 1];
+    const ends = past[d], k = x - y, at = zero + k;
+    const [fromX, fromK] = isDown(ends, at, k, d) ? [ends[at + 1], k + 1] : [ends[at - 1], k - 1];
     while (x > Math.max(0, fromX) && y > Math.max(0, fromX - fromK)) pairs.push([--x, --y]);
     [x, y] = [fromX, fromX - fromK];
   }

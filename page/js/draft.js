@@ -19,12 +19,14 @@ export function reviewLater() {
 let keeping = 0;
 /** The draft is kept a moment after the last key. */
 function setDraft(text) {
-  if (!hasDraft()) state.base = state.force;
+  const isNew = !hasDraft();
+  if (isNew) state.base = state.force;
   state.draft = text;
   clearTimeout(keeping);
   keeping = setTimeout(keepDraft, 250);
   reviewLater();
-  showDraft();
+  if (isNew || $('draft').value !== text) showDraft();
+  else drawGutter(0);
 }
 
 export function keepDraft() {
@@ -49,7 +51,7 @@ export function forgetDraft() {
 export function showDraft() {
   $('draft-box').hidden = !hasDraft();
   $('two').classList.toggle('alone', !hasDraft());
-  $('f-begin').hidden = hasDraft();
+  $('f-begin').hidden = hasDraft() || state.force === null;
   if ($('draft').value !== (state.draft ?? '')) $('draft').value = state.draft ?? '';
   drawStale();
   drawGutter(0);
@@ -58,7 +60,7 @@ export function showDraft() {
 /** Takes the draft that another tab has kept. */
 function takeOther() {
   $('d-other').hidden = true;
-  [state.draft, state.base] = [kept.get('draft', null), kept.get('base', null)];
+  [state.draft, state.base] = [kept.get('draft', null) || null, kept.get('base', '')];
   reviewLater();
   showDraft();
 }
@@ -76,7 +78,7 @@ export async function replaceDraft(text) {
 }
 
 /** Begins with what is in force, with its author's comments if they are known. */
-export async function beginDraft() {
+async function beginDraft() {
   if (!hasDraft()) await replaceDraft(await textOf(state.digest, state.force));
 }
 
@@ -106,17 +108,22 @@ function drawStale() {
   if (!isStale()) return;
   const { by, at } = putOf(state.digest), { base, force, draft } = state;
   const who = by ? ` ${by} put it in force, ${timeOf(at)}.` : '';
-  const both = merged(base, draft, force);
-  const told = both === null ? 'Both change the same lines: take theirs into the draft by hand.'
-    : 'They touch different lines.';
+  const isMerged = merged(base, draft, force) !== null;
+  const told = isMerged ? 'They touch different lines.'
+    : 'Both change the same lines: take theirs into the draft by hand.';
+  const takeBoth = () => {
+    const both = merged(base, state.draft, force);
+    if (both === null) drawStale();
+    else goOn(both);
+  };
   $('stale').replaceChildren(
     paragraph(`Another policy is in force than the one on which this draft began.${who}`),
     folded('What came into force meanwhile', () => drawLinesOf(diff(base, force)), true),
     folded('What your draft changes', () => drawLinesOf(diff(base, draft))),
     paragraph(told),
-    ...(both === null ? [] : [button('Take both changes', () => goOn(both), null, 'strong')]),
+    ...(isMerged ? [button('Take both changes', takeBoth, null, 'strong')] : []),
     ' ',
-    button('Keep only my draft, which undoes theirs', () => goOn(draft)),
+    button('Keep only my draft, which undoes theirs', () => goOn(state.draft)),
   );
 }
 
@@ -124,6 +131,7 @@ function drawStale() {
 function goOn(text) {
   state.base = state.force;
   setDraft(text);
+  showDraft();
 }
 
 // ---- The text and its lines

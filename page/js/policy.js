@@ -35,7 +35,7 @@ export function drawBefore(take) {
   const line = (it) => {
     const until = timeOf(it.name), isUndone = it.name.startsWith('undone-');
     const text = button('Take as the draft', () => take(it), `Take as the draft, until ${until}`);
-    const by = it.by ? `${it.by}, ${timeOf(it.at)}` : 'not known';
+    const by = it.by ? `${it.by}, ${timeOf(it.at)}` : 'not from this page';
     return h('tr', null, data(until + (isUndone ? ' (undone)' : '')), data(by), data(text));
   };
   const lacks = state.policies ? 'None is kept yet.' : 'The companion that keeps them is down.';

@@ -27,6 +27,7 @@ export async function putInForce() {
 
 /** Says what is in force after an attempt, whatever was answered. */
 async function readBack(answer, wanted, old) {
+  if (answer.status === 200) state.base = wanted;
   if (!await load()) {
     say(`${answer.told}; what is in force can't be read now: Reload`, true);
     return;

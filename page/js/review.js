@@ -3,7 +3,7 @@
 import { lines, review } from './ask.js';
 import { diff, nearest } from './diff.js';
 import { $, counted, dim, folded, h } from './dom.js';
-import { besideOf, OTHERS, tableFrom } from './decisions.js';
+import { besideOf, OTHERS, shownName, tableFrom } from './decisions.js';
 import { goToFault } from './draft.js';
 import { drawTable } from './grid.js';
 import { tablesOf } from './rules.js';
@@ -24,7 +24,8 @@ export async function reviewDraft() {
   forgetReview();
   const { signal } = aborter;
   try {
-    if (hasDraft()) await reviewNow(state.draft, state.force, signal);
+    if (hasDraft() && state.force === null) noReview('what is in force is not known');
+    else if (hasDraft()) await reviewNow(state.draft, state.force, signal);
   } catch (error) {
     if (error.name === 'AbortError') return;
     noReview(error.message);
@@ -148,15 +149,18 @@ function drawClerks(all, isOpen) {
 function summary(name, some, where) {
   const gives = some.filter((it) => it[7] === 'allow').length, takes = some.length - gives;
   const told = [gives ? `▲ ${gives} allowed` : null, takes ? `▼ ${takes} denied` : null];
-  return `${name}: ${told.filter(Boolean).join(', ')}${where ? `, in ${where}` : ''}`;
+  return `${shownName(name)}: ${told.filter(Boolean).join(', ')}${where ? `, in ${where}` : ''}`;
 }
 
 function drawDecisions(some) {
-  const line = ([, , , kind, action, , old, effect, rule]) => h('tr', null,
+  const by = (effect, rule) => {
+    const name = rule === 'default' ? 'no rule' : rule;
+    return `${effect === 'allow' ? 'allowed' : 'denied'} by ${name}`;
+  };
+  const line = ([, , , kind, action, was, old, effect, rule]) => h('tr', null,
     h('td', { class: effect === 'allow' ? 'up' : 'down' }, effect === 'allow' ? '▲' : '▼'),
-    h('td', null, [action, kind].filter(Boolean).join(' ')),
-    h('td', null, `${effect === 'allow' ? 'allowed' : 'denied'} by ${rule}`),
-    h('td', { class: 'dim' }, `was by ${old}`));
+    h('td', null, kind ? `${action} ${shownName(kind)}` : action),
+    h('td', null, by(effect, rule)), h('td', { class: 'dim' }, `was ${by(was, old)}`));
   return [h('table', { class: 'plain' }, h('tbody', null, some.map(line)))];
 }
 

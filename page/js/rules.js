@@ -58,7 +58,7 @@ function withValues(lines, values) {
 
 /** A text with rule N changed, or with a new one if N is 0, before rule `place`; with `values` of
  *  null rule N is removed. */
-export function withRule(text, n, values, place) {
+function withRule(text, n, values, place) {
   const lines = text.trimEnd() ? text.trimEnd().split('\n') : [], all = tablesOf(lines, 'rule');
   const old = all[n - 1], next = all[place - 1];
   const block = old ? lines.slice(old.from, old.end) : ['[[rule]]'];
@@ -80,7 +80,7 @@ export function ruleAt(text, line) {
 /** Gives each field of names what may stand there. */
 function fillNames() {
   const form = /^\[\[group\]\]\nname = "(.*)"$/gm;
-  const groups = [...state.force.matchAll(form)].map((it) => `@${it[1]}`);
+  const groups = [...(state.force ?? '').matchAll(form)].map((it) => `@${it[1]}`);
   const { clerks, maildrops } = serverNames(), classes = state.alone?.classes ?? [];
   const all = { clerk: ['*', ...groups, ...clerks], maildrop: ['*', ...maildrops] };
   all.class = ['*', ...classes.filter((name) => !name.startsWith('('))];

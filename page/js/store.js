@@ -42,7 +42,7 @@ export const state = {
   beside: null, // the same by it and by the draft, over the names of both, and the changes
   noTable: '', // why there is no table
   draft: kept.get('draft', null) || null, // null if there is none
-  base: kept.get('base', null), // the policy on which the draft began, as its author saw it
+  base: kept.get('base', ''), // the policy on which the draft began, as its author saw it
   review: null, // what popbox says of the draft
   view: { ...VIEW, ...kept.get('view', {}) },
 };

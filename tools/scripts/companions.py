@@ -86,6 +86,9 @@ class Companions(ScriptCase):
         write(draft, bad)
         wants(review("written", bad), (422, popbox("check-policy", "--verbose", "draft")))
         wants(review("changes", POLICY, bad)[0], 422)
+        for text in ("x", "#a\nmaildrop add x\nconnect", "\0"):
+            wants((text, review("written", text)[0]), (text, 422))
+        wants(review("written", "# a\r\n# b\\\n"), (200, ""))
 
     def test_a_companion_puts_a_policy_in_force(self):
         """answer-policies sets a policy only in the place of the one that was looked at, keeps
