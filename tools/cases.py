@@ -112,5 +112,6 @@ def main(text, folder, **options):
     runner = unittest.TextTestRunner(sys.stdout, verbosity=0, resultclass=Result)
     result = runner.run(found)
     if not result.testsRun:
-        sys.exit("no case has such a name")
+        print("no case has such a name")
+        sys.exit(2)
     sys.exit(not result.wasSuccessful())
