@@ -20,7 +20,7 @@ fn is_empty(alloc: Global, text: &[u8]) -> bool {
     matches!(kept(alloc, text), Err(TextFault::Empty))
 }
 
-/// tools/check-streams tries the longest text, of 26 MB, and one that is too long.
+/// tools/serve/large.py tries the longest text, of 26 MB, and one that is too long.
 #[test]
 fn kept_forms(rt: HostRuntime) -> Result<(), Fail> {
     let alloc = rt.alloc();

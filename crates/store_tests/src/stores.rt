@@ -355,7 +355,7 @@ answer was there
 answer replaced
 ";
 
-// A full maildrop, of 10,000 messages, is tried by tools/check-streams.
+// A full maildrop, of 10,000 messages, is tried by tools/serve/large.py.
 #[test]
 fn maildrops_and_clerks_up_to_a_thousand(rt: HostRuntime) -> Result<(), Fail> {
     let mut text = String::new(rt.alloc());
