@@ -212,8 +212,13 @@ class Server:
         self.run = subprocess.Popen(command, stdout=subprocess.PIPE, **how)
         late = threading.Timer(START, self.run.kill)
         late.start()
-        told = [self.run.stdout.readline() for _ in range(2)]
-        late.cancel()
+        try:
+            told = [self.run.stdout.readline() for _ in range(2)]
+        except BaseException:
+            self.run.kill()
+            raise
+        finally:
+            late.cancel()
         if not all(told):
             raise Wrong(f"{' '.join(words)}: the server ended with status {self.run.wait()}")
         self.pop, self.admin = (int(line.rpartition(b":")[2]) for line in told)

@@ -39,7 +39,7 @@ fn measure_sheets(
     Ok(())
 }
 
-/// Writes a row or two in each table, for `tools/check-tables`.
+/// Writes a row or two in each table, for `trials/older-store`.
 fn write_sample(tables: &mut impl Tables) -> Result<(), Fault> {
     tables.write_others()?;
     let mut text = [0; 4097];

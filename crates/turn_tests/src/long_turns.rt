@@ -25,7 +25,7 @@ use vault::Vault;
 /// the beginning of each, unless the file says otherwise.
 const CHOSEN: (u64, u64, u64) = (1, 8, 150);
 
-/// A file with others, which tools/check-turns writes.
+/// A file with others, which tools/check-by-chance writes.
 const FILE: &str = "long-turns";
 
 /// How many turns a round has, and how many turns there are in a second.

@@ -19,7 +19,7 @@ const SEED: u64 = 1;
 
 const TURNS: u64 = 2500;
 
-/// A file with another seed and another number of turns, which tools/check-turns writes.
+/// A file with another seed and another number of turns, which tools/check-by-chance writes.
 const FILE: &str = "random-turns";
 
 /// A server and its spool.
