@@ -283,7 +283,7 @@ class Sorting(ScriptCase):
             ("From: a@bank.example\nSubject: invoice\n\n", "payment"),
             ("From: a@bank.example\nSubject: hello\n\n", "note"),
             ("From: a@evil.example\nSubject: invoice\n\n", "note"),
-            ("Subject: bill\nFrom: a@bank.example\n" + PART.format("Content-Type: a; name=x"), "note"),
+            ("Subject: bill\nFrom: a@bank.example\n" + PART.format("Content-Type: a;name=x"), "note"),
         ]
         self.check_rows(rows)
 
@@ -324,7 +324,7 @@ class Sorting(ScriptCase):
         rows = (
             (b"Subject: com\0plaint", "complaint", "its header has a NUL"),
             (b"X-Y: 1\rSubject: a", "note", "its header has a CR inside a line"),
-            (b"no field\nSubject: a", "note", "its header has a line that is no field: b'no field'"),
+            (b"no field\nSubject: a", "note", "header has a line that is no field: b'no field'"),
             (b'From: "M" <a@bank.example> (x', "note", "a field from can't be read: '\"M\" <a@"),
             (b"X: " + b"y" * 1_000_000 + b"\nSubject: complaint", "note", "has more than 1000000"),
             (b"Subject: complaint" + b"y" * 100_000, "complaint", "has more than 100000 "),
@@ -421,7 +421,7 @@ class Sorting(ScriptCase):
         return self.script(self.command("postinst", f'{text}\n}}\nadd_sorting "$1"'), before)
 
     def test_an_installation_makes_no_sorting_that_opens(self):
-        """The first one begins with notes; an upgrade carries over what was there, or makes none."""
+        """The first begins with notes; an upgrade carries over what was there, or makes none."""
         made, old = f"{self.folder}/etc/sorting.toml", f"{self.folder}/etc/classes"
         none = f"popbox: without {made} no mail comes in: man popbox-deliver\n"
         wants(self.install(""), (0, "", ""))
@@ -440,3 +440,44 @@ class Sorting(ScriptCase):
             status, out, why = self.install("0.1.0-1")
             wants((line, status, out, why.endswith(none)), (line, 0, "", True))
             wants(os.listdir(f"{self.folder}/etc"), ["classes"])
+
+
+# Bob may not read complaints, and reads notes; ann reads all.
+POLICY = "".join(
+    f'[[rule]]\nname = "r{at}"\neffect = "{effect}"\nclerk = "{clerk}"\nmaildrop = "*"\n'
+    f'class = "{class_}"\nactions = [{actions}]\n'
+    for at, (effect, clerk, class_, actions) in enumerate((
+        ("deny", "bob", "complaint", '"read"'),
+        ("allow", "ann", "*", '"open", "read"'),
+        ("allow", "bob", "*", '"open"'),
+        ("allow", "bob", "note", '"read"'),
+    ))
+)
+
+
+class Policies(ScriptCase):
+    def set_policy(self, server, given):
+        """What popbox-set-policy says about classes, with a sorting that gives these."""
+        tables = (f'[[sort]]\nclass = "{it}"\nsubject = "{it}"\n' for it in given)
+        rules = "".join(tables) + '[otherwise]\nclass = "note"\n'
+        rules = write(f"{self.folder}/sorting.toml", rules)
+        env = {"POPBOX_DELIVER": f"{self.packaging}/popbox-deliver", "POPBOX_SORTING": rules}
+        new = write(f"{self.folder}/new.toml", POLICY)
+        words = ["--port", str(server.admin), "--keep", f"{self.folder}/kept"]
+        words += ["--program", self.program, "--yes", new]
+        status, _, why = self.script("popbox-set-policy", *words, env=env)
+        wants(status, 0)
+        server.administer("PUT", "/policy", "# None")
+        return re.findall("^note: (the sorting .*|no rule .*)", why, re.M)
+
+    def test_a_policy_is_held_against_the_sorting(self):
+        """popbox-set-policy notes each class that only one of the two has, and who may read one
+        that no rule names."""
+        only = "the sorting never gives: complaint"
+        unnamed = "no rule names what ann may read: "
+        with self.office() as server:
+            wants(self.set_policy(server, ["complaint"]), [])
+            wants(self.set_policy(server, ["complaints"]), [only, f"{unnamed}complaints"])
+            wants(self.set_policy(server, []), [only])
+            wants(self.set_policy(server, ["complaint", "x", "y"]), [f"{unnamed}x y"])
+            wants(self.set_policy(server, ["No class"]), [])
