@@ -46,6 +46,7 @@ class Deliver(ScriptCase):
         one, spool = b"x\n", self.spool
         for status, words, said in (
             (64, [spool, "orders"], one),
+            (64, [spool, "orders", "n-1", "more"], one),
             (64, [spool, "orders", "n-1", "orders@office.test", "more"], one),
             (67, [spool, "Orders", "n-1"], one),
             (67, [spool, "", "n-1"], one),

@@ -271,8 +271,9 @@ class Sorting(ScriptCase):
         wants(self.deliver(text, RECIPIENT=legal), "legal")
         wants(self.deliver(text, "orders@office.test", RECIPIENT=legal), "note")
         wants(self.deliver(text, "lawyer@office.test"), "legal")
-        for it in ("legal@office.test", "orders+@office.test", "+legal", "orders", ""):
-            wants((it, self.deliver(text, it)), (it, "note"))
+        wants(self.deliver(text, "legal@office.test"), "note")
+        for it in ("orders+@office.test", "+legal", "orders", ""):
+            wants((it, self.deliver(text, RECIPIENT=it)), (it, "note"))
 
     def test_conditions_of_one_rule_must_all_hold(self):
         """Several conditions must all hold; of a list's texts any."""
@@ -283,7 +284,7 @@ class Sorting(ScriptCase):
             ("From: a@bank.example\nSubject: invoice\n\n", "payment"),
             ("From: a@bank.example\nSubject: hello\n\n", "note"),
             ("From: a@evil.example\nSubject: invoice\n\n", "note"),
-            ("Subject: bill\nFrom: a@bank.example\n" + PART.format("Content-Type: a;name=x"), "note"),
+            ("Subject: bill\nFrom: a@bank.example\n" + PART.format("Content-Type: a;name="), "note"),
         ]
         self.check_rows(rows)
 
