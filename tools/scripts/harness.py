@@ -10,7 +10,7 @@ import shutil
 import signal
 import subprocess
 
-from cases import TOP, Case, compile_preload
+from cases import Case, compile_preload
 from clients import POLICY, Server, Wrong, wait_for, wants
 
 # After how many seconds a script that hangs is ended.
@@ -58,8 +58,6 @@ def limit_files():
 
 class ScriptCase(Case):
     """A case whose store is `store`; commands of its own lie in the folder `bin`."""
-
-    packaging = f"{TOP}/packaging"
 
     def setUp(self):
         super().setUp()
