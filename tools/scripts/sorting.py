@@ -279,12 +279,13 @@ class Sorting(ScriptCase):
         """Several conditions must all hold; of a list's texts any."""
         conditions = 'from = "@bank.example"\nsubject = ["invoice", "bill"]\nhas-attachment = false'
         write(self.sorting, NEVER.format(conditions))
+        bill = "From: a@bank.example\nSubject: your bill\n"
         rows = [
-            ("From: a@bank.example\nSubject: your bill\n\n", "payment"),
+            (bill + "\n", "payment"),
+            (bill + PART.format("Content-Type: a/b; name=x"), "note"),
             ("From: a@bank.example\nSubject: invoice\n\n", "payment"),
             ("From: a@bank.example\nSubject: hello\n\n", "note"),
             ("From: a@evil.example\nSubject: invoice\n\n", "note"),
-            ("Subject: bill\nFrom: a@bank.example\n" + PART.format("Content-Type: a;name="), "note"),
         ]
         self.check_rows(rows)
 
