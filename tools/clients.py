@@ -257,7 +257,7 @@ def preload(folder, *names, **settings):
     C library, with their files in a folder."""
     libraries = [f"{folder}/{name}.so" for name in names]
     for name, library in zip(names, libraries):
-        words = ["cc", "-O2", "-shared", "-fPIC", "-o", library, f"{TOP}/tools/{name}.c"]
+        words = ["cc", "-O2", "-shared", "-fPIC", "-o", library, f"{TOP}/tools/preload/{name}.c"]
         subprocess.run(words, check=True)
     files = {name.upper(): f"{folder}/{name}" for name in ("clock", "seen", "date", "calls", "gate")}
     return {**os.environ, **files, **settings, "LD_PRELOAD": ":".join(libraries)}

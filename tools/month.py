@@ -18,7 +18,7 @@ CERTIFICATE, CLASSES = "/etc/ssl/certs/pop.pem", "/etc/popbox/classes"
 SPOOL = "/var/lib/popbox/spool"
 # The clerks' programs run as this user, each in a folder of its own.
 USER, HOME = "month", "/home/month"
-# The seconds that tools/clock.c adds to each moment, and to the date alone.
+# The seconds that tools/preload/clock.c adds to each moment, and to the date alone.
 CLOCK, DATE, LIBRARY = "/run/month/clock", "/run/month/date", "/run/month/clock.so"
 DAY = 86_400
 # What ends a wait for something that hangs, in seconds.

@@ -1,0 +1,116 @@
+"""Runs the cases of a folder: what tools/check-scripts and tools/check-serve have in common.
+
+Each file of the folder has the cases of one subject: methods `test_WHAT` of classes of `Case` whose
+docstrings say the promise. Python's unittest finds, selects and reports them.
+"""
+
+import argparse
+import os
+import shutil
+import signal
+import subprocess
+import sys
+import tempfile
+import time
+import unittest
+
+TOOLS = os.path.dirname(os.path.realpath(__file__))
+TOP = os.path.dirname(TOOLS)
+PROGRAM = f"{TOP}/crates/popbox/out/popbox"
+
+
+class Case(unittest.TestCase):
+    """A case, with the program and with an empty folder of its own."""
+
+    program, maxDiff = PROGRAM, None
+
+    def setUp(self):
+        self.folder = os.path.realpath(self.enterContext(tempfile.TemporaryDirectory()))
+
+    def run(self, result=None):
+        try:
+            return super().run(result)
+        finally:
+            # Also if the run is broken off.
+            self.doCleanups()
+
+
+def needs(*commands):
+    """Skips the case that calls this, unless these commands are there."""
+    for it in commands:
+        if not shutil.which(it):
+            raise unittest.SkipTest(f"no {it}")
+
+
+def compile_preload(name, folder):
+    """Compiles tools/preload/NAME.c, which the loader puts before the C library, and gives the
+    path of the library, in this folder."""
+    needs("cc")
+    library = f"{folder}/{name}.so"
+    words = ["cc", "-O2", "-shared", "-fPIC", "-o", library, f"{TOOLS}/preload/{name}.c"]
+    subprocess.run(words, check=True)
+    return library
+
+
+class Result(unittest.TextTestResult):
+    """Prints a line for each case when it ends: how it went, and how long it took."""
+
+    def startTest(self, test):
+        super().startTest(test)
+        self.begun, self.told = time.monotonic(), "ok"
+
+    def addSkip(self, test, reason):
+        super().addSkip(test, reason)
+        self.told = f"skipped: {reason}"
+
+    def addFailure(self, test, error):
+        super().addFailure(test, error)
+        self.told = f"FAILED: {error[1]}"
+
+    def addError(self, test, error):
+        super().addError(test, error)
+        self.told = f"FAILED: {error[0].__name__}: {error[1]}"
+
+    def addSubTest(self, test, subtest, error):
+        super().addSubTest(test, subtest, error)
+        if error:
+            self.told = f"FAILED: {subtest}: {error[1]}"
+
+    def stopTest(self, test):
+        super().stopTest(test)
+        print(f"{test.id()}: {self.told}, {time.monotonic() - self.begun:.1f} s", flush=True)
+
+
+def read_line(text, options):
+    """Gives Case what the command line says, and gives the words after each -k."""
+    if {"-h", "--help"} & {*sys.argv[1:]}:
+        sys.exit(print(text.strip()))
+    line = argparse.ArgumentParser(usage=text.partition(":")[0])
+    line.add_argument("-k", action="append", default=[])
+    line.add_argument("program", nargs="?", type=os.path.abspath, default=PROGRAM)
+    for name, value in options.items():
+        action = "store_true" if value is False else "store"
+        line.add_argument(f"--{name}", action=action, default=value)
+    said = vars(line.parse_args())
+    words = said.pop("k")
+    for name, value in said.items():
+        setattr(Case, name, value)
+    return words
+
+
+def main(text, folder, **options):
+    """Runs those cases of a folder beside this file that the command line asks for, and exits.
+    `text` is the tool's help. Each of the options, with its default, is an attribute of Case."""
+    words = read_line(text, options)
+    if not os.access(Case.program, os.X_OK):
+        sys.exit(f"{Case.program} isn't there: tools/build builds it")
+    # What a case began is ended with it.
+    signal.signal(signal.SIGTERM, signal.default_int_handler)
+    loader = unittest.TestLoader()
+    loader.testNamePatterns = [f"*{word}*" for word in words] or None
+    found = loader.discover(f"{TOOLS}/{folder}", "*.py")
+    runner = unittest.TextTestRunner(sys.stdout, verbosity=0, resultclass=Result)
+    result = runner.run(found)
+    if not result.testsRun:
+        sys.exit("no case has such a name")
+    sys.exit(not result.wasSuccessful())
