@@ -3,7 +3,7 @@
 import os
 
 from clients import wants
-from harness import ScriptCase, read, read_text, run, write
+from harness import ScriptCase, read, read_text, write
 
 # The moment of the first of a Maildir's messages.
 AT = 1_700_000_000

@@ -1,4 +1,4 @@
-"""What tools/check-desktop-clients drives: mail programs on a screen of their own, by files alone.
+"""What trials/check-desktop-clients drives: mail programs on a screen of their own, by files alone.
 
 A program gets its account by files before its start, checks for mail as it starts, and is ended
 once its session is over. A relay before the server keeps what was said; the titles of its windows

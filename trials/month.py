@@ -1,4 +1,4 @@
-"""What tools/check-month works with: an office's mail, its clerks' mail programs, and what each of
+"""What trials/check-month works with: an office's mail, its clerks' mail programs, and what each of
 them must fetch and may remove, reckoned by the policy's text alone."""
 
 import email.utils
