@@ -1,6 +1,7 @@
 """The package's own files, read as what they mean: its services' powers and what its installation
 makes."""
 
+import datetime
 import json
 import os
 import re
@@ -58,6 +59,17 @@ class Units(ScriptCase):
             with self.subTest(name=name):
                 wants(lines, [])
 
+    def test_the_timer_goes_off_each_night(self):
+        """popbox-backup.timer goes off once a night, and after a night in which nothing ran."""
+        needs("systemd-analyze")
+        unit = self.settings("popbox-backup.timer")
+        moment = " ".join(unit["OnCalendar"])
+        told = run("systemd-analyze", "calendar", "--iterations=3", moment)[1]
+        days = re.findall(r"(?:elapse|Iter.*|Iteration.*): \w+ (\S+) 0[0-5]:", told)
+        days = [datetime.date.fromisoformat(it) for it in days]
+        wants([(after - day).days for day, after in zip(days, days[1:])], [1, 1])
+        wants(unit["Persistent"], ["yes"])
+
     def test_the_nightly_backup_may_do_what_it_must(self):
         """With the powers of popbox-backup.service, and no others, popbox-backup copies the store
         of a server of another user's."""
@@ -94,10 +106,6 @@ class Installation(ScriptCase):
         subprocess.run(["cp", "-a", "/etc", f"{self.folder}/etc"], check=True)
         os.mkdir(f"{self.folder}/lib")
         os.chmod(self.folder, 0o711)
-        text = read_text(f"{self.packaging}/debian/postinst")
-        for it in ("/usr/share/popbox/", "/usr/lib/popbox/"):
-            text = text.replace(it, f"{self.packaging}/")
-        os.chmod(write(f"{self.folder}/postinst", text), 0o755)
         self.called = write(f"{self.folder}/called", "")
         for it in ("deb-systemd-helper", "deb-systemd-invoke", "systemctl"):
             self.command(f"bin/{it}", f'echo {it} "$@" >>{self.called}')
@@ -117,7 +125,7 @@ class Installation(ScriptCase):
     def test_an_installation_makes_what_only_its_users_may_open(self):
         """The state folder is popbox's, and the spool is written by popbox and the group
         popbox-spool alone, whose user isn't in popbox's group; neither user can log in."""
-        self.inside_of(f"{self.folder}/postinst", "configure", "")
+        self.calls("postinst", "configure", "")
         wants(self.modes(), ["popbox popbox 711", "popbox popbox-spool 2770"])
         groups = [self.inside_of("id", "-Gn", it).split() for it in ("popbox", "popbox-spool")]
         wants(groups, [["popbox", "popbox-spool"], ["popbox-spool"]])
@@ -125,19 +133,39 @@ class Installation(ScriptCase):
             wants(line.rpartition(":")[2], "/usr/sbin/nologin")
         # An upgrade leaves the spool as an administrator has it.
         os.chmod(f"{self.inside}/spool", 0o2750)
-        self.inside_of(f"{self.folder}/postinst", "configure", "0.1.0-1")
+        self.calls("postinst", "configure", "0.1.0-1")
         wants(self.modes(), ["popbox popbox 711", "popbox popbox-spool 2750"])
 
     def test_a_file_system_of_its_own_is_given_to_popbox(self):
         """A state folder of root's, as of a file system that was mounted there, is popbox's then,
         and a spool in it is left as it is."""
         os.makedirs(f"{self.inside}/spool", 0o700)
-        self.inside_of(f"{self.folder}/postinst", "configure", "")
+        self.calls("postinst", "configure", "")
         wants(self.modes(), ["popbox popbox 711", "root root 700"])
 
-    def test_an_installation_enables_the_service_and_not_the_timer(self):
-        """The service is enabled; a copy each night is what an administrator enables."""
-        self.command("bin/deb-systemd-helper", f'echo helper "$@" >>{self.called}')
-        self.inside_of(f"{self.folder}/postinst", "configure", "")
-        calls = [it for it in read_text(self.called).splitlines() if " enable " in it]
-        wants(calls, ["helper enable popbox.service"])
+    def calls(self, script, *words):
+        """What a script of the package has systemd do, on a machine that systemd runs."""
+        text = read_text(f"{self.packaging}/debian/{script}")
+        os.makedirs(f"{self.folder}/run/systemd/system", exist_ok=True)
+        text = text.replace("/run/systemd", f"{self.folder}/run/systemd")
+        for it in ("/usr/share/popbox/", "/usr/lib/popbox/"):
+            text = text.replace(it, f"{self.packaging}/")
+        os.chmod(write(f"{self.folder}/{script}", text), 0o755)
+        write(self.called, "")
+        self.inside_of(f"{self.folder}/{script}", *words)
+        calls = re.findall(r"(enable|start|restart|stop) (popbox.*)", read_text(self.called))
+        return [f"{does} {units}" for does, units in calls]
+
+    def test_the_service_is_enabled_and_restarted_and_the_timer_is_left(self):
+        """An installation enables and starts the service, an upgrade restarts it, and a removal
+        stops it. A copy each night is what an administrator enables, and then begins again."""
+        self.command("bin/systemctl", f"exec test -e {self.folder}/timer")
+        begun = ["enable popbox.service", "start popbox.service"]
+        wants(self.calls("postinst", "configure", ""), begun)
+        again = ["enable popbox.service", "restart popbox.service"]
+        wants(self.calls("postinst", "configure", "0.1.0-1"), again)
+        write(f"{self.folder}/timer", "")
+        timer = "start popbox-backup.timer"
+        wants(self.calls("postinst", "configure", "0.1.0-1"), [*again, timer])
+        wants(self.calls("prerm", "upgrade"), [])
+        wants(self.calls("prerm", "remove"), ["stop popbox-backup.timer popbox.service"])
