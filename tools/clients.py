@@ -1,7 +1,7 @@
-"""What the checks over the built server share: a server, its clients, and how cases are run."""
+"""What the checks over the built server share: a server, its clients, and cases of both."""
 
 import contextlib
-import http.client
+import hashlib
 import os
 import re
 import select
@@ -14,9 +14,11 @@ import sys
 import tempfile
 import threading
 import time
+from http.client import HTTPConnection, HTTPException
+from subprocess import SubprocessError
 
-TOP = os.path.dirname(os.path.dirname(os.path.realpath(__file__)))
-PROGRAM = f"{TOP}/crates/popbox/out/popbox"
+import cases
+from cases import PROGRAM, TOP, compile_preload  # noqa: F401
 
 # Every clerk may open, read and remove all.
 POLICY = """[[rule]]
@@ -34,20 +36,21 @@ START, REPLY, SPOOL = 600, 300, 600
 # What an unproved server says of itself on standard error as it starts begins so.
 SLOW = "note: this popbox isn't proved, and is slow: "
 
+# Replies (docs/PROTOCOL.md).
+OK, BYE, STATE = b"+OK\r\n", b"+OK bye\r\n", b"-ERR wrong state\r\n"
+SEND_PASS, EMPTY = b"+OK send PASS\r\n", b"+OK maildrop has 0 messages (0 octets)\r\n"
+FAILED, CLOSING = b"-ERR login failed\r\n", b"-ERR login failed, closing\r\n"
+IN_USE = b"-ERR [IN-USE] maildrop is in use\r\n"
+UNKNOWN, TOO_LONG = b"-ERR unknown command\r\n", b"-ERR line too long\r\n"
+LOGIN = b"USER ann/orders\r\nPASS s3 cret\r\n"
 
-class Wrong(Exception):
+
+class Wrong(AssertionError):
     """What came is another thing than what must come."""
 
 
 # What a case can fail by.
-FAULTS = (
-    Wrong,
-    OSError,
-    TypeError,
-    ValueError,
-    subprocess.SubprocessError,
-    http.client.HTTPException,
-)
+FAULTS = (Wrong, OSError, TypeError, ValueError, SubprocessError, HTTPException)
 
 
 def wants(found, wanted):
@@ -58,6 +61,11 @@ def wants(found, wanted):
 def without_slow(text):
     """A text without the line that an unproved server says of itself."""
     return "".join(line for line in text.splitlines(True) if not line.startswith(SLOW))
+
+
+def maildrop_has(messages, octets):
+    """What a login, and RSET, say of a maildrop."""
+    return b"+OK maildrop has %d messages (%d octets)\r\n" % (messages, octets)
 
 
 def retrieved(text):
@@ -121,6 +129,24 @@ class Client:
         self.send(octets)
         self.takes(reply)
 
+    def tries(self, name=b"ann/orders", password=b"s3 cret"):
+        """Logs in by USER and PASS, and doesn't wait for the reply to PASS."""
+        self.asks(b"USER %s\r\n" % name, SEND_PASS)
+        self.send(b"PASS %s\r\n" % password)
+
+    def guesses(self, reply=FAILED):
+        """Tries a wrong password."""
+        self.tries(password=b"wrong")
+        self.takes(reply)
+
+    def quits(self):
+        self.asks(b"QUIT\r\n", BYE)
+
+    def waits(self, seconds=2):
+        """Fails if anything comes within so many seconds."""
+        if not is_silent(self, seconds):
+            raise Wrong(f"{self.line()!r} comes too early")
+
     def ends(self):
         """Fails unless the connection is closed without another octet."""
         try:
@@ -141,6 +167,41 @@ class Client:
         self.socket.close()
 
 
+class Mail(Client):
+    """A mail program's connection, by lines of text."""
+
+    # Those that any sent.
+    digests = []
+
+    def __init__(self, server):
+        super().__init__(server.pop)
+        self.greeting = self.line()
+
+    def line(self):
+        return super().line().decode().rstrip("\r\n")
+
+    def say(self, *lines):
+        """Sends lines at once, and gives the first line of each reply."""
+        self.send("".join(f"{line}\r\n" for line in lines).encode())
+        return [self.reply(line) for line in lines]
+
+    def reply(self, line):
+        first, words = self.line(), line.upper().split()
+        many = words[0] in ("CAPA", "RETR", "TOP") or words in (["LIST"], ["UIDL"])
+        if many and first.startswith("+OK"):
+            while self.line() != ".":
+                pass
+        return first
+
+    def digest(self, secret):
+        stamp = re.search("<.*>", self.greeting)[0]
+        self.digests.append(hashlib.md5((stamp + secret).encode()).hexdigest())
+        return self.digests[-1]
+
+    def apop(self, name, secret):
+        return self.say(f"APOP {name} {self.digest(secret)}")
+
+
 class Server:
     """The program as `serve`, over a store and a spool in a folder."""
 
@@ -159,6 +220,20 @@ class Server:
         if not all(told):
             raise Wrong(f"{' '.join(words)}: the server ended with status {self.run.wait()}")
         self.pop, self.admin = (int(line.rpartition(b":")[2]) for line in told)
+
+    def __enter__(self):
+        return self
+
+    def __exit__(self, *_):
+        self.end()
+
+    def fill(self, maildrops=("orders",), clerks=(("ann", "pass s3 cret"),), policy=POLICY):
+        """Adds maildrops, and clerks with their credentials, and sets a policy."""
+        for name in maildrops:
+            self.administer("PUT", f"/maildrops/{name}")
+        for name, credential in clerks:
+            self.administer("PUT", f"/clerks/{name}", credential)
+        self.administer("PUT", "/policy", policy)
 
     def memory(self):
         """How many kB of memory the server has."""
@@ -183,7 +258,7 @@ class Server:
 
     def ask(self, method, path, body=None, headers=()):
         """The status of the response too."""
-        line = http.client.HTTPConnection("127.0.0.1", self.admin, timeout=REPLY)
+        line = HTTPConnection("127.0.0.1", self.admin, timeout=REPLY)
         line.request(method, path, body, dict(headers))
         response = line.getresponse()
         answer = response.status, response.read().decode()
@@ -208,9 +283,10 @@ class Server:
             SPOOL,
         )
 
-    def connect(self, receives=None, host="localhost"):
-        """A client that has taken its greeting."""
-        client = Client(self.pop, receives)
+    def connect(self, receives=None, host="localhost", source=None, first=b""):
+        """A client that has taken its greeting, after sending `first`."""
+        client = Client(self.pop, receives, source)
+        client.send(first)
         client.greeting = client.line()
         form = rb"\+OK POP3 server ready <\d+\.\d+@%s>\r\n" % re.escape(host.encode())
         if not re.fullmatch(form, client.greeting):
@@ -218,23 +294,15 @@ class Server:
         return client
 
 
-@contextlib.contextmanager
-def office(program, folder, *words, **how):
-    """A server with the maildrop `orders` and its clerk ann."""
-    server = Server(program, folder, *words, **how)
-    try:
-        server.administer("PUT", "/maildrops/orders")
-        server.administer("PUT", "/clerks/ann", "pass s3 cret")
-        server.administer("PUT", "/policy", POLICY)
-        yield server
-    finally:
-        server.end()
-
-
 def log_in(client, *texts, first=b""):
     """Logs in to the maildrop `orders`, which has these texts, after sending `first`."""
-    reply = b"+OK maildrop has %d messages (%d octets)\r\n" % (len(texts), sum(map(len, texts)))
-    client.asks(first + b"USER ann/orders\r\nPASS s3 cret\r\n", b"+OK send PASS\r\n" + reply)
+    has = maildrop_has(len(texts), sum(map(len, texts)))
+    client.asks(first + LOGIN, SEND_PASS + has)
+
+
+def proxied(source):
+    """What a proxy sends first of a client from an address."""
+    return b"PROXY TCP4 %s 127.0.0.1 51234 1110\r\n" % source
 
 
 def is_silent(client, seconds):
@@ -252,17 +320,6 @@ def stopped(server):
         os.kill(server.run.pid, signal.SIGCONT)
 
 
-def preload(folder, *names, **settings):
-    """The environment of a program that has the loader put these of tools/*.c, by name, before the
-    C library, with their files in a folder."""
-    libraries = [f"{folder}/{name}.so" for name in names]
-    for name, library in zip(names, libraries):
-        words = ["cc", "-O2", "-shared", "-fPIC", "-o", library, f"{TOP}/tools/preload/{name}.c"]
-        subprocess.run(words, check=True)
-    files = {name.upper(): f"{folder}/{name}" for name in ("clock", "seen", "date", "calls", "gate")}
-    return {**os.environ, **files, **settings, "LD_PRELOAD": ":".join(libraries)}
-
-
 def put(file, text):
     """Gives a file this text, at once."""
     with open(f"{file}.new", "w", encoding="ascii") as new:
@@ -270,17 +327,79 @@ def put(file, text):
     os.rename(f"{file}.new", file)
 
 
-def has_text(file, text):
-    """Whether a file is there and has this text."""
-    with contextlib.suppress(FileNotFoundError), open(file, encoding="ascii") as it:
-        return it.read() == text
-    return False
+def read(file):
+    """A file's octets, or none if it isn't there."""
+    with contextlib.suppress(FileNotFoundError), open(file, "rb") as it:
+        return it.read()
+    return b""
 
 
-def set_on(folder, seconds):
-    """Sets the clock of a server with tools/clock.c on, and waits until it has seen it."""
-    put(f"{folder}/clock", str(seconds))
-    wait_for(lambda: has_text(f"{folder}/seen", str(seconds)), "the clock isn't seen")
+class Case(cases.Case):
+    """A case over servers, which end with it."""
+
+    def setUp(self):
+        super().setUp()
+        # By how much large texts and stores are smaller.
+        self.shorter = 100 if self.short else 1
+
+    def renew(self):
+        """Gives the case another empty folder, for another server."""
+        super().setUp()
+
+    def inner(self, name):
+        """A new folder in the case's own."""
+        os.mkdir(place := f"{self.folder}/{name}")
+        return place
+
+    def serve(self, *words, **how):
+        """A server over the case's folder, whose standard error is the file `err` there."""
+        with open(f"{self.folder}/err", "wb") as err:
+            server = Server(self.program, self.folder, *words, **{"stderr": err} | how)
+        self.addCleanup(server.end)
+        return server
+
+    def office(self, *words, **how):
+        """A server with the maildrop `orders` and its clerk ann."""
+        server = self.serve(*words, **how)
+        server.fill()
+        return server
+
+    def client(self, server, *where, **how):
+        """A client of a server, or of another port, until the case ends."""
+        return self.enterContext(server.connect(*where, **how))
+
+    def errors(self):
+        """What a server has written to standard error, but that it isn't proved."""
+        return without_slow(read(f"{self.folder}/err").decode())
+
+    def run_program(self, *words, **how):
+        """Runs the program in the case's folder, and gives its status and what it printed."""
+        how = {"cwd": self.folder, "capture_output": True, "check": False} | how
+        return subprocess.run([self.program, *words], **how)
+
+    def prints(self, command, *words, store="mail.db", given=b"", status=0):
+        """What a command prints over a store, by which no fault is reported."""
+        ran = self.run_program(command, "--store", store, *words, input=given)
+        self.assertEqual((ran.returncode, ran.stderr), (status, b""))
+        return ran.stdout
+
+    def preload(self, *names, **settings):
+        """The environment of a program that has the loader put these of tools/preload before the C
+        library, with their files in the case's folder."""
+        libraries = ":".join(compile_preload(name, self.folder) for name in names)
+        files = ("clock", "seen", "date", "calls", "gate")
+        files = {it.upper(): f"{self.folder}/{it}" for it in files}
+        return {**os.environ, **files, **settings, "LD_PRELOAD": libraries}
+
+    def still(self, *names):
+        """The environment of a server whose clock stands at 0 until it is set on."""
+        return self.preload("clock", *names, STILL="1")
+
+    def set_on(self, seconds):
+        """Sets the clock of a server with preload/clock.c on, and waits until it has seen it."""
+        put(f"{self.folder}/clock", str(seconds))
+        is_seen = lambda: read(f"{self.folder}/seen") == b"%d" % seconds
+        wait_for(is_seen, "the clock isn't seen")
 
 
 # What a tool looks at itself.

@@ -478,11 +478,6 @@ class Thunderbird(Program):
     def record(self):
         return f"{self.pop}/popstate.dat"
 
-    def known(self):
-        """The unique-ids that it keeps of messages on the server."""
-        with open(self.record(), encoding="ascii") as lines:
-            return {it.split()[1] for it in lines if re.match(r"[kdfbt] ", it)}
-
     def age(self, days):
         """Lets all that it fetched be so much older."""
         with open(self.record(), encoding="ascii") as file:
@@ -508,10 +503,6 @@ class Folders(Program):
     def record(self):
         (found,) = (it for it in glob.glob(f"{self.config}/uidl/*") if not it.endswith(".bak"))
         return found
-
-    def known(self):
-        with open(self.record(), encoding="ascii") as lines:
-            return {it.split("\t")[0] for it in lines if it.strip()}
 
     def age(self, days):
         with open(self.record(), encoding="ascii") as file:

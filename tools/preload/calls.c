@@ -1,6 +1,6 @@
 /*
- * Tells what a server asks of its sockets: tools/check-limits has the loader put this before the C
- * library. To the file that CALLS names it adds a line for each call: `wait MILLIS EVENTS`; and of
+ * Tells what a server asks of its sockets: the cases of tools/serve have the loader put this before
+ * the C library. To the file that CALLS names it adds a line for each call: `wait MILLIS EVENTS`; and of
  * a link, by the PORT of its other end, `nodelay PORT`, `recv PORT ROOM CAME` and `send PORT LENT
  * TAKEN`, in which CAME or TAKEN is -1 if the call failed. With TAKES a send takes that many octets
  * at most. With SWAP each file whose name ends with `.eml` is replaced, just before it is opened,

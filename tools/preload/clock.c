@@ -1,7 +1,7 @@
 /*
- * A clock that can be set: tools/check-server, check-limits and check-defaults have the loader put
- * this before the C library. To each moment that a program asks for are added the seconds that the
- * file named by CLOCK holds, and once a moment was told with them, the file named by SEEN holds them
+ * A clock that can be set: the cases of tools/serve and trials/check-month have the loader put this
+ * before the C library. To each moment that a program asks for are added the seconds that the file
+ * named by CLOCK holds, and once a moment was told with them, the file named by SEEN holds them
  * too. To the date alone are added the seconds that the file named by DATE holds, which may begin
  * with a minus sign. With STILL, the moments that don't depend on the date stay the first one
  * otherwise, so that a slow machine loses no time. It calls the system alone, since a program may ask

@@ -1,6 +1,7 @@
 """The page's companions, answer-review and answer-policies, as nginx asks them. What nginx and the
-page do with them, tools/check-page tries by hand."""
+page do with them, page/check tries by hand."""
 
+import hashlib
 import os
 
 from clients import POLICY, wants
@@ -29,7 +30,7 @@ class Companions(ScriptCase):
         env = {"POPBOX_PROGRAM": self.program, "POPBOX_KEEP": self.kept, "TMPDIR": self.work}
         env["POPBOX_ADMIN_PORT"] = str(self.port)
         env["POPBOX_SET_POLICY"] = f"{self.packaging}/popbox-set-policy"
-        _, said, _ = self.script(f"page/{name}", said=request, env=env)
+        _, said, _ = self.script(f"../page/{name}", said=request, env=env)
         wants(os.listdir(self.work), [])
         head, _, body = said.partition("\r\n\r\n")
         return (int(head.split()[1]), body) if head else None
@@ -89,7 +90,7 @@ class Companions(ScriptCase):
     def test_a_companion_puts_a_policy_in_force(self):
         """answer-policies sets a policy only in the place of the one that was looked at, keeps
         that, and shows what it kept and nothing else that lies there."""
-        server = self.enterContext(self.office())
+        server = self.office()
         self.port = server.admin
         policies = lambda *words, **headers: self.ask(POLICIES, *words, **headers)
         in_force = lambda: server.administer("GET", "/policy")
@@ -104,7 +105,7 @@ class Companions(ScriptCase):
         ):
             status, said = policies("set", first, draft)
             wants((draft, status, words in said, in_force()), (draft, 422, True, first))
-        status, said = policies("set", first, READ_ONLY)
+        status, said = policies("set", first, f"# Why.\n{READ_ONLY}", WHO="eve")
         kept = f"{self.kept}/port-{server.admin}"
         last = f"in force: 1 rules; what was before: {kept}/"
         wants((status, said.startswith(last)), (200, True))
@@ -116,7 +117,11 @@ class Companions(ScriptCase):
             write(f"{kept}/{it}", "x")
             wants((it, policies(it, "")), (it, (404, "not found\n")))
         status, names = policies("list", "")
-        wants((status, names.count("\n")), (200, 1))
-        wants(policies(names.strip(), ""), (200, first))
+        kept, put = (line.split() for line in names.splitlines())
+        wants((status, kept[0], put[0], put[3]), (200, "kept", "put", "eve"))
+        wants(policies(kept[1], ""), (200, first))
+        # The text with its comments, by the digest of what is in force.
+        wants(put[2], hashlib.sha256(second.encode()).hexdigest())
+        wants(policies(put[2], ""), (200, f"# Why.\n{READ_ONLY}"))
         wants(policies("set", second, "# Nobody.\n", NOBODY="yes")[0], 200)
         wants(in_force(), "")

@@ -11,7 +11,7 @@ import signal
 import subprocess
 
 from cases import Case, compile_preload
-from clients import POLICY, Server, Wrong, wait_for, wants
+from clients import Server, Wrong, wait_for, wants
 
 # After how many seconds a script that hangs is ended.
 LIMIT = 300
@@ -127,19 +127,15 @@ class ScriptCase(Case):
             script += f"deposit orders note d{number} {text}\n"
         wants(self.popbox("replay", "--store", self.store, said=script)[0], 0)
 
-    @contextlib.contextmanager
     def office(self, texts=(), words=()):
-        """A server with the maildrops `orders`, which has these messages, and `sales`."""
+        """A server with the maildrops `orders`, which has these messages, and `sales`. It ends with
+        the case, or with a `with`."""
         server = Server(self.program, self.folder, "--admin-site", "localhost", *words)
-        try:
-            for path in ("orders", "sales"):
-                server.administer("PUT", f"/maildrops/{path}")
-            server.administer("PUT", "/policy", POLICY)
-            for number, text in enumerate(texts):
-                server.deposit(f"orders.note.d{number}.eml", text)
-            yield server
-        finally:
-            server.end()
+        self.addCleanup(server.end)
+        server.fill(("orders", "sales"), ())
+        for number, text in enumerate(texts):
+            server.deposit(f"orders.note.d{number}.eml", text)
+        return server
 
 
 def is_halted(server):

@@ -45,7 +45,7 @@ class SetPolicy(ScriptCase):
 
     def setUp(self):
         super().setUp()
-        self.server = self.enterContext(self.office(words=self.options))
+        self.server = self.office(words=self.options)
         self.port, self.kept = str(self.server.admin), f"{self.folder}/kept"
         self.of_port, self.before = f"{self.kept}/port-{self.port}", self.in_force()
         self.new = f"{self.folder}/new.toml"

@@ -1,0 +1,58 @@
+// Asks the server for everything, and has every view drawn from it.
+
+import { begin } from './begin.js';
+import { drawClerks } from './clerks.js';
+import { counted, say } from './dom.js';
+import { editRule, replaceDraft, reviewLater, showDraft } from './draft.js';
+import { drawTable } from './grid.js';
+import { drawMaildrops } from './maildrops.js';
+import { drawBefore, drawForce, textBefore } from './policy.js';
+import { drawSessions } from './sessions.js';
+import { existing, fetchAll, hasDraft, state } from './store.js';
+
+let loading = Promise.resolve();
+/** Asks for everything, after any earlier loading is over. Whether it came. */
+export function load() {
+  loading = loading.then(loadNow).catch((error) => {
+    say(`this page failed: ${error.message}`, true);
+    return false;
+  });
+  return loading;
+}
+
+async function loadNow() {
+  say('asking …');
+  const before = state.force;
+  const refused = await fetchAll(drawTable);
+  if (refused) {
+    say(refused.told, true);
+    return false;
+  }
+  if (state.force !== before && hasDraft()) reviewLater();
+  drawForce((n) => editRule(n));
+  drawBefore(takeBefore);
+  showDraft();
+  drawTable();
+  begin();
+  drawMaildrops();
+  drawClerks();
+  drawSessions();
+  sayCounts();
+  return true;
+}
+
+async function takeBefore(kept) {
+  const { text, told } = await textBefore(kept);
+  if (text === undefined) say(told, true);
+  else await replaceDraft(text);
+}
+
+function sayCounts() {
+  const counts = [
+    counted(state.maildrops.length, 'maildrop'),
+    counted(existing().length, 'clerk'),
+    counted(state.sessions.length, 'session'),
+  ];
+  const who = state.user ? `Signed in as ${state.user}. ` : '';
+  say(`${who}${counts.join(', ')}, as of ${new Date().toLocaleTimeString()}`);
+}
