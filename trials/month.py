@@ -14,7 +14,7 @@ import time
 import tomllib
 
 HOST, DOMAIN = "pop.office.test", "office.test"
-CERTIFICATE, CLASSES = "/etc/ssl/certs/pop.pem", "/etc/popbox/classes"
+CERTIFICATE, SORTING = "/etc/ssl/certs/pop.pem", "/etc/popbox/sorting.toml"
 SPOOL = "/var/lib/popbox/spool"
 # The clerks' programs run as this user, each in a folder of its own.
 USER, HOME = "month", "/home/month"
@@ -31,15 +31,15 @@ SUBJECTS = {
     "complaint": "complaint {}: a leg is loose",
     "legal": "letter {} from our lawyers",
 }
-PATTERNS = "".join(
-    f"{name} ^Subject: .*{word}\n"
+RULES = "".join(
+    f'[[sort]]\nclass = "{name}"\nsubject = "{word}"\n'
     for name, word in (
         ("payment", "payment received"),
         ("invoice", "invoice"),
         ("complaint", "complaint"),
         ("legal", "lawyers"),
     )
-)
+) + '[otherwise]\nclass = "note"\n'
 
 
 class Wrong(Exception):

@@ -1,4 +1,4 @@
-"""popbox-deliver: a message that comes in, and the class that it is given."""
+"""popbox-deliver: a message that comes in. sorting.py has the class that it is given."""
 
 import glob
 import os
@@ -12,55 +12,22 @@ from harness import LIMIT, ScriptCase, limit_files, read, write
 LARGEST = 26_214_400
 # The file for a message of the maildrop `orders` with the id n-1.
 NOTE = "orders.note.n-1.eml"
-CLASSES = """# no class
-
-payment ^From: .*@bank\\.example>?$
-invoice ^Subject: .*invoice
-cafe ^(Subject|X-Where): caf\u00e9$
-later ^Subject: """
-# Lines that say no class.
-WRONG = f"{'c' * 33} ^Subject", "Later ^Subject", "later ("
-# Messages, and the class of each by these.
-CLASSED = (
-    ("From: <a@bank.example>\nSubject: your invoice\n\n", "payment"),
-    ("Subject: Your INVOICE\r\nFrom: a@b.example\r\n\r\n", "invoice"),
-    ("From: a@b.example\n\nSubject: invoice\n", "note"),
-    ("Subject: your\n invoice\n\n", "invoice"),
-    ("Subject: =?utf-8?B?eW91ciBpbnY=?= =?utf-8?Q?oi=63e?=\n\n", "invoice"),
-    ("From: =?utf-8?Q?a=40bank.example?=\n\n", "note"),
-    ("Subject: a chair\n\n", "later"),
-    ("X-Where: caf\u00e9\n\n", "cafe"),
-    ("Subject: =?ISO-8859-1?q?caf=E9?=\n\n", "cafe"),
-    ("Subject: =?iso-8859-1*de?q?caf=E9?=\n\n", "cafe"),
-    ("Subject: =?windows-1252?B?Y2Fm6Q==?=\n\n", "cafe"),
-    ("Subject: your\n\tinvoice\n\n", "invoice"),
-    ("Subject: =?utf-8?q?a=0AFrom:_a@bank.example?=\n\n", "later"),
-    ("Subject: =?utf-8?q?your_inv=6fice?=\n\n", "invoice"),
-    ("\nSubject: your invoice\n", "note"),
-    ("Subject: your invoice\r\nX-Where: here", "invoice"),
-)
 
 
 class Deliver(ScriptCase):
     def setUp(self):
         super().setUp()
-        self.words, self.classes = [self.spool, "orders", "n-1"], f"{self.folder}/classes"
-        self.no_classes = {"POPBOX_CLASSES": f"{self.folder}/none"}
+        self.words, rules = [self.spool, "orders", "n-1"], '[otherwise]\nclass = "note"\n'
+        self.env = {"POPBOX_SORTING": write(f"{self.folder}/sorting.toml", rules)}
 
-    def deliver(self, *words, said=b"Subject: a chair\n\nA chair.\n", classes="", env=None, **how):
+    def deliver(self, *words, said=b"Subject: a chair\n\nA chair.\n", env=None, **how):
         """What popbox-deliver gives, and what then lies in the spool."""
-        env = {"POPBOX_CLASSES": write(self.classes, classes), **(env or {})}
+        env = {**self.env, **(env or {})}
         status, out, why = self.script("popbox-deliver", *words, said=said, env=env, **how)
         wants(out, "")
         # Each failure has its line, and nothing else has one.
         wants((status == 0, "popbox-deliver: " in why), (not why, status != 0))
         return status, sorted(os.listdir(self.spool))
-
-    def give_classes(self, classes, paths):
-        """What popbox-deliver --classes gives of the messages in these files."""
-        said = "".join(f"{path}\n" for path in paths).encode()
-        env = {"POPBOX_CLASSES": write(self.classes, classes)}
-        return self.script("popbox-deliver", "--classes", said=said, env=env)
 
     def begin_to_deliver(self, run, text):
         """Gives a script a part of a message, and waits until that lies in the spool."""
@@ -80,6 +47,7 @@ class Deliver(ScriptCase):
         for status, words, said in (
             (64, [spool, "orders"], one),
             (64, [spool, "orders", "n-1", "more"], one),
+            (64, [spool, "orders", "n-1", "orders@office.test", "more"], one),
             (67, [spool, "Orders", "n-1"], one),
             (67, [spool, "", "n-1"], one),
             (67, [spool, "o" * 33, "n-1"], one),
@@ -114,36 +82,11 @@ class Deliver(ScriptCase):
                 for name in there:
                     os.remove(f"{self.spool}/{name}")
 
-    def test_deliver_gives_the_class_of_the_first_line_that_is_found(self):
-        """The first line whose pattern is found in a decoded, unfolded header field gives the
-        class; without one it is note, and a line that says no class keeps the mail back."""
-        for text, wanted in CLASSED:
-            with self.subTest(text=text):
-                found = self.deliver(*self.words, said=text.encode(), classes=CLASSES)
-                wants(found, (0, [f"orders.{wanted}.n-1.eml"]))
-                os.remove(f"{self.spool}/{found[1][0]}")
-        # All of them at once are given the same.
-        paths = [write(f"{self.folder}/text {at}", it) for at, (it, _) in enumerate(CLASSED)]
-        wanted = "".join(f"{wanted}\n" for _, wanted in CLASSED)
-        wants(self.give_classes(CLASSES, paths), (0, wanted, ""))
-        wants(self.give_classes(CLASSES, []), (0, "", ""))
-        for line in WRONG:
-            status, said, why = self.give_classes(line, paths)
-            wants((line, status, said), (line, 75, ""))
-            wants(why.splitlines()[-1].startswith("popbox-deliver: "), True)
-        status, said, _ = self.give_classes(CLASSES, [*paths, f"{self.folder}/none"])
-        wants((status, said), (75, ""))
-        # Without the file all are notes.
-        wants(self.deliver(*self.words, env=self.no_classes), (0, [NOTE]))
-        os.remove(f"{self.spool}/{NOTE}")
-        for line in WRONG:
-            wants((line, self.deliver(*self.words, classes=line)), (line, (75, [])))
-
     def test_a_message_has_its_name_once_it_is_whole(self):
         """The file has its name only when it is whole. A message that waits already is left as it
         is: the same is taken, and another one isn't."""
         text = b"Subject: a chair\n" + b"x" * 200_000
-        with self.begin("popbox-deliver", *self.words, env=self.no_classes) as run:
+        with self.begin("popbox-deliver", *self.words, env=self.env) as run:
             self.begin_to_deliver(run, text)
             wants([it for it in os.listdir(self.spool) if it.endswith(".eml")], [])
             wants(run.communicate(b"the end\n", timeout=LIMIT), (b"", b""))
@@ -159,7 +102,7 @@ class Deliver(ScriptCase):
     def test_deliver_leaves_nothing_where_it_is_ended(self):
         """If a signal ends it, the mail system keeps the message, and the spool has nothing."""
         for number in (signal.SIGTERM, signal.SIGHUP, signal.SIGINT):
-            with self.begin("popbox-deliver", *self.words, env=self.no_classes) as run:
+            with self.begin("popbox-deliver", *self.words, env=self.env) as run:
                 self.begin_to_deliver(run, b"Subject: a chair\n")
                 run.send_signal(number)
                 run.communicate(timeout=LIMIT)

@@ -40,6 +40,15 @@ def make_maildir(box):
     os.symlink("/etc/passwd", f"{box}/new/{AT}.M3P7.h")
 
 
+SORTING = """[[sort]]
+class = "invoice"
+subject = "re:^invoice"
+
+[otherwise]
+class = "note"
+"""
+
+
 class MovingCase(ScriptCase):
     """A case with copies of the scripts, of which put-in calls the popbox-deliver beside it."""
 
@@ -47,12 +56,12 @@ class MovingCase(ScriptCase):
         super().setUp()
         self.box, self.scripts = f"{self.folder}/Maildir", f"{self.folder}/scripts"
         os.mkdir(self.scripts)
-        for name in ("from-maildir", "from-mbox", "put-in", "import-maildir", "popbox-deliver"):
+        names = ["from-maildir", "from-mbox", "put-in", "import-maildir", "popbox-deliver"]
+        for name in (*names, "sorting.py"):
             text = read_text(f"{self.packaging}/{name}")
             script = write(f"{self.scripts}/{name}", text.replace("/usr/lib/popbox", self.scripts))
             os.chmod(script, 0o755)
-        classes = write(f"{self.folder}/classes", "invoice ^Subject: invoice\n")
-        self.env = {"POPBOX_CLASSES": classes}
+        self.env = {"POPBOX_SORTING": write(f"{self.folder}/sorting.toml", SORTING)}
 
     def put(self, server, name, *words):
         """What a script gives, the lines of `orders` then, and what lies in the spool."""
@@ -244,12 +253,19 @@ head -n {count} {script} | {self.program} "$@"
         found = self.take_in("orders", self.box, program=self.stops(99))
         wants(found, (1, left, told + ENDED))
         wants(self.listed("orders"), BY_AGE)
-        # A name that no line can have.
+        # A name with a line feed; and a message that the sorting keeps back.
         os.remove(f"{self.box}/new/{first}")
-        write_message(f"{self.box}/new/{AT}\n.M9P7.h", "note", 60)
-        told = f"import-maildir: {self.box}/new/{AT}\\n.M9P7.h: its path has a line feed\n"
+        name = f"{self.box}/new/{AT}\n.M9P7.h"
+        write_message(name, "no\0te", 60)
+        write(f"{self.folder}/sorting.toml", SORTING + "strict = true\n")
+        why = f"{self.folder}/sorting.toml: otherwise is strict, and its header has a NUL"
+        told = f"import-maildir: {self.box}/new/{AT}\\n.M9P7.h: {why}\n"
         wants(self.take_in("orders", self.box), (1, left, told))
         wants(self.listed("orders"), BY_AGE)
+        write(f"{self.folder}/sorting.toml", SORTING)
+        left = "orders: 1 new, 6 known, 0 left\n"
+        wants(self.take_in("orders", self.box), (0, left, ""))
+        wants(self.listed("orders"), [*BY_AGE, "note.5 60"])
 
     def test_an_import_refuses(self):
         """No store is made; one that a server has open, what is no Maildir, and a wrong command
@@ -269,3 +285,5 @@ head -n {count} {script} | {self.program} "$@"
             status, said, _ = self.take_in(*words)
             wants((words, status, said), (words, 2, ""))
         wants(self.script(f"{self.scripts}/import-maildir", "--help")[::2], (0, ""))
+        told = f"{write(f'{self.folder}/sorting.toml', '')}: it has no [otherwise]\n"
+        wants(self.take_in("orders", self.box), (1, "", f"import-maildir: {told}"))
