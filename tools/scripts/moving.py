@@ -1,6 +1,7 @@
 """from-maildir, from-mbox, put-in and import-maildir: old mail that comes in."""
 
 import os
+import re
 
 from clients import wants
 from harness import ScriptCase, read, read_text, write
@@ -246,7 +247,8 @@ head -n {count} {script} | {self.program} "$@"
         os.remove(empty)
         # The same name with another text.
         write_message(f"{self.box}/new/{first}", "note", 99)
-        told = f"import-maildir: {self.box}/new/{first}: conflict\n"
+        told = f"import-maildir: {self.box}/new/{first}: conflict: another text, "
+        told += "or of a class of which nothing is here\n"
         left = "orders: 0 new, 6 known, 1 left\n"
         wants(self.take_in("orders", self.box), (1, left, told))
         # A popbox that fails once it has answered each of them.
@@ -266,6 +268,18 @@ head -n {count} {script} | {self.program} "$@"
         left = "orders: 1 new, 6 known, 0 left\n"
         wants(self.take_in("orders", self.box), (0, left, ""))
         wants(self.listed("orders"), [*BY_AGE, "note.5 60"])
+
+    def test_an_import_says_which_class_a_message_has_by_now(self):
+        """If the same messages come once more under another class, each is left, and the import
+        says what it is in the store; the store stays as it is."""
+        self.make_store([])
+        make_maildir(self.box)
+        wants(self.take_in("orders", self.box)[0], 0)
+        status, said, why = self.take_in("--class", "invoice", "orders", self.box)
+        wants((status, said), (1, "orders: 0 new, 3 known, 4 left\n"))
+        form = r": conflict: it is (\S+), and would be of the class invoice\n"
+        wants(re.findall(form, why), ["note.1", "note.2", "note.3", "note.4"])
+        wants(self.listed("orders"), BY_AGE)
 
     def test_an_import_refuses(self):
         """No store is made; one that a server has open, what is no Maildir, and a wrong command

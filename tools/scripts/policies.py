@@ -278,6 +278,7 @@ class Refuses(SetPolicy):
             ([self.new, self.new], "two files"),
             (["--back", self.new], "--back and a file"),
             (["--port"], "--port wants a value"),
+            (["--port", "abc"], "no port abc"),
         ):
             found = self.script("popbox-set-policy", *words)
             wants(found, (2, "", f"popbox-set-policy: {told}\n"))
