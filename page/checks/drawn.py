@@ -98,7 +98,10 @@ def told(is_so, rule):
 def show(page, **view):
     """Sets the filters, and waits until the table is drawn by them."""
     page.js("document.querySelector('#grid tbody').dataset.old = 1")
-    page.fill(None, **{f"f-{key}": value for key, value in view.items()})
+    for name, value in view.items():
+        key = "checked" if isinstance(value, bool) else "value"
+        page.js("arguments[0][arguments[1]] = arguments[2]", page.find(f"f-{name}"), key, value)
+    page.js("document.getElementById('filters').dispatchEvent(new Event('input'))")
     is_old = "return document.querySelector('#grid tbody').dataset.old"
     page.wait(lambda: not page.js(is_old), "the table isn't drawn")
 
@@ -419,7 +422,7 @@ class Looks(PageCase):
         """The two pictures of docs/: an opened cell, and a draft that is reviewed."""
         if not os.environ.get("POPBOX_PICTURES"):
             self.skipTest("POPBOX_PICTURES names no folder")
-        page = self.browser(self.site(), width=1240, height=780)
+        page = self.browser(self.site(), width=1240, height=1050)
         page.view("table/bob/orders")
         page.driver.save_screenshot(f"{os.environ['POPBOX_PICTURES']}/page-table.png")
         page.draft(DRAFT)
