@@ -1,5 +1,5 @@
 /*
- * Tells what reaches the disk: tools/check-program and the cases of tools/serve and tools/scripts
+ * Tells what reaches the disk: tools/check-program and the cases of tools/serve and packaging/checks
  * have the loader put this before the C library. To the file that CALLS names it adds a line for each call: `write
  * NAME` and `sync NAME`, by the name of the open file; `rename NAME`, by the old one. A sync or
  * rename whose line fits the pattern FAILS, as `sync *.db`, fails with EIO and is left out; with
