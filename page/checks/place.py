@@ -384,7 +384,9 @@ class PageCase(cases.Case):
 
     def setUp(self):
         self.kind = Firefox if self.firefox else Chromium
-        cases.needs(*NEEDED, *self.kind.needs)
+        cases.needs(*NEEDED)
+        if os.geteuid():
+            self.skipTest("not root")
         super().setUp()
 
     def site(self, **how):
@@ -396,6 +398,7 @@ class PageCase(cases.Case):
         return it
 
     def browser(self, site, **how):
+        cases.needs(*self.kind.needs)
         it = Browser(self.kind, site, **how)
         self.addCleanup(it.driver.quit)
         return it
