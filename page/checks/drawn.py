@@ -388,14 +388,11 @@ class Looks(PageCase):
         for view in ("table", "policy", "maildrops", "clerks", "history"):
             with self.subTest(view):
                 page.view(view)
-                page.js("document.activeElement.blur()")
+                page.js("document.querySelector('.skip').focus()")
                 count, reached = page.js(CONTROLS), set()
-                # Beyond the page's end Tab leads through the browser's own buttons.
-                for _ in range(3 * count + 40):
+                for _ in range(count + 12):
                     page.keys(Keys.TAB)
                     reached.add(page.js(AT))
-                    if len(reached - {None}) >= count:
-                        break
                 self.assertGreaterEqual(len(reached - {None}), count)
 
     def printed(self, page):
