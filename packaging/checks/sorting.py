@@ -339,7 +339,7 @@ class Sorting(ScriptCase):
                 status, told = self.deliver(text + b"\n\nx\n")
                 is_told = f"{self.sorting}: otherwise is strict, and " in told and why in told
                 wants((status, is_told), (75, True))
-        wants(self.deliver(b"Subject: a chair\n\nx\n"), "note")
+        wants(self.deliver(b"Subject : complaint\n\nx\n"), "complaint")
 
     def test_a_regular_expression_has_two_seconds(self):
         """One that takes longer keeps the message back, and says which rule it is in."""

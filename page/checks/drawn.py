@@ -388,7 +388,7 @@ class Looks(PageCase):
         for view in ("table", "policy", "maildrops", "clerks", "history"):
             with self.subTest(view):
                 page.view(view)
-                page.js("document.activeElement.blur()")
+                page.js("document.querySelector('.skip').focus()")
                 count, reached = page.js(CONTROLS), set()
                 for _ in range(count + 12):
                     page.keys(Keys.TAB)

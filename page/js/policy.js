@@ -17,6 +17,7 @@ export function drawForce(edit) {
     }
     blocks.at(-1).append(h('div', { class: 'line', 'data-n': n + 1 }, text));
   });
+  $('force').classList.toggle('many', blocks.length > 100);
   $('force').replaceChildren(...blocks);
   const { by, at } = putOf(state.digest);
   const since = by ? ` Put in force by ${by}, ${timeOf(at)}.` : '';

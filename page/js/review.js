@@ -154,8 +154,8 @@ function summary(name, some, where) {
 
 function drawDecisions(some) {
   const by = (effect, rule) => {
-    const name = rule === 'default' ? 'no rule' : rule;
-    return `${effect === 'allow' ? 'allowed' : 'denied'} by ${name}`;
+    if (rule === 'default') return 'denied, as no rule matches';
+    return `${effect === 'allow' ? 'allowed' : 'denied'} by ${rule}`;
   };
   const line = ([, , , kind, action, was, old, effect, rule]) => h('tr', null,
     h('td', { class: effect === 'allow' ? 'up' : 'down' }, effect === 'allow' ? '▲' : '▼'),
