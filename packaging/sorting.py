@@ -202,7 +202,9 @@ class Condition:
             return lambda value: text in value
         if self.key == "to" and re.fullmatch(r"\+[^@]+", text):
             return lambda value: value.rpartition("@")[0].partition("+")[2] == text[1:]
-        if self.key != "list-id" and not re.fullmatch(r"[^@]*@[^@]+", text):
+        if self.key == "list-id":
+            return lambda value: value == text.removeprefix("<").removesuffix(">")
+        if not re.fullmatch(r"[^@]*@[^@]+", text):
             raise Fault(f"{self.name}: {text!r} is no address, and no domain after an @")
         if text.startswith("@"):
             return lambda value: value[value.rindex("@") :] == text

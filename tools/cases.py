@@ -103,7 +103,7 @@ def main(text, folder, **options):
     `text` is the tool's help. Each of the options, with its default, is an attribute of Case."""
     words = read_line(text, options)
     if not os.access(Case.program, os.X_OK):
-        sys.exit(f"{Case.program} isn't there: tools/build builds it")
+        sys.exit(f"{Case.program} isn't there: tools/build builds it, tools/run-unproved another")
     # What a case began is ended with it.
     signal.signal(signal.SIGTERM, signal.default_int_handler)
     loader = unittest.TestLoader()

@@ -236,8 +236,8 @@ class Sorting(ScriptCase):
             words.append(f"{self.folder}/{number}")
             write(words[-1], text)
         status, out, why = self.call("--explain", *words)
-        wants((status, why), (0, ""))
         told = re.findall(r"(?m)^\S.*\n(?: .*\n)*", out)
+        wants((status, why), (75 if out.startswith("none: ") or "\nnone: " in out else 0, ""))
         wants(len(told), len(words))
         return told
 
@@ -372,9 +372,25 @@ class Sorting(ScriptCase):
         write(self.sorting, SORTING + "strict = true\n")
         told = f"  status 75: {self.sorting}: otherwise is strict, and its header has a NUL\n"
         wants(self.explain([text]), [f"none: {self.folder}/0\n{told}"])
-        status, out, why = self.call("--explain", f"{self.folder}/none")
-        wants((status, out), (75, ""))
-        wants(why, f"popbox-deliver: {self.folder}/none: No such file or directory\n")
+        status, out, why = self.call("--explain", f"{self.folder}/none", f"{self.folder}/0")
+        lost = f"none: {self.folder}/none\n  status 75: No such file or directory\n"
+        wants((status, out, why), (75, f"{lost}none: {self.folder}/0\n{told}", ""))
+
+    def test_a_subject_that_is_empty_or_missing(self):
+        """No text fits a Subject that isn't there; List-Id's brackets are no part of it."""
+        write(self.sorting, """[[sort]]
+class = "bare"
+subject = "re:^$"
+[[sort]]
+class = "list"
+list-id = "<news.dental.example>"
+[otherwise]
+class = "note"
+""")
+        listed = b"Subject: x\nList-Id: News <news.dental.example>\n\n"
+        texts = [b"From: a@b.example\n\n", b"Subject:\n\n", listed, b"Subject: x\n\n"]
+        classes = [it.split(" ", 1)[0] for it in self.explain(texts)]
+        wants(classes, ["note", "bare", "list", "note"])
 
     def test_check_and_classes(self):
         """--check says how many rules there are, --classes each class once."""
