@@ -138,6 +138,17 @@ class History(ScriptCase):
         wants(saw, ["whether bob saw it,"] * 2)
         wants(self.asks("message", "orders", "note.9")["events"], [])
 
+    def test_message_broken_off(self):
+        """Of a message that a session's end broke off it says that not all of it may be sent, and
+        of one that came while no reads were logged who may have read it."""
+        closed = (r'event=quit (connection=1 .*) answer="bye"', r"event=closed \1")
+        log = self.edited(closed, (" top=1/10 (.*)", r" top=0/0 \1 cut=payment.1"))
+        said = self.asks("message", "orders", "payment.1", log=log)["not known"]
+        wants([it[:18] for it in said], ["whether all of it ", "whether bob saw it"])
+        log = self.edited((" top=1/10", " top=0/0"), ("log-reads=yes", "log-reads=no"))
+        said = self.asks("message", "orders", "payment.1", log=log)["not known"]
+        wants([it[:18] for it in said], ["whether bob saw it"] * 2)
+
     def test_imported_message(self):
         """Of a message that was put in while no server ran it says that no line has its coming."""
         wanted = [["removed", "ann", self.address["removes"], "note.2"]]
@@ -185,6 +196,13 @@ class History(ScriptCase):
         text = self.prints("policy", "--at", self.while_kept)
         wants(text.endswith(f"\n\n{written[1]}"), True)
 
+    def test_read_as_a_policy_comes_into_force(self):
+        """It gives no rule for what was done within two seconds of a policy's coming into force."""
+        read = self.asks("message", "orders", "payment.1")["events"][1]
+        log = self.edited((r'^\S+( event=admin .*"2 rules")', rf"{read['at']}\g<1>"))
+        found = self.asks("message", "orders", "payment.1", log=log)["events"][1]
+        wants((read["rule"], found["event"], found["rule"]), ("desk", "retr", None))
+
     def test_rules_and_policies_that_the_log_names(self):
         """If the log's lines have rules and policies, the answers are by these."""
         name = self.asks("policy", "--at", self.while_kept)["policy"]
@@ -227,6 +245,7 @@ class History(ScriptCase):
         front = "Dec 01 11:34:23 office popbox[812]: "
         log = self.edited((r"^(?=.)", front))
         wants([self.events(*it, log=log) for it in questions], wanted)
-        self.stand_in("journalctl", "exit 1")
-        status, said, why = self.script("popbox-history", "held", "orders")
-        wants((status, said, why.startswith("popbox-history: ")), (1, "", True))
+        for it in ("exit 1", "echo '-- No entries --'"):
+            self.stand_in("journalctl", it)
+            status, said, why = self.script("popbox-history", "held", "orders")
+            wants((status, said, why.startswith("popbox-history: ")), (1, "", True))
