@@ -2,6 +2,7 @@
 
 import glob
 import gzip
+import itertools
 import json
 import os
 import re
@@ -137,6 +138,9 @@ class History(ScriptCase):
         saw = [re.sub(" in the session of .*", "", it) for it in said["not known"]]
         wants(saw, ["whether bob saw it,"] * 2)
         wants(self.asks("message", "orders", "note.9")["events"], [])
+        # Of a class that no rule names, too.
+        log = self.edited((r"(event=retr .*) uid=payment.1", r"\1 uid=note.1"))
+        wants(self.events("message", "orders", "note.1", log=log)[1][-1], "desk")
 
     def test_message_broken_off(self):
         """Of a message that a session's end broke off it says that not all of it may be sent, and
@@ -231,12 +235,17 @@ class History(ScriptCase):
         journal, of which only the service's own lines count."""
         questions = [("message", "orders", "payment.1"), ("clerk", "bob"), ("held", "orders")]
         wanted = [self.events(*it) for it in questions]
-        lines = read_text(self.log).splitlines(keepends=True)
-        log, third = f"{self.folder}/events", len(lines) // 3
-        with gzip.open(f"{log}-20261129.gz", "wt") as file:
-            file.writelines(lines[:third])
-        write(f"{log}-20261130", "".join(lines[third : 2 * third]))
-        write(log, "".join(lines[2 * third :]))
+        second = "event=open .* file=[1-9]|event=deposit file=orders.payment"
+        parts = re.split(f"(?m)^(?=\\S+ (?:{second}))", read_text(self.log))
+        wants(len(parts), 3)
+        log = f"{self.folder}/events"
+        names = [log, f"{log}-20261129.gz", f"{log}.2"]
+        # However the files are named, the oldest lines are read first.
+        for order in itertools.permutations(parts):
+            for name, part in zip(names, order):
+                with (gzip.open if name.endswith(".gz") else open)(name, "wt") as file:
+                    file.write(part)
+            wants(self.events(*questions[2], log=log), wanted[2])
         wants([self.events(*it, log=log) for it in questions], wanted)
         unit = "_SYSTEMD_UNIT=popbox.service"
         self.stand_in("journalctl", f'case "$*" in *-o\\ cat*{unit}) cat {self.log} ;; esac')
