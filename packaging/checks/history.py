@@ -87,7 +87,9 @@ class History(ScriptCase):
             cls.mail(server, "in use", *ANN, "QUIT")
             cls.mail(server, "guesses", ANN[0], "PASS guessed", "QUIT")
             bob.say("TOP 2 0", "QUIT")
-            cls.mail(server, "killed", *BOB)
+            # A name keeps its connection open until the server is killed.
+            bob = cls.mail(server, "killed", *BOB)
+        bob.socket.close()
 
     @classmethod
     def second_start(cls):
