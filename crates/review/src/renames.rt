@@ -109,10 +109,9 @@ fn put_renamed(
     }
 }
 
-/// The text of the rules that only got another name: a line for each rule of the new policy whose
-/// name no old rule has, if an old rule, whose name no new rule has, matches the same by the new
-/// groups and decides the same. It names both rules and their numbers, counted from 1. An `Err` is
-/// want of memory.
+/// The renamed rules, a line each: a new name and a vanished one, with equal matcher (by the new
+/// groups) and effect. A line has both names and both numbers, counted from 1. An `Err` means out
+/// of memory.
 pub fn renamed(alloc: Global, old: &Policy, new: &Policy) -> Result<Vec<u8>, AllocError>
     ensures { IfOk result (λ text. text.items ≡ renamed_text old.now new.now) }
 {
