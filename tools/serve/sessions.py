@@ -1,5 +1,4 @@
-"""Sessions from the greeting to the QUIT: logins that wait, guesses, strangers, proxies, and the visit
-of `./popbox try`."""
+"""Sessions: the greeting, logins that wait, guesses, strangers, proxies; and `./popbox try`."""
 
 import contextlib
 import itertools
@@ -554,21 +553,19 @@ OTHER = r'link.sendall(b"HTTP/1.1 200 OK\r\nContent-Length: 5\r\n\r\nother")'
 class Visits(Case):
     """`./popbox try` ends with a clear word whatever is in its way, and leaves nothing behind."""
 
-    def program_of(self, name, text):
-        """A program in the case's folder."""
-        put(program := f"{self.folder}/{name}", text)
-        os.chmod(program, 0o755)
-        return program
-
-    def begin(self, *words, program=None, before=(), **how):
-        """Begins one, at free ports unless its words name others."""
+    def begin(self, *words, text=None, before=(), **how):
+        """Begins one, at free ports unless its words name others, over the program or another."""
+        room = self.inner(f"office{time.monotonic()}")
+        if text:
+            put(f"{room}.program", text)
+            os.chmod(f"{room}.program", 0o755)
         words = ["--pop-port", "0", "--admin-port", "0", *words]
-        words = [*before, f"{TOP}/tools/try-office", "--program", program or self.program, *words]
-        env = {**os.environ, "TMPDIR": self.inner(f"office{time.monotonic()}")}
-        pipes = {"stdout": subprocess.PIPE, "stderr": subprocess.PIPE, "text": True, "env": env}
-        run = subprocess.Popen(words, **pipes | how)
+        words = ["--program", f"{room}.program" if text else self.program, *words]
+        pipes = {"stdout": subprocess.PIPE, "stderr": subprocess.PIPE, "text": True}
+        how = pipes | {"env": {**os.environ, "TMPDIR": room}} | how
+        run = subprocess.Popen([*before, f"{TOP}/tools/try-office", *words], **how)
         self.addCleanup(run.kill)
-        run.room = env["TMPDIR"]
+        run.room = room
         return run
 
     def ends(self, run, status, word):
@@ -596,35 +593,32 @@ class Visits(Case):
         os.chmod(shut := self.inner("shut"), 0o555)
         put(file := f"{self.inner('full')}/file", "")
         made = "the office's folder can't be made: "
-        # Without the right by which root writes where only others may.
-        as_others = ["setpriv", "--bounding-set=-dac_override"] if os.geteuid() == 0 else []
+        # Without root's right to write anywhere.
+        before = ["setpriv", "--bounding-set=-dac_override"] if os.geteuid() == 0 else []
         for folder, word in (
             (os.path.dirname(file), ".*/full isn't empty: name a new folder"),
             (f"{file}/new", made + ".*Not a directory: .*/file/new"),
             (shut, made + ".*Permission denied: .*/shut/spool"),
         ):
-            run = self.begin("--folder", folder, before=as_others)
-            self.ends(run, 1, f"popbox try: {word}")
+            self.ends(self.begin("--folder", folder, before=before), 1, f"popbox try: {word}")
 
     def test_ctrl_c_ends_it_at_any_moment(self):
         """Ctrl-C before the server is there, or before it answers, has status 130."""
-        slow = self.program_of("slow", "#!/bin/sh\ntouch $0.runs\nexec sleep 600\n")
-        mute = self.program_of("mute", FALSE.replace("ANSWER", "time.sleep(600)"))
-        runs = [self.begin(program=slow), self.begin(program=mute)]
-        wait_for(lambda: os.path.exists(f"{slow}.runs"), "it doesn't begin")
-        for run, lines in zip(runs, (0, 3)):
-            for _ in range(lines):
-                run.stdout.readline()
+        slow = self.begin(text="#!/bin/sh\ntouch $0.runs\nexec sleep 600\n")
+        wait_for(lambda: os.path.exists(f"{slow.room}.program.runs"), "it doesn't begin")
+        mute = self.begin(text=FALSE.replace("ANSWER", "time.sleep(600)"))
+        for _ in range(3):
+            mute.stdout.readline()
+        for run in (slow, mute):
             run.send_signal(signal.SIGINT)
             self.ends(run, 130, "popbox try: interrupted$")
 
     def test_another_answer_or_none_is_said(self):
         """A server that can't run, answers nothing or something else is told, status 1."""
         request = "PUT /maildrops/orders"
-        for name, text, word in (
-            ("none", "no program", "the server can't be started: .*Exec format error"),
-            ("mute", FALSE.replace("ANSWER", ""), f"{request}: Remote end closed connection"),
-            ("other", FALSE.replace("ANSWER", OTHER), "the answer should be added"),
+        for text, word in (
+            ("no program", "the server can't be started: .*Exec format error"),
+            (FALSE.replace("ANSWER", ""), f"{request}: Remote end closed connection"),
+            (FALSE.replace("ANSWER", OTHER), "the answer should be added"),
         ):
-            run = self.begin(program=self.program_of(name, text))
-            self.ends(run, 1, f"popbox try: {word}")
+            self.ends(self.begin(text=text), 1, f"popbox try: {word}")
