@@ -120,26 +120,22 @@ static void swap(int folder, const char *path)
     syscall(SYS_symlinkat, to, folder, path);
 }
 
-static int open_at(int folder, const char *path, int flags, int mode)
+static int open_at(int folder, const char *path, int flags, va_list rest)
 {
     swap(folder, path);
-    return (int)syscall(SYS_openat, folder, path, flags, mode);
+    return (int)syscall(SYS_openat, folder, path, flags, va_arg(rest, int));
 }
 
 int openat(int folder, const char *path, int flags, ...)
 {
     va_list rest;
     va_start(rest, flags);
-    int mode = va_arg(rest, int);
-    va_end(rest);
-    return open_at(folder, path, flags, mode);
+    return open_at(folder, path, flags, rest);
 }
 
 int open(const char *path, int flags, ...)
 {
     va_list rest;
     va_start(rest, flags);
-    int mode = va_arg(rest, int);
-    va_end(rest);
-    return open_at(AT_FDCWD, path, flags, mode);
+    return open_at(AT_FDCWD, path, flags, rest);
 }

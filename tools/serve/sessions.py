@@ -1,17 +1,20 @@
-"""Sessions from the greeting to the QUIT: logins that wait, guesses, strangers, and proxies."""
+"""Sessions: the greeting, logins that wait, guesses, strangers, proxies; and `./popbox try`."""
 
 import contextlib
 import itertools
 import os
+import pty
 import re
 import select
+import signal
 import subprocess
 import threading
 import time
 
+from cases import needs
 from clients import BYE, CLOSING, EMPTY, FAILED, IN_USE, LOGIN, OK, POLICY, REPLY, SEND_PASS, STATE
-from clients import TOO_LONG, UNKNOWN, Case, Wrong, is_silent, log_in, maildrop_has, proxied
-from clients import retrieved, stopped
+from clients import TOO_LONG, TOP, UNKNOWN, Case, Wrong, is_silent, log_in, maildrop_has, proxied
+from clients import put, retrieved, stopped, wait_for
 
 
 def seconds_of(client, password, reply):
@@ -530,3 +533,92 @@ class Proxies(Case):
         client.waits()
         self.set_on(15)
         client.ends()
+
+
+# A program that says where it listens, and then answers each administrator in its own way.
+FALSE = """#!/usr/bin/env python3
+import socket, time
+for name in ("pop", "admin"):
+    it = socket.create_server(("127.0.0.1", 0))
+    print(f"{name} on 127.0.0.1:{it.getsockname()[1]}", flush=True)
+while True:
+    link = it.accept()[0]
+    link.recv(4096)
+    ANSWER
+    link.close()
+"""
+OTHER = r'link.sendall(b"HTTP/1.1 200 OK\r\nContent-Length: 5\r\n\r\nother")'
+
+
+class Visits(Case):
+    """`./popbox try` ends with a clear word whatever is in its way, and leaves nothing behind."""
+
+    def begin(self, *words, text=None, before=(), **how):
+        """Begins one, at free ports unless its words name others, over the program or another."""
+        room = self.inner(f"office{time.monotonic()}")
+        if text:
+            put(f"{room}.program", text)
+            os.chmod(f"{room}.program", 0o755)
+        words = ["--pop-port", "0", "--admin-port", "0", *words]
+        words = ["--program", f"{room}.program" if text else self.program, *words]
+        pipes = {"stdout": subprocess.PIPE, "stderr": subprocess.PIPE, "text": True}
+        how = pipes | {"env": {**os.environ, "TMPDIR": room}} | how
+        run = subprocess.Popen([*before, f"{TOP}/tools/try-office", *words], **how)
+        self.addCleanup(run.kill)
+        run.room = room
+        return run
+
+    def ends(self, run, status, word):
+        """Fails unless it ends so, with this word at last."""
+        errors = run.communicate(timeout=REPLY)[1]
+        self.assertEqual((run.returncode, os.listdir(run.room)), (status, []), errors)
+        self.assertRegex(errors.splitlines()[-1] if errors else "", f"^{word}")
+
+    def test_a_second_one_says_that_the_ports_are_taken(self):
+        """A second one beside the first says so; the first serves on until Ctrl-C, status 0."""
+        ends, shown = pty.openpty(), b""
+        first = self.begin(stdout=ends[1])
+        while b"until Ctrl-C" not in shown:
+            shown += os.read(ends[0], 4096)
+        pop, admin = re.search(rb"at 127.0.0.1:(\d+), administrators at (\d+)", shown).groups()
+        for words in (["--pop-port", pop], ["--admin-port", admin]):
+            second = self.begin(*words)
+            self.ends(second, 1, "popbox try: the server ended, .* a port is taken: --pop-port N")
+        first.send_signal(signal.SIGINT)
+        self.ends(first, 0, "note: |$")
+
+    def test_a_folder_that_cant_be_used_is_named(self):
+        """A folder that isn't empty, may not be written, or lies in a file is named."""
+        needs("setpriv")
+        os.chmod(shut := self.inner("shut"), 0o555)
+        put(file := f"{self.inner('full')}/file", "")
+        made = "the office's folder can't be made: "
+        # Without root's right to write anywhere.
+        before = ["setpriv", "--bounding-set=-dac_override"] if os.geteuid() == 0 else []
+        for folder, word in (
+            (os.path.dirname(file), ".*/full isn't empty: name a new folder"),
+            (f"{file}/new", made + ".*Not a directory: .*/file/new"),
+            (shut, made + ".*Permission denied: .*/shut/spool"),
+        ):
+            self.ends(self.begin("--folder", folder, before=before), 1, f"popbox try: {word}")
+
+    def test_ctrl_c_ends_it_at_any_moment(self):
+        """Ctrl-C before the server is there, or before it answers, has status 130."""
+        slow = self.begin(text="#!/bin/sh\ntouch $0.runs\nexec sleep 600\n")
+        wait_for(lambda: os.path.exists(f"{slow.room}.program.runs"), "it doesn't begin")
+        mute = self.begin(text=FALSE.replace("ANSWER", "time.sleep(600)"))
+        for _ in range(3):
+            mute.stdout.readline()
+        for run in (slow, mute):
+            run.send_signal(signal.SIGINT)
+            self.ends(run, 130, "popbox try: interrupted$")
+
+    def test_another_answer_or_none_is_said(self):
+        """A server that can't run, answers nothing or something else is told, status 1."""
+        request = "PUT /maildrops/orders"
+        for text, word in (
+            ("no program", "the server can't be started: .*Exec format error"),
+            (FALSE.replace("ANSWER", ""), f"{request}: Remote end closed connection"),
+            (FALSE.replace("ANSWER", OTHER), "the answer should be added"),
+        ):
+            self.ends(self.begin(text=text), 1, f"popbox try: {word}")
