@@ -15,7 +15,7 @@ import re
 import tempfile
 import time
 
-from clients import BYE, CLOSING, FAILED, LOGIN, OK, SEND_PASS, STATE, TOO_LONG, UNKNOWN
+from clients import BYE, CLOSING, FAILED, IN_USE, LOGIN, OK, SEND_PASS, STATE, TOO_LONG, UNKNOWN
 from clients import Case, Client, Server, Wrong, log_in, maildrop_has, retrieved, wait_for
 
 CLERKS = {"ann": "pass s3 cret", "bob": "apop tanstaaf", "eve": "pass quiet"}
@@ -131,6 +131,10 @@ class Hostile(Case):
         """Lines of 255 and of 256 octets: `unknown command`, and `line too long`."""
         self.come().asks(b"x" * 253 + b"\r\n" + b"x" * 254 + b"\r\n", UNKNOWN + TOO_LONG)
 
+    def test_many_long_lines(self):
+        """5,000 lines of 300 octets in one write: `line too long` 5,000 times."""
+        self.come().asks((b"x" * 298 + b"\r\n") * 5000, TOO_LONG * 5000)
+
     def test_nuls(self):
         """A line of 200 NULs, NOOP with a NUL, RETR 1 with a NUL: an error for each."""
         sent = bytes(200) + b"\r\nNOOP\0\r\nRETR 1\0\r\n"
@@ -148,6 +152,10 @@ class Hostile(Case):
         """Lines that end with LF alone, CR CR LF, CR alone: LF alone ends a line."""
         sent = b"NOOP\nNOOP\r\r\nNOOP\rNOOP\r\nNOOP\r\n"
         self.log_in().asks(sent, OK + UNKNOWN * 2 + OK)
+
+    def test_empty_lines(self):
+        """5,000 empty lines: `unknown command` 5,000 times."""
+        self.come().asks(b"\r\n" * 5000, UNKNOWN * 5000)
 
     def test_single_octets(self):
         """A session's octets, each in a packet of its own: what it gets in one packet."""
@@ -267,7 +275,17 @@ class Hostile(Case):
         for line in (b"USER ann/orders", b"PASS s3 cret", b"APOP bob/orders " + b"0" * 32):
             it.asks(line + b"\r\n", STATE)
 
+    def test_logins_in_use(self):
+        """500 logins into a maildrop that another session has: `[IN-USE]` 500 times."""
+        holder, it = self.log_in(), self.come()
+        it.asks(LOGIN * 500, (SEND_PASS + IN_USE) * 500)
+        holder.asks(b"NOOP\r\n", OK)
+
     # Much, and slowly
+
+    def test_many_noops(self):
+        """5,000 NOOPs in one write: `+OK` 5,000 times."""
+        self.log_in().asks(b"NOOP\r\n" * 5000, OK * 5000)
 
     def test_unread_retrs(self):
         """1,000 RETRs of 100 KB in one write, read 3 s later: each message, in 1 MB of memory."""

@@ -384,18 +384,26 @@ class Strangers(Case):
         print(f"  {what}: {took:.2f} s", flush=True)
         self.assertLessEqual(took, AT_ONCE, what)
 
-    def test_eight_connections_slow_nobody_but_ann(self):
-        """Eight connections that guess at ann slow her alone, from their address."""
+    def is_slowed(self, places):
+        """A stranger guesses at ann on so many connections."""
         it = self.house()
-        with Stranger(it, itertools.repeat(b"ann/ann"), 8):
+        with Stranger(it, itertools.repeat(b"ann/ann"), places):
             # After the first five refusals each waits 15 seconds.
             time.sleep(4)
             for name in CLERKS[1:]:
-                self.is_at_once(f"{name} beside eight connections", it, name)
+                self.is_at_once(f"{name} beside {places} connections", it, name)
             self.is_at_once("ann from another address", it, "ann", source="127.0.0.2")
             took = seconds_of_login(it, "ann")
             print(f"  ann from the stranger's address: {took:.1f} s", flush=True)
             self.assertLessEqual(took, AT_MOST)
+
+    def test_four_connections_slow_nobody_but_ann(self):
+        """Four connections that guess at ann slow her alone, from their address."""
+        self.is_slowed(4)
+
+    def test_eight_connections_slow_nobody_but_ann(self):
+        """Eight connections that guess at ann slow her alone, from their address."""
+        self.is_slowed(8)
 
     def test_offices_behind_a_proxy_are_told_apart(self):
         """With --proxy-protocol the address of a guess is the one that the proxy says."""
