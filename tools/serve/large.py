@@ -2,7 +2,8 @@
 
 import os
 
-from clients import EMPTY, OK, POLICY, SEND_PASS, Case, log_in, maildrop_has, put, read, retrieved
+from clients import BYE, EMPTY, OK, POLICY, SEND_PASS, Case, is_silent, log_in, maildrop_has, put
+from clients import read, retrieved
 
 LARGEST, MOST = 26_214_400, 10_000
 
@@ -269,6 +270,37 @@ class Large(Case):
         log_in(client := self.client(self.office()), *[text] * count)
         client.asks(b"LIST\r\n", b"+OK scan listing follows\r\n" + listed)
         client.asks(b"UIDL\r\n", b"+OK unique-id listing follows\r\n" + named)
+
+    def answered_until(self, client, is_done):
+        """How many NOOPs of a client are answered, one after the other, until something is so."""
+        count = 0
+        while not is_done():
+            client.asks(b"NOOP\r\n", OK)
+            count += 1
+        return count
+
+    def test_others_are_served_beside_long_work(self):
+        """Others are answered while a QUIT removes 2,000 messages, and a file of 5 MB comes in."""
+        script = [b"deposit orders note d%d mail\n" % k for k in range(2000)]
+        self.make_store([b"maildrop add orders\n", b"maildrop add sales\n", *script])
+        it = self.office()
+        log_in(client := self.client(it), *[b"mail\r\n"] * 2000)
+        (other := self.client(it)).tries(b"ann/sales")
+        other.takes(EMPTY)
+        for k in range(1, 2001):
+            client.asks(b"DELE %d\r\n" % k, b"+OK message %d deleted\r\n" % k)
+        client.send(b"QUIT\r\n")
+        self.assertGreater(self.answered_until(other, lambda: not is_silent(client, 0)), 4)
+        client.takes(BYE)
+
+        def comes_in_parts(name):
+            it.drop(name, 65_000 * (b"x" * 77 + b"\n"))
+            is_in = lambda: not os.path.exists(f"{it.spool}/{name}")
+            return 30 <= self.answered_until(other, is_in) <= 60
+
+        # It is read in 20 parts and stored in 20, between which a turn has at most one reply; on a
+        # machine with much other work not each turn has one.
+        self.assertTrue(any(comes_in_parts(f"orders.note.f{k}.eml") for k in range(10)))
 
     def test_one_clerk_beside_a_thousand(self):
         """A clerk who was added among a thousand, while the server runs, logs in."""

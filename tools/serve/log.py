@@ -4,6 +4,7 @@ and what no line has: a password, a secret or a digest that was sent."""
 import contextlib
 import ctypes
 import datetime
+import hashlib
 import itertools
 import os
 import re
@@ -37,6 +38,12 @@ IN_FORCE += " proxy-protocol=no log-message-ids=no log-reads=no list-clerks=no a
 OTHERS = "removals=quit idle=700 wait=10 login-seconds=180 full-house-seconds=20 slow-guesses=yes"
 OTHERS += " proxy-protocol=yes log-message-ids=yes log-reads=yes list-clerks=yes"
 OTHERS += " admin-site=localhost"
+
+
+def named(policy=""):
+    """A policy's name as a value of a line. Written, it has an empty line between two rules."""
+    text = policy.replace("]\n[[", "]\n\n[[").encode()
+    return f" policy={hashlib.sha256(text).hexdigest()[:16]}"
 
 
 class LogCase(Case):
@@ -99,10 +106,10 @@ class LogCase(Case):
                 do(server)
             yield bool(words)
 
-    def in_force(self, options):
-        """What a start logs last: whether the program is proved, and the options in force."""
+    def in_force(self, options, policy=""):
+        """What a start logs last: if the program is proved, and the options and policy in force."""
         said = self.run_program("--version", text=True, check=True).stdout
-        return f" proved={'yes' if '(proved)' in said else 'no'} {options}"
+        return f" proved={'yes' if '(proved)' in said else 'no'} {options}{named(policy)}"
 
 
 class Day(LogCase):
@@ -149,6 +156,7 @@ class Day(LogCase):
         ):
             self.assertEqual(server.ask(method, path, body)[0], status, (method, path))
             said = f' answer="{answer}"' if answer else ""
+            said += named(body) if answer == "3 rules" else ""
             wanted += f"event=admin @ method={method} path={path} status={status}{said}\n"
         server.ask("GET", f"/clerks/ann/{SECRET}")
         server.ask("PUT", "/clerks/ANN", f"pass {PASSWORD}")
@@ -167,6 +175,7 @@ class Day(LogCase):
             ("orders.note.n-1.eml", chair, "known uid=note.1", "removed"),
             ("orders.note.n-1.eml", b"Subject: a lamp\n\nA lamp.\n", '"conflict"', "renamed"),
             ("orders.note.n-3.eml", b"", None, "renamed"),
+            ("orders.note.n-4.eml", 300_000 * b"x", "new uid=note.3", "removed"),
         ):
             server.deposit(name, text)
             wanted += f"event=deposit file={name} answer={answer}\n" if answer else ""
@@ -211,7 +220,7 @@ class Day(LogCase):
 
     def deny(self, server):
         """A policy that changes between a DELE and the QUIT, and a session that is ended."""
-        server.ask("PUT", "/policy", POLICY.replace('"payment"', '"note"'))
+        server.ask("PUT", "/policy", other := POLICY.replace('"payment"', '"note"'))
         bob = Mail(server)
         bob.apop("bob/orders", SECRET)
         bob.say("DELE 1")
@@ -224,10 +233,10 @@ class Day(LogCase):
         quits = 'answer="some deleted messages not removed, denied by rule keep-payments"'
         rest = "rset=0 retr=0/0 top=0/0 denied=0"
         return f"""
-            event=admin @ method=PUT path=/policy status=200 answer="3 rules"
+            event=admin @ method=PUT path=/policy status=200 answer="3 rules"{named(other)}
             event=connect @4
             event=login @4 clerk=bob maildrop=orders by=apop answer=accepted
-            event=admin @ method=PUT path=/policy status=200 answer="3 rules"
+            event=admin @ method=PUT path=/policy status=200 answer="3 rules"{named(POLICY)}
             event=quit @4 clerk=bob maildrop=orders marked=1 {quits} dele=1 {rest}
             event=connect @5
             event=login @5 clerk=ann maildrop=orders by=pass answer=accepted
@@ -306,12 +315,13 @@ class Starts(LogCase):
         self.log("--turns", "1").run.wait(SPOOL)
         said = self.errors()
         self.assertIn(f' event=open store="office.db" file={file} log={log}\n', said)
-        self.assertIn(f" maildrops=2 messages=1 octets=10{self.in_force(IN_FORCE)}\n", said)
+        held = f" maildrops=2 messages=1 octets=10{self.in_force(IN_FORCE, POLICY)}\n"
+        self.assertIn(held, said)
         mode = ' event=store store="office.db" mode=640 warning="others may read it"\n'
         self.assertIn(mode, said)
 
     def test_refusals_of_a_store(self):
-        """What a store refuses is logged with the call and the cause."""
+        """What a store refuses is logged with the call and the cause; nothing as removed."""
         changes = [
             ("PUT", "/maildrops/sales", None, "add_maildrop"),
             ("DELETE", "/maildrops/orders", None, "drop_maildrop"),
@@ -319,18 +329,26 @@ class Starts(LogCase):
             ("PUT", "/policy", POLICY, "set_policy"),
         ]
         with self.log(preexec_fn=limit_files) as it:
-            it.ask("PUT", "/maildrops/orders")
+            it.fill(("orders",), CLERKS[:1], POLICY)
+            it.deposit("orders.note.n-1.eml", CHAIR)
             for number in range(1, 1000):
                 if it.ask("PUT", f"/clerks/c{number}", f"pass {PASSWORD}")[0] != 201:
                     break
             for method, path, body, _ in changes:
                 it.ask(method, path, body)
-            self.wait_told("path=/policy")
+            Mail(it).say(*ANN, "DELE 1", "QUIT")
+            self.wait_told("event=quit")
+        ann, kept = "clerk=ann maildrop=orders", "some deleted messages not removed"
+        wanted = f"""
+            event=remove connection=1 {ann} messages=1 answer="store failed"
+            event=quit @1 {ann} marked=1 answer="{kept}" dele=1 rset=0 retr=0/0 top=0/0 denied=0
+            """
+        self.compare(self.lines("remove", "removed", "quit"), wanted)
         wanted, failed = "", '"store failed"'
         for method, path, _, call in [("PUT", f"/clerks/c{number}", None, "put_clerk"), *changes]:
             wanted += f"event=refused call={call} cause={failed}\n"
             wanted += f"event=admin @ method={method} path={path} status=503 answer={failed}\n"
-        self.compare(self.lines("refused", "admin")[number:], wanted)
+        self.compare(self.lines("refused", "admin")[number + 2 :], wanted)
 
     def test_store_that_is_lost(self):
         """A server whose store was moved logs why it ends, and its end."""

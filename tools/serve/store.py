@@ -9,7 +9,7 @@ import subprocess
 import tempfile
 import time
 
-from clients import OK, POLICY, REPLY, Case, log_in, put, read, stopped, wait_for
+from clients import OK, POLICY, REPLY, Case, log_in, put, read, retrieved, stopped, wait_for
 
 LARGEST = 26_214_400
 
@@ -22,16 +22,26 @@ class Spool(Case):
         with server.connect() as client:
             log_in(client, *texts)
 
-    def test_no_refused_file_takes_anothers_place(self):
-        """Refused files of one name stand aside under different names."""
-        it = self.office()
-        for text in (b"one\n", b"two\n", b"three\n", b"four\n"):
-            it.deposit("orders.note.d1.eml", text)
-        name = "orders.note.d1.eml.bad"
-        aside = {file: read(f"{it.spool}/{file}") for file in os.listdir(it.spool)}
-        wanted = {name: b"two\n", f"{name}.2": b"three\n", f"{name}.3": b"four\n"}
-        self.assertEqual(aside, wanted)
-        self.holds(it, b"one\r\n")
+    def test_left_files_come_in_once_their_maildrop_is_there(self):
+        """Of 1, 2 and 150 files that were left the first and the last come in, new mail at once."""
+        for count in (1, 2, 150):
+            self.renew()
+            it = self.office(env=self.still())
+            log_in(client := self.client(it))
+            # The second line has a turn after that in which the server may just have looked.
+            turn = lambda: client.asks(b"NOOP\r\n" * 2, OK * 2)
+            left = [f"m{k:03}.note.d1.eml" for k in range(count)]
+            for name in [*left, "orders.note.d1.eml"]:
+                it.drop(name, b"one\n")
+                turn()
+            self.assertEqual(sorted(os.listdir(it.spool)), left)
+            for name in {left[0], left[-1]}:
+                it.administer("PUT", f"/maildrops/{name[:4]}")
+            # One of them is tried in a second.
+            for second in range(1, count + 1):
+                self.set_on(second)
+                turn()
+            self.assertEqual(sorted(os.listdir(it.spool)), left[1:-1])
 
     def test_a_pipe_in_the_spool_is_left(self):
         """A pipe in the spool is never opened: that would wait for who writes to it."""
@@ -110,6 +120,19 @@ class Spool(Case):
         self.assertEqual(os.listdir(it.spool), ["orders.note.d1.eml.bad"])
         most = int(re.search(rb"VmHWM:\s*(\d+)", read(f"/proc/{it.run.pid}/status"))[1])
         self.assertLessEqual(most * 1000, 20 * LARGEST)
+
+    def test_a_large_file_that_is_changed_as_it_comes_is_taken_anew(self):
+        """A large file that gets another text of as many octets, as it comes, is taken with that."""
+        it, texts = self.office(), [300_000 * (letter * 77 + b"\n") for letter in (b"x", b"y")]
+        it.drop("orders.note.d1.eml", texts[0])
+        path = f"{it.spool}/orders.note.d1.eml"
+        wait_for(lambda: stays_open(it.run.pid, path), "the file isn't opened")
+        with stopped(it), open(path, "r+b") as file:
+            file.write(texts[1])
+        it.wait_for_spool()
+        text = texts[1].replace(b"\n", b"\r\n")
+        log_in(client := self.client(it), text)
+        client.asks(b"RETR 1\r\n", retrieved(text))
 
     def test_no_link_that_takes_a_files_place_is_followed(self):
         """A symbolic link that takes a file's place, just before it is opened, isn't followed."""

@@ -5,3 +5,4 @@ pub mod Counts
 pub mod Sessions
 pub mod MessageIds
 pub mod Settings
+pub mod PolicyNames

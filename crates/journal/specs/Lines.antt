@@ -148,6 +148,11 @@ refusal_text refused.NoMemory = codes " cause=\"out of memory\""
 
 -- ---- what a QUIT removed
 
+-- what an account says that a QUIT removed: nothing if the store failed
+abbrev pub removed_by : Account → List Uid
+removed_by (account.Quit removal) = if removal.is_done then removal.removed else []
+removed_by _ = []
+
 -- how many unique-ids are on a line at most
 abbrev pub most_on_a_line : ℕ
 most_on_a_line = 32

@@ -53,13 +53,19 @@ impl Administrators {
         self.administrators.iter_mut().find(|it| it.link == link)
     }
 
-    /// Takes what was asked over a link.
-    pub fn ask(&mut self, alloc: Global, link: Link, asked: &AdminRequest<'_>) {
+    /// Takes what was asked over a link, and the name of the policy that is in force since.
+    pub fn ask(
+        &mut self,
+        alloc: Global,
+        link: Link,
+        asked: &AdminRequest<'_>,
+        in_force: &Option<String>,
+    ) {
         if let Some(administrator) = self.at(link) {
             let who = administrator.who.as_str();
             let heard = Heard {
-                sent: asked_line(alloc, who, asked, true),
-                unsent: asked_line(alloc, who, asked, false),
+                sent: asked_line(alloc, who, asked, true, in_force),
+                unsent: asked_line(alloc, who, asked, false, in_force),
             };
             administrator.heard = Some(heard);
         }

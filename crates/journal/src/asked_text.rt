@@ -1,10 +1,13 @@
 //! The line of what the administration was asked.
-ghost use Rattle.std.specs.Prelude.{◌≡◌, IfOk, Some, string_bytes};
+ghost use Rattle.std.specs.Prelude.{◌≡◌, IfOk, Some, option_map, string_bytes};
 ghost use Rattle.adminhttp.specs.Contents.{line_told};
 ghost use Rattle.journal.specs.AdminLines.{request_text as request_words, status_text};
+ghost use Rattle.journal.specs.AdminLines.{sets_policy};
 ghost use Rattle.journal.specs.AdminLines.{answer_text as answer_words, asked_text, unasked_text};
 
+use super::policy_name::policy_text;
 use adminhttp::{Content, RequestLine};
+use office::Answer;
 use serving::AdminRequest;
 use std::alloc::{AllocError, Global};
 
@@ -50,19 +53,33 @@ fn told_text(alloc: Global, line: &str) -> Result<String, AllocError>
     Ok(text)
 }
 
-/// The line of what was asked, after the client's address.
+/// Whether a response says that a policy was put in force.
+fn sets_policy(content: &Content<'_>) -> bool
+    ensures { result ≡ sets_policy content.now }
+{
+    match content {
+        Content::Answer(answer) => matches!(answer, Answer::RuleCount(_)),
+        Content::Refusal(_) | Content::Fault(_) => false,
+    }
+}
+
+/// The line of what was asked, after the client's address. If it put a policy in force, the line
+/// has that policy's name, `in_force`.
 pub fn asked_line(
     alloc: Global,
     who: &str,
     asked: &AdminRequest<'_>,
     is_sent: bool,
+    in_force: &Option<String>,
 ) -> Result<String, AllocError>
-    ensures { IfOk result (λ text. string_bytes text ≡ asked_text who.now asked.now is_sent) }
+    ensures { IfOk result (λ text. string_bytes text ≡ asked_text who.now asked.now is_sent
+        (option_map string_bytes in_force.now)) }
 {
     let request = request_text(alloc, &asked.line)?;
     let status = status_word(&asked.content, is_sent);
     let answer = answer_text(alloc, &asked.content)?;
-    let text = format!(in alloc; "event=admin {who}{request} status={status}{answer}")?;
+    let policy = policy_text(alloc, sets_policy(&asked.content), in_force)?;
+    let text = format!(in alloc; "event=admin {who}{request} status={status}{answer}{policy}")?;
     Ok(text)
 }
 

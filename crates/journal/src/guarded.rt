@@ -31,6 +31,8 @@ impl<S: Spool, X: Watch> Spool for GuardedSpool<S, X> {
 
     ghost asked = { λ r calls. AreGuarded S.asked X.answered r.spool r.watch calls };
 
+    ghost parted = { λ r. S.parted r.spool };
+
     ghost is_coming = { λ r. S.is_coming r.spool };
 
     ghost tells_once = { λ r. S.tells_once r.spool };

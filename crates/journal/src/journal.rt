@@ -5,10 +5,12 @@ use super::account_text::refusal_text;
 use super::administrators::Administrators;
 use super::client::Clients;
 use super::pipe::takes_a_line;
-use super::removed_text::{MOST_ON_A_LINE, removed_line};
+use super::policy_name::{policy_name, policy_text};
+use super::removed_text::{MOST_ON_A_LINE, count_removed, removed_line};
 use creds::Name;
 use jiff::Timestamp;
 use office::{Account, Removal};
+use policy::Policy;
 use serving::{AdminRequest, Link, LinkEvent, Listener, Port, Refusal, Wire};
 use std::alloc::{AllocError, Global};
 use std::cell::{Cell, RefCell};
@@ -16,11 +18,12 @@ use std::io::Write;
 use std::net::{IpAddr, SocketAddr};
 use std::time::{Clock, Instant};
 
-/// What the parts of a log share: how many lines were lost, and the connections of mail programs
-/// and of the administration.
+/// What the parts of a log share: how many lines were lost, the name of the policy in force, if it
+/// is known, and the connections of mail programs and of the administration.
 #[derive(Drop)]
 pub struct Shared {
     lost: Cell<u64>,
+    policy: RefCell<Option<String>>,
     clients: RefCell<Clients>,
     administrators: RefCell<Administrators>,
 }
@@ -30,6 +33,7 @@ impl Shared {
     pub fn new(alloc: Global) -> Shared {
         Shared {
             lost: Cell::new(0),
+            policy: RefCell::new(None),
             clients: RefCell::new(Clients::new(alloc)),
             administrators: RefCell::new(Administrators::new(alloc)),
         }
@@ -84,6 +88,23 @@ impl<'a> Journal<'a> {
     /// The allocator of the lines.
     pub fn alloc(&self) -> Global {
         self.rt.alloc()
+    }
+
+    /// Keeps the name of the policy that is in force from now on.
+    pub fn keep_policy(&self, policy: &Policy) {
+        if self.is_on
+            && let Ok(mut kept) = self.shared.policy.try_borrow_mut()
+        {
+            *kept = policy_name(self.alloc(), policy).ok();
+        }
+    }
+
+    /// The name of the policy in force, as a value of a line; empty if it isn't known.
+    pub fn policy_text(&self) -> Result<String, AllocError> {
+        match self.shared.policy.try_borrow() {
+            Ok(name) => policy_text(self.alloc(), true, &*name),
+            Err(_) => Ok(String::new(self.alloc())),
+        }
     }
 
     /// Writes a line by one write: the moment in UTC, to a second, a space, the text and LF. A line
@@ -193,12 +214,9 @@ impl<'a> Journal<'a> {
         }
     }
 
-    /// Notes the unique-ids of what a QUIT removed, 32 on a line.
-    fn note_removed(&self, connection: u64, removal: &Removal) {
-        if !removal.is_done {
-            return;
-        }
-        for place in 0..removal.removed.len() {
+    /// Notes so many unique-ids of what a QUIT removed, 32 on a line.
+    fn note_removed(&self, connection: u64, removal: &Removal, count: usize) {
+        for place in 0..count {
             if place % MOST_ON_A_LINE == 0 {
                 self.note(removed_line(self.alloc(), connection, removal, place));
             }
@@ -305,7 +323,7 @@ impl Listener for Journal<'_> {
             return;
         }
         if let Account::Quit(removal) = account {
-            self.note_removed(connection, removal);
+            self.note_removed(connection, removal, count_removed(account));
         }
         let text = match self.shared.clients.try_borrow_mut() {
             Ok(mut clients) => clients.hear(self.alloc(), connection, account, self.reads),
@@ -319,9 +337,10 @@ impl Listener for Journal<'_> {
         ensures reads { self.new.reads ≡ self.old.reads }
     {
         if self.is_on
+            && let Ok(policy) = self.shared.policy.try_borrow()
             && let Ok(mut administrators) = self.shared.administrators.try_borrow_mut()
         {
-            administrators.ask(self.alloc(), link, asked);
+            administrators.ask(self.alloc(), link, asked, &*policy);
         }
     }
 }

@@ -21,6 +21,7 @@ mod journal;
 mod left;
 mod message_ids;
 mod pipe;
+mod policy_name;
 mod removed_text;
 mod server;
 mod settings;

@@ -1,16 +1,27 @@
 //! The lines of what a QUIT removed.
-ghost use Rattle.std.specs.Prelude.{◌≡◌, ◌++◌, take, drop, slice_get, IfOk, OnOk, string_bytes};
+ghost use Rattle.std.specs.Prelude.{◌≡◌, ◌++◌, take, drop, length, slice_get};
+ghost use Rattle.std.specs.Prelude.{IfOk, OnOk, string_bytes};
 ghost use Rattle.journal.specs.Lines.{comma_at, uid_words, uids_text as uids_words};
-ghost use Rattle.journal.specs.Lines.{most_on_a_line, removed_text};
+ghost use Rattle.journal.specs.Lines.{most_on_a_line, removed_text, removed_by};
 
 use super::account_text::name_text;
 use creds::Uid;
-use office::Removal;
+use office::{Account, Removal};
 use session::Removed;
 use std::alloc::{AllocError, Global};
 
 /// How many unique-ids are on a line at most, so that it has fewer than 4,096 octets.
 pub const MOST_ON_A_LINE: usize = 32;
+
+/// How many unique-ids the lines of an account have: as many as a QUIT removed.
+pub fn count_removed(account: &Account) -> usize
+    ensures { result ≡ length (removed_by account.now) }
+{
+    match account {
+        Account::Quit(removal) if removal.is_done => removal.removed.len(),
+        _ => 0,
+    }
+}
 
 /// The unique-id of the message so many places after another.
 fn uid_at(removed: &Removed, from: usize, n: usize) -> Option<Uid>

@@ -33,8 +33,8 @@ fn opening_text(alloc: Global, rt: &HostRuntime, store: &str) -> Result<String, 
     format!(in alloc; "event=open store={store} file={file} log={log}")
 }
 
-/// Notes a start, what the store holds and which options are in force, and where others than its
-/// owner may read it. Without totals what it holds isn't known.
+/// Notes a start, what the store holds, which options and which policy are in force, and where
+/// others than its owner may read it. Without totals what it holds isn't known.
 pub fn note_start(
     journal: &Journal<'_>,
     rt: &HostRuntime,
@@ -48,7 +48,8 @@ pub fn note_start(
         return;
     }
     let alloc = journal.alloc();
-    journal.note(start_text(alloc, pop, admin_port, store, totals, settings));
+    let policy = journal.policy_text();
+    journal.note(start_text(alloc, pop, admin_port, store, totals, settings, policy));
     if let Ok(metadata) = fs::metadata(rt, store) {
         let mode = metadata.permissions().mode() & 0o777;
         if mode & 0o044 != 0 {
@@ -65,12 +66,14 @@ fn start_text(
     store: &str,
     totals: &Option<Vec<Total>>,
     settings: &Settings,
+    policy: Result<String, AllocError>,
 ) -> Result<String, AllocError> {
+    let policy = policy?;
     let store = quoted(alloc, store.as_bytes())?;
     let held = held_text(alloc, totals)?;
     let settings = settings_text(alloc, settings)?;
     format!(in alloc;
-        "event=start pop={pop} admin=127.0.0.1:{admin_port} store={store}{held}{settings}"
+        "event=start pop={pop} admin=127.0.0.1:{admin_port} store={store}{held}{settings}{policy}"
     )
 }
 

@@ -76,6 +76,8 @@ impl<S: Spool> Spool for LoggedSpool<'_, S> {
 
     ghost asked = { λ r. S.asked r.spool };
 
+    ghost parted = { λ r. S.parted r.spool };
+
     ghost is_coming = { λ r. S.is_coming r.spool };
 
     ghost tells_once = { λ r. S.tells_once r.spool };

@@ -156,6 +156,20 @@ fn note_removal(
     journal.note(text);
 }
 
+/// Keeps the name of a policy that is in force, if the store gave it.
+fn keep_policy(journal: &Journal<'_>, answer: &Result<Policy, VaultFault>) {
+    if let Ok(policy) = answer {
+        journal.keep_policy(policy);
+    }
+}
+
+/// Keeps the name of a policy that was set, if the store has done so.
+fn keep_set_policy(journal: &Journal<'_>, policy: &Policy, answer: &Result<(), VaultFault>) {
+    if let Ok(()) = answer {
+        journal.keep_policy(policy);
+    }
+}
+
 impl<'a, V: Vault> LoggedVault<'a, V> {
     /// A vault around this one. `message_ids`: a deposit's line tells the Message-ID.
     pub fn new(vault: V, journal: Journal<'a>, message_ids: bool) -> LoggedVault<'a, V>
@@ -298,11 +312,13 @@ impl<V: Vault> Vault for LoggedVault<'_, V> {
 
     fn policy(&mut self) -> Result<Policy, VaultFault> {
         let answer = self.vault.policy();
+        keep_policy(&self.journal, &answer);
         told(&self.journal, "policy", answer)
     }
 
     fn set_policy(&mut self, policy: &Policy) -> Result<(), VaultFault> {
         let answer = self.vault.set_policy(policy);
+        keep_set_policy(&self.journal, policy, &answer);
         told(&self.journal, "set_policy", answer)
     }
 

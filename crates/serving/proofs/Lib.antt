@@ -7,6 +7,7 @@ pub mod Seating
 pub mod Scripting
 pub mod Depositing
 pub mod NameTexts
+pub mod Leaving
 pub mod Parts
 pub mod Looking
 pub mod Origins

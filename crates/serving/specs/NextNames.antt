@@ -1,9 +1,12 @@
 -- Which of a spool's names is the next one.
-use Rattle.std.specs.Prelude.{◌≡◌, ℕ, Bool, true, ◌&&◌, List, [], ◌∷◌, Option, Some, None, option_and_then, option_map, is_some, if◌then◌else◌, string_bytes}
+use Rattle.std.specs.Prelude.{◌≡◌, ◌≤◌, ℕ, ◌+◌, min, nat_le, Bool, true, false, not, ◌&&◌, ◌||◌, List, [], ◌∷◌, length, Option, Some, None, option_and_then, option_map}
+use Rattle.std.specs.Prelude.{is_some, is_none, if◌then◌else◌, string_bytes}
+use Rattle.std.specs.List.{All}
 use Rattle.creds.specs.Names.{comes_before}
 use Rattle.serving.specs.FileNames.{file_name_of, text_of}
 use Rattle.serving.specs.declared.file_name.FileName.{FileName}
 use Rattle.serving.specs.declared.next_name.NextName.{NextName}
+use Rattle.serving.specs.declared.next_name.Look.{Look}
 
 -- a text is of the form of a spool file's name
 abbrev pub is_file : List ℕ → Bool
@@ -46,3 +49,34 @@ pub record HasSeen (last : Option FileName) (names : List (List ℕ)) (next : Ne
   pub text : string_bytes next.last ≡ last_text last
   pub least : option_map string_bytes next.least ≡ least_of is_file names
   pub behind : option_map string_bytes next.behind ≡ least_of (is_behind (last_text last)) names
+
+-- ---- files that were left
+
+-- after so many looks that tried none of them, one is tried before new ones
+abbrev pub most_looks : ℕ
+most_looks = 1000
+
+-- a file that was left is tried after a look: they don't rest, one is there, and no new one is, or so many looks tried none of them
+abbrev pub tries_left : (looks : ℕ) → Look → Bool
+tries_left looks look = not look.rests && is_some look.left && (is_none look.new || nat_le most_looks looks)
+
+-- which file is tried
+abbrev pub tried_of : (looks : ℕ) → Look → Option FileName
+tried_of looks look = if tries_left looks look then look.left else look.new
+
+-- how many looks tried none of them then, as far as that matters
+abbrev pub looks_after : (looks : ℕ) → Look → ℕ
+looks_after looks look = if tries_left looks look then 0 else min (looks + 1) most_looks
+
+-- one of them could be tried
+abbrev pub CouldTryLeft : Look → Type 0
+CouldTryLeft look = (look.rests ≡ false) × (is_some look.left ≡ true)
+
+-- looks one after the other try none of them
+abbrev pub try_none : (looks : ℕ) → List Look → Bool
+try_none looks [] = true
+try_none looks (look ∷ more) = not (tries_left looks look) && try_none (looks_after looks look) more
+
+-- if one could be tried at each, they are no more than 1,000
+abbrev pub LeftFilesAreTried : Type 0
+LeftFilesAreTried = (looks : ℕ) (more : List Look) → All CouldTryLeft more → try_none looks more ≡ true → length more ≤ most_looks

@@ -24,6 +24,13 @@ pub data FileCall : Type 0 where
   -- to rename a file, and whether it was renamed
   Renamed : FileName → (is_done : Bool) → FileCall
 
+-- what a spool was asked about the large file that is coming
+pub data PartCall : Type 0 where
+  -- to read one more piece of it
+  ReadOn : PartCall
+  -- to note that no more of its deposit can be prepared
+  NotePrepared : PartCall
+
 -- what becomes of a file whose deposit is answered so
 abbrev pub disposal_of : Outcome → Disposal
 disposal_of (Answered (answer.New uid)) = disposal.Remove

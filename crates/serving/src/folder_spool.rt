@@ -30,9 +30,10 @@ use std::time::{Clock, Duration, SystemTime};
 /// that can only be left is tried once a second. Before its text is given, what was opened is
 /// compared once more with what stands at the name. If it was changed, it is read at once.
 ///
-/// A file that was tried and left, since its maildrop doesn't exist for example, is named again
-/// only if there is no other one, and at most one such file in a second: so it keeps no other mail
-/// waiting, and doesn't give up a long QUIT that the store prepares in each turn.
+/// A file that was tried and left, since its maildrop doesn't exist for example, is named again in
+/// its turn among such files: at most one of them in a second, or in more if it is large, and only
+/// if there is no other file, or 1,000 others were named since. So it keeps no other mail waiting,
+/// and doesn't give up a long QUIT that the store prepares in each turn.
 #[derive(Drop)]
 pub struct FolderSpool<'a, R: Files> {
     rt: &'a R,
@@ -106,24 +107,26 @@ impl<'a, R: Files + Clock + AllocGlobal + Clone + Drop> FolderSpool<'a, R> {
         format!(in self.alloc; "{}/{}{}", self.folder, text, ending)
     }
 
-    /// Shows the names of the folder to what looks for the next one among all, and those that
-    /// weren't left before to what looks for the next new one. Whether it could be listed.
-    fn list(&self, all: &mut NextName, new: &mut NextName) -> bool {
+    /// The next of the folder's files after one, of those that weren't left before; and the next
+    /// of those that were, after that which was left last. `None` if the folder can't be listed,
+    /// or memory is short.
+    fn list(&self, last: &Option<FileName>) -> Option<(Option<FileName>, Option<FileName>)> {
+        let mut new = NextName::new(self.alloc, last).ok()?;
+        let mut left = NextName::new(self.alloc, &self.left.last()).ok()?;
         let Ok(entries) = fs::read_dir(self.rt, self.folder) else {
-            return false;
+            return None;
         };
         for entry in entries {
             if let Ok(entry) = entry {
                 let name = entry.file_name();
-                if all.see(name).is_err() {
-                    return false;
-                }
-                if !self.left.has(name) && new.see(name).is_err() {
-                    return false;
+                if self.left.has(name) {
+                    left.see(name).ok()?;
+                } else {
+                    new.see(name).ok()?;
                 }
             }
         }
-        true
+        Some((new.get(), left.get()))
     }
 
     /// Opens a file of the folder's own; `None` if it is none.
@@ -201,50 +204,8 @@ impl<'a, R: Files + Clock + AllocGlobal + Clone + Drop> FolderSpool<'a, R> {
         self.has_pauses && self.large.is_none()
     }
 
-    /// Reads an open file; `None` if it can't be read, or memory is short.
-    fn read_file(&self, file: R::File) -> Option<Vec<u8>> {
-        let mut text = Vec::new(self.alloc);
-        file.take(MOST_OCTETS as u64).read_to_end(&mut text).ok()?;
-        Some(text)
-    }
-}
-
-impl<R: Files + Clock + AllocGlobal + Clone + Drop> Spool for FolderSpool<'_, R> {
-    ghost tells = { λ _ _. ⊥ };
-
-    ghost asked = { λ _ _. ⊥ };
-
-    ghost is_coming = { λ _ _. ⊤ };
-
-    ghost tells_once = { λ spool a b h k. absurd h };
-
-    fn next_name(&mut self, last: &Option<FileName>) -> Option<FileName> {
-        if let Some(large) = &self.large {
-            return Some(large.name());
-        }
-        self.left.note(self.rt);
-        let changed = self.changed()?;
-        if self.bare == Some(changed) {
-            return None;
-        }
-        let shows = self.shows_changes(changed);
-        let mut all = NextName::new(self.alloc, &self.left.last()).ok()?;
-        let mut new = NextName::new(self.alloc, last).ok()?;
-        if !self.list(&mut all, &mut new) {
-            return None;
-        }
-        if let Some(name) = new.get() {
-            return Some(name);
-        }
-        let left = all.get();
-        if shows && left.is_none() {
-            self.bare = Some(changed);
-        }
-        if self.left.rest(self.rt) { None } else { left }
-    }
-
-    fn read(&mut self, name: &FileName) -> Option<Vec<u8>> {
-        self.left.begin(name);
+    /// The text of a file; `None` if it can't be read, or is coming from now on.
+    fn read_text(&mut self, name: &FileName) -> Option<Vec<u8>> {
         let path = self.path(name, "").ok()?;
         if self.is_large(name) {
             if self.coming().is_some() {
@@ -267,6 +228,49 @@ impl<R: Files + Clock + AllocGlobal + Clone + Drop> Spool for FolderSpool<'_, R>
             }
             Err(file) => self.read_file(file),
         }
+    }
+
+    /// Reads an open file; `None` if it can't be read, or memory is short.
+    fn read_file(&self, file: R::File) -> Option<Vec<u8>> {
+        let mut text = Vec::new(self.alloc);
+        file.take(MOST_OCTETS as u64).read_to_end(&mut text).ok()?;
+        Some(text)
+    }
+}
+
+impl<R: Files + Clock + AllocGlobal + Clone + Drop> Spool for FolderSpool<'_, R> {
+    ghost tells = { λ _ _. ⊥ };
+
+    ghost asked = { λ _ _. ⊥ };
+
+    ghost parted = { λ _ _. ⊥ };
+
+    ghost is_coming = { λ _ _. ⊤ };
+
+    ghost tells_once = { λ spool a b h k. absurd h };
+
+    fn next_name(&mut self, last: &Option<FileName>) -> Option<FileName> {
+        if let Some(large) = &self.large {
+            return Some(large.name());
+        }
+        self.left.note(self.rt);
+        let changed = self.changed()?;
+        if self.bare == Some(changed) {
+            return None;
+        }
+        let shows = self.shows_changes(changed);
+        let (new, left) = self.list(last)?;
+        if shows && new.is_none() && left.is_none() {
+            self.bare = Some(changed);
+        }
+        self.left.choose(self.rt, new, left)
+    }
+
+    fn read(&mut self, name: &FileName) -> Option<Vec<u8>> {
+        self.left.begin(name);
+        let text = self.read_text(name)?;
+        self.left.note_octets(text.len());
+        Some(text)
     }
 
     fn remove(&mut self, name: &FileName) -> bool {

@@ -10,7 +10,7 @@ use std::io::Read;
 use std::time::SystemTime;
 
 /// How many octets are read in one piece. A file with more is large.
-const PIECE: usize = 262_144;
+pub(crate) const PIECE: usize = 262_144;
 
 /// A large file is read and prepared in at most so many pauses between turns.
 const MOST_PAUSES: u32 = 1_000;

@@ -51,6 +51,7 @@ pub use guesses::{Guesses, origin_of};
 pub use hearings::Hearings;
 pub use links::{Links, MOST_LINKS, Seat};
 pub use listener::{AdminRequest, LinkEvent, Listener, NoListener};
+pub use next_name::left_files_are_tried;
 pub use noted_clock::NotedClock;
 pub use noted_listener::NotedListener;
 pub use noted_spool::NotedSpool;

@@ -3,9 +3,14 @@ ghost use Rattle.std.specs.Prelude.{◌≡◌, OnOk, option_map, string_bytes};
 ghost use Rattle.creds.specs.Names.{comes_before as precedes};
 ghost use Rattle.serving.specs.NextNames.{is_file as has_form, is_behind as follows};
 ghost use Rattle.serving.specs.NextNames.{is_less as is_least, least_after};
+ghost use Rattle.serving.specs.NextNames.{tries_left, tried_of, looks_after, LeftFilesAreTried};
 
 use crate::file_name::FileName;
 use std::alloc::{AllocError, Global};
+use std::marker::Model;
+
+/// After so many looks that tried none of the files that were left, one is tried before new ones.
+const MOST_LOOKS: u32 = 1_000;
 
 /// Finds the next name of a spool, whose names are seen in any order: the least one that is greater
 /// than the last one, else the least of all.
@@ -113,3 +118,67 @@ impl NextName {
         }
     }
 }
+
+/// What a look at the folder of a spool finds.
+#[derive(Clone, Copy)]
+pub(crate) struct Look {
+    /// The next of the files that weren't left before.
+    pub(crate) new: Option<FileName>,
+    /// The next of those that were left.
+    pub(crate) left: Option<FileName>,
+    /// One was left so few seconds ago that none of those is tried.
+    pub(crate) rests: bool,
+}
+
+impl Look {
+    /// Whether a file that was left is tried, after so many looks that tried none of them.
+    fn tries_left(&self, looks: u32) -> bool
+        ensures { result ≡ tries_left looks self.now }
+    {
+        let has_turn = self.new.is_none() || MOST_LOOKS <= looks;
+        !self.rests && self.left.is_some() && has_turn
+    }
+}
+
+/// How many looks one after the other tried none of the files that were left, as far as that
+/// matters.
+#[derive(Drop)]
+pub(crate) struct LooksWithout {
+    count: u32,
+}
+
+impl Model for LooksWithout {
+    ghost use Rattle.std.specs.Prelude.{ℕ};
+
+    ghost Value = { ℕ };
+
+    ghost view = { λ looks. looks.count };
+}
+
+impl LooksWithout {
+    /// There was none.
+    pub(crate) fn new() -> LooksWithout
+        ensures { result ≡ 0 }
+    {
+        LooksWithout { count: 0 }
+    }
+
+    /// Which file is tried after a look.
+    pub(crate) fn choose(&mut self, look: &Look) -> Option<FileName>
+        ensures tried { result ≡ tried_of self.old look.now }
+        ensures looks { self.new ≡ looks_after self.old look.now }
+    {
+        if look.tries_left(self.count) {
+            self.count = 0;
+            return look.left;
+        }
+        self.count = self.count.saturating_add(1).min(MOST_LOOKS);
+        look.new
+    }
+}
+
+/// A law: no more than 1,000 looks one after the other, at which one of the files that were left
+/// could be tried, try none of them, whatever else lies in the folder.
+pub fn left_files_are_tried()
+    ensures { LeftFilesAreTried }
+{}

@@ -2,6 +2,7 @@
 ghost use Rattle.std.specs.Prelude.{◌≡◌, List, [], ◌∷◌, ◌++◌, MatchOption, option_map};
 ghost use Rattle.std.specs.Prelude.{if◌then◌else◌};
 ghost use Rattle.serving.specs.Spools.{FileAct, WasRead, WasRemoved, WasRenamed, FileCall};
+ghost use Rattle.serving.specs.Spools.{PartCall};
 ghost use Rattle.serving.specs.Spools as call;
 ghost use Rattle.serving.specs.NotedFiles.{acts_of, call_of, tells_once, WasAsked, StaysAsItWas};
 
@@ -64,6 +65,8 @@ impl<S: Spool> Spool for NotedSpool<S> {
     ghost tells = { λ noted acts. acts ≡ acts_of noted.notes.calls };
 
     ghost asked = { λ noted calls. calls ≡ noted.notes.calls };
+
+    ghost parted = { λ noted. S.parted noted.spool };
 
     ghost is_coming = { λ noted. S.is_coming noted.spool };
 
@@ -132,6 +135,8 @@ impl<S: Spool> Spool for NotedSpool<S> {
             → a ≡ acts_of self.new.notes.calls }
         ensures called { (a : List FileCall) → a ≡ self.old.notes.calls
             → a ≡ self.new.notes.calls }
+        ensures parted { (a : List PartCall) → S.parted self.old.spool a
+            → S.parted self.new.spool (a ++ call.ReadOn ∷ []) }
         ensures inside { StaysAsItWas S.tells S.asked self.old.spool self.new.spool }
     {
         self.spool.read_on();
@@ -142,6 +147,8 @@ impl<S: Spool> Spool for NotedSpool<S> {
             → a ≡ acts_of self.new.notes.calls }
         ensures called { (a : List FileCall) → a ≡ self.old.notes.calls
             → a ≡ self.new.notes.calls }
+        ensures parted { (a : List PartCall) → S.parted self.old.spool a
+            → S.parted self.new.spool (a ++ call.NotePrepared ∷ []) }
         ensures inside { StaysAsItWas S.tells S.asked self.old.spool self.new.spool }
     {
         self.spool.note_prepared();

@@ -1,5 +1,5 @@
 //! A spool in memory, for tests.
-ghost use Rattle.std.specs.Prelude.{◌≡◌, ◌<◌, false, [], IfSome, length, map};
+ghost use Rattle.std.specs.Prelude.{◌≡◌, ◌<◌, ⊤, false, [], IfSome, length, map};
 ghost use Rattle.serving.specs.ScriptSpools.{tells_once, act_seen};
 
 use crate::file_name::FileName;
@@ -102,6 +102,8 @@ impl Spool for ScriptSpool {
 
     ghost asked = { λ _ _. ⊥ };
 
+    ghost parted = { λ _ _. ⊤ };
+
     ghost is_coming = { λ _ answer. answer ≡ false };
 
     ghost tells_once = { λ spool a b h k. tells_once spool.acts.items a b h k };
@@ -152,4 +154,8 @@ impl Spool for ScriptSpool {
     fn coming(&self) -> Option<&Coming> {
         None
     }
+
+    fn read_on(&mut self) {}
+
+    fn note_prepared(&mut self) {}
 }

@@ -2,7 +2,7 @@
 ghost use Rattle.std.specs.Prelude.{◌≡◌, Bool, List, ◌∷◌, [], ◌++◌, MatchOption, option_map};
 ghost use Rattle.std.specs.Prelude.{is_some, if◌then◌else◌};
 ghost use Rattle.serving.specs.Spools.{FileAct, WasRead, WasRemoved, WasRenamed, FileCall, Next};
-ghost use Rattle.serving.specs.Spools.{Read, Removed, Renamed};
+ghost use Rattle.serving.specs.Spools.{Read, Removed, Renamed, PartCall, ReadOn, NotePrepared};
 
 use crate::file_name::FileName;
 use mailtext::MailText;
@@ -23,13 +23,17 @@ pub struct Coming {
 /// other names are left alone.
 ///
 /// `tells s acts`: `acts` is a true record of what happened to s's files. `asked s calls`: `calls`
-/// is a true record of what s was asked and answered. Of a spool over a folder neither is known.
+/// is a true record of what s was asked and answered. `parted s calls`: so is `calls` of what s was
+/// asked about a large file, in pauses between turns. Of a spool over a folder none is known.
 pub trait Spool {
     /// `tells s acts`: `acts` is what happened to s's files, the newest act last.
     ghost tells: { Self → List FileAct → Type 0 };
 
     /// `asked s calls`: s was asked these calls and answered them so, the newest last.
     ghost asked: { Self → List FileCall → Type 0 };
+
+    /// `parted s calls`: s was asked these calls about a large file, the newest last.
+    ghost parted: { Self → List PartCall → Type 0 };
 
     /// `is_coming s answer`: s may answer so whether a file is coming. A spool over a folder may
     /// answer either.
@@ -76,14 +80,16 @@ pub trait Spool {
     fn read_on(&mut self)
         ensures told { (a : List FileAct) → tells self.old a → tells self.new a }
         ensures called { (a : List FileCall) → asked self.old a → asked self.new a }
-    {}
+        ensures parted { (a : List PartCall) → parted self.old a
+            → parted self.new (a ++ ReadOn ∷ []) };
 
     /// Notes that no more of the deposit of the file that is coming can be prepared: it isn't
     /// coming any more, and is read when it is tried next.
     fn note_prepared(&mut self)
         ensures told { (a : List FileAct) → tells self.old a → tells self.new a }
         ensures called { (a : List FileCall) → asked self.old a → asked self.new a }
-    {}
+        ensures parted { (a : List PartCall) → parted self.old a
+            → parted self.new (a ++ NotePrepared ∷ []) };
 
     /// Any two records of one spool are the same.
     ghost tells_once: { (spool : Self) (a b : List FileAct) → tells spool a → tells spool b

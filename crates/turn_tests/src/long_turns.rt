@@ -188,6 +188,8 @@ impl Spool for GoneSpool {
 
     ghost asked = { λ _ _. ⊥ };
 
+    ghost parted = { λ _ _. ⊥ };
+
     ghost is_coming = { λ _ _. ⊤ };
 
     ghost tells_once = { λ spool a b h k. absurd h };

@@ -69,6 +69,53 @@ fn files_that_were_left_rest(rt: HostRuntime) -> Result<(), Fail> {
     Ok(())
 }
 
+/// A large file that was left is named again only after as many seconds as it has pieces.
+#[test]
+fn a_large_file_that_was_left_rests(rt: HostRuntime) -> Result<(), Fail> {
+    let _ = fs::remove_dir_all(&rt, "rests-of-a-test");
+    fs::create_dir(&rt, "rests-of-a-test")?;
+    let mut text = Vec::new(rt.alloc());
+    text.resize(600_000, b'x')?;
+    fs::write(&rt, "rests-of-a-test/b.note.x.eml", text.as_slice())?;
+    let name = FileName::read(b"b.note.x.eml").ok_or("name")?;
+    let mut spool = FolderSpool::new(&rt, rt.alloc(), "rests-of-a-test");
+    let begun = Instant::now(&rt)?;
+    assert!(rt; is_next(&mut spool, None, name));
+    for _ in 0..LOOKS {
+        if spool.next_name(&Some(name)).is_some() {
+            break;
+        }
+    }
+    assert!(rt; begun.elapsed(&rt)? >= Duration::from_secs(3));
+    assert!(rt; is_next(&mut spool, Some(name), name));
+    fs::remove_dir_all(&rt, "rests-of-a-test")?;
+    Ok(())
+}
+
+/// A file that was left is named again though there is always a new one.
+#[test]
+fn new_files_do_not_stop_one_that_was_left(rt: HostRuntime) -> Result<(), Fail> {
+    let _ = fs::remove_dir_all(&rt, "stopped-of-a-test");
+    fs::create_dir(&rt, "stopped-of-a-test")?;
+    fs::write(&rt, "stopped-of-a-test/b.note.x.eml", "text")?;
+    let name = FileName::read(b"b.note.x.eml").ok_or("name")?;
+    let new = FileName::read(b"a.note.x.eml").ok_or("name")?;
+    let mut spool = FolderSpool::new(&rt, rt.alloc(), "stopped-of-a-test");
+    assert!(rt; is_next(&mut spool, None, name));
+    let mut count = 0u32;
+    for _ in 0..LOOKS {
+        fs::write(&rt, "stopped-of-a-test/a.note.x.eml", "text")?;
+        if !is_next(&mut spool, Some(name), new) {
+            break;
+        }
+        assert!(rt; spool.remove(&new));
+        count = count.saturating_add(1);
+    }
+    assert!(rt; count >= 1000, "{count}");
+    fs::remove_dir_all(&rt, "stopped-of-a-test")?;
+    Ok(())
+}
+
 /// Whether a file has this text.
 fn has(rt: &HostRuntime, path: &str, text: &str) -> Result<bool, Fail> {
     Ok(fs::read(rt, path)?.as_slice() == text.as_bytes())
