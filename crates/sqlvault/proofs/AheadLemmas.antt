@@ -285,16 +285,7 @@ pub prepares_refused : {S : Type 0} (A : Type 0) {store : Ghosts S} {old new : H
 prepares_refused A e is it =
     prepares_own (λ own. absurd (refusal_not_own A e is own)) it
 
--- faults are counted by a step that is done, and then by another
-pub counts_then : {A : Type 0} (a b n : ℕ) {u : Unit {0}} {r : Result A VaultFault}
-    → (let first : Result (Unit {0}) VaultFault = Ok u in CountsFaults a b first)
-    → CountsFaults b n r → CountsFaults a n r
-counts_then a b n first second = record {
-  kept = omega (arith, first.kept, second.kept);
-  cause = λ is. grown_before a b n first.kept (second.cause is);
-}
-
--- by none
+-- faults are counted by a step that is none
 pub counts_none : {A : Type 0} (n : ℕ) (x : A)
     → (let r : Result A VaultFault = Ok x in CountsFaults n n r)
 counts_none n x = record { kept = omega arith; cause = λ is. absurd (true≢false (ap is_ok is)) }

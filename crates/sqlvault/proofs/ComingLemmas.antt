@@ -164,10 +164,6 @@ coming_more {Own = Own} {store = store} {old = old} {new = new} a after octets w
     (prepares_more (works.Deposit a) (works.Deposit (with_put (a.put ++ octets) a))
     (λ c from to shown more. shows_more a c from to (a.put ++ octets) whole (take-append_seam a.put octets) shown more) part)
 
--- nothing more is put
-pub prepares_same : {S : Type 0} {Own : Type 0} (store : Ghosts S) (conn : Held S) (under : Option Work) → Prepares store conn conn under under Own
-prepares_same store conn under = record { clean = λ clean. clean; held = λ clean c h. h; up = λ clean c h up own. up; stop = λ clean c h up left. left }
-
 -- ---- its end
 
 -- the answer of a deposit by what its commit is answered

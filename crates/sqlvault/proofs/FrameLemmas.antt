@@ -75,9 +75,9 @@ not_ok (Ok x) P failed own = absurd failed
 not_ok (Err e) P failed own = own
 
 -- what the exit of a `?` answers
-pub passed : {A E : Type 0} {e : E} (r : Result A E) → IsErrAnd r (λ y. y ≡ e) → r ≡ Err e
-passed (Ok x) failed = absurd failed
-passed {A} {E} (Err y) failed = ap (λ (x : E). let r : Result A E = Err x in r) failed
+pub passed : {A E : Type 0} {e : E} {r : Result A E} → IsErrAnd r (λ y. y ≡ e) → r ≡ Err e
+passed {r = Ok x} failed = absurd failed
+passed {A} {E} {r = Err y} failed = ap (λ (x : E). let r : Result A E = Err x in r) failed
 
 -- two parts, of which the first has its answer
 pub looks_then : {S : Type 0} {Own : Type 0} {store : Ghosts S} {old mid new : Held S}

@@ -21,8 +21,7 @@ returns g c =
     }
 
 pub returns-in_err-create_tables : goal.returns-in_err-create_tables
-returns-in_err-create_tables g c = rw (passed c.from_residual.result c.from_residual.ensures.1)
-    (record {
+returns-in_err-create_tables g c = rw (passed c.from_residual.ensures.1) (record {
       clean = was_clean g.S.Store c.args.conn.now c.create_tables.new.conn
           c.create_tables.ensures.survives;
       part = λ clean begun. record {

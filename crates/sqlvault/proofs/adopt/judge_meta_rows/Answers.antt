@@ -9,6 +9,6 @@ returns-clause-judged g c clean tables =
     c.in_ok-ours.ensures.judged (rows_in (state g.S.Store c.args.conn.now).now.trees) (c.in_ok-version.ensures.told clean (inl tables))
 
 pub returns-in_err-ours-clause-judged : goal.returns-in_err-ours-clause-judged
-returns-in_err-ours-clause-judged g c = rw (passed c.from_residual-in_err-ours.result c.from_residual-in_err-ours.ensures.1)
+returns-in_err-ours-clause-judged g c = rw (passed c.from_residual-in_err-ours.ensures.1)
     (λ clean tables. c.in_err-ours.ensures.judged (rows_in (state g.S.Store c.args.conn.now).now.trees)
     (c.in_ok-version.ensures.told clean (inl tables)))

@@ -12,8 +12,7 @@ use Rattle.sqlvault.proofs.OlderLemmas.{completed_rows, moved_then, moved_halts,
 use Rattle.sqlvault.proofs.carry.bring.Goals as goal
 
 pub returns-in_err-complete_tables : goal.returns-in_err-complete_tables
-returns-in_err-complete_tables g c = rw (passed c.from_residual.result c.from_residual.ensures.1)
-    (record {
+returns-in_err-complete_tables g c = rw (passed c.from_residual.ensures.1) (record {
       clean = was_clean g.S.Store c.args.conn.now c.complete_tables.new.conn c.complete_tables.ensures.survives;
       part = λ clean1 b. record {
         halted = c.in_err-complete_tables.ensures.err clean1 b.begun b.order;
@@ -52,8 +51,7 @@ returns g c =
     }
 
 pub returns-in_err-move_old : goal.returns-in_err-move_old
-returns-in_err-move_old g c = rw (passed c.from_residual-in_err-move_old.result c.from_residual-in_err-move_old.ensures.1)
-    (record {
+returns-in_err-move_old g c = rw (passed c.from_residual-in_err-move_old.ensures.1) (record {
       clean = λ clean2. was_clean g.S.Store c.args.conn.now c.complete_tables.new.conn
           c.complete_tables.ensures.survives (c.move_old.ensures.clean clean2);
       part = λ clean2 b.

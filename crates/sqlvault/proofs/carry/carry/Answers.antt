@@ -21,8 +21,7 @@ use Rattle.sqlvault.proofs.carry.carry.Goals.{After-are_rows_sound, After-conclu
 use Rattle.sqlvault.proofs.carry.carry.Goals as goal
 
 pub returns-in_err-begin-clause-turns : goal.returns-in_err-begin-clause-turns
-returns-in_err-begin-clause-turns g c = rw (passed c.from_residual.result c.from_residual.ensures.1)
-    (λ clean1 older. let s0 = state g.S.Store c.args.conn.now in
+returns-in_err-begin-clause-turns g c = rw (passed c.from_residual.ensures.1) (λ clean1 older. let s0 = state g.S.Store c.args.conn.now in
     let s1 = state g.S.Store c.begin.new.conn in
     unmoved s0 s1 c.in_err-begin.field-0.0
     (stays_undone s0 s1 older.autocommit older.settled (c.in_err-begin.ensures.err clean1))
@@ -130,8 +129,7 @@ returns-clause-clean g c clean = begins_clean c.begin.ensures
 -- ---- kinds
 
 pub returns-in_err-begin-clause-kinds : goal.returns-in_err-begin-clause-kinds
-returns-in_err-begin-clause-kinds g c = rw (passed c.from_residual.result c.from_residual.ensures.1)
-    (kinds_met c.in_err-begin.field-0.0)
+returns-in_err-begin-clause-kinds g c = rw (passed c.from_residual.ensures.1) (kinds_met c.in_err-begin.field-0.0)
 
 pub returns-in-Err-clause-kinds : goal.returns-in-Err-clause-kinds
 returns-in-Err-clause-kinds g c = kinds_met c.undo.result

@@ -14,8 +14,7 @@ use Rattle.sqlvault.proofs.OlderLemmas.{carries_behind}
 use Rattle.sqlvault.proofs.carry.carry_marked.Goals as goal
 
 pub returns-in_err-version-clause-turns : goal.returns-in_err-version-clause-turns
-returns-in_err-version-clause-turns g c = rw (passed c.from_residual.result c.from_residual.ensures.1)
-    (λ clean1 older out settled. let s0 = state g.S.Store c.args.conn.now in
+returns-in_err-version-clause-turns g c = rw (passed c.from_residual.ensures.1) (λ clean1 older out settled. let s0 = state g.S.Store c.args.conn.now in
     let s1 = state g.S.Store c.find_older.new.conn in
     let tables : HasOldTables s0 = λ _. older in
     record {
@@ -73,8 +72,7 @@ returns-clause-clean g c clean = c.find_older.ensures.asks.clean (c.carry.ensure
 -- ---- of no version that is known here
 
 pub returns-in_err-version-clause-unknown : goal.returns-in_err-version-clause-unknown
-returns-in_err-version-clause-unknown g c = rw (passed c.from_residual.result c.from_residual.ensures.1)
-    (λ clean1 it settled. c.in_err-version.ensures.unknown clean1 it settled)
+returns-in_err-version-clause-unknown g c = rw (passed c.from_residual.ensures.1) (λ clean1 it settled. c.in_err-version.ensures.unknown clean1 it settled)
 
 pub returns-then-not-has_older_columns-clause-unknown : goal.returns-then-not-has_older_columns-clause-unknown
 returns-then-not-has_older_columns-clause-unknown g c clean1 it settled =

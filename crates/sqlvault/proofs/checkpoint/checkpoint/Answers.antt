@@ -21,12 +21,10 @@ still_kept c from to keeps put =
     subst (λ rows. Keeps rows c) (sym (rewritten from to keeps.meta_row put)) keeps
 
 pub returns-in_err-begin-clause-looks : goal.returns-in_err-begin-clause-looks
-returns-in_err-begin-clause-looks g c = rw (passed c.from_residual.result c.from_residual.ensures.1)
-    (unbegun c.in_err-begin.ensures)
+returns-in_err-begin-clause-looks g c = rw (passed c.from_residual.ensures.1) (unbegun c.in_err-begin.ensures)
 
 pub returns-in_err-begin-clause-answer : goal.returns-in_err-begin-clause-answer
-returns-in_err-begin-clause-answer g c = rw (passed c.from_residual.result c.from_residual.ensures.1)
-    (met (Ok tt) c.in_err-begin.field-0.0)
+returns-in_err-begin-clause-answer g c = rw (passed c.from_residual.ensures.1) (met (Ok tt) c.in_err-begin.field-0.0)
 
 pub returns-clause-looks : goal.returns-clause-looks
 returns-clause-looks g c = concluded_looks c.rewrite_version-written.result c.conclude.result

@@ -20,7 +20,7 @@ returns g c =
     (sym there ∙ c.if-not-there.false)) c.in_ok-drop_clerk.ensures.ok
 
 pub returns-in_err-drop_clerk : goal.returns-in_err-drop_clerk
-returns-in_err-drop_clerk g c = rw (passed c.from_residual-in_err-drop_clerk.result c.from_residual-in_err-drop_clerk.ensures.1)
+returns-in_err-drop_clerk g c = rw (passed c.from_residual-in_err-drop_clerk.ensures.1)
     (learns_met (DropsClerk c.as_bytes.result.now) (λ k. with_clerks (without_clerk c.args.clerk.now k.clerks) k)
     (λ k. drop_clerk_result c.args.clerk.now k.clerks) tt c.in_ok-there.ensures c.drop_clerk.ensures.survives
     (λ k there. may_drop k c.as_bytes.result.now c.args.clerk.now c.as_bytes.ensures.value
@@ -39,5 +39,4 @@ returns-then-not-there g c = learns_whole _ _ c.in_ok-there.ensures
     })
 
 pub returns-in_err-there : goal.returns-in_err-there
-returns-in_err-there g c = rw (passed c.from_residual.result c.from_residual.ensures.1)
-    (met_whole _ _ c.in_err-there.field-0.0 c.in_err-there.ensures.looks)
+returns-in_err-there g c = rw (passed c.from_residual.ensures.1) (met_whole _ _ c.in_err-there.field-0.0 c.in_err-there.ensures.looks)

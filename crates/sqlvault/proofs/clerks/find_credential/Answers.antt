@@ -39,8 +39,7 @@ returns-clause-sees g c =
     (λ clean tables k keeps. met (Ok (credential_in c.args.clerk.now k.clerks)) c.unreadable.result)
 
 pub returns-in_err-row-clause-sees : goal.returns-in_err-row-clause-sees
-returns-in_err-row-clause-sees g c = rw (passed c.from_residual.result c.from_residual.ensures.1)
-    (sees_failed g.S.Store c.args.conn.now c.find_clerk.new.conn c.in_err-row.ensures.err
+returns-in_err-row-clause-sees g c = rw (passed c.from_residual.ensures.1) (sees_failed g.S.Store c.args.conn.now c.find_clerk.new.conn c.in_err-row.ensures.err
     c.find_clerk.ensures.survives
     (λ k. met (Ok (credential_in c.args.clerk.now k.clerks)) c.in_err-row.field-0.0))
 
@@ -67,5 +66,5 @@ returns-clause-beside g c =
     record { told = λ clean tables a k spared shown. met (Ok (credential_in c.args.clerk.now k.clerks)) c.unreadable.result }
 
 pub returns-in_err-row-clause-beside : goal.returns-in_err-row-clause-beside
-returns-in_err-row-clause-beside g c = rw (passed c.from_residual.result c.from_residual.ensures.1)
+returns-in_err-row-clause-beside g c = rw (passed c.from_residual.ensures.1)
     (record { told = λ clean tables a k spared shown. met (Ok (credential_in c.args.clerk.now k.clerks)) c.in_err-row.field-0.0 })

@@ -20,7 +20,6 @@ returns g c = learns
     ∙ ap (λ n. is_some (credential_in n k.clerks)) c.as_bytes.ensures.value))
 
 pub returns-in_err-found : goal.returns-in_err-found
-returns-in_err-found g c = rw (passed c.from_residual.result c.from_residual.ensures.1)
-    (learns
+returns-in_err-found g c = rw (passed c.from_residual.ensures.1) (learns
     (sees_failed g.S.Store c.args.conn.now c.find_clerk.new.conn c.in_err-found.ensures.err
     c.find_clerk.ensures.survives (λ k. tt)))

@@ -29,19 +29,16 @@ returns-then-there-clause-judged g c k clean h =
     ap (λ b. put_result (put_answer b (length k.clerks) most_clerks)) there
 
 pub returns-in_err-there-clause-judged : goal.returns-in_err-there-clause-judged
-returns-in_err-there-clause-judged g c = rw (passed c.from_residual.result c.from_residual.ensures.1)
-    (λ held clean1 h. met _ c.in_err-there.field-0.0)
+returns-in_err-there-clause-judged g c = rw (passed c.from_residual.ensures.1) (λ held clean1 h. met _ c.in_err-there.field-0.0)
 
 pub returns-in_err-count-clause-judged : goal.returns-in_err-count-clause-judged
-returns-in_err-count-clause-judged g c = rw (passed c.from_residual-in_err-count.result c.from_residual-in_err-count.ensures.1)
-    (λ held clean2 h. met _ c.in_err-count.field-0.0)
+returns-in_err-count-clause-judged g c = rw (passed c.from_residual-in_err-count.ensures.1) (λ held clean2 h. met _ c.in_err-count.field-0.0)
 
 pub returns-then-there-clause-looks : goal.returns-then-there-clause-looks
 returns-then-there-clause-looks g c = c.in_ok-there.ensures.looks
 
 pub returns-in_err-there-clause-looks : goal.returns-in_err-there-clause-looks
-returns-in_err-there-clause-looks g c = rw (passed c.from_residual.result c.from_residual.ensures.1)
-    (c.in_err-there.ensures.looks)
+returns-in_err-there-clause-looks g c = rw (passed c.from_residual.ensures.1) (c.in_err-there.ensures.looks)
 
 pub returns-then-count-ge-MAX_CLERKS-clause-looks : goal.returns-then-count-ge-MAX_CLERKS-clause-looks
 returns-then-count-ge-MAX_CLERKS-clause-looks g c = looks_then c.in_ok-there.ensures.looks c.in_ok-count.ensures.looks
@@ -51,5 +48,4 @@ returns-clause-looks g c =
     looks_then c.in_ok-there.ensures.looks c.in_ok-count.ensures.looks
 
 pub returns-in_err-count-clause-looks : goal.returns-in_err-count-clause-looks
-returns-in_err-count-clause-looks g c = rw (passed c.from_residual-in_err-count.result c.from_residual-in_err-count.ensures.1)
-    (looks_then c.in_ok-there.ensures.looks c.in_err-count.ensures.looks)
+returns-in_err-count-clause-looks g c = rw (passed c.from_residual-in_err-count.ensures.1) (looks_then c.in_ok-there.ensures.looks c.in_err-count.ensures.looks)

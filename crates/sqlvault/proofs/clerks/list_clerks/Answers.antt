@@ -22,14 +22,12 @@ returns-clause-done g c held clean h =
     }
 
 pub returns-in_err-kinds_in-clause-done : goal.returns-in_err-kinds_in-clause-done
-returns-in_err-kinds_in-clause-done g c = rw (passed c.from_residual-in_err-kinds_in.result c.from_residual-in_err-kinds_in.ensures.1)
-    (λ held clean h. let s1 = state g.S.Store c.all_clerks.new.conn in
+returns-in_err-kinds_in-clause-done g c = rw (passed c.from_residual-in_err-kinds_in.ensures.1) (λ held clean h. let s1 = state g.S.Store c.all_clerks.new.conn in
     refused (Holds s1) held held (Ok (clerk_kinds held.clerks)) c.in_err-kinds_in.field-0.0
     (holds_unchanged (state g.S.Store c.args.conn.now) s1 held (c.in_ok-rows.ensures.same clean h.tables) h))
 
 pub returns-in_err-rows-clause-done : goal.returns-in_err-rows-clause-done
-returns-in_err-rows-clause-done g c = rw (passed c.from_residual.result c.from_residual.ensures.1)
-    (λ held clean h. let s1 = state g.S.Store c.all_clerks.new.conn in
+returns-in_err-rows-clause-done g c = rw (passed c.from_residual.ensures.1) (λ held clean h. let s1 = state g.S.Store c.all_clerks.new.conn in
     refused (Holds s1) held held (Ok (clerk_kinds held.clerks)) c.in_err-rows.field-0.0
     (holds_undone (state g.S.Store c.args.conn.now) s1 held (c.in_err-rows.ensures.err clean h.tables) h))
 
@@ -37,10 +35,9 @@ pub returns-clause-looks : goal.returns-clause-looks
 returns-clause-looks g c = asked g.S.Store c.args.conn.now c.all_clerks.new.conn c.in_ok-rows.ensures.same c.all_clerks.ensures.survives
 
 pub returns-in_err-kinds_in-clause-looks : goal.returns-in_err-kinds_in-clause-looks
-returns-in_err-kinds_in-clause-looks g c = rw (passed c.from_residual-in_err-kinds_in.result c.from_residual-in_err-kinds_in.ensures.1)
+returns-in_err-kinds_in-clause-looks g c = rw (passed c.from_residual-in_err-kinds_in.ensures.1)
     (asked g.S.Store c.args.conn.now c.all_clerks.new.conn c.in_ok-rows.ensures.same c.all_clerks.ensures.survives)
 
 pub returns-in_err-rows-clause-looks : goal.returns-in_err-rows-clause-looks
-returns-in_err-rows-clause-looks g c = rw (passed c.from_residual.result c.from_residual.ensures.1)
-    (failed g.S.Store c.args.conn.now c.all_clerks.new.conn c.in_err-rows.ensures.err
+returns-in_err-rows-clause-looks g c = rw (passed c.from_residual.ensures.1) (failed g.S.Store c.args.conn.now c.all_clerks.new.conn c.in_err-rows.ensures.err
     c.all_clerks.ensures.survives)

@@ -23,8 +23,7 @@ returns g c =
     (λ Held made. record { answer = judged; held = made }) (λ Held made. (c.in_ok-is_new.is_new, record { answer = judged; held = made })))
 
 pub returns-in_err-write_clerk : goal.returns-in_err-write_clerk
-returns-in_err-write_clerk g c = rw (passed c.from_residual-in_err-write_clerk.result c.from_residual-in_err-write_clerk.ensures.1)
-    (let x : vault.Clerk =
+returns-in_err-write_clerk g c = rw (passed c.from_residual-in_err-write_clerk.ensures.1) (let x : vault.Clerk =
     record { name = c.args.clerk.now; credential = c.args.credential.now } in
     let f = told c.in_err-write_clerk.field-0.0 in
     let is = c.in_err-write_clerk.ensures.answer in
@@ -41,6 +40,5 @@ returns-in_err-write_clerk g c = rw (passed c.from_residual-in_err-write_clerk.r
     (λ Held made. (c.in_ok-is_new.is_new, record { answer = judged; held = made }))))
 
 pub returns-in_err-is_new : goal.returns-in_err-is_new
-returns-in_err-is_new g c = rw (passed c.from_residual.result c.from_residual.ensures.1)
-    (looks_whole _ _ c.in_err-is_new.ensures.looks (own_met {A = Bool} (Err c.in_err-is_new.field-0.0))
+returns-in_err-is_new g c = rw (passed c.from_residual.ensures.1) (looks_whole _ _ c.in_err-is_new.ensures.looks (own_met {A = Bool} (Err c.in_err-is_new.field-0.0))
     (λ clean k h held. record { answer = c.in_err-is_new.ensures.judged k clean h; held = held }))

@@ -8,12 +8,10 @@ use Rattle.sqlvault.proofs.FrameLemmas.{concluded_turns, concluded_answer}
 use Rattle.sqlvault.proofs.clerks.write_clerk.Goals as goal
 
 pub returns-in_err-begin-clause-written : goal.returns-in_err-begin-clause-written
-returns-in_err-begin-clause-written g c = rw (passed c.from_residual.result c.from_residual.ensures.1)
-    (λ k after clean h keep. rest ((unbegun c.in_err-begin.ensures).rests clean k h))
+returns-in_err-begin-clause-written g c = rw (passed c.from_residual.ensures.1) (λ k after clean h keep. rest ((unbegun c.in_err-begin.ensures).rests clean k h))
 
 pub returns-in_err-begin-clause-answer : goal.returns-in_err-begin-clause-answer
-returns-in_err-begin-clause-answer g c = rw (passed c.from_residual.result c.from_residual.ensures.1)
-    (met (Ok tt) c.in_err-begin.field-0.0)
+returns-in_err-begin-clause-answer g c = rw (passed c.from_residual.ensures.1) (met (Ok tt) c.in_err-begin.field-0.0)
 
 pub returns-in_err-begin-clause-clean : goal.returns-in_err-begin-clause-clean
 returns-in_err-begin-clause-clean g c clean = begins_clean c.begin.ensures clean

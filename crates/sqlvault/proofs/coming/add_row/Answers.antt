@@ -10,8 +10,7 @@ use Rattle.sqlvault.proofs.FrameLemmas.{wrote, unwritten, passed}
 use Rattle.sqlvault.proofs.coming.add_row.Goals as goal
 
 pub returns-in_err-key : goal.returns-in_err-key
-returns-in_err-key g c = rw (passed c.from_residual.result c.from_residual.ensures.1)
-    (unwritten g.S.Store c.args.conn.now c.add_message.new.conn _
+returns-in_err-key g c = rw (passed c.from_residual.ensures.1) (unwritten g.S.Store c.args.conn.now c.add_message.new.conn _
     (Arrives c.as_bytes.result.now c.as_bytes-2.result.now (to_z w64 c.args.k) (to_z w64 c.octets-octets.result)) c.in_err-key.field-0.0
     c.in_err-key.ensures.err c.add_message.ensures.survives)
 

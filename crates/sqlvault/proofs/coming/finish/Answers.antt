@@ -32,7 +32,7 @@ finishes g c said it =
     it
 
 pub returns-in_err-conclude : goal.returns-in_err-conclude
-returns-in_err-conclude g c = rw (passed c.from_residual.result c.from_residual.ensures.1)
+returns-in_err-conclude g c = rw (passed c.from_residual.ensures.1)
     (finishes g (goal.at.returns-in_err-conclude g c).After-conclude (Err c.in_err-conclude.field-0.0) c.in_err-conclude.ensures)
 
 pub returns : goal.returns

@@ -13,11 +13,10 @@ use Rattle.sqlvault.proofs.ComingLemmas.{judged_any, same_uid}
 use Rattle.sqlvault.proofs.coming.judge.Goals as goal
 
 pub returns-in_err-there-clause-looks : goal.returns-in_err-there-clause-looks
-returns-in_err-there-clause-looks g c = rw (passed c.from_residual.result c.from_residual.ensures.1)
-    c.in_err-there.ensures.looks
+returns-in_err-there-clause-looks g c = rw (passed c.from_residual.ensures.1) c.in_err-there.ensures.looks
 
 pub returns-in_err-used-clause-looks : goal.returns-in_err-used-clause-looks
-returns-in_err-used-clause-looks g c = rw (passed c.from_residual-in_err-used.result c.from_residual-in_err-used.ensures.1)
+returns-in_err-used-clause-looks g c = rw (passed c.from_residual-in_err-used.ensures.1)
     (looks_then c.in_ok-there.ensures.looks (failed g.S.Store c.has_maildrop.new.conn c.find_deposit.new.conn
     c.in_err-used.ensures.err c.find_deposit.ensures.survives))
 

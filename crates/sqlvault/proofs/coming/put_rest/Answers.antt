@@ -11,5 +11,4 @@ returns g c =
     c.put_receipt.result c.in_ok-add_rest.ensures c.put_receipt.ensures (λ from mid to p m. (mid, p, m))
 
 pub returns-in_err-add_rest : goal.returns-in_err-add_rest
-returns-in_err-add_rest g c = rw (passed c.from_residual.result c.from_residual.ensures.1)
-    (writes_failed c.in_err-add_rest.ensures)
+returns-in_err-add_rest g c = rw (passed c.from_residual.ensures.1) (writes_failed c.in_err-add_rest.ensures)

@@ -11,11 +11,10 @@ use Rattle.sqlvault.proofs.ComingLemmas.{coming_begun, own_uid}
 use Rattle.sqlvault.proofs.coming.start.Goals as goal
 
 pub returns-in_err-uid-clause-prepares : goal.returns-in_err-uid-clause-prepares
-returns-in_err-uid-clause-prepares g c = rw (passed c.from_residual.result c.from_residual.ensures.1)
-    (prepares_look c.in_err-uid.ensures.looks)
+returns-in_err-uid-clause-prepares g c = rw (passed c.from_residual.ensures.1) (prepares_look c.in_err-uid.ensures.looks)
 
 pub returns-in_err-begin-clause-prepares : goal.returns-in_err-begin-clause-prepares
-returns-in_err-begin-clause-prepares g c = rw (passed c.from_residual-in_err-begin.result c.from_residual-in_err-begin.ensures.1)
+returns-in_err-begin-clause-prepares g c = rw (passed c.from_residual-in_err-begin.ensures.1)
     (prepares_look (looks_then c.in_ok-uid.ensures.looks (unbegun c.in_err-begin.ensures)))
 
 pub returns-in-Err-clause-prepares : goal.returns-in-Err-clause-prepares

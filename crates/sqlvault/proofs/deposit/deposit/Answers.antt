@@ -73,8 +73,7 @@ returns g c =
     }
 
 pub returns-in_err-store : goal.returns-in_err-store
-returns-in_err-store g c = rw (passed c.from_residual-in_err-store.result c.from_residual-in_err-store.ensures.1)
-    (let it = goal.at.returns-in_err-store g c in
+returns-in_err-store g c = rw (passed c.from_residual-in_err-store.ensures.1) (let it = goal.at.returns-in_err-store g c in
     let digest = digest_is g it.After-judge in
     let f = told c.in_err-store.field-0.0 in
     record {
@@ -99,7 +98,6 @@ returns-in_default g c = rw c.in_default.is (looks_whole _ _ c.in_ok-answer.ensu
     }))
 
 pub returns-in_err-answer : goal.returns-in_err-answer
-returns-in_err-answer g c = rw (passed c.from_residual.result c.from_residual.ensures.1)
-    (looks_whole _ _ c.in_err-answer.ensures.looks (own_met {A = Deposited} (Err c.in_err-answer.field-0.0))
+returns-in_err-answer g c = rw (passed c.from_residual.ensures.1) (looks_whole _ _ c.in_err-answer.ensures.looks (own_met {A = Deposited} (Err c.in_err-answer.field-0.0))
     (λ clean k h held. record
     { answer = c.in_err-answer.ensures.answered k c.args.text.now clean h (digest_is g (goal.at.returns-in_err-answer g c).After-judge); held = held }))

@@ -22,6 +22,5 @@ returns-clause-looks g c =
     asked g.S.Store c.args.conn.now c.find_count.new.conn c.in_ok-count.ensures.same c.find_count.ensures.survives
 
 pub returns-in_err-count-clause-looks : goal.returns-in_err-count-clause-looks
-returns-in_err-count-clause-looks g c = rw (passed c.from_residual.result c.from_residual.ensures.1)
-    (failed g.S.Store c.args.conn.now c.find_count.new.conn c.in_err-count.ensures.err
+returns-in_err-count-clause-looks g c = rw (passed c.from_residual.ensures.1) (failed g.S.Store c.args.conn.now c.find_count.new.conn c.in_err-count.ensures.err
     c.find_count.ensures.survives)

@@ -43,24 +43,20 @@ returns-then-not-there-clause-answered g c k text clean h digest =
     (sym (c.in_ok-there.ensures.told clean k h tt).1 ∙ c.if-not-there.true)
 
 pub returns-in_err-there-clause-answered : goal.returns-in_err-there-clause-answered
-returns-in_err-there-clause-answered g c = rw (passed c.from_residual.result c.from_residual.ensures.1)
-    (λ held text clean1 h d. met _ c.in_err-there.field-0.0)
+returns-in_err-there-clause-answered g c = rw (passed c.from_residual.ensures.1) (λ held text clean1 h d. met _ c.in_err-there.field-0.0)
 
 pub returns-in_err-used-clause-answered : goal.returns-in_err-used-clause-answered
-returns-in_err-used-clause-answered g c = rw (passed c.from_residual-in_err-used.result c.from_residual-in_err-used.ensures.1)
-    (λ held text clean2 h d. met _ c.in_err-used.field-0.0)
+returns-in_err-used-clause-answered g c = rw (passed c.from_residual-in_err-used.ensures.1) (λ held text clean2 h d. met _ c.in_err-used.field-0.0)
 
 pub returns-in-None-clause-within : goal.returns-in-None-clause-within
 returns-in-None-clause-within g c u is =
     c.judge_new.ensures.within u is
 
 pub returns-in_err-there-clause-within : goal.returns-in_err-there-clause-within
-returns-in_err-there-clause-within g c = rw (passed c.from_residual.result c.from_residual.ensures.1)
-    (λ u is. absurd (no_new _ u is))
+returns-in_err-there-clause-within g c = rw (passed c.from_residual.ensures.1) (λ u is. absurd (no_new _ u is))
 
 pub returns-in_err-used-clause-within : goal.returns-in_err-used-clause-within
-returns-in_err-used-clause-within g c = rw (passed c.from_residual-in_err-used.result c.from_residual-in_err-used.ensures.1)
-    (λ u is. absurd (no_new _ u is))
+returns-in_err-used-clause-within g c = rw (passed c.from_residual-in_err-used.ensures.1) (λ u is. absurd (no_new _ u is))
 
 pub returns-then-not-there-clause-within : goal.returns-then-not-there-clause-within
 returns-then-not-there-clause-within g c u is =
@@ -71,14 +67,13 @@ returns-in-Some-clause-within g c u is =
     absurd (c.known_or_conflict.ensures.old u is)
 
 pub returns-in_err-there-clause-looks : goal.returns-in_err-there-clause-looks
-returns-in_err-there-clause-looks g c = rw (passed c.from_residual.result c.from_residual.ensures.1)
-    (c.in_err-there.ensures.looks)
+returns-in_err-there-clause-looks g c = rw (passed c.from_residual.ensures.1) (c.in_err-there.ensures.looks)
 
 pub returns-then-not-there-clause-looks : goal.returns-then-not-there-clause-looks
 returns-then-not-there-clause-looks g c = c.in_ok-there.ensures.looks
 
 pub returns-in_err-used-clause-looks : goal.returns-in_err-used-clause-looks
-returns-in_err-used-clause-looks g c = rw (passed c.from_residual-in_err-used.result c.from_residual-in_err-used.ensures.1)
+returns-in_err-used-clause-looks g c = rw (passed c.from_residual-in_err-used.ensures.1)
     (looks_then c.in_ok-there.ensures.looks (failed g.S.Store c.has_maildrop.new.conn c.find_deposit.new.conn
     c.in_err-used.ensures.err c.find_deposit.ensures.survives))
 

@@ -27,20 +27,16 @@ returns-clause-answered g c k text clean h =
     c.if-before-ge-MAX_DEPOSITS.false
 
 pub returns-in_err-present-clause-answered : goal.returns-in_err-present-clause-answered
-returns-in_err-present-clause-answered g c = rw (passed c.from_residual.result c.from_residual.ensures.1)
-    (λ held text clean1 h. met _ c.in_err-present.field-0.0)
+returns-in_err-present-clause-answered g c = rw (passed c.from_residual.ensures.1) (λ held text clean1 h. met _ c.in_err-present.field-0.0)
 
 pub returns-in_err-before-clause-answered : goal.returns-in_err-before-clause-answered
-returns-in_err-before-clause-answered g c = rw (passed c.from_residual-in_err-before.result c.from_residual-in_err-before.ensures.1)
-    (λ held text clean2 h. met _ c.in_err-before.field-0.0)
+returns-in_err-before-clause-answered g c = rw (passed c.from_residual-in_err-before.ensures.1) (λ held text clean2 h. met _ c.in_err-before.field-0.0)
 
 pub returns-in_err-present-clause-within : goal.returns-in_err-present-clause-within
-returns-in_err-present-clause-within g c = rw (passed c.from_residual.result c.from_residual.ensures.1)
-    (λ u is. absurd (no_new _ u is))
+returns-in_err-present-clause-within g c = rw (passed c.from_residual.ensures.1) (λ u is. absurd (no_new _ u is))
 
 pub returns-in_err-before-clause-within : goal.returns-in_err-before-clause-within
-returns-in_err-before-clause-within g c = rw (passed c.from_residual-in_err-before.result c.from_residual-in_err-before.ensures.1)
-    (λ u is. absurd (no_new _ u is))
+returns-in_err-before-clause-within g c = rw (passed c.from_residual-in_err-before.ensures.1) (λ u is. absurd (no_new _ u is))
 
 pub returns-then-present-ge-MAX_MESSAGES-clause-within : goal.returns-then-present-ge-MAX_MESSAGES-clause-within
 returns-then-present-ge-MAX_MESSAGES-clause-within g c u is = absurd (no_new _ u is)
@@ -50,16 +46,14 @@ returns-then-before-ge-MAX_DEPOSITS-clause-within g c u is =
     absurd (no_new _ u is)
 
 pub returns-in_err-present-clause-looks : goal.returns-in_err-present-clause-looks
-returns-in_err-present-clause-looks g c = rw (passed c.from_residual.result c.from_residual.ensures.1)
-    (c.in_err-present.ensures.looks)
+returns-in_err-present-clause-looks g c = rw (passed c.from_residual.ensures.1) (c.in_err-present.ensures.looks)
 
 pub returns-then-present-ge-MAX_MESSAGES-clause-looks :
     goal.returns-then-present-ge-MAX_MESSAGES-clause-looks
 returns-then-present-ge-MAX_MESSAGES-clause-looks g c = c.in_ok-present.ensures.looks
 
 pub returns-in_err-before-clause-looks : goal.returns-in_err-before-clause-looks
-returns-in_err-before-clause-looks g c = rw (passed c.from_residual-in_err-before.result c.from_residual-in_err-before.ensures.1)
-    (looks_then c.in_ok-present.ensures.looks c.in_err-before.ensures.looks)
+returns-in_err-before-clause-looks g c = rw (passed c.from_residual-in_err-before.ensures.1) (looks_then c.in_ok-present.ensures.looks c.in_err-before.ensures.looks)
 
 pub returns-then-before-ge-MAX_DEPOSITS-clause-looks :
     goal.returns-then-before-ge-MAX_DEPOSITS-clause-looks

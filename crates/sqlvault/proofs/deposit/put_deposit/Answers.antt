@@ -10,5 +10,4 @@ returns g c =
     c.put_message.result c.in_ok-put_receipt.ensures c.put_message.ensures (λ from mid to p m. (mid, p, m))
 
 pub returns-in_err-put_receipt : goal.returns-in_err-put_receipt
-returns-in_err-put_receipt g c = rw (passed c.from_residual.result c.from_residual.ensures.1)
-    (writes_failed c.in_err-put_receipt.ensures)
+returns-in_err-put_receipt g c = rw (passed c.from_residual.ensures.1) (writes_failed c.in_err-put_receipt.ensures)

@@ -9,7 +9,7 @@ use Rattle.sqlvault.proofs.FrameLemmas.{wrote, written, halted_in, writes_then, 
 use Rattle.sqlvault.proofs.deposit.put_receipt.Goals as goal
 
 pub returns-in_err-set_count : goal.returns-in_err-set_count
-returns-in_err-set_count g c = rw (passed c.from_residual.result c.from_residual.ensures.1)
+returns-in_err-set_count g c = rw (passed c.from_residual.ensures.1)
     (let row : Count = record { maildrop = c.as_bytes.result.now; class = c.as_bytes-2.result.now; k = to_z w64 c.args.receipt.now.k } in
     halted_in g.S.Store c.args.conn.now c.set_count.new.conn (λ _. PutsReceipt c.args.receipt.now)
     (λ from to. ClearsCount row.maildrop row.class from to ⊎ SetsCount row from to)

@@ -10,12 +10,10 @@ pub returns-in_err-begin-clause-clean : goal.returns-in_err-begin-clause-clean
 returns-in_err-begin-clause-clean g c = (unbegun c.in_err-begin.ensures).clean
 
 pub returns-in_err-begin-clause-answer : goal.returns-in_err-begin-clause-answer
-returns-in_err-begin-clause-answer g c = rw (passed c.from_residual.result c.from_residual.ensures.1)
-    (met (Ok tt) c.in_err-begin.field-0.0)
+returns-in_err-begin-clause-answer g c = rw (passed c.from_residual.ensures.1) (met (Ok tt) c.in_err-begin.field-0.0)
 
 pub returns-in_err-begin-clause-stored : goal.returns-in_err-begin-clause-stored
-returns-in_err-begin-clause-stored g c = rw (passed c.from_residual.result c.from_residual.ensures.1)
-    (λ k clean h a. rest ((unbegun c.in_err-begin.ensures).rests clean k h))
+returns-in_err-begin-clause-stored g c = rw (passed c.from_residual.ensures.1) (λ k clean h a. rest ((unbegun c.in_err-begin.ensures).rests clean k h))
 
 pub returns-clause-clean : goal.returns-clause-clean
 returns-clause-clean g c clean =

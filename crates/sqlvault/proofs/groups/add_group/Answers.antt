@@ -21,7 +21,6 @@ returns g c =
     (λ from mid to a b. group_added place of from mid to a b)
 
 pub returns-in_err-add_group : goal.returns-in_err-add_group
-returns-in_err-add_group g c = rw (passed c.from_residual.result c.from_residual.ensures.1)
-    (unwritten g.S.Store c.args.conn.now c.add_group.new.conn _
+returns-in_err-add_group g c = rw (passed c.from_residual.ensures.1) (unwritten g.S.Store c.args.conn.now c.add_group.new.conn _
     (changes.AddsGroup c.as_bytes.result.now) c.in_err-add_group.field-0.0 c.in_err-add_group.ensures.err
     c.add_group.ensures.survives)

@@ -31,8 +31,7 @@ loop-group-preserved g c =
     )
 
 pub returns-in_err-add_group : goal.returns-in_err-add_group
-returns-in_err-add_group g c = rw (passed c.from_residual.result c.from_residual.ensures.1)
-    (writes_failed (writes_halted _ tt c.loop-group.invariant.1 c.in_err-add_group.ensures))
+returns-in_err-add_group g c = rw (passed c.from_residual.ensures.1) (writes_failed (writes_halted _ tt c.loop-group.invariant.1 c.in_err-add_group.ensures))
 
 pub returns : goal.returns
 returns g c =

@@ -38,8 +38,7 @@ loop-member-preserved g c =
     )
 
 pub returns-in_err-add_member : goal.returns-in_err-add_member
-returns-in_err-add_member g c = rw (passed c.from_residual.result c.from_residual.ensures.1)
-    (let row : Member = record {
+returns-in_err-add_member g c = rw (passed c.from_residual.ensures.1) (let row : Member = record {
       group = to_z w64 (of_z w64 c.args.group);
       place = to_z w64 (of_z w64 (to_z w64 c.loop-member.place-bits +ℤ pos 1));
       clerk = c.as_bytes.result.now;

@@ -13,6 +13,6 @@ returns g c =
     c.add_groups.ensures (λ from mid to a b. groups_set gs from mid to a b)
 
 pub returns-in_err-clear_groups : goal.returns-in_err-clear_groups
-returns-in_err-clear_groups g c = rw (passed c.from_residual.result c.from_residual.ensures.1)
+returns-in_err-clear_groups g c = rw (passed c.from_residual.ensures.1)
     (unwritten g.S.Store c.args.conn.now c.clear_groups.new.conn _ ClearsGroups c.in_err-clear_groups.field-0.0
     c.in_err-clear_groups.ensures.err c.clear_groups.ensures.survives)

@@ -31,8 +31,7 @@ returns-in_err-read_heads-clause-sees g c =
     c.in_ok-rows.ensures.sees
 
 pub returns-in_err-rows-clause-sees : goal.returns-in_err-rows-clause-sees
-returns-in_err-rows-clause-sees g c = rw (passed c.from_residual.result c.from_residual.ensures.1)
-    (sees_own (λ own. own)
+returns-in_err-rows-clause-sees g c = rw (passed c.from_residual.ensures.1) (sees_own (λ own. own)
     (λ k _. met (heads_result c.args.maildrop.now k) c.in_err-rows.field-0.0) c.in_err-rows.ensures.sees)
 
 pub returns-then-is_empty-clause-beside : goal.returns-then-is_empty-clause-beside
@@ -57,6 +56,5 @@ returns-in_err-read_heads-clause-beside g c = tells_said c.in_ok-rows.ensures.be
     c.in_err-read_heads.field-0.0 c.from_residual-in_err-read_heads.result c.from_residual-in_err-read_heads.ensures.1)
 
 pub returns-in_err-rows-clause-beside : goal.returns-in_err-rows-clause-beside
-returns-in_err-rows-clause-beside g c = rw (passed c.from_residual.result c.from_residual.ensures.1)
-    (tells_said c.in_err-rows.ensures.beside
+returns-in_err-rows-clause-beside g c = rw (passed c.from_residual.ensures.1) (tells_said c.in_err-rows.ensures.beside
     (λ k sound _. met (heads_result c.args.maildrop.now k) c.in_err-rows.field-0.0))

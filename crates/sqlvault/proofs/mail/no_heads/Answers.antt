@@ -21,8 +21,7 @@ returns-then-not-there-clause-sees g c = sees_own (λ _. tt)
     c.in_ok-there.ensures.sees
 
 pub returns-in_err-there-clause-sees : goal.returns-in_err-there-clause-sees
-returns-in_err-there-clause-sees g c = rw (passed c.from_residual.result c.from_residual.ensures.1)
-    (sees_own (λ own. own)
+returns-in_err-there-clause-sees g c = rw (passed c.from_residual.ensures.1) (sees_own (λ own. own)
     (λ k _ none. met (heads_result c.args.maildrop.now k) c.in_err-there.field-0.0) c.in_err-there.ensures.sees)
 
 pub returns-clause-beside : goal.returns-clause-beside
@@ -38,6 +37,5 @@ returns-then-not-there-clause-beside g c =
     (sym there ∙ c.if-not-there.true)))
 
 pub returns-in_err-there-clause-beside : goal.returns-in_err-there-clause-beside
-returns-in_err-there-clause-beside g c = rw (passed c.from_residual.result c.from_residual.ensures.1)
-    (tells_said (tells_spared (λ _ _. tt) c.in_err-there.ensures.beside)
+returns-in_err-there-clause-beside g c = rw (passed c.from_residual.ensures.1) (tells_said (tells_spared (λ _ _. tt) c.in_err-there.ensures.beside)
     (λ k sound _ none. met (heads_result c.args.maildrop.now k) c.in_err-there.field-0.0))

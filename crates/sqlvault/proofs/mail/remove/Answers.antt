@@ -4,8 +4,7 @@ use Rattle.sqlvault.proofs.FrameLemmas.{passed, unbegun, met_whole, concluded_wh
 use Rattle.sqlvault.proofs.mail.remove.Goals as goal
 
 pub returns-in_err-begin : goal.returns-in_err-begin
-returns-in_err-begin g c = rw (passed c.from_residual.result c.from_residual.ensures.1)
-    (met_whole _ _ c.in_err-begin.field-0.0 (unbegun c.in_err-begin.ensures))
+returns-in_err-begin g c = rw (passed c.from_residual.ensures.1) (met_whole _ _ c.in_err-begin.field-0.0 (unbegun c.in_err-begin.ensures))
 
 pub returns : goal.returns
 returns g c =

@@ -51,8 +51,7 @@ loop-left-preserved g c =
     }
 
 pub returns-in_err-remove_message : goal.returns-in_err-remove_message
-returns-in_err-remove_message g c = rw (passed c.from_residual.result c.from_residual.ensures.1)
-    (let asked = to_z w64 (of_z w64 c.cast_signed-key.result) in
+returns-in_err-remove_message g c = rw (passed c.from_residual.ensures.1) (let asked = to_z w64 (of_z w64 c.cast_signed-key.result) in
     let Removes : Unit {0} → Rows → Rows → Type 0 = λ _. RemovesMessage asked c.as_bytes.result.now in
     writes_failed (writes_halted
     (λ _. Removed c.args.maildrop.now (drop c.loop-left.left c.args.keys.now)) tt

@@ -10,8 +10,7 @@ use Rattle.sqlvault.proofs.FrameLemmas.{learns_done, learns_met}
 use Rattle.sqlvault.proofs.maildrops.add_maildrop.Goals as goal
 
 pub returns-in_err-there : goal.returns-in_err-there
-returns-in_err-there g c = rw (passed c.from_residual.result c.from_residual.ensures.1)
-    (met_whole _ _ c.in_err-there.field-0.0 c.in_err-there.ensures.looks)
+returns-in_err-there g c = rw (passed c.from_residual.ensures.1) (met_whole _ _ c.in_err-there.field-0.0 c.in_err-there.ensures.looks)
 
 pub returns-then-there : goal.returns-then-there
 returns-then-there g c = learns_whole _ _ c.in_ok-there.ensures
@@ -19,8 +18,7 @@ returns-then-there g c = learns_whole _ _ c.in_ok-there.ensures
     (sym there ∙ c.if-there.true) held)
 
 pub returns-in_err-count : goal.returns-in_err-count
-returns-in_err-count g c = rw (passed c.from_residual-in_err-count.result c.from_residual-in_err-count.ensures.1)
-    (met_whole _ _ c.in_err-count.field-0.0
+returns-in_err-count g c = rw (passed c.from_residual-in_err-count.ensures.1) (met_whole _ _ c.in_err-count.field-0.0
     (looks_then c.in_ok-there.ensures.looks c.in_err-count.ensures.looks))
 
 pub returns-then-count-ge-MAX_MAILDROPS : goal.returns-then-count-ge-MAX_MAILDROPS
@@ -42,7 +40,7 @@ returns g c =
     c.in_ok-add_maildrop.ensures.ok
 
 pub returns-in_err-add_maildrop : goal.returns-in_err-add_maildrop
-returns-in_err-add_maildrop g c = rw (passed c.from_residual-in_err-add_maildrop.result c.from_residual-in_err-add_maildrop.ensures.1)
+returns-in_err-add_maildrop g c = rw (passed c.from_residual-in_err-add_maildrop.ensures.1)
     (learns_met (AddsMaildrop c.as_bytes.result.now) (λ k. with_maildrops (with_maildrop c.args.name.now k.maildrops) k)
     (λ k. put_result (put_maildrop_answer c.args.name.now k.maildrops)) true
     (learns_then c.in_ok-there.ensures c.in_ok-count.ensures) c.add_maildrop.ensures.survives

@@ -11,8 +11,7 @@ use Rattle.sqlvault.proofs.FrameLemmas.{learns_done, learns_met}
 use Rattle.sqlvault.proofs.maildrops.drop_maildrop.Goals as goal
 
 pub returns-in_err-there : goal.returns-in_err-there
-returns-in_err-there g c = rw (passed c.from_residual.result c.from_residual.ensures.1)
-    (met_whole _ _ c.in_err-there.field-0.0 c.in_err-there.ensures.looks)
+returns-in_err-there g c = rw (passed c.from_residual.ensures.1) (met_whole _ _ c.in_err-there.field-0.0 c.in_err-there.ensures.looks)
 
 pub returns-then-not-there : goal.returns-then-not-there
 returns-then-not-there g c = learns_whole _ _ c.in_ok-there.ensures
@@ -20,8 +19,7 @@ returns-then-not-there g c = learns_whole _ _ c.in_ok-there.ensures
     (sym there ∙ c.if-not-there.true) held)
 
 pub returns-in_err-count : goal.returns-in_err-count
-returns-in_err-count g c = rw (passed c.from_residual-in_err-count.result c.from_residual-in_err-count.ensures.1)
-    (met_whole _ _ c.in_err-count.field-0.0
+returns-in_err-count g c = rw (passed c.from_residual-in_err-count.ensures.1) (met_whole _ _ c.in_err-count.field-0.0
     (looks_then c.in_ok-there.ensures.looks c.in_err-count.ensures.looks))
 
 pub returns-then-count-gt0 : goal.returns-then-count-gt0
@@ -41,8 +39,7 @@ returns g c =
     c.in_ok-drop_maildrop.ensures.ok
 
 pub returns-in_err-drop_maildrop : goal.returns-in_err-drop_maildrop
-returns-in_err-drop_maildrop g c = rw (passed c.from_residual-in_err-drop_maildrop.result c.from_residual-in_err-drop_maildrop.ensures.1)
-    (let d = c.args.name.now in
+returns-in_err-drop_maildrop g c = rw (passed c.from_residual-in_err-drop_maildrop.ensures.1) (let d = c.args.name.now in
     learns_met (DropsMaildrop c.as_bytes.result.now) (λ k. with_maildrops (without_maildrop d k.maildrops) k)
     (λ k. drop_result (drop_answer (is_one_of d k.maildrops) (present_in d k))) tt (learns_then c.in_ok-there.ensures c.in_ok-count.ensures) c.drop_maildrop.ensures.survives
     (λ k told. may_drop k c.as_bytes.result.now d c.as_bytes.ensures.value

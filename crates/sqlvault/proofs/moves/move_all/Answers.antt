@@ -33,8 +33,7 @@ loop-head-preserved g c = (
 )
 
 pub returns-in_err-move_one-clause-part : goal.returns-in_err-move_one-clause-part
-returns-in_err-move_one-clause-part g c = rw (passed c.from_residual.result c.from_residual.ensures.1)
-    (record {
+returns-in_err-move_one-clause-part g c = rw (passed c.from_residual.ensures.1) (record {
       clean = λ clean. c.loop-head.invariant.0 (c.in_err-move_one.ensures.clean clean);
       part = λ clean h.
           let s0 = state g.S.Store c.args.conn.now in

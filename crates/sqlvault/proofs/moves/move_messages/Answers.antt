@@ -7,8 +7,7 @@ use Rattle.sqlvault.proofs.MoveLemmas.{halts_behind, looked_heads, moved_found, 
 use Rattle.sqlvault.proofs.moves.move_messages.Goals as goal
 
 pub returns-in_err-heads : goal.returns-in_err-heads
-returns-in_err-heads g c = rw (passed c.from_residual.result c.from_residual.ensures.1)
-    (record {
+returns-in_err-heads g c = rw (passed c.from_residual.ensures.1) (record {
       clean = was_clean g.S.Store c.args.conn.now c.old_messages.new.conn
           c.old_messages.ensures.survives;
       part = λ clean u.
@@ -46,8 +45,7 @@ returns g c =
     }
 
 pub returns-in_err-move_all : goal.returns-in_err-move_all
-returns-in_err-move_all g c = rw (passed c.from_residual-in_err-move_all.result c.from_residual-in_err-move_all.ensures.1)
-    (record {
+returns-in_err-move_all g c = rw (passed c.from_residual-in_err-move_all.ensures.1) (record {
       clean = λ clean. was_clean g.S.Store c.args.conn.now c.old_messages.new.conn
           c.old_messages.ensures.survives (c.move_all.ensures.part.clean clean);
       part = λ clean2 u.

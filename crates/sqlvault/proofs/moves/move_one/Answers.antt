@@ -36,8 +36,7 @@ returns-in-None g c = record {
 }
 
 pub returns-in_err-body : goal.returns-in_err-body
-returns-in_err-body g c = rw (passed c.from_residual.result c.from_residual.ensures.1)
-    (record {
+returns-in_err-body g c = rw (passed c.from_residual.ensures.1) (record {
       clean = was_clean g.S.Store c.args.conn.now c.find_body.new.conn c.find_body.ensures.survives;
       part = λ clean1 of.
           let s0 = state g.S.Store c.args.conn.now in

@@ -44,8 +44,7 @@ returns g c =
     }
 
 pub returns-in_err-add_keyed : goal.returns-in_err-add_keyed
-returns-in_err-add_keyed g c = rw (passed c.from_residual.result c.from_residual.ensures.1)
-    (record {
+returns-in_err-add_keyed g c = rw (passed c.from_residual.ensures.1) (record {
       clean = was_clean g.S.Store c.args.conn.now c.add_keyed.new.conn c.add_keyed.ensures.survives;
       part = λ clean1 i.
           let s0 = state g.S.Store c.args.conn.now in

@@ -14,8 +14,7 @@ use Rattle.sqlvault.proofs.SeesLemmas.{sees_asked, sees_failed}
 use Rattle.sqlvault.proofs.pages.page.Goals as goal
 
 pub returns-in_err-found-clause-sees : goal.returns-in_err-found-clause-sees
-returns-in_err-found-clause-sees g c = rw (passed c.from_residual.result c.from_residual.ensures.1)
-    (sees_failed g.S.Store c.args.conn.now c.sheets_between.new.conn c.in_err-found.ensures.err
+returns-in_err-found-clause-sees g c = rw (passed c.from_residual.ensures.1) (sees_failed g.S.Store c.args.conn.now c.sheets_between.new.conn c.in_err-found.ensures.err
     c.sheets_between.ensures.survives (λ k. met (Ok 0) c.in_err-found.field-0.0))
 
 pub returns-clause-sees : goal.returns-clause-sees
@@ -38,8 +37,7 @@ returns-clause-sees g c =
     (octets_from (end - first) c.as_slice.result.now first) c.copy_sheets.new.buffer (omega (arith, c.sheets_for.ensures.some)) run c.copy_sheets.ensures.count c.copy_sheets.ensures.copied)
 
 pub returns-in_err-found-clause-beside : goal.returns-in_err-found-clause-beside
-returns-in_err-found-clause-beside g c = rw (passed c.from_residual.result c.from_residual.ensures.1)
-    (record { told = λ clean tables a k spared part. met (Ok 0) c.in_err-found.field-0.0 })
+returns-in_err-found-clause-beside g c = rw (passed c.from_residual.ensures.1) (record { told = λ clean tables a k spared part. met (Ok 0) c.in_err-found.field-0.0 })
 
 pub returns-clause-beside : goal.returns-clause-beside
 returns-clause-beside g c = record {

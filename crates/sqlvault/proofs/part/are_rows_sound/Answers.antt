@@ -26,5 +26,4 @@ pub returns-clause-asks : goal.returns-clause-asks
 returns-clause-asks g c = asks_ok c.in_ok-unsound.ensures.asks
 
 pub returns-in_err-unsound-clause-asks : goal.returns-in_err-unsound-clause-asks
-returns-in_err-unsound-clause-asks g c = rw (passed c.from_residual.result c.from_residual.ensures.1)
-    (asks_err c.in_err-unsound.ensures.asks)
+returns-in_err-unsound-clause-asks g c = rw (passed c.from_residual.ensures.1) (asks_err c.in_err-unsound.ensures.asks)

@@ -98,14 +98,13 @@ pub returns-then-not-clerks-clause-asks : goal.returns-then-not-clerks-clause-as
 returns-then-not-clerks-clause-asks g c = asks_ok c.in_ok-clerks.ensures.asks
 
 pub returns-in_err-clerks-clause-asks : goal.returns-in_err-clerks-clause-asks
-returns-in_err-clerks-clause-asks g c = rw (passed c.from_residual.result c.from_residual.ensures.1)
-    (asks_err c.in_err-clerks.ensures.asks)
+returns-in_err-clerks-clause-asks g c = rw (passed c.from_residual.ensures.1) (asks_err c.in_err-clerks.ensures.asks)
 
 pub returns-then-not-maildrops-clause-asks : goal.returns-then-not-maildrops-clause-asks
 returns-then-not-maildrops-clause-asks g c = asks_ok (asks_then c.in_ok-clerks.ensures.asks c.in_ok-maildrops.ensures.asks)
 
 pub returns-in_err-maildrops-clause-asks : goal.returns-in_err-maildrops-clause-asks
-returns-in_err-maildrops-clause-asks g c = rw (passed c.from_residual-in_err-maildrops.result c.from_residual-in_err-maildrops.ensures.1)
+returns-in_err-maildrops-clause-asks g c = rw (passed c.from_residual-in_err-maildrops.ensures.1)
     (asks_err (asks_then c.in_ok-clerks.ensures.asks c.in_err-maildrops.ensures.asks))
 
 pub returns-in-Some-clause-asks : goal.returns-in-Some-clause-asks
@@ -113,7 +112,7 @@ returns-in-Some-clause-asks g c =
     asks_ok (asks_then (asks_then c.in_ok-clerks.ensures.asks c.in_ok-maildrops.ensures.asks) c.in_ok-part.ensures.asks)
 
 pub returns-in_err-part-clause-asks : goal.returns-in_err-part-clause-asks
-returns-in_err-part-clause-asks g c = rw (passed c.from_residual-in_err-part.result c.from_residual-in_err-part.ensures.1)
+returns-in_err-part-clause-asks g c = rw (passed c.from_residual-in_err-part.ensures.1)
     (asks_err (asks_then (asks_then c.in_ok-clerks.ensures.asks c.in_ok-maildrops.ensures.asks) c.in_err-part.ensures.asks))
 
 -- the policy is sound, and what is before it
@@ -125,7 +124,7 @@ returns-then-not-deposits-clause-asks g c =
     asks_ok (asks_then (lists_asked g (goal.at.returns-then-not-deposits-clause-asks g c).After-are_deposits_sound) c.in_ok-deposits.ensures.asks)
 
 pub returns-in_err-deposits-clause-asks : goal.returns-in_err-deposits-clause-asks
-returns-in_err-deposits-clause-asks g c = rw (passed c.from_residual-in_err-deposits.result c.from_residual-in_err-deposits.ensures.1)
+returns-in_err-deposits-clause-asks g c = rw (passed c.from_residual-in_err-deposits.ensures.1)
     (asks_err (asks_then (lists_asked g (goal.at.returns-in_err-deposits-clause-asks g c).After-are_deposits_sound) c.in_err-deposits.ensures.asks))
 
 pub returns-clause-asks : goal.returns-clause-asks
@@ -139,6 +138,6 @@ returns-then-not-messages-clause-asks g c =
     asks_ok (asks_then (asks_then lists c.in_ok-deposits.ensures.asks) c.in_ok-messages.ensures.asks)
 
 pub returns-in_err-messages-clause-asks : goal.returns-in_err-messages-clause-asks
-returns-in_err-messages-clause-asks g c = rw (passed c.from_residual-in_err-messages.result c.from_residual-in_err-messages.ensures.1)
+returns-in_err-messages-clause-asks g c = rw (passed c.from_residual-in_err-messages.ensures.1)
     (let lists = lists_asked g (goal.at.returns-in_err-messages-clause-asks g c).After-are_deposits_sound in
     asks_err (asks_then (asks_then lists c.in_ok-deposits.ensures.asks) c.in_err-messages.ensures.asks))

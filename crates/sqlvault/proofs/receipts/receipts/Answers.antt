@@ -21,14 +21,13 @@ returns-clause-done g c held clean h =
     }
 
 pub returns-in_err-read_receipts-clause-done : goal.returns-in_err-read_receipts-clause-done
-returns-in_err-read_receipts-clause-done g c = rw (passed c.from_residual-in_err-read_receipts.result c.from_residual-in_err-read_receipts.ensures.1)
+returns-in_err-read_receipts-clause-done g c = rw (passed c.from_residual-in_err-read_receipts.ensures.1)
     (λ held clean h. let s1 = state g.S.Store c.all_deposits.new.conn in
     refused (Holds s1) held held (Ok held.deposits) c.in_err-read_receipts.field-0.0
     (holds_unchanged (state g.S.Store c.args.conn.now) s1 held (c.in_ok-rows.ensures.same clean h.tables) h))
 
 pub returns-in_err-rows-clause-done : goal.returns-in_err-rows-clause-done
-returns-in_err-rows-clause-done g c = rw (passed c.from_residual.result c.from_residual.ensures.1)
-    (λ held clean h. let s1 = state g.S.Store c.all_deposits.new.conn in
+returns-in_err-rows-clause-done g c = rw (passed c.from_residual.ensures.1) (λ held clean h. let s1 = state g.S.Store c.all_deposits.new.conn in
     refused (Holds s1) held held (Ok held.deposits) c.in_err-rows.field-0.0
     (holds_undone (state g.S.Store c.args.conn.now) s1 held (c.in_err-rows.ensures.err clean h.tables) h))
 
@@ -36,10 +35,9 @@ pub returns-clause-looks : goal.returns-clause-looks
 returns-clause-looks g c = asked g.S.Store c.args.conn.now c.all_deposits.new.conn c.in_ok-rows.ensures.same c.all_deposits.ensures.survives
 
 pub returns-in_err-read_receipts-clause-looks : goal.returns-in_err-read_receipts-clause-looks
-returns-in_err-read_receipts-clause-looks g c = rw (passed c.from_residual-in_err-read_receipts.result c.from_residual-in_err-read_receipts.ensures.1)
+returns-in_err-read_receipts-clause-looks g c = rw (passed c.from_residual-in_err-read_receipts.ensures.1)
     (asked g.S.Store c.args.conn.now c.all_deposits.new.conn c.in_ok-rows.ensures.same c.all_deposits.ensures.survives)
 
 pub returns-in_err-rows-clause-looks : goal.returns-in_err-rows-clause-looks
-returns-in_err-rows-clause-looks g c = rw (passed c.from_residual.result c.from_residual.ensures.1)
-    (failed g.S.Store c.args.conn.now c.all_deposits.new.conn c.in_err-rows.ensures.err
+returns-in_err-rows-clause-looks g c = rw (passed c.from_residual.ensures.1) (failed g.S.Store c.args.conn.now c.all_deposits.new.conn c.in_err-rows.ensures.err
     c.all_deposits.ensures.survives)

@@ -9,9 +9,7 @@ pub returns-clause-prepares : goal.returns-clause-prepares
 returns-clause-prepares g c = λ d keys. removal_begun d keys c.in_ok-begin.ensures
 
 pub returns-in_err-begin-clause-prepares : goal.returns-in_err-begin-clause-prepares
-returns-in_err-begin-clause-prepares g c = rw (passed c.from_residual.result c.from_residual.ensures.1)
-    (λ d keys. prepares_look (unbegun c.in_err-begin.ensures))
+returns-in_err-begin-clause-prepares g c = rw (passed c.from_residual.ensures.1) (λ d keys. prepares_look (unbegun c.in_err-begin.ensures))
 
 pub returns-in_err-begin-clause-answer : goal.returns-in_err-begin-clause-answer
-returns-in_err-begin-clause-answer g c = rw (passed c.from_residual.result c.from_residual.ensures.1)
-    (met (Ok tt) c.in_err-begin.field-0.0)
+returns-in_err-begin-clause-answer g c = rw (passed c.from_residual.ensures.1) (met (Ok tt) c.in_err-begin.field-0.0)

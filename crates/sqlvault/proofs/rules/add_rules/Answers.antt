@@ -20,8 +20,7 @@ loop-rule-preserved g c =
     (sym (take_next rules i x lt c.rule-item.is)) (added_more (take i rules) (x ∷ []) from mid to a b))
 
 pub returns-in_err-add_rule : goal.returns-in_err-add_rule
-returns-in_err-add_rule g c = rw (passed c.from_residual.result c.from_residual.ensures.1)
-    (writes_failed (writes_halted
+returns-in_err-add_rule g c = rw (passed c.from_residual.ensures.1) (writes_failed (writes_halted
     (λ _. AddsRules (take c.loop-rule.rule-index c.args.rules.now)) tt c.loop-rule.invariant
     c.in_err-add_rule.ensures))
 

@@ -27,8 +27,7 @@ returns-in-None-clause-done g c held clean1 h =
     refused (Holds s1) held _ _ c.unreadable.result (holds_unchanged (state g.S.Store c.args.conn.now) s1 held (c.in_ok-groups.ensures.asks.same clean1 h.tables) h)
 
 pub returns-in_err-groups-clause-done : goal.returns-in_err-groups-clause-done
-returns-in_err-groups-clause-done g c = rw (passed c.from_residual.result c.from_residual.ensures.1)
-    (λ held clean1 h. let s1 = state g.S.Store c.read_groups.new.conn in
+returns-in_err-groups-clause-done g c = rw (passed c.from_residual.ensures.1) (λ held clean1 h. let s1 = state g.S.Store c.read_groups.new.conn in
     refused (Holds s1) held _ _ c.in_err-groups.field-0.0 (holds_undone (state g.S.Store c.args.conn.now) s1 held (c.in_err-groups.ensures.asks.err clean1 h.tables) h))
 
 pub returns-in-Some-clause-looks : goal.returns-in-Some-clause-looks
@@ -42,6 +41,5 @@ returns-in-None-clause-looks g c =
     (Ok c.in_ok-groups.field-0) c.in_ok-groups.ensures.asks)
 
 pub returns-in_err-groups-clause-looks : goal.returns-in_err-groups-clause-looks
-returns-in_err-groups-clause-looks g c = rw (passed c.from_residual.result c.from_residual.ensures.1)
-    (asks_look g.S.Store c.args.conn.now c.read_groups.new.conn (Err c.in_err-groups.field-0.0)
+returns-in_err-groups-clause-looks g c = rw (passed c.from_residual.ensures.1) (asks_look g.S.Store c.args.conn.now c.read_groups.new.conn (Err c.in_err-groups.field-0.0)
     c.in_err-groups.ensures.asks)

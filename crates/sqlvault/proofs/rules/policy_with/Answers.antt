@@ -20,12 +20,11 @@ returns-clause-done g c held clean h groups =
     }
 
 pub returns-in_err-rows-clause-done : goal.returns-in_err-rows-clause-done
-returns-in_err-rows-clause-done g c = rw (passed c.from_residual.result c.from_residual.ensures.1)
-    (λ held clean1 h groups. let s1 = state g.S.Store c.all_rules.new.conn in
+returns-in_err-rows-clause-done g c = rw (passed c.from_residual.ensures.1) (λ held clean1 h groups. let s1 = state g.S.Store c.all_rules.new.conn in
     refused (Holds s1) held _ _ c.in_err-rows.field-0.0 (holds_undone (state g.S.Store c.args.conn.now) s1 held (c.in_err-rows.ensures.err clean1 h.tables) h))
 
 pub returns-in_err-read_policy-clause-done : goal.returns-in_err-read_policy-clause-done
-returns-in_err-read_policy-clause-done g c = rw (passed c.from_residual-in_err-read_policy.result c.from_residual-in_err-read_policy.ensures.1)
+returns-in_err-read_policy-clause-done g c = rw (passed c.from_residual-in_err-read_policy.ensures.1)
     (λ held clean1 h groups. let s1 = state g.S.Store c.all_rules.new.conn in
     refused (Holds s1) held _ _ c.in_err-read_policy.field-0.0 (holds_unchanged (state g.S.Store c.args.conn.now) s1 held (c.in_ok-rows.ensures.same clean1 h.tables) h))
 
@@ -33,10 +32,9 @@ pub returns-clause-looks : goal.returns-clause-looks
 returns-clause-looks g c = asked g.S.Store c.args.conn.now c.all_rules.new.conn c.in_ok-rows.ensures.same c.all_rules.ensures.survives
 
 pub returns-in_err-read_policy-clause-looks : goal.returns-in_err-read_policy-clause-looks
-returns-in_err-read_policy-clause-looks g c = rw (passed c.from_residual-in_err-read_policy.result c.from_residual-in_err-read_policy.ensures.1)
+returns-in_err-read_policy-clause-looks g c = rw (passed c.from_residual-in_err-read_policy.ensures.1)
     (asked g.S.Store c.args.conn.now c.all_rules.new.conn c.in_ok-rows.ensures.same c.all_rules.ensures.survives)
 
 pub returns-in_err-rows-clause-looks : goal.returns-in_err-rows-clause-looks
-returns-in_err-rows-clause-looks g c = rw (passed c.from_residual.result c.from_residual.ensures.1)
-    (failed g.S.Store c.args.conn.now c.all_rules.new.conn c.in_err-rows.ensures.err
+returns-in_err-rows-clause-looks g c = rw (passed c.from_residual.ensures.1) (failed g.S.Store c.args.conn.now c.all_rules.new.conn c.in_err-rows.ensures.err
     c.all_rules.ensures.survives)

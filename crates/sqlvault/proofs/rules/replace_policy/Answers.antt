@@ -18,5 +18,4 @@ pub returns-clause-sound : goal.returns-clause-sound
 returns-clause-sound g c = any_ok _ c.replace_rules.result c.rules.ensures.sound
 
 pub returns-in_err-replace_groups-clause-written : goal.returns-in_err-replace_groups-clause-written
-returns-in_err-replace_groups-clause-written g c = rw (passed c.from_residual.result c.from_residual.ensures.1)
-    (writes_failed c.in_err-replace_groups.ensures)
+returns-in_err-replace_groups-clause-written g c = rw (passed c.from_residual.ensures.1) (writes_failed c.in_err-replace_groups.ensures)

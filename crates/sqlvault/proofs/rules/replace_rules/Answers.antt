@@ -13,6 +13,6 @@ returns g c =
     c.add_rules.ensures (λ from mid to. set rules from mid to)
 
 pub returns-in_err-clear_rules : goal.returns-in_err-clear_rules
-returns-in_err-clear_rules g c = rw (passed c.from_residual.result c.from_residual.ensures.1)
+returns-in_err-clear_rules g c = rw (passed c.from_residual.ensures.1)
     (unwritten g.S.Store c.args.conn.now c.clear_rules.new.conn _ ClearsRules c.in_err-clear_rules.field-0.0
     c.in_err-clear_rules.ensures.err c.clear_rules.ensures.survives)

@@ -17,6 +17,5 @@ returns-clause-asks g c =
     answered g.S.Store c.args.conn.now c.all_maildrops.new.conn c.in_ok-rows.ensures.same c.all_maildrops.ensures.survives
 
 pub returns-in_err-rows-clause-asks : goal.returns-in_err-rows-clause-asks
-returns-in_err-rows-clause-asks g c = rw (passed c.from_residual.result c.from_residual.ensures.1)
-    (unanswered g.S.Store c.args.conn.now c.all_maildrops.new.conn c.in_err-rows.ensures.err
+returns-in_err-rows-clause-asks g c = rw (passed c.from_residual.ensures.1) (unanswered g.S.Store c.args.conn.now c.all_maildrops.new.conn c.in_err-rows.ensures.err
     c.all_maildrops.ensures.survives)

@@ -25,12 +25,11 @@ returns-clause-judged g c clean2 tables apart =
     ∙ ap (λ (l : List Deposit). are_sound_rows l c.as_slice-2.result.now) rows ∙ ap (λ (l : List Count). are_sound_rows (rows_in s0.now.trees).deposits l) counts)
 
 pub returns-in_err-rows-clause-asks : goal.returns-in_err-rows-clause-asks
-returns-in_err-rows-clause-asks g c = rw (passed c.from_residual.result c.from_residual.ensures.1)
-    (unanswered g.S.Store c.args.conn.now c.all_deposits.new.conn c.in_err-rows.ensures.err
+returns-in_err-rows-clause-asks g c = rw (passed c.from_residual.ensures.1) (unanswered g.S.Store c.args.conn.now c.all_deposits.new.conn c.in_err-rows.ensures.err
     c.all_deposits.ensures.survives)
 
 pub returns-in_err-counts-clause-asks : goal.returns-in_err-counts-clause-asks
-returns-in_err-counts-clause-asks g c = rw (passed c.from_residual-in_err-counts.result c.from_residual-in_err-counts.ensures.1)
+returns-in_err-counts-clause-asks g c = rw (passed c.from_residual-in_err-counts.ensures.1)
     (let rows = answered {A = Unit {0}} {E = Error} {x = tt} g.S.Store c.args.conn.now c.all_deposits.new.conn c.in_ok-rows.ensures.same c.all_deposits.ensures.survives in
     asks_then rows (unanswered g.S.Store c.all_deposits.new.conn c.all_counts.new.conn
     c.in_err-counts.ensures.err c.all_counts.ensures.survives))

@@ -44,8 +44,7 @@ returns-then-not-sound-clause-reads g c =
     reads_ok (reads_then c.loop-row.invariant.0 c.in_ok-sound.ensures.reads)
 
 pub returns-in_err-sound-clause-reads : goal.returns-in_err-sound-clause-reads
-returns-in_err-sound-clause-reads g c = rw (passed c.from_residual.result c.from_residual.ensures.1)
-    (reads_then c.loop-row.invariant.0 c.in_err-sound.ensures.reads)
+returns-in_err-sound-clause-reads g c = rw (passed c.from_residual.ensures.1) (reads_then c.loop-row.invariant.0 c.in_err-sound.ensures.reads)
 
 pub returns-clause-reads : goal.returns-clause-reads
 returns-clause-reads g c =

@@ -43,8 +43,7 @@ returns-clause-judged g c deposits clean h apart dropped d =
     judged_count (rows_in s0.now.trees) deposits apart dropped c.in_ok-count.count c.in-Some.sheets judged.0 count judged.1
 
 pub returns-in_err-names-clause-asks : goal.returns-in_err-names-clause-asks
-returns-in_err-names-clause-asks g c = rw (passed c.from_residual.result c.from_residual.ensures.1)
-    (unanswered g.S.Store c.args.conn.now c.all_maildrops.new.conn c.in_err-names.ensures.err
+returns-in_err-names-clause-asks g c = rw (passed c.from_residual.ensures.1) (unanswered g.S.Store c.args.conn.now c.all_maildrops.new.conn c.in_err-names.ensures.err
     c.all_maildrops.ensures.survives)
 
 pub returns-in_default-clause-asks : goal.returns-in_default-clause-asks
@@ -53,7 +52,7 @@ returns-in_default-clause-asks g c =
     asks_ok (asks_reads names c.in_ok-sheets.ensures.reads)
 
 pub returns-in_err-sheets-clause-asks : goal.returns-in_err-sheets-clause-asks
-returns-in_err-sheets-clause-asks g c = rw (passed c.from_residual-in_err-sheets.result c.from_residual-in_err-sheets.ensures.1)
+returns-in_err-sheets-clause-asks g c = rw (passed c.from_residual-in_err-sheets.ensures.1)
     (let names = answered {A = Unit {0}} {E = Error} {x = tt} g.S.Store c.args.conn.now c.all_maildrops.new.conn c.in_ok-names.ensures.same c.all_maildrops.ensures.survives in
     asks_err (asks_reads names c.in_err-sheets.ensures.reads))
 
@@ -65,7 +64,7 @@ returns-clause-asks g c =
     c.in_ok-count.ensures.same c.sheet_count.ensures.survives)
 
 pub returns-in_err-count-clause-asks : goal.returns-in_err-count-clause-asks
-returns-in_err-count-clause-asks g c = rw (passed c.from_residual-in_err-count.result c.from_residual-in_err-count.ensures.1)
+returns-in_err-count-clause-asks g c = rw (passed c.from_residual-in_err-count.ensures.1)
     (let names = answered {A = Unit {0}} {E = Error} {x = tt} g.S.Store c.args.conn.now
     c.all_maildrops.new.conn c.in_ok-names.ensures.same c.all_maildrops.ensures.survives in
     asks_then (asks_reads names c.in_ok-sheets.ensures.reads)

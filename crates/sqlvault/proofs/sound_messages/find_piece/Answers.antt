@@ -28,6 +28,5 @@ returns-in_default-clause-reads g c =
     read g.S.Store c.args.conn.now c.find_sheet.new.conn c.in_ok-sheet.ensures.same c.find_sheet.ensures.survives
 
 pub returns-in_err-sheet-clause-reads : goal.returns-in_err-sheet-clause-reads
-returns-in_err-sheet-clause-reads g c = rw (passed c.from_residual.result c.from_residual.ensures.1)
-    (unread g.S.Store c.args.conn.now c.find_sheet.new.conn c.in_err-sheet.ensures.err
+returns-in_err-sheet-clause-reads g c = rw (passed c.from_residual.ensures.1) (unread g.S.Store c.args.conn.now c.find_sheet.new.conn c.in_err-sheet.ensures.err
     c.find_sheet.ensures.survives)

@@ -43,8 +43,7 @@ returns-in_default-clause-reads g c =
     reads_ok (reads_then c.loop-place.invariant.0 c.in_ok-sheet.ensures.reads)
 
 pub returns-in_err-sheet-clause-reads : goal.returns-in_err-sheet-clause-reads
-returns-in_err-sheet-clause-reads g c = rw (passed c.from_residual-in_err-sheet.result c.from_residual-in_err-sheet.ensures.1)
-    (reads_err (reads_then c.loop-place.invariant.0 c.in_err-sheet.ensures.reads))
+returns-in_err-sheet-clause-reads g c = rw (passed c.from_residual-in_err-sheet.ensures.1) (reads_err (reads_then c.loop-place.invariant.0 c.in_err-sheet.ensures.reads))
 
 pub returns-in_err-extend_from_slice-clause-reads : goal.returns-in_err-extend_from_slice-clause-reads
 returns-in_err-extend_from_slice-clause-reads g c =

@@ -41,8 +41,7 @@ returns-then-not-numbered-clause-reads g c =
     reads_ok c.in_ok-numbered.ensures.reads
 
 pub returns-in_err-numbered-clause-reads : goal.returns-in_err-numbered-clause-reads
-returns-in_err-numbered-clause-reads g c = rw (passed c.from_residual.result c.from_residual.ensures.1)
-    (c.in_err-numbered.ensures.reads)
+returns-in_err-numbered-clause-reads g c = rw (passed c.from_residual.ensures.1) (c.in_err-numbered.ensures.reads)
 
 pub returns-then-row-lt0-clause-reads : goal.returns-then-row-lt0-clause-reads
 returns-then-row-lt0-clause-reads g c = reads_ok c.in_ok-numbered.ensures.reads
@@ -60,5 +59,5 @@ returns-in-Some-clause-reads g c =
     reads_ok (reads_then c.in_ok-numbered.ensures.reads c.in_ok-text.ensures.reads)
 
 pub returns-in_err-text-clause-reads : goal.returns-in_err-text-clause-reads
-returns-in_err-text-clause-reads g c = rw (passed c.from_residual-in_err-text.result c.from_residual-in_err-text.ensures.1)
+returns-in_err-text-clause-reads g c = rw (passed c.from_residual-in_err-text.ensures.1)
     (reads_err (reads_then c.in_ok-numbered.ensures.reads c.in_err-text.ensures.reads))

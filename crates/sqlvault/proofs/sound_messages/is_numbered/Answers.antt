@@ -37,6 +37,5 @@ returns-in_default-clause-reads g c =
     read g.S.Store c.args.conn.now c.find_count.new.conn c.in_ok-count.ensures.same c.find_count.ensures.survives
 
 pub returns-in_err-count-clause-reads : goal.returns-in_err-count-clause-reads
-returns-in_err-count-clause-reads g c = rw (passed c.from_residual.result c.from_residual.ensures.1)
-    (unread g.S.Store c.args.conn.now c.find_count.new.conn c.in_err-count.ensures.err
+returns-in_err-count-clause-reads g c = rw (passed c.from_residual.ensures.1) (unread g.S.Store c.args.conn.now c.find_count.new.conn c.in_err-count.ensures.err
     c.find_count.ensures.survives)

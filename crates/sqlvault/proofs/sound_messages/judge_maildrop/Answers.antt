@@ -33,7 +33,7 @@ returns-then-not-sound-clause-judged g c deposits clean h d =
     maildrop_unsound (rows_in s0.now.trees) deposits c.args.name.now c.as_slice.result.now (c.as_slice.ensures.value ∙ (c.in_ok-rows.ensures.ok clean1 h)) none
 
 pub returns-in_err-rows-clause-reads : goal.returns-in_err-rows-clause-reads
-returns-in_err-rows-clause-reads g c = rw (passed c.from_residual.result c.from_residual.ensures.1)
+returns-in_err-rows-clause-reads g c = rw (passed c.from_residual.ensures.1)
     (unread g.S.Store c.args.conn.now c.heads.new.conn c.in_err-rows.ensures.err c.heads.ensures.survives)
 
 pub returns-then-len-gt-MAX_MESSAGES-clause-reads : goal.returns-then-len-gt-MAX_MESSAGES-clause-reads
@@ -52,7 +52,7 @@ returns-then-not-sound-clause-reads g c =
     reads_ok (reads_then rows c.in_ok-sound.ensures.reads)
 
 pub returns-in_err-sound-clause-reads : goal.returns-in_err-sound-clause-reads
-returns-in_err-sound-clause-reads g c = rw (passed c.from_residual-in_err-sound.result c.from_residual-in_err-sound.ensures.1)
+returns-in_err-sound-clause-reads g c = rw (passed c.from_residual-in_err-sound.ensures.1)
     (let rows = read {A = Unit {0}} {x = tt} g.S.Store c.args.conn.now c.heads.new.conn
     c.in_ok-rows.ensures.same c.heads.ensures.survives in
     reads_err (reads_then rows c.in_err-sound.ensures.reads))

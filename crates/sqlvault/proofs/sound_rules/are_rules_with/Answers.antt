@@ -24,6 +24,5 @@ returns-in_err-are_rules-clause-asks g c =
     asks_passed c.from_residual-in_err-are_rules.result _ c.from_residual-in_err-are_rules.ensures.1 it
 
 pub returns-in_err-rows-clause-asks : goal.returns-in_err-rows-clause-asks
-returns-in_err-rows-clause-asks g c = rw (passed c.from_residual.result c.from_residual.ensures.1)
-    (unanswered g.S.Store c.args.conn.now c.all_rules.new.conn c.in_err-rows.ensures.err
+returns-in_err-rows-clause-asks g c = rw (passed c.from_residual.ensures.1) (unanswered g.S.Store c.args.conn.now c.all_rules.new.conn c.in_err-rows.ensures.err
     c.all_rules.ensures.survives)

@@ -24,13 +24,13 @@ returns-clause-done g c k clean h =
     }
 
 pub returns-in_err-totals_of-clause-done : goal.returns-in_err-totals_of-clause-done
-returns-in_err-totals_of-clause-done g c = rw (passed c.from_residual-in_err-totals_of.result c.from_residual-in_err-totals_of.ensures.1)
+returns-in_err-totals_of-clause-done g c = rw (passed c.from_residual-in_err-totals_of.ensures.1)
     (λ k clean h. let both = looks_then c.in_ok-names.ensures.looks c.in_err-totals_of.ensures.looks in
     refused (Holds (state g.S.Store c.totals_of.new.conn)) k k (Ok (totals (records_of k)))
     c.in_err-totals_of.field-0.0 (both.rests clean k h).held)
 
 pub returns-in_err-names-clause-done : goal.returns-in_err-names-clause-done
-returns-in_err-names-clause-done g c = rw (passed c.from_residual.result c.from_residual.ensures.1)
+returns-in_err-names-clause-done g c = rw (passed c.from_residual.ensures.1)
     (λ k clean h. refused (Holds (state g.S.Store c.names.new.conn)) k k (Ok (totals (records_of k)))
     c.in_err-names.field-0.0 (c.in_err-names.ensures.looks.rests clean k h).held)
 
@@ -39,9 +39,8 @@ returns-clause-looks g c =
     looks_then c.in_ok-names.ensures.looks c.in_ok-totals_of.ensures.looks
 
 pub returns-in_err-totals_of-clause-looks : goal.returns-in_err-totals_of-clause-looks
-returns-in_err-totals_of-clause-looks g c = rw (passed c.from_residual-in_err-totals_of.result c.from_residual-in_err-totals_of.ensures.1)
+returns-in_err-totals_of-clause-looks g c = rw (passed c.from_residual-in_err-totals_of.ensures.1)
     (looks_then c.in_ok-names.ensures.looks c.in_err-totals_of.ensures.looks)
 
 pub returns-in_err-names-clause-looks : goal.returns-in_err-names-clause-looks
-returns-in_err-names-clause-looks g c = rw (passed c.from_residual.result c.from_residual.ensures.1)
-    (c.in_err-names.ensures.looks)
+returns-in_err-names-clause-looks g c = rw (passed c.from_residual.ensures.1) (c.in_err-names.ensures.looks)

@@ -20,5 +20,4 @@ pub returns-clause-looks : goal.returns-clause-looks
 returns-clause-looks g c = c.in_ok-rows.ensures.looks
 
 pub returns-in_err-rows-clause-looks : goal.returns-in_err-rows-clause-looks
-returns-in_err-rows-clause-looks g c = rw (passed c.from_residual.result c.from_residual.ensures.1)
-    (c.in_err-rows.ensures.looks)
+returns-in_err-rows-clause-looks g c = rw (passed c.from_residual.ensures.1) (c.in_err-rows.ensures.looks)

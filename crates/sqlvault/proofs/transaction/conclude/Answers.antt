@@ -14,7 +14,7 @@ returns-in_err-end-in-Ok g c = rw c.in-Ok.is (record {
   clean = c.in_err-end-in-Ok.ensures.clean;
   ends = (
     Err c.in_err-end-in-Ok.field-0.0,
-    passed c.from_residual.result c.from_residual.ensures.1,
+    passed c.from_residual.ensures.1,
     c.in_err-end-in-Ok.ensures,
   );
   undoes = tt;

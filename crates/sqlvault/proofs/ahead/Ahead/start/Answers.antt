@@ -8,12 +8,12 @@ use Rattle.vault.specs.declared.answer.Progress.{Progress}
 use Rattle.sqlvault.proofs.ahead.Ahead.start.Goals as goal
 
 pub returns-in_err-begin_removal-clause-prepares : goal.returns-in_err-begin_removal-clause-prepares
-returns-in_err-begin_removal-clause-prepares g c = rw (passed c.from_residual.result c.from_residual.ensures.1)
+returns-in_err-begin_removal-clause-prepares g c = rw (passed c.from_residual.ensures.1)
     (λ none. step_told g.S.Store c.self.inside.work c.self.view_is (none_told c.self.view_is none)
     (prepares_refused Progress c.in_err-begin_removal.field-0.0 c.in_err-begin_removal.ensures.answer (c.in_err-begin_removal.ensures.prepares [] [])))
 
 pub returns-in_err-begin_removal-clause-counted : goal.returns-in_err-begin_removal-clause-counted
-returns-in_err-begin_removal-clause-counted g c = rw (passed c.from_residual.result c.from_residual.ensures.1)
+returns-in_err-begin_removal-clause-counted g c = rw (passed c.from_residual.ensures.1)
     (counts_told c.begin_removal.new.self.faults (Err c.in_err-begin_removal.field-0.0) c.self.view_is
     (counts_as c.self.inside.vault.faults c.begin_removal.new.self.faults c.in_err-begin_removal.field-0.0 c.in_err-begin_removal.ensures.counted))
 

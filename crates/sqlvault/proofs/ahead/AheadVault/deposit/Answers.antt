@@ -38,13 +38,12 @@ returns-clause-commits g c =
     c.in_ok-give_up.ensures.none c.deposit.ensures.commits
 
 pub returns-in_err-give_up-clause-done : goal.returns-in_err-give_up-clause-done
-returns-in_err-give_up-clause-done g c = rw (passed c.from_residual.result c.from_residual.ensures.1)
+returns-in_err-give_up-clause-done g c = rw (passed c.from_residual.ensures.1)
     (λ k h clean. let it = looks_from g.S.Store (Err c.in_err-give_up.field-0.0) c.in_default.ensures.none c.in_err-give_up.ensures.looks in record {
       answer = refusal_any _ c.in_err-give_up.field-0.0 c.in_err-give_up.ensures.answer;
       held = it.held k clean h;
     })
 
 pub returns-in_err-give_up-clause-commits : goal.returns-in_err-give_up-clause-commits
-returns-in_err-give_up-clause-commits g c = rw (passed c.from_residual.result c.from_residual.ensures.1)
-    (commits_refused g.S.Store _ c.in_err-give_up.field-0.0 c.in_err-give_up.ensures.answer
+returns-in_err-give_up-clause-commits g c = rw (passed c.from_residual.ensures.1) (commits_refused g.S.Store _ c.in_err-give_up.field-0.0 c.in_err-give_up.ensures.answer
     (looks_from g.S.Store (Err c.in_err-give_up.field-0.0) c.in_default.ensures.none c.in_err-give_up.ensures.looks))

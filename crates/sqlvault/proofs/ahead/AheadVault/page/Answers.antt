@@ -20,7 +20,7 @@ returns-clause-looks g c =
     c.self-2.view_is c.in_ok-give_up.ensures.looks c.in_ok-give_up.ensures.none refl c.page.ensures.looks
 
 pub returns-in_err-give_up-clause-looks : goal.returns-in_err-give_up-clause-looks
-returns-in_err-give_up-clause-looks g c = rw (passed c.from_residual.result c.from_residual.ensures.1)
+returns-in_err-give_up-clause-looks g c = rw (passed c.from_residual.ensures.1)
     (looks_refused g.S.Store c.in_err-give_up.field-0.0 c.in_err-give_up.ensures.answer c.in_err-give_up.ensures.looks)
 
 pub returns-in-Ok-clause-looks : goal.returns-in-Ok-clause-looks
@@ -62,8 +62,7 @@ returns-in-Err-clause-done g c k h clean =
     }
 
 pub returns-in_err-give_up-clause-done : goal.returns-in_err-give_up-clause-done
-returns-in_err-give_up-clause-done g c = rw (passed c.from_residual.result c.from_residual.ensures.1)
-    (λ k h clean. record {
+returns-in_err-give_up-clause-done g c = rw (passed c.from_residual.ensures.1) (λ k h clean. record {
       answer = refusal_any _ c.in_err-give_up.field-0.0 c.in_err-give_up.ensures.answer;
       held = c.in_err-give_up.ensures.looks.held k clean h;
     })

@@ -21,6 +21,5 @@ returns-clause-looks g c =
     (λ db o m. g.met.S.Store.settled c.give_up.new.self.vault.conn.store db o m))
 
 pub returns-in_err-give_up-clause-looks : goal.returns-in_err-give_up-clause-looks
-returns-in_err-give_up-clause-looks g c = rw (passed c.from_residual.result c.from_residual.ensures.1)
-    (looks_refused g.S.Store c.in_err-give_up.field-0.0 c.in_err-give_up.ensures.answer
+returns-in_err-give_up-clause-looks g c = rw (passed c.from_residual.ensures.1) (looks_refused g.S.Store c.in_err-give_up.field-0.0 c.in_err-give_up.ensures.answer
     (looks_from g.S.Store (Err c.in_err-give_up.field-0.0) c.in_default.ensures.none c.in_err-give_up.ensures.looks))

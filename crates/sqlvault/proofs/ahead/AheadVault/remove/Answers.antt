@@ -37,11 +37,10 @@ returns-clause-commits g c =
     c.in_ok-give_up.ensures.none c.remove.ensures.commits
 
 pub returns-in_err-give_up-clause-done : goal.returns-in_err-give_up-clause-done
-returns-in_err-give_up-clause-done g c = rw (passed c.from_residual.result c.from_residual.ensures.1)
+returns-in_err-give_up-clause-done g c = rw (passed c.from_residual.ensures.1)
     (λ k h clean. done_refused g.S.Store {new = c.give_up.new.self} k _ _ c.in_err-give_up.field-0.0 c.in_err-give_up.ensures.answer
     (looks_from g.S.Store (Err c.in_err-give_up.field-0.0) c.in_default.ensures.none c.in_err-give_up.ensures.looks) h clean)
 
 pub returns-in_err-give_up-clause-commits : goal.returns-in_err-give_up-clause-commits
-returns-in_err-give_up-clause-commits g c = rw (passed c.from_residual.result c.from_residual.ensures.1)
-    (commits_refused g.S.Store _ c.in_err-give_up.field-0.0 c.in_err-give_up.ensures.answer
+returns-in_err-give_up-clause-commits g c = rw (passed c.from_residual.ensures.1) (commits_refused g.S.Store _ c.in_err-give_up.field-0.0 c.in_err-give_up.ensures.answer
     (looks_from g.S.Store (Err c.in_err-give_up.field-0.0) c.in_default.ensures.none c.in_err-give_up.ensures.looks))

@@ -13,7 +13,7 @@ returns-clause-looks g c =
     c.in_ok-checkpoint.ensures.looks (λ db o m. g.met.S.Store.settled c.args.self.now.conn.store db o m)
 
 pub returns-in_err-checkpoint-clause-looks : goal.returns-in_err-checkpoint-clause-looks
-returns-in_err-checkpoint-clause-looks g c = rw (passed c.from_residual.result c.from_residual.ensures.1)
+returns-in_err-checkpoint-clause-looks g c = rw (passed c.from_residual.ensures.1)
     (looks_over g.S.Store (Err c.in_err-checkpoint.field-0.0) c.self.view_is refl c.in_err-checkpoint.ensures.counted
     c.in_err-checkpoint.ensures.looks
     (λ db o m. g.met.S.Store.settled c.args.self.now.conn.store db o m))
