@@ -2,7 +2,7 @@
 //! says how the statement changes the typed rows or what it answers, what an error leaves, and what
 //! a stop may leave.
 //!
-//! Every error is the connection's own (`sqlite::Error`): a constraint of a table, want of memory,
+//! Every error is the connection's own (`sqlite::Error`): a constraint of a table, out of memory,
 //! a device that failed, or a store that has other tables. The clause `cause` says that the
 //! statement itself met the error. After an error either nothing changed, or the transaction was
 //! rolled back, which `Connection::is_autocommit` then tells. A function that runs several

@@ -32,7 +32,7 @@ impl Model for Kept {
     ghost view = { λ k. record { maildrop = k.maildrop; heads = k.heads.items } };
 }
 
-/// A copy of heads; `None` if memory is wanting.
+/// A copy of heads; `None` if memory runs out.
 fn copied(alloc: Global, heads: &[Head]) -> Option<Vec<Head>>
     ensures { IfSome result (λ copy. copy.items ≡ heads.now) }
 {
@@ -44,7 +44,7 @@ fn copied(alloc: Global, heads: &[Head]) -> Option<Vec<Head>>
 }
 
 impl Kept {
-    /// A copy of a maildrop's heads; `None` if they are more than 10,000, or if memory is wanting.
+    /// A copy of a maildrop's heads; `None` if they are more than 10,000, or if memory runs out.
     fn of(alloc: Global, maildrop: &Name, heads: &[Head]) -> Option<Kept>
         ensures copy { IfSome result (λ kept. kept ≡ kept_heads maildrop.now heads.now) }
         ensures few { IfSome result (λ kept. length kept.heads ≤ most_messages) }
@@ -73,7 +73,7 @@ impl Kept {
         self.heads.len()
     }
 
-    /// A copy of the heads; `None` if memory is wanting.
+    /// A copy of the heads; `None` if memory runs out.
     fn copy(&self, alloc: Global) -> Option<Vec<Head>>
         ensures { IfSome result (λ copy. copy.items ≡ self.now.heads) }
     {
@@ -107,7 +107,7 @@ fn place_of(kept: &[Kept], maildrop: &Name) -> Option<usize>
     kept.iter().position(|one| one.is_of(maildrop))
 }
 
-/// Puts one more in front; if memory is wanting, it isn't kept.
+/// Puts one more in front; if memory runs out, it isn't kept.
 fn put_first(kept: &mut Vec<Kept>, one: Kept)
     ensures fits { (c : Contents) → heads_result one.maildrop c ≡ Ok one.heads
         → Fits kept.old.items c → Fits kept.new.items c }
@@ -135,7 +135,7 @@ fn forget_one(kept: &mut Vec<Kept>, maildrop: &Name)
     kept.retain(|one| !one.is_of(maildrop));
 }
 
-/// How many, from the front on, have no more than so many heads in all.
+/// How many, from the front on, have at most `most` heads in all.
 fn fitting(kept: &[Kept], most: usize) -> usize
     ensures { count (take result kept.now) ≤ most }
 {
@@ -151,7 +151,7 @@ fn fitting(kept: &[Kept], most: usize) -> usize
     fitting
 }
 
-/// Forgets the last ones, until no more than so many heads are left.
+/// Forgets the last ones, until at most `most` heads are left.
 fn shorten(kept: &mut Vec<Kept>, most: usize)
     ensures fits { (c : Contents) → Fits kept.old.items c → Fits kept.new.items c }
     ensures few { count kept.new.items ≤ most }
@@ -161,7 +161,7 @@ fn shorten(kept: &mut Vec<Kept>, most: usize)
 }
 
 /// Keeps a copy of a maildrop's heads in front, in place of what was kept of it, and forgets as
-/// many of the last ones as need be. If memory is wanting, or if the heads are more than 10,000,
+/// many of the last ones as need be. If memory runs out, or if the heads are more than 10,000,
 /// nothing is kept of the maildrop.
 fn keep_first(alloc: Global, kept: &mut Vec<Kept>, maildrop: &Name, heads: &[Head])
     ensures fits { (c : Contents) → heads_result maildrop.now c ≡ Ok heads.now
@@ -219,7 +219,7 @@ impl AllKept {
     }
 
     /// Keeps a copy of a maildrop's heads, and forgets those of the maildrops that were asked for
-    /// longest ago, so that no more than 10,000 are kept in all. If memory is wanting, or if the
+    /// longest ago, so that no more than 10,000 are kept in all. If memory runs out, or if the
     /// heads are more than 10,000, none are kept of the maildrop.
     pub(crate) fn keep(&mut self, alloc: Global, maildrop: &Name, heads: &[Head])
         ensures { (c : Contents) → heads_result maildrop.now c ≡ Ok heads.now → Fits self.old c
@@ -257,7 +257,7 @@ pub(crate) fn after_change<T>(
 }
 
 /// Whether a deposit with this fault was refused because of what the vault holds, and not because
-/// the device failed or memory is wanting.
+/// the device failed or memory ran out.
 fn is_of_deposit(fault: VaultFault) -> bool
     ensures { result ≡ is_of_deposit fault }
 {

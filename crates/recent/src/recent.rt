@@ -15,8 +15,8 @@ use vault::{ClerkKind, Deposited, Head, MessageKey, Progress, Total, Vault, Vaul
 /// totals of all maildrops, and answers the same question again from them. A fault forgets them,
 /// and so does every call that may change records, but for deposits, removals and drops of a
 /// maildrop: those forget the heads of their maildrop alone. A deposit or a removal keeps the
-/// totals, of which the maildrop's own is counted again, by its heads, when they are asked for. A
-/// deposit that is refused with `NoMaildrop`, `Conflict` or `Full` forgets nothing.
+/// totals, but marks that maildrop's total stale; the next `maildrops` recounts it. A deposit that
+/// is refused with `NoMaildrop`, `Conflict` or `Full` forgets nothing.
 ///
 /// At most 10,000 heads are kept in all, and 1,000 totals. If there is no room for the heads of one
 /// more maildrop, those of the maildrops that were asked for longest ago go. If there is no memory

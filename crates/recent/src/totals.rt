@@ -139,8 +139,8 @@ fn count_all<V: Vault>(vault: &mut V, rows: &mut [KeptTotal]) -> Result<(), Vaul
 }
 
 impl Totals {
-    /// Keeps a copy of the totals; `None` if they are more than 1,000, or if memory is
-    /// wanting.
+    /// Keeps a copy of the totals; `None` if they are more than 1,000, or if memory
+    /// runs out.
     pub(crate) fn of(alloc: Global, totals: &[Total]) -> Option<Totals>
         ensures copy { IfSome result (λ kept. kept ≡ map fresh totals.now) }
         ensures within { IfSome result (λ kept. length kept ≤ most_maildrops) }

@@ -23,7 +23,9 @@ use Rattle.sqlvault.specs.UnderWay.{Prepared, Prepares, Finishes, HoldsBeside, H
 use Rattle.sqlvault.specs.UnderWay.{holds_in, clean_in, up_in, leave_in, faults_in}
 use Rattle.sqlvault.specs.UnderWay.{EndsBeside, GivesUp}
 use Rattle.sqlvault.specs.Frame.{Sees}
-use Rattle.sqlvault.proofs.StopLemmas.{left_as, left_done}
+use Rattle.sqlvault.proofs.HoldsLemmas.{refusal_any}
+use Rattle.sqlvault.proofs.SmallLemmas.{none_of}
+use Rattle.sqlvault.proofs.StopLemmas.{left_as, left_done, refusal_not_own}
 use Rattle.sqlvault.proofs.UnderWayLemmas.{prepares_own, prepares_seen, prepares_unseen}
 use Rattle.sqlvault.proofs.UnderWayLemmas.{told_under_way, gives_up_own}
 
@@ -188,33 +190,6 @@ done_after {S} store {old = old} {was = was} new {u = u} Done c e first none sam
 
 -- ---- the work couldn't be given up
 
--- the refusals of every call
-pub refusal_any : {A : Type 0} (expected : Result A VaultFault) (e : VaultFault)
-    → (let r : Result (Unit {0}) VaultFault = Ok tt in IsRefusal r e) → IsRefusal expected e
-refusal_any expected fault.Store is = tt
-refusal_any expected fault.NoMemory is = tt
-refusal_any expected fault.NoMaildrop is = absurd (true≢false (ap is_ok is))
-refusal_any expected fault.Conflict is = absurd (true≢false (ap is_ok is))
-refusal_any expected fault.Full is = absurd (true≢false (ap is_ok is))
-refusal_any expected fault.NotEmpty is = absurd (true≢false (ap is_ok is))
-refusal_any expected fault.NotOurs is = absurd (true≢false (ap is_ok is))
-refusal_any expected fault.OldVersion is = absurd (true≢false (ap is_ok is))
-refusal_any expected fault.NoClerk is = absurd (true≢false (ap is_ok is))
-
--- are none of a call's own
-pub refusal_not_own : (A : Type 0) (e : VaultFault)
-    → (let r : Result (Unit {0}) VaultFault = Ok tt in IsRefusal r e)
-    → (let r : Result A VaultFault = Err e in IsOwn r) → ⊥
-refusal_not_own A fault.Store is own = own
-refusal_not_own A fault.NoMemory is own = own
-refusal_not_own A fault.NoMaildrop is own = absurd (true≢false (ap is_ok is))
-refusal_not_own A fault.Conflict is own = absurd (true≢false (ap is_ok is))
-refusal_not_own A fault.Full is own = absurd (true≢false (ap is_ok is))
-refusal_not_own A fault.NotEmpty is own = absurd (true≢false (ap is_ok is))
-refusal_not_own A fault.NotOurs is own = absurd (true≢false (ap is_ok is))
-refusal_not_own A fault.OldVersion is own = absurd (true≢false (ap is_ok is))
-refusal_not_own A fault.NoClerk is own = absurd (true≢false (ap is_ok is))
-
 abbrev as_unit : {A : Type 0} → Result A VaultFault → Result (Unit {0}) VaultFault
 as_unit (Ok x) = Ok tt
 as_unit (Err e) = Err e
@@ -310,16 +285,7 @@ pub prepares_refused : {S : Type 0} (A : Type 0) {store : Ghosts S} {old new : H
 prepares_refused A e is it =
     prepares_own (λ own. absurd (refusal_not_own A e is own)) it
 
--- faults are counted by a step that is done, and then by another
-pub counts_then : {A : Type 0} (a b n : ℕ) {u : Unit {0}} {r : Result A VaultFault}
-    → (let first : Result (Unit {0}) VaultFault = Ok u in CountsFaults a b first)
-    → CountsFaults b n r → CountsFaults a n r
-counts_then a b n first second = record {
-  kept = omega (arith, first.kept, second.kept);
-  cause = λ is. grown_before a b n first.kept (second.cause is);
-}
-
--- by none
+-- faults are counted by a step that is none
 pub counts_none : {A : Type 0} (n : ℕ) (x : A)
     → (let r : Result A VaultFault = Ok x in CountsFaults n n r)
 counts_none n x = record { kept = omega arith; cause = λ is. absurd (true≢false (ap is_ok is)) }
@@ -504,8 +470,4 @@ ended_over {S} store was new failed other e none gives counted refusal =
 -- ---- whether work is under way
 
 pub none_under : {S : Type 0} (v : Prepared S) → is_some v.under_way ≡ false → v.under_way ≡ None
-none_under v none = at v.under_way none
-  where
-    at : (u : Option Work) → is_some u ≡ false → u ≡ None
-    at None none = refl
-    at (Some work) none = absurd (true≢false none)
+none_under v none = none_of v.under_way none

@@ -25,19 +25,6 @@ said_behind {store = store} {old = old} {new = new} P a clean tables apart said 
     subst P rows (said (tables_on (state store old) (state store new) same tables)
     (subst AreApart (sym rows) apart))
 
--- whether there are such records
-pub found_behind : {S A E X : Type 0} {store : Ghosts S} {old new : Held S} {x : A}
-    (Are : Rows → X → Type 0) (b is : Bool) → b ≡ is
-    → (let r : Result A E = Ok x in Asks store old new r)
-    → HasCleanDisk (state store new) → HasTables (state store old)
-    → AreApart (rows_in (state store old).now.trees)
-    → (HasTables (state store new) → AreApart (rows_in (state store new).now.trees)
-    → Finds (Are (rows_in (state store new).now.trees)) b)
-    → Finds (Are (rows_in (state store old).now.trees)) is
-found_behind {store = store} {old = old} Are b is test a clean tables apart found =
-    subst (Finds (Are (rows_in (state store old).now.trees))) test
-    (said_behind (λ rows. Finds (Are rows) b) a clean tables apart found)
-
 -- what is said of rows and their deposits after parts that changed nothing is so of the rows before
 -- them; `x` was answered, and tested to be `y`
 pub told_behind : {A : Type 0} (P : Rows → A → Type 0) (old new : State) (deposits : List Receipt)

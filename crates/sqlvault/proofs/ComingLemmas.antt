@@ -28,16 +28,17 @@ use Rattle.mailsql.specs.Sheets.{sheet_count, sheets_of, sheets_from}
 use Rattle.mailsql.proofs.CutLemmas.{rest_of_text}
 use Rattle.sqlvault.specs.Keeps.{Keeps, row_key, message_row, deposit_row}
 use Rattle.sqlvault.specs.Deposits.{PutsReceipt, Accepts, count_row, message_of}
-use Rattle.sqlvault.specs.Refusals.{fault_of, answer_of}
+use Rattle.sqlvault.specs.Refusals.{fault_of, answer_of, as_met, told}
 use Rattle.sqlvault.specs.declared.refusal.Refusal.{Refusal}
 use Rattle.sqlvault.specs.Stands.{Holds}
-use Rattle.sqlvault.specs.Transactions.{Begins, Undoes, Ends}
+use Rattle.sqlvault.specs.Transactions.{Begins, Undoes, Ends, Concludes}
 use Rattle.sqlvault.specs.Frame.{IsOk, MadeOr, Looks, Writes}
 use Rattle.sqlvault.specs.Arrivals.{Arrival, ShowsPart, AcceptsAny, AddsRow, PutsRest, with_put, arrival_row, arrival_uid}
 use Rattle.sqlvault.specs.UnderWay.{Prepares, Finishes, begun}
 use Rattle.sqlvault.specs.declared.work.Work.{Work}
 use Rattle.sqlvault.specs.declared.work.Work.TheVariants as works
 use Rattle.sqlvault.proofs.SmallLemmas.{lt-nat_lt, below_64}
+use Rattle.sqlvault.proofs.HoldsLemmas.{met}
 use Rattle.sqlvault.proofs.StopLemmas.{not_own, or_said}
 use Rattle.sqlvault.proofs.WithinLemmas as within
 use Rattle.sqlvault.proofs.FrameLemmas.{was_clean, begins_clean, ends_held, ends_leaves, ends_up, made_or}
@@ -163,18 +164,15 @@ coming_more {Own = Own} {store = store} {old = old} {new = new} a after octets w
     (prepares_more (works.Deposit a) (works.Deposit (with_put (a.put ++ octets) a))
     (λ c from to shown more. shows_more a c from to (a.put ++ octets) whole (take-append_seam a.put octets) shown more) part)
 
--- nothing more is put
-pub prepares_same : {S : Type 0} {Own : Type 0} (store : Ghosts S) (conn : Held S) (under : Option Work) → Prepares store conn conn under under Own
-prepares_same store conn under = record { clean = λ clean. clean; held = λ clean c h. h; up = λ clean c h up own. up; stop = λ clean c h up left. left }
-
 -- ---- its end
 
 -- the answer of a deposit by what its commit is answered
-abbrev pub deposited_as : Uid → Result (Unit {0}) Error → Result Deposited VaultFault
+abbrev pub deposited_as : Uid → Result (Unit {0}) Refusal → Result Deposited VaultFault
 deposited_as uid (Ok x) = Ok (stored.New uid)
-deposited_as uid (Err e) = Err (fault_of e)
+deposited_as uid (Err r) = Err (told r)
 
-own_deposited : (uid : Uid) (r : Result (Unit {0}) Error) → IsOwn (deposited_as uid r) → IsOk r
+own_deposited : (uid : Uid) (r : Result (Unit {0}) Error) → IsOwn (deposited_as uid (as_met r))
+    → IsOk r
 own_deposited uid (Ok x) own = tt
 own_deposited uid (Err e) own = absurd (not_own Deposited e own)
 
@@ -186,9 +184,9 @@ module _ (a : Arrival) (c : Contents) (text : List ℕ) where
   deposit_new Held accepted held = deposited Held c a.maildrop a.class a.id text (arrival_uid a) (own_receipt a c text) refl (accepted text) (a.key, held)
 
   deposit_done : (Held : Contents → Type 0) (r : Result (Unit {0}) Error) → AcceptsAny c a.maildrop a.class a.id (arrival_uid a) → MadeOr r (λ H. H after_it) c Held
-      → IsDeposited Held c a.maildrop a.class a.id text (deposited_as (arrival_uid a) r)
+      → IsDeposited Held c a.maildrop a.class a.id text (deposited_as (arrival_uid a) (as_met r))
   deposit_done Held (Ok x) accepted held = deposit_new Held accepted held
-  deposit_done Held (Err e) accepted held = undeposited Held c a.maildrop a.class a.id text e held
+  deposit_done Held (Err e) accepted held = undeposited Held c a.maildrop a.class a.id text (fault_of e) (met (Ok tt) e) held
 
 -- what is known of its text and its receipt
 pub record IsWhole (a : Arrival) (text : List ℕ) (r : Receipt) : Type 0 where
@@ -203,10 +201,10 @@ pub record IsWhole (a : Arrival) (text : List ℕ) (r : Receipt) : Type 0 where
   pub begins : take (length a.put) text ≡ a.put
 
 -- the rest was put, and it is committed, or an error came
-pub coming_whole : {S : Type 0} {store : Ghosts S} {old last new : Held S} {u : Unit {0}} (a : Arrival) (text : List ℕ) (r : Receipt) (ended : Result (Unit {0}) Error) → IsWhole a text r
+coming_whole : {S : Type 0} {store : Ghosts S} {old last new : Held S} {u : Unit {0}} (a : Arrival) (text : List ℕ) (r : Receipt) (ended : Result (Unit {0}) Error) → IsWhole a text r
     → (let done : Result (Unit {0}) Error = Ok u in Writes store old last (λ _. PutsRest (length a.put / 4096) a.key text r) done)
     → Ends store last new ended
-    → Finishes store old new (works.Deposit a) (λ c Held answered. IsDeposited Held c a.maildrop a.class a.id text answered) (deposited_as (arrival_uid a) ended)
+    → Finishes store old new (works.Deposit a) (λ c Held answered. IsDeposited Held c a.maildrop a.class a.id text answered) (deposited_as (arrival_uid a) (as_met ended))
 coming_whole {store = store} {new = new} a text r ended is part ends = record {
   clean = λ clean. part.clean (ends.clean clean);
   turns = λ clean c h.
@@ -226,7 +224,7 @@ coming_whole {store = store} {new = new} a text r ended is part ends = record {
 }
 
 -- the rest met an error, and the transaction was undone
-pub coming_undone : {S A : Type 0} {store : Ghosts S} {old last new : Held S} {Change : A → Rows → Rows → Type 0} {e : Error} (a : Arrival) (text : List ℕ) (said : Error)
+coming_undone : {S A : Type 0} {store : Ghosts S} {old last new : Held S} {Change : A → Rows → Rows → Type 0} {e : Error} (a : Arrival) (text : List ℕ) (said : Error)
     → Writes store old last Change (Err e) → Undoes store last new
     → Finishes store old new (works.Deposit a) (λ c Held answered. IsDeposited Held c a.maildrop a.class a.id text answered) (Err (fault_of said))
 coming_undone {store = store} {last = last} {new = new} a text said part back = record {
@@ -234,11 +232,29 @@ coming_undone {store = store} {last = last} {new = new} a text said part back = 
   turns = λ clean c h.
       let it = prepares_undone (works.Deposit a) part back in
       record {
-        done = undeposited (Holds (state store new)) c a.maildrop a.class a.id text said (it.held clean c h);
+        done = undeposited (Holds (state store new)) c a.maildrop a.class a.id text (fault_of said) (met (Ok tt) said) (it.held clean c h);
         up = λ up own. absurd (not_own Deposited said own);
         stop = λ up left db may. inl (it.stop clean c h up left db may);
       };
 }
+
+pub coming_concluded : {S : Type 0} {store : Ghosts S} {old last new : Held S} (a : Arrival)
+    (text : List ℕ) (r : Receipt) (w : Result (Unit {0}) Error) (said : Result (Unit {0}) Refusal)
+    → IsWhole a text r
+    → Writes store old last (λ _. PutsRest (length a.put / 4096) a.key text r) w
+    → Concludes store last new w said
+    → Finishes store old new (works.Deposit a) (λ c Held answered. IsDeposited Held c a.maildrop a.class a.id text answered)
+    (deposited_as (arrival_uid a) said)
+coming_concluded {store = store} {old = old} {new = new} a text r (Ok x) said is part it =
+    subst (λ (s : Result (Unit {0}) Refusal). Finishes store old new (works.Deposit a)
+    (λ c Held answered. IsDeposited Held c a.maildrop a.class a.id text answered)
+    (deposited_as (arrival_uid a) s)) (sym it.ends.1)
+    (coming_whole a text r it.ends.0 is part it.ends.2)
+coming_concluded {store = store} {old = old} {new = new} a text r (Err e) said is part it =
+    subst (λ (s : Result (Unit {0}) Refusal). Finishes store old new (works.Deposit a)
+    (λ c Held answered. IsDeposited Held c a.maildrop a.class a.id text answered)
+    (deposited_as (arrival_uid a) s)) (sym it.undoes.1)
+    (coming_undone a text it.undoes.0 part it.undoes.2)
 
 -- ---- how it was judged
 

@@ -1,5 +1,5 @@
 -- The words of specs/Frame: of a statement, of two parts, and of a call whole.
-use Rattle.std.specs.Prelude.{◌≡◌, ◌⊎◌, IsTrue, ⊤, OnOk, OnErr, IfOk, IsErrAnd}
+use Rattle.std.specs.Prelude.{◌≡◌, ◌⊎◌, IsTrue, ⊤, OnOk, OnErr, IfOk, IfErr, IsErrAnd}
 use Rattle.std.proofs.Common.{inl, inr, Result, Ok, Err, refl, subst, sym, ap, ◌∙◌}
 use Rattle.sqlite_trees.specs.Tree.{Trees}
 use Rattle.sqlite_trees.specs.declared.store.Store.{Ghosts}
@@ -8,18 +8,20 @@ use Rattle.sqlite.specs.declared.error.Error.{Error}
 use Rattle.sqlite.specs.State.{State, HasCleanDisk, IsUnchanged, Survives}
 use Rattle.vault.specs.declared.fault.VaultFault.{VaultFault}
 use Rattle.vault.specs.Changes.{Contents}
-use Rattle.vault.specs.Calls.{IsDone}
+use Rattle.vault.specs.Calls.{IsDone, IsAnswer}
 use Rattle.vault.specs.Stops.{IsOwn}
 use Rattle.mailsql.specs.Rows.{Rows, IsOurs, IsReady, HasTables, MayLeave, Changes, IsUndone}
 use Rattle.mailsql.specs.Rows.{IsHalted, rows_in}
 use Rattle.sqlvault.specs.declared.refusal.Refusal.{Refusal}
-use Rattle.sqlvault.specs.Refusals.{answer_of, fault_of}
+use Rattle.sqlvault.specs.Refusals.{answer_of, as_met, fault_of, told}
 use Rattle.sqlvault.specs.Keeps.{Keeps}
 use Rattle.sqlvault.specs.Stands.{Holds, Leaves, Within, IsEnded}
-use Rattle.sqlvault.specs.Transactions.{Begins, Undoes, Ends}
+use Rattle.sqlvault.specs.Adopts.{IsAdoptFault}
+use Rattle.sqlvault.specs.Transactions.{Begins, Undoes, Ends, Concludes}
 use Rattle.sqlvault.specs.Stops.{LeavesHeld, LeavesOr}
 use Rattle.sqlvault.specs.Frame.{IsOk, IsMet, MadeOr, Rests, Looks, Learns, Turns, Acts, Writes}
-use Rattle.sqlvault.proofs.HoldsLemmas.{holds_unchanged, holds_undone, holds_changed, refused}
+use Rattle.sqlvault.proofs.AdoptLemmas.{kinds_met}
+use Rattle.sqlvault.proofs.HoldsLemmas.{holds_unchanged, holds_undone, holds_changed, refused, met}
 use Rattle.sqlvault.proofs.SeesLemmas.{own_met, learns, sees_learnt, sees_then}
 use Rattle.sqlvault.proofs.StayLemmas.{clean_before}
 use Rattle.sqlvault.proofs.StopLemmas.{not_own, or_said}
@@ -71,6 +73,11 @@ failed store old new undone s = record {
 pub not_ok : {A E : Type 0} (r : Result A E) (P : E → Type 0) → IsErrAnd r P → IsOk r → ⊥
 not_ok (Ok x) P failed own = absurd failed
 not_ok (Err e) P failed own = own
+
+-- what the exit of a `?` answers
+pub passed : {A E : Type 0} {e : E} {r : Result A E} → IsErrAnd r (λ y. y ≡ e) → r ≡ Err e
+passed {r = Ok x} failed = absurd failed
+passed {A} {E} {r = Err y} failed = ap (λ (x : E). let r : Result A E = Err x in r) failed
 
 -- two parts, of which the first has its answer
 pub looks_then : {S : Type 0} {Own : Type 0} {store : Ghosts S} {old mid new : Held S}
@@ -424,6 +431,21 @@ written_as store old new Change Said r ok err s say = record {
       (err clean) s say;
 }
 
+-- several statements, whatever they are answered
+pub written_in : {S : Type 0} (store : Ghosts S) (old new : Held S)
+    (Change Other : Rows → Rows → Type 0) (r : Result (Unit {0}) Error)
+    → (HasCleanDisk (state store new) → IsReady (state store old)
+    → OnOk r (Changes Change (state store old) (state store new)))
+    → (HasCleanDisk (state store new) → IsReady (state store old)
+    → IsTrue (state store old).in_transaction
+    → OnErr r (IsHalted (state store old) (state store new)))
+    → Survives (state store old) (state store new) (MayLeave Other (state store old))
+    → Writes store old new (λ _. Change) r
+written_in store old new Change Other (Ok x) ok err s =
+    wrote store old new (λ _. Change) Other x ok s
+written_in store old new Change Other (Err e) ok err s =
+    halted_in store old new (λ _. Change) Other e err s
+
 -- no statement yet: a loop begins so
 pub writes_none : {S : Type 0} (store : Ghosts S) (conn : Held S) (Change : Rows → Rows → Type 0)
     → ((rows : Rows) → Change rows rows)
@@ -599,17 +621,13 @@ ended_whole {store = store} {old = old} {first = first} {new = new} Made r c beg
           (ends_leaves ends c k.0 made.0 clean made.2 k.1);
     }
 
--- the answer of a call by what its last part is answered
-abbrev pub met_as : Result (Unit {0}) Error → Result (Unit {0}) VaultFault
-met_as (Ok x) = Ok x
-met_as (Err e) = Err (fault_of e)
-
-pub own_ok : (r : Result (Unit {0}) Error) → IsOwn (met_as r) → IsOk r
+-- what is own of a call's answer is that its last part was done
+pub own_ok : (r : Result (Unit {0}) Error) → IsOwn (answer_of (as_met r)) → IsOk r
 own_ok (Ok x) own = tt
 own_ok (Err e) own = absurd (not_own (Unit {0}) e own)
 
 pub met_done : (Held : Contents → Type 0) (c after : Contents) (r : Result (Unit {0}) Error)
-    → MadeOr r (λ H. H after) c Held → IsDone Held c after (Ok tt) (met_as r)
+    → MadeOr r (λ H. H after) c Held → IsDone Held c after (Ok tt) (answer_of (as_met r))
 met_done Held c after (Ok x) held = record { answer = refl; held = held }
 met_done Held c after (Err e) held = refused Held c after (Ok tt) e held
 
@@ -620,7 +638,8 @@ pub commits_whole : {S A : Type 0} {store : Ghosts S} {old first last new : Held
     → Begins store old first (Ok u) → Writes store first last Change (Ok x)
     → ((c : Contents) (from to : Rows) → Keeps from c → Change x from to → Keeps to (after c))
     → Ends store last new r
-    → Acts store old new (λ c Held answered. IsDone Held c (after c) (Ok tt) answered) (met_as r)
+    → Acts store old new (λ c Held answered. IsDone Held c (after c) (Ok tt) answered)
+    (answer_of (as_met r))
 commits_whole {store = store} {old = old} {first = first} {new = new} after r begins part keeps
     ends = record {
       clean = λ clean. was_clean store old first begins.survives (part.clean (ends.clean clean));
@@ -662,3 +681,90 @@ looks_committed {store = store} {old = old} {first = first} {new = new} r begins
             stop = λ up left db may. elim (it.stop up left db may) [ inl was ↦ was | inr made ↦ made ];
           };
     }
+
+-- ---- a transaction that is concluded, whatever was written
+
+pub met_ok : (r : Result (Unit {0}) Refusal) (ended : Result (Unit {0}) Error) → r ≡ as_met ended
+    → IsMet r → IsOk ended
+met_ok r (Ok x) is own = tt
+met_ok r (Err e) is own = subst (λ (a : Result (Unit {0}) Refusal). IsMet a) is own
+
+-- a call that is one transaction, of which one part made the change
+pub concluded_whole : {S : Type 0} {Given : Type 0} {store : Ghosts S} {old first last new : Held S}
+    {Change : Rows → Rows → Type 0} {u : Unit {0}} (after : Contents → Contents)
+    (w : Result (Unit {0}) Error) (r : Result (Unit {0}) Refusal)
+    → Begins store old first (Ok u) → Writes store first last (λ _. Change) w → OnOk w Given
+    → (Given → (c : Contents) (from to : Rows) → Keeps from c → Change from to → Keeps to (after c))
+    → Concludes store last new w r
+    → Acts store old new (λ c Held answered. IsDone Held c (after c) (Ok tt) answered) (answer_of r)
+concluded_whole {store = store} {old = old} {new = new} after (Ok x) r begins part given keeps it =
+    subst (λ (a : Result (Unit {0}) Refusal). Acts store old new
+    (λ c Held answered. IsDone Held c (after c) (Ok tt) answered) (answer_of a)) (sym it.ends.1)
+    (commits_whole after it.ends.0 begins part (keeps given) it.ends.2)
+concluded_whole {store = store} {old = old} {new = new} after (Err e) r begins part given keeps it =
+    subst (λ (a : Result (Unit {0}) Refusal). Acts store old new
+    (λ c Held answered. IsDone Held c (after c) (Ok tt) answered) (answer_of a)) (sym it.undoes.1)
+    (met_whole after (λ _. Ok tt) it.undoes.0 (looks_undone begins part it.undoes.2))
+
+-- one that keeps the rows those of the contents only looks
+pub concluded_looks : {S : Type 0} {store : Ghosts S} {old first last new : Held S}
+    {Change : Rows → Rows → Type 0} {u : Unit {0}} (w : Result (Unit {0}) Error)
+    (r : Result (Unit {0}) Refusal)
+    → Begins store old first (Ok u) → Writes store first last (λ _. Change) w
+    → ((c : Contents) (from to : Rows) → Keeps from c → Change from to → Keeps to c)
+    → Concludes store last new w r → Looks store old new (IsMet r)
+concluded_looks (Ok x) r begins part keeps it = looks_own (met_ok r it.ends.0 it.ends.1)
+    (looks_committed it.ends.0 begins part keeps it.ends.2)
+concluded_looks (Err e) r begins part keeps it = looks_own (met_ok r (Err it.undoes.0) it.undoes.1)
+    (looks_undone begins part it.undoes.2)
+
+-- what such a part makes of the contents is committed, or nothing is
+turns_met : {S : Type 0} {store : Ghosts S} {old new : Held S}
+    {Made : (Contents → Type 0) → Type 0} (r : Result (Unit {0}) Error) (c : Contents)
+    → Turns store old new (IsOk r) (MadeOr r Made c) Made c
+    → Turns store old new (IsOk (as_met r)) (MadeOr (as_met r) Made c) Made c
+turns_met (Ok x) c it = it
+turns_met (Err e) c it = it
+
+pub concluded_turns : {S : Type 0} {store : Ghosts S} {old first last new : Held S}
+    {Change : Rows → Rows → Type 0} {u : Unit {0}} (Made : (Contents → Type 0) → Type 0)
+    (w : Result (Unit {0}) Error) (r : Result (Unit {0}) Refusal) (c : Contents)
+    → Begins store old first (Ok u) → Writes store first last (λ _. Change) w
+    → ((from to : Rows) → Keeps from c → Change from to → (after : Contents) × Keeps to after
+    × ((Held : Contents → Type 0) → Held after → Made Held))
+    → Concludes store last new w r → HasCleanDisk (state store new) → Holds (state store old) c
+    → Turns store old new (IsOk r) (MadeOr r Made c) Made c
+concluded_turns {store = store} {old = old} {new = new} Made (Ok x) r c begins part keeps it clean h =
+    subst (λ (a : Result (Unit {0}) Refusal). Turns store old new (IsOk a) (MadeOr a Made c) Made c)
+    (sym it.ends.1) (turns_met it.ends.0 c
+    (ended_whole Made it.ends.0 c begins part keeps it.ends.2 clean h))
+concluded_turns {store = store} {old = old} {new = new} Made (Err e) r c begins part keeps it clean h =
+    subst (λ (a : Result (Unit {0}) Refusal). Turns store old new (IsOk a) (MadeOr a Made c) Made c)
+    (sym it.undoes.1) (rest (undone_whole c begins part it.undoes.2 clean h))
+
+-- how it is answered
+answered_met : (r : Result (Unit {0}) Refusal) (ended : Result (Unit {0}) Error) → r ≡ as_met ended
+    → IsAnswer (Ok tt) (answer_of r)
+answered_met r (Ok x) is =
+    subst (λ (a : Result (Unit {0}) Refusal). IsAnswer (Ok tt) (answer_of a)) (sym is) refl
+answered_met r (Err e) is =
+    subst (λ (a : Result (Unit {0}) Refusal). IsAnswer (Ok tt) (answer_of a)) (sym is) (met (Ok tt) e)
+
+pub concluded_answer : {S : Type 0} {store : Ghosts S} {last new : Held S}
+    (w : Result (Unit {0}) Error) (r : Result (Unit {0}) Refusal) → Concludes store last new w r
+    → IsAnswer (Ok tt) (answer_of r)
+concluded_answer (Ok x) r it = answered_met r it.ends.0 it.ends.1
+concluded_answer (Err e) r it = answered_met r (Err it.undoes.0) it.undoes.1
+
+kinds_of : (r : Result (Unit {0}) Refusal) (ended : Result (Unit {0}) Error) → r ≡ as_met ended
+    → IfErr r (λ refusal. IsAdoptFault (told refusal))
+kinds_of r (Ok x) is = subst (λ (a : Result (Unit {0}) Refusal). IfErr a
+    (λ refusal. IsAdoptFault (told refusal))) (sym is) tt
+kinds_of r (Err e) is = subst (λ (a : Result (Unit {0}) Refusal). IfErr a
+    (λ refusal. IsAdoptFault (told refusal))) (sym is) (kinds_met e)
+
+pub concluded_kinds : {S : Type 0} {store : Ghosts S} {last new : Held S}
+    (w : Result (Unit {0}) Error) (r : Result (Unit {0}) Refusal) → Concludes store last new w r
+    → IfErr r (λ refusal. IsAdoptFault (told refusal))
+concluded_kinds (Ok x) r it = kinds_of r it.ends.0 it.ends.1
+concluded_kinds (Err e) r it = kinds_of r (Err it.undoes.0) it.undoes.1

@@ -1,6 +1,6 @@
 -- What each statement outside a transaction leaves of what is held, and how a refusal is answered.
-use Rattle.std.proofs.Common.{◌≡◌, inl, inr, Bool, true, false, cond, IsTrue, Result, Ok, Err, refl, sym, ap, subst, ◌∙◌}
-use Rattle.std.specs.Prelude.{OnOk}
+use Rattle.std.proofs.Common.{◌≡◌, inl, inr, Bool, true, false, cond, IsTrue, Result, Ok, Err, refl, sym, ap, subst, ◌∙◌, true≢false}
+use Rattle.std.specs.Prelude.{OnOk, is_ok}
 use Rattle.sqlite.specs.Effect.{Database}
 use Rattle.sqlite.specs.declared.error.Error.{Error}
 use Rattle.sqlite.specs.State.{State, IsUnchanged, IsRolledBack}
@@ -70,6 +70,19 @@ met {A} expected e = go (is_memory e)
 -- so a call is done that met an error and changed nothing
 pub refused : {A : Type 0} (Held : Contents → Type 0) (before after : Contents) (expected : Result A VaultFault) (e : Error) → Held before → IsDone Held before after expected (Err (fault_of e))
 refused Held before after expected e h = record { answer = met expected e; held = h }
+
+-- the refusals of every call
+pub refusal_any : {A : Type 0} (expected : Result A VaultFault) (e : VaultFault)
+    → (let r : Result (Unit {0}) VaultFault = Ok tt in IsRefusal r e) → IsRefusal expected e
+refusal_any expected fault.Store is = tt
+refusal_any expected fault.NoMemory is = tt
+refusal_any expected fault.NoMaildrop is = absurd (true≢false (ap is_ok is))
+refusal_any expected fault.Conflict is = absurd (true≢false (ap is_ok is))
+refusal_any expected fault.Full is = absurd (true≢false (ap is_ok is))
+refusal_any expected fault.NotEmpty is = absurd (true≢false (ap is_ok is))
+refusal_any expected fault.NotOurs is = absurd (true≢false (ap is_ok is))
+refusal_any expected fault.OldVersion is = absurd (true≢false (ap is_ok is))
+refusal_any expected fault.NoClerk is = absurd (true≢false (ap is_ok is))
 
 -- ---- the expected answer
 

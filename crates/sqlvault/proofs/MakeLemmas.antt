@@ -13,13 +13,15 @@ use Rattle.mailsql.specs.Names.{is_taken}
 use Rattle.mailsql.specs.Tables.{no_schema, schema_of}
 use Rattle.mailsql.proofs.SchemaLemmas.{ours_taken}
 use Rattle.mailsql.specs.Uses.{marked}
+use Rattle.sqlvault.specs.declared.refusal.Refusal.{Refusal}
 use Rattle.sqlvault.specs.declared.refusal.Refusal.TheVariants.{Met}
+use Rattle.sqlvault.specs.Refusals.{as_met}
 use Rattle.sqlvault.specs.Adopts.{IsBlank, LeavesEmptyToo, Settles, StaysAs}
 use Rattle.sqlvault.specs.Keeps.{our_meta_row, version}
 use Rattle.sqlvault.specs.Moves.{Builds, DoesPart, Part}
 use Rattle.sqlvault.specs.Older.{IsAllCommitted}
 use Rattle.sqlvault.specs.Stands.{LeavesNoMore}
-use Rattle.sqlvault.specs.Transactions.{Begins, Undoes, Ends}
+use Rattle.sqlvault.specs.Transactions.{Begins, Undoes, Ends, Concludes}
 use Rattle.sqlvault.proofs.AdoptLemmas.{refused_met, stays_gone}
 use Rattle.sqlvault.proofs.CarryLemmas.{made_at, more_then, nothing_more}
 use Rattle.sqlvault.proofs.FrameLemmas.{undoes_clean}
@@ -92,7 +94,7 @@ module _ {S : Type 0} {store : Ghosts S} {first mid : Held S} {x : Unit {0}}
       nothing_more (state store first) (state store mid) clean begins.survives
 
   -- a part met an error, and it was undone
-  pub unfilled : {e : Error} {last new : Held S} (said : Error)
+  unfilled : {e : Error} {last new : Held S} (said : Error)
       → (let r : Result (Unit {0}) Error = Err e in Builds store mid last IsBegun IsNew r)
       → Undoes store last new → HasCleanDisk (state store new)
       → Settles (state store first) (state store new) (Err (Met said))
@@ -127,9 +129,9 @@ module _ {S : Type 0} {store : Ghosts S} {first mid : Held S} {x : Unit {0}}
         (more_then s0 s1 s2 (begins_no_more (part.clean clean2)) d.stop) (ends.stop clean)
 
     -- it was committed
-    pub made_whole : {z : Unit {0}} {new : Held S} → Ends store last new (Ok z)
+    made_whole : {z : Unit {0}} {new : Held S} → Ends store last new (Ok z)
         → HasCleanDisk (state store new)
-        → Settles (state store first) (state store new) (Ok tt)
+        → Settles (state store first) (state store new) (Ok z)
     made_whole {new = new} ends clean =
         let d = made_part (ends.clean clean) in
         let shows = ends.ok clean in
@@ -149,7 +151,7 @@ module _ {S : Type 0} {store : Ghosts S} {first mid : Held S} {x : Unit {0}}
         }
 
     -- its end met an error, and it was undone
-    pub unmade_whole : {e : Error} {new : Held S} → Ends store last new (Err e)
+    unmade_whole : {e : Error} {new : Held S} → Ends store last new (Err e)
         → HasCleanDisk (state store new)
         → Settles (state store first) (state store new) (Err (Met e))
     unmade_whole {e = e} {new = new} ends clean =
@@ -159,3 +161,21 @@ module _ {S : Type 0} {store : Ghosts S} {first mid : Held S} {x : Unit {0}}
           stays = stays_at new (part.clean clean2) (ends.err mid clean (made_part clean2).on);
           stop = λ up. made_leaves ends clean up;
         }
+
+    ended_at : (ended : Result (Unit {0}) Error) {new : Held S} → Ends store last new ended
+        → HasCleanDisk (state store new)
+        → Settles (state store first) (state store new) (as_met ended)
+    ended_at (Ok z) ends clean = made_whole ends clean
+    ended_at (Err e) ends clean = unmade_whole ends clean
+
+  -- it was concluded
+  pub made_concluded : {last new : Held S} (w : Result (Unit {0}) Error)
+      (r : Result (Unit {0}) Refusal) → Builds store mid last IsBegun IsNew w
+      → Concludes store last new w r → HasCleanDisk (state store new)
+      → Settles (state store first) (state store new) r
+  made_concluded {new = new} (Ok y) r part it clean =
+      subst (λ (a : Result (Unit {0}) Refusal). Settles (state store first) (state store new) a)
+      (sym it.ends.1) (ended_at part it.ends.0 it.ends.2 clean)
+  made_concluded {new = new} (Err e) r part it clean =
+      subst (λ (a : Result (Unit {0}) Refusal). Settles (state store first) (state store new) a)
+      (sym it.undoes.1) (unfilled it.undoes.0 part it.undoes.2 clean)

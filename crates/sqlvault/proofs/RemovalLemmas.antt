@@ -9,16 +9,17 @@ use Rattle.vault.specs.Changes.{Contents, without_keys, with_messages}
 use Rattle.vault.specs.Calls.{IsDone, AreRemoved}
 use Rattle.mailsql.specs.Rows.{Rows}
 use Rattle.sqlvault.specs.Keeps.{Keeps}
-use Rattle.sqlvault.specs.Refusals.{fault_of}
+use Rattle.sqlvault.specs.declared.refusal.Refusal.{Refusal}
+use Rattle.sqlvault.specs.Refusals.{fault_of, answer_of, as_met}
 use Rattle.sqlvault.specs.Stands.{Holds}
-use Rattle.sqlvault.specs.Transactions.{Begins, Undoes, Ends}
+use Rattle.sqlvault.specs.Transactions.{Begins, Undoes, Ends, Concludes}
 use Rattle.sqlvault.specs.Frame.{Writes}
 use Rattle.sqlvault.specs.Removals.{Removal, removal_of, with_left, removed_so_far}
 use Rattle.sqlvault.specs.declared.work.Work.TheVariants as works
 use Rattle.sqlvault.specs.UnderWay.{Prepares, Finishes}
 use Rattle.sqlvault.proofs.HoldsLemmas.{refused}
 use Rattle.sqlvault.proofs.StopLemmas.{not_own, or_said}
-use Rattle.sqlvault.proofs.FrameLemmas.{ends_held, met_as, ends_leaves, ends_up, made_or, own_ok}
+use Rattle.sqlvault.proofs.FrameLemmas.{ends_held, ends_leaves, ends_up, made_or, own_ok}
 use Rattle.sqlvault.proofs.FrameLemmas.{met_done, was_clean}
 use Rattle.sqlvault.proofs.UnderWayLemmas.{prepares_begun, prepares_more, prepares_undone}
 use Rattle.sqlvault.proofs.RemoveLemmas.{Removed, none_removed, removed_both}
@@ -60,14 +61,14 @@ abbrev all_removed : Removal → Contents → Contents
 all_removed r c = with_messages (without_keys r.maildrop r.keys c.messages) c
 
 -- the rest is done, and it is committed, or an error came
-pub finishes_whole : {S : Type 0} {store : Ghosts S} {old last new : Held S} {x : Unit {0}}
+finishes_whole : {S : Type 0} {store : Ghosts S} {old last new : Held S} {x : Unit {0}}
     (r : Removal) (rest : List ℕ) (ended : Result (Unit {0}) Error)
     → rest ++ drop r.left r.keys ≡ r.keys
     → (let done : Result (Unit {0}) Error = Ok x in
     Writes store old last (λ _. Removed r.maildrop rest) done)
     → Ends store last new ended
     → Finishes store old new (works.Removal r) (λ c Held answered. AreRemoved Held c r.maildrop r.keys answered)
-    (met_as ended)
+    (answer_of (as_met ended))
 finishes_whole {store = store} {new = new} r rest ended is part ends = record {
   clean = λ clean. part.clean (ends.clean clean);
   turns = λ clean c h.
@@ -90,7 +91,7 @@ finishes_whole {store = store} {new = new} r rest ended is part ends = record {
 }
 
 -- the rest met an error, and the transaction was undone
-pub finishes_undone : {S A : Type 0} {store : Ghosts S} {old last new : Held S}
+finishes_undone : {S A : Type 0} {store : Ghosts S} {old last new : Held S}
     {Change : A → Rows → Rows → Type 0} {e : Error} (r : Removal) (said : Error)
     → Writes store old last Change (Err e) → Undoes store last new
     → Finishes store old new (works.Removal r) (λ c Held answered. AreRemoved Held c r.maildrop r.keys answered)
@@ -106,6 +107,21 @@ finishes_undone {store = store} {last = last} {new = new} r said part back = rec
         stop = λ up left db may. inl (it.stop clean c h up left db may);
       };
 }
+
+pub finishes_concluded : {S : Type 0} {store : Ghosts S} {old last new : Held S} (r : Removal)
+    (rest : List ℕ) (w : Result (Unit {0}) Error) (said : Result (Unit {0}) Refusal)
+    → rest ++ drop r.left r.keys ≡ r.keys → Writes store old last (λ _. Removed r.maildrop rest) w
+    → Concludes store last new w said
+    → Finishes store old new (works.Removal r) (λ c Held answered. AreRemoved Held c r.maildrop r.keys answered)
+    (answer_of said)
+finishes_concluded {store = store} {old = old} {new = new} r rest (Ok x) said is part it =
+    subst (λ (a : Result (Unit {0}) Refusal). Finishes store old new (works.Removal r)
+    (λ c Held answered. AreRemoved Held c r.maildrop r.keys answered) (answer_of a)) (sym it.ends.1)
+    (finishes_whole r rest it.ends.0 is part it.ends.2)
+finishes_concluded {store = store} {old = old} {new = new} r rest (Err e) said is part it =
+    subst (λ (a : Result (Unit {0}) Refusal). Finishes store old new (works.Removal r)
+    (λ c Held answered. AreRemoved Held c r.maildrop r.keys answered) (answer_of a)) (sym it.undoes.1)
+    (finishes_undone r it.undoes.0 part it.undoes.2)
 
 -- ---- the keys of a piece
 

@@ -1,7 +1,7 @@
 -- What several files need of tests, numbers and lists.
 use Rattle.std.proofs.Common.{◌≡◌, ◌⊎◌, inl, inr, ◌∙◌, ℕ, ◌+◌, ◌<◌, ◌≤◌, ℤ, ◌<ℤ◌, pos, SFits, w64, of_z, Bool, true, false, not, ◌&&◌, cond, List, [], ◌∷◌, ◌++◌, length, take, get_or, refl, sym, ap}
 use Rattle.std.proofs.Common.{⊎_elim, true≢false, arith, is_eq, int_cmp, Ordering}
-use Rattle.std.specs.Prelude.{nat_lt, nat_le, filter}
+use Rattle.std.specs.Prelude.{nat_lt, nat_le, filter, Option, Some, None, is_some}
 use Rattle.std.specs.declared.cmp.Ordering.TheVariants.{Less, Equal, Greater}
 use Rattle.std.specs.Ordering.{MatchOrdering}
 use Rattle.std.specs.List.{list_all, list_any}
@@ -17,6 +17,10 @@ use Rattle.mailsql.specs.Apart.{are_apart}
 use Rattle.mailsql.specs.Rows.{same_int}
 
 -- ---- tests
+
+pub none_of : {A : Type 0} (o : Option A) → is_some o ≡ false → o ≡ None
+none_of None none = refl
+none_of (Some x) none = absurd (true≢false none)
 
 pub nat_le-true : (m n : ℕ) → nat_le m n ≡ true → m ≤ n
 nat_le-true m n h = grind (arith, nat_tests)

@@ -1,5 +1,6 @@
 -- What a stop leaves after a call.
-use Rattle.std.proofs.Common.{◌≡◌, ◌⊎◌, inl, inr, ℕ, List, Bool, true, false, cond, Result, Ok, Err, sym, subst}
+use Rattle.std.proofs.Common.{◌≡◌, ◌⊎◌, inl, inr, ℕ, List, Bool, true, false, cond, Result, Ok, Err, sym, ap, subst, true≢false}
+use Rattle.std.specs.Prelude.{is_ok}
 use Rattle.sqlite_trees.specs.declared.store.Store.{Ghosts}
 use Rattle.sqlite.specs.Held.{Held as Conn, state}
 use Rattle.sqlite.specs.declared.error.Error.{Error}
@@ -9,7 +10,7 @@ use Rattle.vault.specs.declared.answer.Deposited.TheVariants as stored
 use Rattle.vault.specs.declared.fault.VaultFault.{VaultFault}
 use Rattle.vault.specs.declared.fault.VaultFault.TheVariants as fault
 use Rattle.vault.specs.Changes.{Contents}
-use Rattle.vault.specs.Calls.{IsDone, IsDeposited}
+use Rattle.vault.specs.Calls.{IsDone, IsDeposited, IsRefusal}
 use Rattle.vault.specs.Stops.{SaySame, IsOwn}
 use Rattle.mailsql.specs.Rows.{rows_in}
 use Rattle.sqlvault.specs.Keeps.{Keeps}
@@ -30,6 +31,20 @@ not_own A e = at (is_memory e)
     at : (b : Bool) → (let r : Result A VaultFault = Err (cond b fault.NoMemory fault.Store) in IsOwn r) → ⊥
     at true own = own
     at false own = own
+
+-- the refusals of every call are none of a call's own
+pub refusal_not_own : (A : Type 0) (e : VaultFault)
+    → (let r : Result (Unit {0}) VaultFault = Ok tt in IsRefusal r e)
+    → (let r : Result A VaultFault = Err e in IsOwn r) → ⊥
+refusal_not_own A fault.Store is own = own
+refusal_not_own A fault.NoMemory is own = own
+refusal_not_own A fault.NoMaildrop is own = absurd (true≢false (ap is_ok is))
+refusal_not_own A fault.Conflict is own = absurd (true≢false (ap is_ok is))
+refusal_not_own A fault.Full is own = absurd (true≢false (ap is_ok is))
+refusal_not_own A fault.NotEmpty is own = absurd (true≢false (ap is_ok is))
+refusal_not_own A fault.NotOurs is own = absurd (true≢false (ap is_ok is))
+refusal_not_own A fault.OldVersion is own = absurd (true≢false (ap is_ok is))
+refusal_not_own A fault.NoClerk is own = absurd (true≢false (ap is_ok is))
 
 -- ---- a call
 

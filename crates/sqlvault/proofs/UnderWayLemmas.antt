@@ -14,13 +14,13 @@ use Rattle.sqlvault.specs.Keeps.{Keeps}
 use Rattle.sqlvault.specs.declared.refusal.Refusal.{Refusal}
 use Rattle.sqlvault.specs.Refusals.{answer_of}
 use Rattle.sqlvault.specs.Stands.{Leaves, Within, Halted}
-use Rattle.sqlvault.specs.Transactions.{Begins, Undoes, Ends}
+use Rattle.sqlvault.specs.Transactions.{Begins, Undoes, Concludes}
 use Rattle.sqlvault.specs.Frame.{IsOk, IsMet, Looks, Sees, Writes}
 use Rattle.sqlvault.specs.declared.work.Work.{Work}
 use Rattle.sqlvault.specs.UnderWay.{Shows, HoldsUnder, Prepares, Finishes, GivesUp, under_way}
 use Rattle.sqlvault.proofs.HoldsLemmas.{holds_undone}
 use Rattle.sqlvault.proofs.WithinLemmas.{begun, leaves_on, undone}
-use Rattle.sqlvault.proofs.FrameLemmas.{was_clean, writes_none, looks_committed, looks_self}
+use Rattle.sqlvault.proofs.FrameLemmas.{was_clean, writes_none, concluded_looks, looks_self}
 use Rattle.sqlvault.proofs.SeesLemmas.{own_met}
 
 -- ---- its beginning
@@ -115,22 +115,22 @@ gives_up_unbegun {store = store} {old = old} {mid = mid} {new = new} back begins
 
 -- or one was, and nothing was committed
 pub gives_up_closed : {S : Type 0} {store : Ghosts S} {old mid last new : Held S} {x : Unit {0}}
-    (ended : Result (Unit {0}) Error) → Undoes store old mid
-    → Begins store mid last (Ok x) → Ends store last new ended → GivesUp store old new (IsOk ended)
-gives_up_closed {store = store} {old = old} {mid = mid} {last = last} {new = new} ended back begins
-    ends =
-    let look : Looks store mid new (IsOk ended) = looks_committed ended begins
+    (r : Result (Unit {0}) Refusal) → Undoes store old mid → Begins store mid last (Ok x)
+    → (let none : Result (Unit {0}) Error = Ok tt in Concludes store last new none r)
+    → GivesUp store old new (IsMet r)
+gives_up_closed {store = store} {old = old} {mid = mid} {last = last} {new = new} r back begins it =
+    let look : Looks store mid new (IsMet r) = concluded_looks (Ok tt) r begins
     (writes_none store last (λ from to. to ≡ from) (λ rows. refl))
-    (λ c from to keeps same. subst (λ rows. Keeps rows c) (sym same) keeps) ends in
+    (λ c from to keeps same. subst (λ rows. Keeps rows c) (sym same) keeps) it in
     record {
       clean = λ clean. was_clean store old mid back.survives (look.clean clean);
       held = λ clean c h. (look.rests clean c (back.holds c (look.clean clean) h)).held;
       up = λ clean c h own.
           (look.rests clean c (back.holds c (look.clean clean) h)).up
-          (begins.ok (ends.clean clean)).1.was_open own;
+          (begins.ok (it.clean clean)).1.was_open own;
       stop = λ clean c h left.
           (look.rests clean c (back.holds c (look.clean clean) h)).stop
-          (begins.ok (ends.clean clean)).1.was_open
+          (begins.ok (it.clean clean)).1.was_open
           (leaves_on (λ rows. Keeps rows c) (state store old) (state store mid) (look.clean clean)
           back.survives left);
     }

@@ -16,10 +16,6 @@ use Rattle.sqlvault.proofs.CarryLemmas.{old_on}
 
 -- ---- the version row that was found
 
-module _ (rows : Rows) (none : IsOfNoVersion rows) where
-  pub found_meta_row : find (is_meta_row (codes "popbox")) rows.meta_rows ≡ None → ⊥
-  found_meta_row absent = let e : None ≡ Some none.0 = sym absent ∙ none.1 in cc
-
 -- two that were found are one
 same_version : (rows : Rows) (a b : ℤ) → HasVersion rows a → HasVersion rows b → a ≡ b
 same_version rows a b x y =

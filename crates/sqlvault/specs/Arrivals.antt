@@ -38,7 +38,7 @@ arrival_row a = record {
   octets = pos a.octets;
 }
 
--- so many octets of it are put
+-- with these octets put
 abbrev pub with_put : List ℕ → Arrival → Arrival
 with_put put a = record {
   maildrop = a.maildrop;

@@ -2,7 +2,6 @@
 use Rattle.std.specs.Prelude.{◌≡◌, ℕ, true, nat_lt, pos, List, length, Result, Ok}
 use Rattle.sqlite_trees.specs.declared.store.Store.{Ghosts}
 use Rattle.sqlite.specs.Held.{Held}
-use Rattle.sqlite.specs.declared.error.Error.{Error}
 use Rattle.mailtext.specs.MailText.{IsMailText}
 use Rattle.creds.specs.Names.{is_name, is_deposit_id}
 use Rattle.creds.specs.Digests.{text_digest}
@@ -15,6 +14,7 @@ use Rattle.vault.specs.Calls.{deposit_result, deposit_answer_in}
 use Rattle.mailsql.specs.declared.rows.Count.{Count}
 use Rattle.mailsql.specs.Columns.{Rows}
 use Rattle.mailsql.specs.Changes.{SetsCount, AddsDeposit, AddsMessage, AddsSheets}
+use Rattle.sqlvault.specs.declared.refusal.Refusal.{Refusal}
 use Rattle.sqlvault.specs.Frame.{IsOk, MadeOr, Turns}
 use Rattle.sqlvault.specs.Keeps.{deposit_row, row_key, message_row}
 
@@ -59,6 +59,6 @@ IsStored r text c Held = (key : ℕ) × Held (with_deposit key (message_of r tex
 
 -- the deposit is stored, or what was held is still held
 abbrev pub Stores : {S : Type 0} → Ghosts S → (old new : Held S) → Receipt → List ℕ → Contents
-    → Result (Unit {0}) Error → Type 0
+    → Result (Unit {0}) Refusal → Type 0
 Stores store old new r text c result =
     Turns store old new (IsOk result) (MadeOr result (IsStored r text c) c) (IsStored r text c) c

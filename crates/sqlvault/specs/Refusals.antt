@@ -9,7 +9,7 @@ use Rattle.vault.specs.Calls.{greatest_count}
 use Rattle.sqlvault.specs.declared.refusal.Refusal.{Refusal}
 use Rattle.sqlvault.specs.declared.refusal.Refusal.TheVariants.{Answered, Met}
 
--- the error is want of memory
+-- the error is that memory ran out
 abbrev pub is_memory : Error → Bool
 is_memory (SqliteFailure OutOfMemory) = true
 is_memory _ = false
@@ -33,6 +33,11 @@ told (Met e) = fault_of e
 abbrev pub answer_of : {A : Type 0} → Result A Refusal → Result A VaultFault
 answer_of (Ok x) = Ok x
 answer_of (Err r) = Err (told r)
+
+-- what a statement answered, as a call's answer
+abbrev pub as_met : {A : Type 0} → Result A Error → Result A Refusal
+as_met (Ok x) = Ok x
+as_met (Err e) = Err (Met e)
 
 -- the fault is `Store`
 abbrev pub is_store : VaultFault → Bool

@@ -14,7 +14,7 @@ pub record Removal : Type 0 where
 abbrev pub removal_of : (maildrop keys : List ℕ) → Removal
 removal_of d keys = record { maildrop = d; keys = keys; left = length keys }
 
--- so many of its keys are left
+-- with this many keys left
 abbrev pub with_left : ℕ → Removal → Removal
 with_left left r = record { maildrop = r.maildrop; keys = r.keys; left = left }
 

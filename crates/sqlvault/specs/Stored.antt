@@ -60,7 +60,7 @@ pub record IsPiece (rows : Rows) (mail : ℤ) (place size : ℕ) (octets : List 
 abbrev pub HasSheets : Rows → ℤ → List ℕ → Type 0
 HasSheets rows mail text = (place : ℕ) → place < sheet_count text → find (is_sheet mail (pos place)) rows.sheets ≡ Some (sheet_at mail text place)
 
--- the text has so many octets, and its sheets are found
+-- the text has this many octets, and its sheets are found
 pub record HasText (rows : Rows) (mail : ℤ) (octets : ℕ) (text : List ℕ) : Type 0 where
   pub long : length text ≡ octets
   pub sheets : HasSheets rows mail text

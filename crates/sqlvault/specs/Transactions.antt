@@ -1,5 +1,5 @@
 -- What the beginning and the end of a transaction do to the connection, in one word each.
-use Rattle.std.specs.Prelude.{◌≡◌, ◌⊎◌, false, true, Result, OnOk, OnErr}
+use Rattle.std.specs.Prelude.{◌≡◌, ◌⊎◌, false, true, Result, Err, OnOk, OnErr}
 use Rattle.sqlite_trees.specs.Tree.{Trees}
 use Rattle.sqlite_trees.specs.declared.store.Store.{Ghosts}
 use Rattle.sqlite.specs.Held.{Held, state}
@@ -7,6 +7,9 @@ use Rattle.sqlite.specs.declared.error.Error.{Error}
 use Rattle.sqlite.specs.State.{HasCleanDisk, IsLive, Shows, Survives}
 use Rattle.vault.specs.Changes.{Contents}
 use Rattle.mailsql.specs.Rows.{GoesOn, IsGone, IsHalted, IsUndone}
+use Rattle.sqlvault.specs.declared.refusal.Refusal.{Refusal}
+use Rattle.sqlvault.specs.declared.refusal.Refusal.TheVariants.{Met}
+use Rattle.sqlvault.specs.Refusals.{as_met}
 use Rattle.sqlvault.specs.Stands.{Halted, Holds, WasClean}
 use Rattle.sqlvault.specs.Stops.{LeavesLast}
 
@@ -44,3 +47,11 @@ module _ {S : Type 0} (store : Ghosts S) (old new : Held S) where
         → OnErr result (IsGone (state store first) (state store new))
     pub stop : HasCleanDisk (state store new) → (db : Trees) → (state store new).may_leave db
         → (state store old).may_leave db ⊎ (db ≡ (state store old).now.trees)
+
+  -- A transaction in which this was written is ended, or undone after an error.
+  pub record Concludes (written : Result (Unit {0}) Error)
+      (result : Result (Unit {0}) Refusal) : Type 0 where
+    pub clean : WasClean (state store old) (state store new)
+    pub ends : OnOk written ((ended : Result (Unit {0}) Error) × (result ≡ as_met ended)
+        × Ends ended)
+    pub undoes : OnErr written ((e : Error) × (result ≡ Err (Met e)) × Undoes)

@@ -60,7 +60,7 @@ begun (Ok (Some a)) = Some (works.Deposit a)
 begun (Ok None) = None
 begun (Err _) = None
 
--- a step has an answer, or is refused by the store or for want of memory
+-- a step has an answer, or is refused by the store or as memory ran out
 abbrev pub IsStep : {A : Type 0} → Result A VaultFault → Type 0
 IsStep (Ok _) = ⊤
 IsStep (Err e) = IsRefusal {A = Unit {0}} (Ok tt) e

@@ -21,7 +21,7 @@ ghost use Rattle.sqlvault.specs.Stands.{WasClean};
 use crate::carry::carry_marked;
 use crate::part::are_rows_sound;
 use crate::refusal::Refusal;
-use crate::transaction::{begin, end, undo};
+use crate::transaction::{begin, conclude};
 use crate::version::{NEWEST, find_version, ours};
 use mailsql::schema::{has_columns, has_meta_rows, is_taken};
 use mailsql::{meta, tables};
@@ -33,10 +33,8 @@ use vault::VaultFault;
 fn fill<S: Alter>(conn: &mut Connection<S>) -> Result<(), Error>
     ensures { Builds S.Store conn.old conn.new IsBegun (λ _ rows. rows ≡ marked version) result }
 {
-    match tables::create_tables(conn) {
-        Ok(()) => meta::add_meta_row(conn, b"popbox", NEWEST),
-        Err(error) => Err(error),
-    }
+    tables::create_tables(conn)?;
+    meta::add_meta_row(conn, b"popbox", NEWEST)
 }
 
 /// Makes a store of a connection without tables, in one transaction.
@@ -48,18 +46,9 @@ fn make<S: Alter>(conn: &mut Connection<S>) -> Result<(), Refusal>
     ensures kinds { IfErr result (λ refusal. IsAdoptFault (told refusal)) }
     ensures clean { WasClean (state S.Store conn.old) (state S.Store conn.new) }
 {
-    match begin(conn) {
-        Ok(()) => {}
-        Err(error) => return Err(Refusal::Met(error)),
-    }
-    match fill(conn) {
-        Ok(()) => {}
-        Err(error) => return Err(Refusal::Met(undo(conn, error))),
-    }
-    match end(conn) {
-        Ok(()) => Ok(()),
-        Err(error) => Err(Refusal::Met(error)),
-    }
+    begin(conn)?;
+    let filled = fill(conn);
+    conclude(conn, filled)
 }
 
 /// Checks that the store's one version row is ours, of our version. `OldVersion` if our version
@@ -73,13 +62,8 @@ fn judge_meta_rows<S: Alter>(alloc: Global, conn: &mut Connection<S>) -> Result<
         → IsOfUnknownVersion (state S.Store conn.old) → IsAllCommitted (state S.Store conn.old)
         → IsVersionRefused (state S.Store conn.old) (state S.Store conn.new) (answer_of result) }
 {
-    match find_version(alloc, conn) {
-        Ok(version) => match ours(version) {
-            Ok(()) => Ok(()),
-            Err(fault) => Err(Refusal::Answered(fault)),
-        },
-        Err(error) => Err(Refusal::Met(error)),
-    }
+    let version = find_version(alloc, conn)?;
+    Ok(ours(version)?)
 }
 
 /// Checks the version row, the columns and the rows of a store that has our tables. `OldVersion` or
@@ -95,18 +79,15 @@ fn judge<S: Alter>(alloc: Global, conn: &mut Connection<S>) -> Result<(), Refusa
         → IsOfUnknownVersion (state S.Store conn.old) → IsAllCommitted (state S.Store conn.old)
         → IsVersionRefused (state S.Store conn.old) (state S.Store conn.new) (answer_of result) }
 {
-    match judge_meta_rows(alloc, conn) {
-        Ok(()) => {}
-        Err(refusal) => return Err(refusal),
-    }
+    judge_meta_rows(alloc, conn)?;
     if !has_columns(conn) {
         return Err(Refusal::Answered(VaultFault::NotOurs));
     }
-    match are_rows_sound(alloc, conn) {
-        Ok(true) => Ok(()),
-        Ok(false) => Err(Refusal::Answered(VaultFault::NotOurs)),
-        Err(error) => Err(Refusal::Met(error)),
+    let sound = are_rows_sound(alloc, conn)?;
+    if !sound {
+        return Err(Refusal::Answered(VaultFault::NotOurs));
     }
+    Ok(())
 }
 
 /// Makes our tables if no name of ours is taken, carries a store of version 1 or 2 over, and

@@ -17,11 +17,11 @@ use std::marker::Model;
 use std::mem;
 use vault::{ClerkKind, Deposited, Head, MessageKey, Progress, Total, Vault, VaultFault};
 
-/// Once so many pieces of work were given up, the next one is done at once.
+/// After this many pieces of work were given up in a row, the next one is done at once.
 const MOST_GIVEN_UP: u8 = 3;
 
-/// How many count as given up after work of this size was done at once: none, if it was long enough
-/// to be prepared. Short work, of one piece at most, changes nothing: it is never prepared.
+/// The give-up counter after work of this size was done whole: long work resets it; short work, of
+/// one piece at most, leaves it, since it is never prepared.
 fn given_up_after(size: usize, piece: usize, given_up: u8) -> u8 {
     if size > piece { 0 } else { given_up }
 }
@@ -220,15 +220,12 @@ impl<S: Alter> Ahead<S> {
         let Some(removing) = Removing::new(self.vault.allocator(), maildrop, keys) else {
             return Ok(Progress::Ready);
         };
-        match self.vault.begin_removal() {
-            Ok(()) => {}
-            Err(fault) => return Err(fault),
-        }
+        self.vault.begin_removal()?;
         self.go_on(removing)
     }
 
-    /// Takes out the deposit that is under way, if it is of these names, and of a text with so many
-    /// octets.
+    /// Takes out the deposit that is under way, if it is of these names, and of a text with this
+    /// many octets.
     fn take_coming(
         &mut self,
         maildrop: &Name,
@@ -325,10 +322,9 @@ impl<S: Alter> Ahead<S> {
         if self.given_up >= MOST_GIVEN_UP || text.octets() <= coming::PIECE {
             return Ok(Progress::Ready);
         }
-        match self.vault.start_deposit(maildrop, class, id, text) {
-            Ok(Some(coming)) => self.put_more(coming, text),
-            Ok(None) => Ok(Progress::Ready),
-            Err(fault) => Err(fault),
+        match self.vault.start_deposit(maildrop, class, id, text)? {
+            Some(coming) => self.put_more(coming, text),
+            None => Ok(Progress::Ready),
         }
     }
 }
@@ -355,24 +351,18 @@ impl<S: Alter> Vault for Ahead<S> {
         (λ db o m. S.Store.settled a.vault.conn.store db o m) left may };
 
     fn policy(&mut self) -> Result<Policy, VaultFault> {
-        match self.give_up() {
-            Ok(()) => self.vault.policy(),
-            Err(fault) => Err(fault),
-        }
+        self.give_up()?;
+        self.vault.policy()
     }
 
     fn set_policy(&mut self, policy: &Policy) -> Result<(), VaultFault> {
-        match self.give_up() {
-            Ok(()) => self.vault.set_policy(policy),
-            Err(fault) => Err(fault),
-        }
+        self.give_up()?;
+        self.vault.set_policy(policy)
     }
 
     fn maildrops(&mut self) -> Result<Vec<Total>, VaultFault> {
-        match self.give_up() {
-            Ok(()) => self.vault.maildrops(),
-            Err(fault) => Err(fault),
-        }
+        self.give_up()?;
+        self.vault.maildrops()
     }
 
     fn deposit(
@@ -386,10 +376,7 @@ impl<S: Alter> Vault for Ahead<S> {
             self.given_up = 0;
             return self.vault.finish_deposit(coming, text);
         }
-        match self.give_up() {
-            Ok(()) => {}
-            Err(fault) => return Err(fault),
-        }
+        self.give_up()?;
         self.given_up = given_up_after(text.octets(), coming::PIECE, self.given_up);
         self.vault.deposit(maildrop, class, id, text)
     }
@@ -398,13 +385,12 @@ impl<S: Alter> Vault for Ahead<S> {
         if self.is_beside(maildrop) {
             match self.vault.look_up_heads(maildrop) {
                 Ok(heads) => return Ok(heads),
+                Err(VaultFault::NoMaildrop) => return Err(VaultFault::NoMaildrop),
                 Err(fault) => return Err(self.end_beside(fault)),
             }
         }
-        match self.give_up() {
-            Ok(()) => self.vault.heads(maildrop),
-            Err(fault) => Err(fault),
-        }
+        self.give_up()?;
+        self.vault.heads(maildrop)
     }
 
     fn page(&mut self, key: MessageKey, from: u64, buffer: &mut [u8]) -> Result<usize, VaultFault> {
@@ -414,10 +400,8 @@ impl<S: Alter> Vault for Ahead<S> {
                 Err(fault) => return Err(self.end_beside(fault)),
             }
         }
-        match self.give_up() {
-            Ok(()) => self.vault.page(key, from, buffer),
-            Err(fault) => Err(fault),
-        }
+        self.give_up()?;
+        self.vault.page(key, from, buffer)
     }
 
     fn remove(&mut self, maildrop: &Name, keys: &[MessageKey]) -> Result<(), VaultFault> {
@@ -425,10 +409,7 @@ impl<S: Alter> Vault for Ahead<S> {
             self.given_up = 0;
             return self.vault.finish_removal(&removing);
         }
-        match self.give_up() {
-            Ok(()) => {}
-            Err(fault) => return Err(fault),
-        }
+        self.give_up()?;
         self.given_up = given_up_after(keys.len(), PIECE, self.given_up);
         self.vault.remove(maildrop, keys)
     }
@@ -441,10 +422,8 @@ impl<S: Alter> Vault for Ahead<S> {
         if let Some(removing) = self.take_removal(maildrop, keys) {
             return self.go_on(removing);
         }
-        match self.give_up() {
-            Ok(()) => self.start(maildrop, keys),
-            Err(fault) => Err(fault),
-        }
+        self.give_up()?;
+        self.start(maildrop, keys)
     }
 
     fn prepare_deposit(
@@ -457,10 +436,8 @@ impl<S: Alter> Vault for Ahead<S> {
         if let Some(coming) = self.take_coming(maildrop, class, id, text.octets()) {
             return self.put_more(coming, text);
         }
-        match self.give_up() {
-            Ok(()) => self.start_deposit(maildrop, class, id, text),
-            Err(fault) => Err(fault),
-        }
+        self.give_up()?;
+        self.start_deposit(maildrop, class, id, text)
     }
 
     fn credential(&mut self, clerk: &Name) -> Result<Option<Credential>, VaultFault> {
@@ -470,45 +447,33 @@ impl<S: Alter> Vault for Ahead<S> {
                 Err(fault) => return Err(self.end_beside(fault)),
             }
         }
-        match self.give_up() {
-            Ok(()) => self.vault.credential(clerk),
-            Err(fault) => Err(fault),
-        }
+        self.give_up()?;
+        self.vault.credential(clerk)
     }
 
     fn clerks(&mut self) -> Result<Vec<ClerkKind>, VaultFault> {
-        match self.give_up() {
-            Ok(()) => self.vault.clerks(),
-            Err(fault) => Err(fault),
-        }
+        self.give_up()?;
+        self.vault.clerks()
     }
 
     fn put_clerk(&mut self, clerk: &Name, credential: &Credential) -> Result<bool, VaultFault> {
-        match self.give_up() {
-            Ok(()) => self.vault.put_clerk(clerk, credential),
-            Err(fault) => Err(fault),
-        }
+        self.give_up()?;
+        self.vault.put_clerk(clerk, credential)
     }
 
     fn drop_clerk(&mut self, clerk: &Name) -> Result<(), VaultFault> {
-        match self.give_up() {
-            Ok(()) => self.vault.drop_clerk(clerk),
-            Err(fault) => Err(fault),
-        }
+        self.give_up()?;
+        self.vault.drop_clerk(clerk)
     }
 
     fn add_maildrop(&mut self, maildrop: &Name) -> Result<bool, VaultFault> {
-        match self.give_up() {
-            Ok(()) => self.vault.add_maildrop(maildrop),
-            Err(fault) => Err(fault),
-        }
+        self.give_up()?;
+        self.vault.add_maildrop(maildrop)
     }
 
     fn drop_maildrop(&mut self, maildrop: &Name) -> Result<(), VaultFault> {
-        match self.give_up() {
-            Ok(()) => self.vault.drop_maildrop(maildrop),
-            Err(fault) => Err(fault),
-        }
+        self.give_up()?;
+        self.vault.drop_maildrop(maildrop)
     }
 
     /// Nothing while work is under way: it isn't given up for this.

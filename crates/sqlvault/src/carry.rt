@@ -17,7 +17,7 @@ ghost use Rattle.sqlvault.specs.Transactions.{Undoes};
 use crate::moves::move_old;
 use crate::part::are_rows_sound;
 use crate::refusal::Refusal;
-use crate::transaction::{begin, end, roll_back, undo};
+use crate::transaction::{begin, conclude, roll_back, undo};
 use crate::version::{NEWEST, find_version, older};
 use mailsql::schema::{has_first_columns, has_second_columns};
 use mailsql::tables::OlderVersion;
@@ -36,14 +36,9 @@ fn bring<S: Alter>(
     ensures { Builds S.Store conn.old conn.new (IsBegunOlder (is_first version))
         (Brings (is_first version)) result }
 {
-    match tables::complete_tables(conn, version) {
-        Ok(()) => {}
-        Err(error) => return Err(error),
-    }
-    match move_old(alloc, conn, version) {
-        Ok(()) => meta::put_meta_row(conn, b"popbox", NEWEST),
-        Err(error) => Err(error),
-    }
+    tables::complete_tables(conn, version)?;
+    move_old(alloc, conn, version)?;
+    meta::put_meta_row(conn, b"popbox", NEWEST)
 }
 
 /// Carries an older store over, in one transaction. Its contents stay, and all its rows are read
@@ -59,10 +54,7 @@ pub(crate) fn carry<S: Alter>(
     ensures kinds { IfErr result (λ refusal. IsAdoptFault (told refusal)) }
     ensures clean { WasClean (state S.Store conn.old) (state S.Store conn.new) }
 {
-    match begin(conn) {
-        Ok(()) => {}
-        Err(error) => return Err(Refusal::Met(error)),
-    }
+    begin(conn)?;
     match bring(alloc, conn, version) {
         Ok(()) => {}
         Err(error) => return Err(Refusal::Met(undo(conn, error))),
@@ -72,10 +64,7 @@ pub(crate) fn carry<S: Alter>(
         Ok(false) => return Err(unsound(conn)),
         Err(error) => return Err(Refusal::Met(undo(conn, error))),
     }
-    match end(conn) {
-        Ok(()) => Ok(()),
-        Err(error) => Err(Refusal::Met(error)),
-    }
+    conclude(conn, Ok(()))
 }
 
 /// Rolls back a transaction whose rows aren't sound records. `NotOurs`, or the rollback's error.
@@ -100,13 +89,8 @@ fn find_older<S: Alter>(alloc: Global, conn: &mut Connection<S>) -> Result<Older
         → IsOfUnknownVersion (state S.Store conn.old) → IsAllCommitted (state S.Store conn.old)
         → IsVersionRefused (state S.Store conn.old) (state S.Store conn.new) (answer_of result) }
 {
-    match find_version(alloc, conn) {
-        Ok(version) => match older(version) {
-            Ok(version) => Ok(version),
-            Err(fault) => Err(Refusal::Answered(fault)),
-        },
-        Err(error) => Err(Refusal::Met(error)),
-    }
+    let version = find_version(alloc, conn)?;
+    Ok(older(version)?)
 }
 
 /// Whether the store has the tables of this version.
@@ -136,10 +120,7 @@ pub(crate) fn carry_marked<S: Alter>(alloc: Global, conn: &mut Connection<S>) ->
         → IsOfUnknownVersion (state S.Store conn.old) → IsAllCommitted (state S.Store conn.old)
         → IsVersionRefused (state S.Store conn.old) (state S.Store conn.new) (answer_of result) }
 {
-    let version = match find_older(alloc, conn) {
-        Ok(version) => version,
-        Err(refusal) => return Err(refusal),
-    };
+    let version = find_older(alloc, conn)?;
     if !has_older_columns(conn, version) {
         return Err(Refusal::Answered(VaultFault::NotOurs));
     }

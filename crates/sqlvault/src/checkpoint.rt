@@ -7,7 +7,7 @@ ghost use Rattle.sqlvault.specs.Frame.{IsMet, Looks, Writes};
 ghost use Rattle.sqlvault.specs.Refusals.{answer_of};
 
 use crate::refusal::Refusal;
-use crate::transaction::{begin, end, undo};
+use crate::transaction::{begin, conclude};
 use crate::version::NEWEST;
 use mailsql::meta;
 use sqlite::{Alter, Connection, Error};
@@ -16,10 +16,7 @@ use sqlite::{Alter, Connection, Error};
 fn rewrite_version<S: Alter>(conn: &mut Connection<S>) -> Result<(), Error>
     ensures { Writes S.Store conn.old conn.new (λ _. PutsMetaRow our_meta_row) result }
 {
-    match meta::put_meta_row(conn, b"popbox", NEWEST) {
-        Ok(()) => Ok(()),
-        Err(error) => Err(error),
-    }
+    meta::put_meta_row(conn, b"popbox", NEWEST)
 }
 
 /// Commits a write that changes nothing: before it, as before any, SQLite copies a long log into
@@ -30,16 +27,7 @@ pub(crate) fn checkpoint<S: Alter>(conn: &mut Connection<S>) -> Result<(), Refus
     ensures looks { Looks S.Store conn.old conn.new (IsMet result) }
     ensures answer { IsAnswer (Ok tt) (answer_of result) }
 {
-    match begin(conn) {
-        Ok(()) => {}
-        Err(error) => return Err(Refusal::Met(error)),
-    }
-    match rewrite_version(conn) {
-        Ok(()) => {}
-        Err(error) => return Err(Refusal::Met(undo(conn, error))),
-    }
-    match end(conn) {
-        Ok(()) => Ok(()),
-        Err(error) => Err(Refusal::Met(error)),
-    }
+    begin(conn)?;
+    let written = rewrite_version(conn);
+    conclude(conn, written)
 }

@@ -23,7 +23,7 @@ ghost use Rattle.sqlvault.specs.UnderWay.{TellsBeside};
 
 use crate::refusal::{Refusal, unreadable};
 use crate::totals::push_name;
-use crate::transaction::{begin, end, undo};
+use crate::transaction::{begin, conclude};
 use creds::{Credential, Name, Secret};
 use mailsql::clerks;
 use mailsql::rows::Clerk;
@@ -109,13 +109,12 @@ pub(crate) fn find_credential<S: Alter>(
     ensures beside { TellsBeside S.Store conn.old conn.new (λ _. ⊤)
         (λ c. IsAnswer (Ok (credential_in clerk.now c.clerks)) (answer_of result)) }
 {
-    match clerks::find_clerk(alloc, conn, clerk.as_bytes()) {
-        Ok(Some(row)) => match read_credential(&row) {
-            Some(credential) => Ok(Some(credential)),
-            None => Err(Refusal::Met(unreadable())),
-        },
-        Ok(None) => Ok(None),
-        Err(error) => Err(Refusal::Met(error)),
+    let Some(row) = clerks::find_clerk(alloc, conn, clerk.as_bytes())? else {
+        return Ok(None);
+    };
+    match read_credential(&row) {
+        Some(credential) => Ok(Some(credential)),
+        None => Err(Refusal::Met(unreadable())),
     }
 }
 
@@ -152,13 +151,8 @@ pub(crate) fn clerk_names<S: Alter>(
         (seen_as (answer_of result) (λ v. v.items)) }
     ensures looks { Looks S.Store conn.old conn.new (IsMet result) }
 {
-    match clerks::all_clerks(alloc, conn) {
-        Ok(rows) => match sorted_names(alloc, rows.as_slice()) {
-            Ok(names) => Ok(names),
-            Err(error) => Err(Refusal::Met(error)),
-        },
-        Err(error) => Err(Refusal::Met(error)),
-    }
+    let rows = clerks::all_clerks(alloc, conn)?;
+    Ok(sorted_names(alloc, rows.as_slice())?)
 }
 
 /// The clerk of a row; `None` if the row is no clerk's.
@@ -222,13 +216,8 @@ pub(crate) fn list_clerks<S: Alter>(
         (seen_as (answer_of result) (λ v. v.items)) }
     ensures looks { Looks S.Store conn.old conn.new (IsMet result) }
 {
-    match clerks::all_clerks(alloc, conn) {
-        Ok(rows) => match kinds_in(alloc, rows.as_slice()) {
-            Ok(kinds) => Ok(kinds),
-            Err(error) => Err(Refusal::Met(error)),
-        },
-        Err(error) => Err(Refusal::Met(error)),
-    }
+    let rows = clerks::all_clerks(alloc, conn)?;
+    Ok(kinds_in(alloc, rows.as_slice())?)
 }
 
 /// Whether there is a clerk of that name.
@@ -236,10 +225,8 @@ fn has_clerk<S: Alter>(alloc: Global, conn: &mut Connection<S>, clerk: &Name) ->
     ensures { Learns S.Store conn.old conn.new (IsOk result)
         (λ c. IfOk result (λ there. there ≡ is_some (credential_in clerk.now c.clerks))) }
 {
-    match clerks::find_clerk(alloc, conn, clerk.as_bytes()) {
-        Ok(found) => Ok(found.is_some()),
-        Err(error) => Err(error),
-    }
+    let found = clerks::find_clerk(alloc, conn, clerk.as_bytes())?;
+    Ok(found.is_some())
 }
 
 /// How many clerks there are.
@@ -256,26 +243,22 @@ fn write_clerk<S: Alter>(
     conn: &mut Connection<S>,
     clerk: &Name,
     credential: &Credential,
-) -> Result<(), Error>
+) -> Result<(), Refusal>
     ensures written { (c after : Contents) → HasCleanDisk (state S.Store conn.new)
         → Holds (state S.Store conn.old) c
         → ((from to : tables.Rows) → changes.PutsClerk (row_of clerk.now credential.now) from to
         → Keeps from c → Keeps to after)
         → Becomes S.Store conn.old conn.new result after c }
+    ensures answer { IsAnswer (Ok tt) (answer_of result) }
     ensures name { is_name clerk.now ≡ true }
     ensures form { is_sound_credential credential.now ≡ true }
     ensures clean { WasClean (state S.Store conn.old) (state S.Store conn.new) }
 {
     let name = clerk.as_bytes();
     let secret = secret_of(credential);
-    match begin(conn) {
-        Ok(()) => {}
-        Err(error) => return Err(error),
-    }
-    match clerks::put_clerk(conn, name, kind_of(credential), secret) {
-        Ok(()) => end(conn),
-        Err(error) => Err(undo(conn, error)),
-    }
+    begin(conn)?;
+    let put = clerks::put_clerk(conn, name, kind_of(credential), secret);
+    conclude(conn, put)
 }
 
 /// Whether a clerk of that name would be new.
@@ -291,21 +274,15 @@ fn judge_clerk<S: Alter>(
         → IsAnswer (put_result (put_clerk_answer clerk.now c.clerks)) (answer_of result) }
     ensures looks { Looks S.Store conn.old conn.new (IsMet result) }
 {
-    match has_clerk(alloc, conn, clerk) {
-        Ok(true) => return Ok(false),
-        Ok(false) => {}
-        Err(error) => return Err(Refusal::Met(error)),
+    let there = has_clerk(alloc, conn, clerk)?;
+    if there {
+        return Ok(false);
     }
-    match clerk_count(conn) {
-        Ok(count) => {
-            if count >= MAX_CLERKS {
-                Err(Refusal::Answered(VaultFault::Full))
-            } else {
-                Ok(true)
-            }
-        }
-        Err(error) => Err(Refusal::Met(error)),
+    let count = clerk_count(conn)?;
+    if count >= MAX_CLERKS {
+        return Err(Refusal::Answered(VaultFault::Full));
     }
+    Ok(true)
 }
 
 /// Sets a clerk's credential, in place of the one that is there. Answers whether the clerk was new.
@@ -322,13 +299,9 @@ pub(crate) fn put_clerk<S: Alter>(
         (λ c Held answered. IsClerkPut Held c clerk.now credential.now answered)
         (answer_of result) }
 {
-    match judge_clerk(alloc, conn, clerk) {
-        Ok(is_new) => match write_clerk(conn, clerk, credential) {
-            Ok(()) => Ok(is_new),
-            Err(error) => Err(Refusal::Met(error)),
-        },
-        Err(refusal) => Err(refusal),
-    }
+    let is_new = judge_clerk(alloc, conn, clerk)?;
+    write_clerk(conn, clerk, credential)?;
+    Ok(is_new)
 }
 
 /// Drops a clerk.
@@ -343,13 +316,9 @@ pub(crate) fn drop_clerk<S: Alter>(
     ensures { Acts S.Store conn.old conn.new
         (λ c Held answered. IsClerkDropped Held c clerk.now answered) (answer_of result) }
 {
-    match has_clerk(alloc, conn, clerk) {
-        Ok(true) => {}
-        Ok(false) => return Err(Refusal::Answered(VaultFault::NoClerk)),
-        Err(error) => return Err(Refusal::Met(error)),
+    let there = has_clerk(alloc, conn, clerk)?;
+    if !there {
+        return Err(Refusal::Answered(VaultFault::NoClerk));
     }
-    match clerks::drop_clerk(conn, clerk.as_bytes()) {
-        Ok(()) => Ok(()),
-        Err(error) => Err(Refusal::Met(error)),
-    }
+    Ok(clerks::drop_clerk(conn, clerk.as_bytes())?)
 }

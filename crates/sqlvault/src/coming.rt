@@ -20,7 +20,7 @@ ghost use Rattle.sqlvault.specs.declared.work.Work.TheVariants as works;
 use crate::deposit::{judge_new, put_receipt, receipt_for};
 use crate::maildrops::has_maildrop;
 use crate::refusal::Refusal;
-use crate::transaction::{begin, end, undo};
+use crate::transaction::{begin, conclude, undo};
 use creds::{DepositId, Name, Uid};
 use mailsql::{deposits, mail, sheets};
 use mailtext::MailText;
@@ -72,7 +72,7 @@ impl Model for Coming {
 }
 
 impl Coming {
-    /// Whether it is of these names, and of a text with so many octets.
+    /// Whether it is of these names, and of a text with this many octets.
     pub(crate) fn is_of(&self, maildrop: &Name, class: &Name, id: &DepositId, octets: usize) -> bool
         ensures { IsTrue result → (self.now.maildrop ≡ maildrop.now)
             × (self.now.class ≡ class.now) × (self.now.id ≡ id.now) × (self.now.octets ≡ octets) }
@@ -197,15 +197,13 @@ fn judge<S: Alter>(
     ensures within { (u : uid.Uid) → result ≡ Ok (Some u) → u.k ≤ most_deposits }
     ensures step { IsStep (answer_of result) }
 {
-    match has_maildrop(conn, maildrop) {
-        Ok(true) => {}
-        Ok(false) => return Ok(None),
-        Err(error) => return Err(Refusal::Met(error)),
+    let there = has_maildrop(conn, maildrop)?;
+    if !there {
+        return Ok(None);
     }
-    match deposits::find_deposit(alloc, conn, maildrop.as_bytes(), id.as_bytes()) {
-        Ok(None) => {}
-        Ok(Some(_row)) => return Ok(None),
-        Err(error) => return Err(Refusal::Met(error)),
+    let used = deposits::find_deposit(alloc, conn, maildrop.as_bytes(), id.as_bytes())?;
+    if used.is_some() {
+        return Ok(None);
     }
     match judge_new(alloc, conn, maildrop, class) {
         Ok(Deposited::New(uid)) => Ok(Some(uid)),
@@ -228,19 +226,14 @@ fn add_row<S: Alter>(
         (λ key. AddsRow key maildrop.now class.now k (length text.now)) result }
 {
     let octets = text.octets() as i64;
-    match mail::add_message(
+    let key = mail::add_message(
         conn,
         maildrop.as_bytes(),
         class.as_bytes(),
         k as i64,
         octets,
-    ) {
-        Ok(row_key) => {
-            let key = row_key.cast_unsigned();
-            Ok(key)
-        }
-        Err(error) => Err(error),
-    }
+    )?;
+    Ok(key.cast_unsigned())
 }
 
 /// Begins a deposit, if its id is new and it would be accepted: adds the row of its message, in a
@@ -258,19 +251,14 @@ pub(crate) fn start<S: Alter>(
     ensures prepares { Prepares S.Store conn.old conn.new None (begun result) (IsMet result) }
     ensures step { IsStep (answer_of result) }
 {
-    let uid = match judge(alloc, conn, maildrop, class, id) {
-        Ok(Some(uid)) => uid,
-        Ok(None) => return Ok(None),
-        Err(refusal) => return Err(refusal),
+    let Some(uid) = judge(alloc, conn, maildrop, class, id)? else {
+        return Ok(None);
     };
     let octets = text.octets();
     let Ok(room) = Vec::with_capacity(alloc, octets) else {
         return Ok(None);
     };
-    match begin(conn) {
-        Ok(()) => {}
-        Err(error) => return Err(Refusal::Met(error)),
-    }
+    begin(conn)?;
     match add_row(conn, maildrop, class, uid.k, text) {
         Ok(key) => Ok(Some(Coming {
             maildrop: *maildrop,
@@ -296,10 +284,7 @@ fn add_rest<S: Alter>(
     ensures { Writes S.Store conn.old conn.new (λ _. AddsRest from (row_key key) text.now) result }
 {
     let mail = key.cast_signed();
-    match sheets::add_rest(conn, mail, text, from) {
-        Ok(()) => Ok(()),
-        Err(error) => Err(error),
-    }
+    sheets::add_rest(conn, mail, text, from)
 }
 
 /// Takes in some more octets, and adds their sheets, which are whole, inside a transaction.
@@ -316,10 +301,7 @@ fn put_sheets<S: Alter>(
 {
     let from = coming.sheets();
     let key = coming.key();
-    match coming.take_in(octets) {
-        Ok(()) => {}
-        Err(error) => return Err(error),
-    }
+    coming.take_in(octets)?;
     add_rest(conn, key, coming.bytes(), from)
 }
 
@@ -359,10 +341,8 @@ fn put_rest<S: Alter>(
     ensures { Writes S.Store conn.old conn.new (λ _. PutsRest from key text.now receipt.now)
         result }
 {
-    match add_rest(conn, key, text, from) {
-        Ok(()) => put_receipt(conn, receipt),
-        Err(error) => Err(error),
-    }
+    add_rest(conn, key, text, from)?;
+    put_receipt(conn, receipt)
 }
 
 /// Puts what is left of the text, and commits the deposit.
@@ -383,12 +363,7 @@ pub(crate) fn finish<S: Alter>(
     let key = coming.key();
     let from = coming.sheets();
     let receipt = coming.into_receipt(text.bytes());
-    match put_rest(conn, key, text.bytes(), from, &receipt) {
-        Ok(()) => {}
-        Err(error) => return Err(Refusal::Met(undo(conn, error))),
-    }
-    match end(conn) {
-        Ok(()) => Ok(Deposited::New(uid)),
-        Err(error) => Err(Refusal::Met(error)),
-    }
+    let put = put_rest(conn, key, text.bytes(), from, &receipt);
+    conclude(conn, put)?;
+    Ok(Deposited::New(uid))
 }

@@ -22,7 +22,7 @@ ghost use Rattle.sqlvault.specs.Stands.{Holds, WasClean};
 
 use crate::maildrops::{has_maildrop, message_count};
 use crate::refusal::{Refusal, unreadable};
-use crate::transaction::{begin, end, undo};
+use crate::transaction::{begin, conclude};
 use creds::{DepositId, Name, Uid};
 use mailsql::{counts, deposits, mail, rows, sheets};
 use mailtext::MailText;
@@ -78,10 +78,8 @@ fn known_or_conflict(
     if !is_same(row, class, digest) {
         return Err(Refusal::Answered(VaultFault::Conflict));
     }
-    match read_number(row.k) {
-        Ok(k) => Ok(Deposited::Known(Uid { class: *class, k })),
-        Err(error) => Err(Refusal::Met(error)),
-    }
+    let k = read_number(row.k)?;
+    Ok(Deposited::Known(Uid { class: *class, k }))
 }
 
 /// How many deposits of the class there were under the maildrop's name.
@@ -96,10 +94,8 @@ fn find_before<S: Alter>(
         (λ n. n ≡ class_count class.now (receipts_of maildrop.now c.deposits)) }
     ensures looks { Looks S.Store conn.old conn.new (IsOk result) }
 {
-    match counts::find_count(alloc, conn, maildrop.as_bytes(), class.as_bytes()) {
-        Ok(count) => number_of(&count),
-        Err(error) => Err(error),
-    }
+    let count = counts::find_count(alloc, conn, maildrop.as_bytes(), class.as_bytes())?;
+    number_of(&count)
 }
 
 /// The answer to a deposit with a new id into a maildrop that is there: its unique-id, or `Full`.
@@ -117,17 +113,11 @@ pub(crate) fn judge_new<S: Alter>(
     ensures looks { Looks S.Store conn.old conn.new (IsMet result) }
     ensures within { (u : uid.Uid) → result ≡ Ok (stored.New u) → u.k ≤ most_deposits }
 {
-    let present = match message_count(conn, maildrop) {
-        Ok(present) => present,
-        Err(error) => return Err(Refusal::Met(error)),
-    };
+    let present = message_count(conn, maildrop)?;
     if present >= MAX_MESSAGES {
         return Err(Refusal::Answered(VaultFault::Full));
     }
-    let before = match find_before(alloc, conn, maildrop, class) {
-        Ok(before) => before,
-        Err(error) => return Err(Refusal::Met(error)),
-    };
+    let before = find_before(alloc, conn, maildrop, class)?;
     if before >= MAX_DEPOSITS {
         return Err(Refusal::Answered(VaultFault::Full));
     }
@@ -153,15 +143,14 @@ fn judge<S: Alter>(
     ensures looks { Looks S.Store conn.old conn.new (IsMet result) }
     ensures within { (u : uid.Uid) → result ≡ Ok (stored.New u) → u.k ≤ most_deposits }
 {
-    match has_maildrop(conn, maildrop) {
-        Ok(true) => {}
-        Ok(false) => return Err(Refusal::Answered(VaultFault::NoMaildrop)),
-        Err(error) => return Err(Refusal::Met(error)),
+    let there = has_maildrop(conn, maildrop)?;
+    if !there {
+        return Err(Refusal::Answered(VaultFault::NoMaildrop));
     }
-    match deposits::find_deposit(alloc, conn, maildrop.as_bytes(), id.as_bytes()) {
-        Ok(Some(row)) => known_or_conflict(&row, class, digest),
-        Ok(None) => judge_new(alloc, conn, maildrop, class),
-        Err(error) => Err(Refusal::Met(error)),
+    let used = deposits::find_deposit(alloc, conn, maildrop.as_bytes(), id.as_bytes())?;
+    match used {
+        Some(row) => known_or_conflict(&row, class, digest),
+        None => judge_new(alloc, conn, maildrop, class),
     }
 }
 
@@ -174,15 +163,12 @@ pub(crate) fn put_receipt<S: Alter>(
     ensures { Writes S.Store conn.old conn.new (λ _. PutsReceipt receipt.now) result }
 {
     let k = receipt.k as i64;
-    match counts::set_count(
+    counts::set_count(
         conn,
         receipt.maildrop.as_bytes(),
         receipt.class.as_bytes(),
         k,
-    ) {
-        Ok(()) => {}
-        Err(error) => return Err(error),
-    }
+    )?;
     deposits::add_deposit(
         conn,
         receipt.maildrop.as_bytes(),
@@ -205,19 +191,14 @@ fn put_message<S: Alter>(
 {
     let k = receipt.k as i64;
     let octets = text.octets() as i64;
-    match mail::add_message(
+    let key = mail::add_message(
         conn,
         receipt.maildrop.as_bytes(),
         receipt.class.as_bytes(),
         k,
         octets,
-    ) {
-        Ok(key) => match sheets::add_sheets(conn, key, text.bytes()) {
-            Ok(()) => Ok(()),
-            Err(error) => Err(error),
-        },
-        Err(error) => Err(error),
-    }
+    )?;
+    sheets::add_sheets(conn, key, text.bytes())
 }
 
 /// Sets the count, and adds the receipt, the message and its sheets, inside a transaction.
@@ -229,10 +210,8 @@ fn put_deposit<S: Alter>(
     requires { receipt.now.k ≤ most_deposits }
     ensures { Writes S.Store conn.old conn.new (λ _. PutsDeposit receipt.now text.now) result }
 {
-    match put_receipt(conn, receipt) {
-        Ok(()) => put_message(conn, receipt, text),
-        Err(error) => Err(error),
-    }
+    put_receipt(conn, receipt)?;
+    put_message(conn, receipt, text)
 }
 
 /// Keeps a deposit that was judged new, in one transaction.
@@ -240,21 +219,17 @@ fn store<S: Alter>(
     conn: &mut Connection<S>,
     receipt: &Receipt,
     text: &MailText,
-) -> Result<(), Error>
+) -> Result<(), Refusal>
     requires { receipt.now.k ≤ most_deposits }
     ensures clean { WasClean (state S.Store conn.old) (state S.Store conn.new) }
+    ensures answer { IsAnswer (Ok tt) (answer_of result) }
     ensures stored { (c : Contents) → HasCleanDisk (state S.Store conn.new)
         → Holds (state S.Store conn.old) c → Accepts c receipt.now text.now
         → Stores S.Store conn.old conn.new receipt.now text.now c result }
 {
-    match begin(conn) {
-        Ok(()) => {}
-        Err(error) => return Err(error),
-    }
-    match put_deposit(conn, receipt, text) {
-        Ok(()) => end(conn),
-        Err(error) => Err(undo(conn, error)),
-    }
+    begin(conn)?;
+    let put = put_deposit(conn, receipt, text);
+    conclude(conn, put)
 }
 
 /// The receipt of a deposit that gets this number.
@@ -278,6 +253,7 @@ pub(crate) fn receipt_for(
     ensures class_form { is_name class.now ≡ true }
     ensures sized { length digest ≡ 32 }
 {
+    // For the proof: a name and an id have their forms.
     let _ = maildrop.as_bytes();
     let _ = id.as_bytes();
     let _ = class.as_bytes();
@@ -310,15 +286,11 @@ pub(crate) fn deposit<S: Alter>(
         (answer_of result) }
 {
     let digest = creds::text_digest(text.bytes());
-    match judge(alloc, conn, maildrop, class, id, &digest) {
-        Ok(Deposited::New(uid)) => {
-            let receipt = receipt_for(maildrop, class, id, uid.k, digest);
-            match store(conn, &receipt, text) {
-                Ok(()) => Ok(Deposited::New(uid)),
-                Err(error) => Err(Refusal::Met(error)),
-            }
-        }
-        Ok(Deposited::Known(uid)) => Ok(Deposited::Known(uid)),
-        Err(refusal) => Err(refusal),
-    }
+    let answer = judge(alloc, conn, maildrop, class, id, &digest)?;
+    let Deposited::New(uid) = answer else {
+        return Ok(answer);
+    };
+    let receipt = receipt_for(maildrop, class, id, uid.k, digest);
+    store(conn, &receipt, text)?;
+    Ok(Deposited::New(uid))
 }

@@ -105,13 +105,9 @@ pub(crate) fn read_groups<S: Alter>(
         ≡ true)) }
     ensures asks { Asks S.Store conn.old conn.new result }
 {
-    match groups::all_groups(alloc, conn) {
-        Ok(rows) => match groups::all_members(alloc, conn) {
-            Ok(members) => Ok(groups_of(alloc, rows.as_slice(), members.as_slice())?),
-            Err(error) => Err(error),
-        },
-        Err(error) => Err(error),
-    }
+    let rows = groups::all_groups(alloc, conn)?;
+    let members = groups::all_members(alloc, conn)?;
+    Ok(groups_of(alloc, rows.as_slice(), members.as_slice())?)
 }
 
 /// Adds members to the group at place `group`, which has none yet, inside a transaction. The first
@@ -127,10 +123,7 @@ fn add_members<S: Alter>(
     let mut place: i64 = 0;
     for member in members {
         place += 1;
-        match groups::add_member(conn, group, place, member.as_bytes()) {
-            Ok(()) => {}
-            Err(error) => return Err(error),
-        }
+        groups::add_member(conn, group, place, member.as_bytes())?;
     }
     Ok(())
 }
@@ -141,10 +134,8 @@ fn add_group<S: Alter>(conn: &mut Connection<S>, place: i64, group: &Group) -> R
     requires { length group.now.members ≤ most_members }
     ensures { Writes S.Store conn.old conn.new (λ _. AddsGroup place group.now) result }
 {
-    match groups::add_group(conn, group.name().as_bytes()) {
-        Ok(()) => add_members(conn, place, group.members()),
-        Err(error) => Err(error),
-    }
+    groups::add_group(conn, group.name().as_bytes())?;
+    add_members(conn, place, group.members())
 }
 
 /// Adds the policy's groups to a store without groups, inside a transaction.
@@ -154,10 +145,7 @@ fn add_groups<S: Alter>(conn: &mut Connection<S>, policy: &Policy) -> Result<(),
     let mut place: i64 = 0;
     for group in policy.groups() {
         place += 1;
-        match add_group(conn, place, group) {
-            Ok(()) => {}
-            Err(error) => return Err(error),
-        }
+        add_group(conn, place, group)?;
     }
     Ok(())
 }
@@ -169,8 +157,6 @@ pub(crate) fn replace_groups<S: Alter>(
 ) -> Result<(), Error>
     ensures { Writes S.Store conn.old conn.new (λ _. SetsGroups policy.now.groups) result }
 {
-    match groups::clear_groups(conn) {
-        Ok(()) => add_groups(conn, policy),
-        Err(error) => Err(error),
-    }
+    groups::clear_groups(conn)?;
+    add_groups(conn, policy)
 }

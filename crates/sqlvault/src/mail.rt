@@ -16,7 +16,7 @@ ghost use Rattle.sqlvault.specs.UnderWay.{TellsBeside};
 
 use crate::maildrops::find_maildrop;
 use crate::refusal::{Refusal, unreadable};
-use crate::transaction::{begin, end, undo};
+use crate::transaction::{begin, conclude};
 use creds::Name;
 use mailsql::mail;
 use mailsql::rows::Message;
@@ -40,8 +40,8 @@ fn read_head(row: &Message) -> Option<Head>
     }
 }
 
-/// The heads of these rows, in order. If each row is that of a message, want of memory is the
-/// only error.
+/// The heads of these rows, in order. If each row is that of a message, the only error is that
+/// memory ran out.
 fn read_heads(alloc: Global, rows: &[Message]) -> Result<Vec<Head>, Error>
     ensures items { (ms : List Keyed) → rows.now ≡ map message_row ms
         → list_all (λ x. is_name x.message.class) ms ≡ true
@@ -102,11 +102,11 @@ fn no_heads<S: Alter>(
         (λ c. kept_in maildrop.now c.messages ≡ [] → IsAnswer (heads_result maildrop.now c)
         (seen_as (answer_of result) (λ v. v.items))) }
 {
-    match find_maildrop(conn, maildrop) {
-        Ok(true) => Ok(Vec::new(alloc)),
-        Ok(false) => Err(Refusal::Answered(VaultFault::NoMaildrop)),
-        Err(error) => Err(Refusal::Met(error)),
+    let there = find_maildrop(conn, maildrop)?;
+    if !there {
+        return Err(Refusal::Answered(VaultFault::NoMaildrop));
     }
+    Ok(Vec::new(alloc))
 }
 
 /// The heads of a maildrop's messages, in order of arrival. Nothing is changed. Only if there are
@@ -125,16 +125,11 @@ pub(crate) fn heads<S: Alter>(
         (λ a. bytes_eq a.maildrop maildrop.now ≡ false)
         (λ c. IsAnswer (heads_result maildrop.now c) (seen_as (answer_of result) (λ v. v.items))) }
 {
-    match find_rows(alloc, conn, maildrop) {
-        Ok(rows) => {
-            if rows.is_empty() {
-                no_heads(alloc, conn, maildrop)
-            } else {
-                Ok(read_heads(alloc, rows.as_slice())?)
-            }
-        }
-        Err(error) => Err(Refusal::Met(error)),
+    let rows = find_rows(alloc, conn, maildrop)?;
+    if rows.is_empty() {
+        return no_heads(alloc, conn, maildrop);
     }
+    Ok(read_heads(alloc, rows.as_slice())?)
 }
 
 /// Removes each of the messages, inside a transaction, the last one first: so what is left of a
@@ -152,10 +147,7 @@ pub(crate) fn remove_all<S: Alter>(
     while left > 0 {
         left -= 1;
         let key = keys[left].number().cast_signed();
-        match mail::remove_message(conn, key, maildrop.as_bytes()) {
-            Ok(()) => {}
-            Err(error) => return Err(error),
-        }
+        mail::remove_message(conn, key, maildrop.as_bytes())?;
     }
     Ok(())
 }
@@ -172,16 +164,7 @@ pub(crate) fn remove<S: Alter>(
     ensures { Acts S.Store conn.old conn.new
         (λ c Held answered. AreRemoved Held c maildrop.now keys.now answered) (answer_of result) }
 {
-    match begin(conn) {
-        Ok(()) => {}
-        Err(error) => return Err(Refusal::Met(error)),
-    }
-    match remove_all(conn, maildrop, keys) {
-        Ok(()) => {}
-        Err(error) => return Err(Refusal::Met(undo(conn, error))),
-    }
-    match end(conn) {
-        Ok(()) => Ok(()),
-        Err(error) => Err(Refusal::Met(error)),
-    }
+    begin(conn)?;
+    let removed = remove_all(conn, maildrop, keys);
+    conclude(conn, removed)
 }

@@ -57,23 +57,16 @@ pub(crate) fn add_maildrop<S: Alter>(conn: &mut Connection<S>, name: &Name) -> R
     ensures { Acts S.Store conn.old conn.new
         (λ c Held answered. IsMaildropAdded Held c name.now answered) (answer_of result) }
 {
-    match has_maildrop(conn, name) {
-        Ok(true) => return Ok(false),
-        Ok(false) => {}
-        Err(error) => return Err(Refusal::Met(error)),
+    let there = has_maildrop(conn, name)?;
+    if there {
+        return Ok(false);
     }
-    match maildrop_count(conn) {
-        Ok(count) => {
-            if count >= MAX_MAILDROPS {
-                return Err(Refusal::Answered(VaultFault::Full));
-            }
-        }
-        Err(error) => return Err(Refusal::Met(error)),
+    let count = maildrop_count(conn)?;
+    if count >= MAX_MAILDROPS {
+        return Err(Refusal::Answered(VaultFault::Full));
     }
-    match maildrops::add_maildrop(conn, name.as_bytes()) {
-        Ok(()) => Ok(true),
-        Err(error) => Err(Refusal::Met(error)),
-    }
+    maildrops::add_maildrop(conn, name.as_bytes())?;
+    Ok(true)
 }
 
 /// Drops an empty maildrop. The receipts and the counts under its name stay.
@@ -84,21 +77,13 @@ pub(crate) fn drop_maildrop<S: Alter>(conn: &mut Connection<S>, name: &Name) -> 
     ensures { Acts S.Store conn.old conn.new
         (λ c Held answered. IsMaildropDropped Held c name.now answered) (answer_of result) }
 {
-    match has_maildrop(conn, name) {
-        Ok(true) => {}
-        Ok(false) => return Err(Refusal::Answered(VaultFault::NoMaildrop)),
-        Err(error) => return Err(Refusal::Met(error)),
+    let there = has_maildrop(conn, name)?;
+    if !there {
+        return Err(Refusal::Answered(VaultFault::NoMaildrop));
     }
-    match message_count(conn, name) {
-        Ok(count) => {
-            if count > 0 {
-                return Err(Refusal::Answered(VaultFault::NotEmpty));
-            }
-        }
-        Err(error) => return Err(Refusal::Met(error)),
+    let count = message_count(conn, name)?;
+    if count > 0 {
+        return Err(Refusal::Answered(VaultFault::NotEmpty));
     }
-    match maildrops::drop_maildrop(conn, name.as_bytes()) {
-        Ok(()) => Ok(()),
-        Err(error) => Err(Refusal::Met(error)),
-    }
+    Ok(maildrops::drop_maildrop(conn, name.as_bytes())?)
 }

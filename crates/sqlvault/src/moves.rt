@@ -20,27 +20,24 @@ fn put_body<S: Alter>(conn: &mut Connection<S>, body: &Body) -> Result<(), Error
     ensures { Builds S.Store conn.old conn.new IsInside (MovesBody body.now) result }
 {
     let head = &body.head;
-    match mail::add_keyed(
+    mail::add_keyed(
         conn,
         head.key,
         head.maildrop.as_slice(),
         head.class.as_slice(),
         head.k,
         head.octets,
-    ) {
-        Ok(()) => sheets::add_sheets(conn, head.key, body.body.as_slice()),
-        Err(error) => Err(error),
-    }
+    )?;
+    sheets::add_sheets(conn, head.key, body.body.as_slice())
 }
 
 /// Puts the message that version 1 has under a key into our tables, inside a transaction.
 fn move_one<S: Alter>(alloc: Global, conn: &mut Connection<S>, key: i64) -> Result<(), Error>
     ensures { Builds S.Store conn.old conn.new (IsInsideOf true) (MovesKey key) result }
 {
-    match bodies::find_body(alloc, conn, key) {
-        Ok(Some(body)) => put_body(conn, &body),
-        Ok(None) => Err(unreadable()),
-        Err(error) => Err(error),
+    match bodies::find_body(alloc, conn, key)? {
+        Some(body) => put_body(conn, &body),
+        None => Err(unreadable()),
     }
 }
 
@@ -57,10 +54,7 @@ fn move_all<S: Alter>(
         → OnOk result (is_carried (state S.Store conn.new).now.trees ≡ true) }
 {
     for head in heads {
-        match move_one(alloc, conn, head.key) {
-            Ok(()) => {}
-            Err(error) => return Err(error),
-        }
+        move_one(alloc, conn, head.key)?;
     }
     Ok(())
 }
@@ -70,15 +64,10 @@ fn move_all<S: Alter>(
 fn move_messages<S: Alter>(alloc: Global, conn: &mut Connection<S>) -> Result<(), Error>
     ensures { Builds S.Store conn.old conn.new (IsUnmoved true) MovesAll result }
 {
-    let heads = match bodies::old_messages(alloc, conn) {
-        Ok(heads) => heads,
-        Err(error) => return Err(error),
-    };
+    let heads = bodies::old_messages(alloc, conn)?;
     keys_hold(conn);
-    match move_all(alloc, conn, heads.as_slice()) {
-        Ok(()) => bodies::clear_bodies(conn),
-        Err(error) => Err(error),
-    }
+    move_all(alloc, conn, heads.as_slice())?;
+    bodies::clear_bodies(conn)
 }
 
 /// Moves the messages of a store of version 1, inside a transaction. A store of version 2 has them

@@ -30,7 +30,7 @@ fn copy_from(octets: &[u8], from: usize, buffer: &mut [u8]) -> usize
     count
 }
 
-/// At most so many sheets are read by one statement.
+/// The most sheets that one statement reads.
 const MOST_SHEETS: u64 = 16;
 
 /// How many sheets are read for a buffer of this length.
@@ -92,14 +92,7 @@ pub(crate) fn page<S: Alter>(
     let mail = key.number().cast_signed();
     let first = from / sheet_octets;
     let end = first + sheets_for(buffer.len());
-    match sheets::sheets_between(alloc, conn, mail, first as i64, end as i64) {
-        Ok(found) => Ok(copy_sheets(
-            found.as_slice(),
-            first,
-            end,
-            (from % sheet_octets) as usize,
-            buffer,
-        )),
-        Err(error) => Err(Refusal::Met(error)),
-    }
+    let found = sheets::sheets_between(alloc, conn, mail, first as i64, end as i64)?;
+    let skip = (from % sheet_octets) as usize;
+    Ok(copy_sheets(found.as_slice(), first, end, skip, buffer))
 }

@@ -38,7 +38,7 @@ pub enum Part {
 
 /// The first part of the rows that isn't sound, in the order of `Part`; `None` if all rows are
 /// sound records of a vault. For a store that has our tables and our version row. Nothing is
-/// changed. The error is a statement's, or want of memory.
+/// changed. The error is a statement's, or that memory ran out.
 pub fn unsound_part<S: Alter>(
     alloc: Global,
     conn: &mut Connection<S>,
@@ -49,31 +49,26 @@ pub fn unsound_part<S: Alter>(
     ensures asks { Asks S.Store conn.old conn.new result }
 {
     keys_hold(conn);
-    match are_clerks_sound(alloc, conn) {
-        Ok(true) => {}
-        Ok(false) => return Ok(Some(Part::Clerks)),
-        Err(error) => return Err(error),
+    let clerks = are_clerks_sound(alloc, conn)?;
+    if !clerks {
+        return Ok(Some(Part::Clerks));
     }
-    match are_maildrops_sound(alloc, conn) {
-        Ok(true) => {}
-        Ok(false) => return Ok(Some(Part::Maildrops)),
-        Err(error) => return Err(error),
+    let maildrops = are_maildrops_sound(alloc, conn)?;
+    if !maildrops {
+        return Ok(Some(Part::Maildrops));
     }
-    match unsound_policy(alloc, conn) {
-        Ok(None) => {}
-        Ok(Some(part)) => return Ok(Some(part)),
-        Err(error) => return Err(error),
+    if let Some(part) = unsound_policy(alloc, conn)? {
+        return Ok(Some(part));
     }
-    match are_deposits_sound(alloc, conn) {
-        Ok(true) => {}
-        Ok(false) => return Ok(Some(Part::Deposits)),
-        Err(error) => return Err(error),
+    let deposits = are_deposits_sound(alloc, conn)?;
+    if !deposits {
+        return Ok(Some(Part::Deposits));
     }
-    match are_messages_sound(alloc, conn) {
-        Ok(true) => Ok(None),
-        Ok(false) => Ok(Some(Part::Messages)),
-        Err(error) => Err(error),
+    let messages = are_messages_sound(alloc, conn)?;
+    if !messages {
+        return Ok(Some(Part::Messages));
     }
+    Ok(None)
 }
 
 /// Whether all rows are sound records of a vault.
@@ -86,9 +81,6 @@ pub(crate) fn are_rows_sound<S: Alter>(
         → IfOk result (Finds (Keeps (rows_in (state S.Store conn.old).now.trees))) }
     ensures asks { Asks S.Store conn.old conn.new result }
 {
-    match unsound_part(alloc, conn) {
-        Ok(None) => Ok(true),
-        Ok(Some(_)) => Ok(false),
-        Err(error) => Err(error),
-    }
+    let unsound = unsound_part(alloc, conn)?;
+    Ok(unsound.is_none())
 }

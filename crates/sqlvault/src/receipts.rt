@@ -76,11 +76,6 @@ pub(crate) fn receipts<S: Alter>(
         (seen_as (answer_of result) (λ v. v.items)) }
     ensures looks { Looks S.Store conn.old conn.new (IsMet result) }
 {
-    match deposits::all_deposits(alloc, conn) {
-        Ok(rows) => match read_receipts(alloc, rows.as_slice()) {
-            Ok(receipts) => Ok(receipts),
-            Err(error) => Err(Refusal::Met(error)),
-        },
-        Err(error) => Err(Refusal::Met(error)),
-    }
+    let rows = deposits::all_deposits(alloc, conn)?;
+    Ok(read_receipts(alloc, rows.as_slice())?)
 }

@@ -28,6 +28,16 @@ impl From<Error> for Refusal {
     }
 }
 
+impl From<VaultFault> for Refusal {
+    ghost use Rattle.sqlvault.specs.declared.refusal.Refusal.TheVariants.{Answered};
+
+    ghost from_gives = { λ fault refusal. refusal ≡ Answered fault };
+
+    fn from(fault: VaultFault) -> Refusal {
+        Refusal::Answered(fault)
+    }
+}
+
 /// The error for a row that is no record of a vault. A sound store has no such row.
 pub(crate) fn unreadable() -> Error
     ensures { result ≡ SqliteFailure DatabaseCorrupt }
@@ -35,7 +45,7 @@ pub(crate) fn unreadable() -> Error
     Error::SqliteFailure(ErrorCode::DatabaseCorrupt)
 }
 
-/// Whether the error is want of memory.
+/// Whether the error is that memory ran out.
 pub(crate) fn is_memory(error: &Error) -> bool
     ensures { result ≡ is_memory error.now }
 {

@@ -10,7 +10,7 @@ ghost use Rattle.sqlvault.specs.UnderWay.{Prepares, Finishes, under_way};
 
 use crate::mail::remove_all;
 use crate::refusal::Refusal;
-use crate::transaction::{begin, end, undo};
+use crate::transaction::{begin, conclude, undo};
 use creds::Name;
 use sqlite::{Alter, Connection};
 use std::alloc::Global;
@@ -41,7 +41,7 @@ impl Model for Removing {
 }
 
 impl Removing {
-    /// A removal of which nothing is done; `None` if memory is wanting.
+    /// A removal of which nothing is done; `None` if memory runs out.
     pub(crate) fn new(alloc: Global, maildrop: &Name, keys: &[MessageKey]) -> Option<Removing>
         ensures { IfSome result (λ r. r ≡ removal_of maildrop.now keys.now) }
     {
@@ -96,10 +96,7 @@ pub(crate) fn begin_removal<S: Alter>(conn: &mut Connection<S>) -> Result<(), Re
         (under_way result (works.Removal (removal_of d keys))) (IsMet result) }
     ensures answer { IsAnswer (Ok tt) (answer_of result) }
 {
-    match begin(conn) {
-        Ok(()) => Ok(()),
-        Err(error) => Err(Refusal::Met(error)),
-    }
+    Ok(begin(conn)?)
 }
 
 /// Removes some more messages, [`PIECE`] at most, in the open transaction.
@@ -139,12 +136,6 @@ pub(crate) fn finish_removal<S: Alter>(
         (λ c Held answered. AreRemoved Held c removing.now.maildrop removing.now.keys answered)
         (answer_of result) }
 {
-    match remove_all(conn, &removing.maildrop, &removing.keys[..removing.left]) {
-        Ok(()) => {}
-        Err(error) => return Err(Refusal::Met(undo(conn, error))),
-    }
-    match end(conn) {
-        Ok(()) => Ok(()),
-        Err(error) => Err(Refusal::Met(error)),
-    }
+    let removed = remove_all(conn, &removing.maildrop, &removing.keys[..removing.left]);
+    conclude(conn, removed)
 }

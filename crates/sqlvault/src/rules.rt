@@ -21,7 +21,7 @@ ghost use Rattle.sqlvault.specs.Stands.{Holds};
 
 use crate::groups::{read_groups, replace_groups};
 use crate::refusal::{Refusal, unreadable};
-use crate::transaction::{begin, end, undo};
+use crate::transaction::{begin, conclude};
 use creds::Name;
 use mailsql::{rows, rules};
 use policy::{Actions, Clerks, Effect, Group, Pattern, Policy, Rule};
@@ -196,13 +196,8 @@ fn policy_with<S: Alter>(
         → IsPolicy (Holds (state S.Store conn.new)) c (answer_of result) }
     ensures looks { Looks S.Store conn.old conn.new (IsMet result) }
 {
-    match rules::all_rules(alloc, conn) {
-        Ok(rows) => match read_policy(alloc, groups, rows.as_slice()) {
-            Ok(policy) => Ok(policy),
-            Err(error) => Err(Refusal::Met(error)),
-        },
-        Err(error) => Err(Refusal::Met(error)),
-    }
+    let rows = rules::all_rules(alloc, conn)?;
+    Ok(read_policy(alloc, groups, rows.as_slice())?)
 }
 
 /// The policy.
@@ -212,10 +207,9 @@ pub(crate) fn policy<S: Alter>(alloc: Global, conn: &mut Connection<S>) -> Resul
         → IsPolicy (Holds (state S.Store conn.new)) c (answer_of result) }
     ensures looks { Looks S.Store conn.old conn.new (IsMet result) }
 {
-    match read_groups(alloc, conn) {
-        Ok(Some(groups)) => policy_with(alloc, conn, groups),
-        Ok(None) => Err(Refusal::Met(unreadable())),
-        Err(error) => Err(Refusal::Met(error)),
+    match read_groups(alloc, conn)? {
+        Some(groups) => policy_with(alloc, conn, groups),
+        None => Err(Refusal::Met(unreadable())),
     }
 }
 
@@ -240,10 +234,7 @@ fn add_rules<S: Alter>(alloc: Global, conn: &mut Connection<S>, rules: &[Rule]) 
     ensures { Writes S.Store conn.old conn.new (λ _. AddsRules rules.now) result }
 {
     for rule in rules {
-        match add_rule(alloc, conn, rule) {
-            Ok(()) => {}
-            Err(error) => return Err(error),
-        }
+        add_rule(alloc, conn, rule)?;
     }
     Ok(())
 }
@@ -256,10 +247,8 @@ fn replace_rules<S: Alter>(
 ) -> Result<(), Error>
     ensures { Writes S.Store conn.old conn.new (λ _. SetsRules rules.now) result }
 {
-    match rules::clear_rules(conn) {
-        Ok(()) => add_rules(alloc, conn, rules),
-        Err(error) => Err(error),
-    }
+    rules::clear_rules(conn)?;
+    add_rules(alloc, conn, rules)
 }
 
 /// Puts this policy in place of the store's, inside a transaction.
@@ -271,10 +260,8 @@ fn replace_policy<S: Alter>(
     ensures written { Writes S.Store conn.old conn.new (λ _. SetsPolicy policy.now) result }
     ensures sound { OnOk result (IsTrue (is_sound_policy policy.now)) }
 {
-    match replace_groups(conn, policy) {
-        Ok(()) => replace_rules(alloc, conn, policy.rules()),
-        Err(error) => Err(error),
-    }
+    replace_groups(conn, policy)?;
+    replace_rules(alloc, conn, policy.rules())
 }
 
 /// Sets the policy, in one transaction.
@@ -286,15 +273,7 @@ pub(crate) fn set_policy<S: Alter>(
     ensures { Acts S.Store conn.old conn.new
         (λ c Held answered. IsPolicySet Held c policy.now answered) (answer_of result) }
 {
-    match begin(conn) {
-        Ok(()) => {}
-        Err(error) => return Err(Refusal::Met(error)),
-    }
-    match replace_policy(alloc, conn, policy) {
-        Ok(()) => match end(conn) {
-            Ok(()) => Ok(()),
-            Err(error) => Err(Refusal::Met(error)),
-        },
-        Err(error) => Err(Refusal::Met(undo(conn, error))),
-    }
+    begin(conn)?;
+    let replaced = replace_policy(alloc, conn, policy);
+    conclude(conn, replaced)
 }

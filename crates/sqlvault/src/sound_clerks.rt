@@ -82,10 +82,8 @@ pub(crate) fn are_clerks_sound<S: Alter>(
         → IfOk result (Finds (ClerksAre (rows_in (state S.Store conn.old).now.trees))) }
     ensures asks { Asks S.Store conn.old conn.new result }
 {
-    match clerks::all_clerks(alloc, conn) {
-        Ok(rows) => Ok(are_clerks(rows.as_slice())),
-        Err(error) => Err(error),
-    }
+    let rows = clerks::all_clerks(alloc, conn)?;
+    Ok(are_clerks(rows.as_slice()))
 }
 
 /// Whether the rows of the maildrops are sound: 1,000 at most, and each name has its form.
@@ -98,8 +96,6 @@ pub(crate) fn are_maildrops_sound<S: Alter>(
         → IfOk result (Finds (MaildropsAre (rows_in (state S.Store conn.old).now.trees))) }
     ensures asks { Asks S.Store conn.old conn.new result }
 {
-    match maildrops::all_maildrops(alloc, conn) {
-        Ok(rows) => Ok(are_maildrops(rows.as_slice())),
-        Err(error) => Err(error),
-    }
+    let rows = maildrops::all_maildrops(alloc, conn)?;
+    Ok(are_maildrops(rows.as_slice()))
 }

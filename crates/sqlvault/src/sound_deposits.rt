@@ -162,13 +162,7 @@ pub(crate) fn are_deposits_sound<S: Alter>(
         → IfOk result (Finds (DepositsAre (rows_in (state S.Store conn.old).now.trees))) }
     ensures asks { Asks S.Store conn.old conn.new result }
 {
-    let rows = match deposits::all_deposits(alloc, conn) {
-        Ok(rows) => rows,
-        Err(error) => return Err(error),
-    };
-    let counts = match counts::all_counts(alloc, conn) {
-        Ok(counts) => counts,
-        Err(error) => return Err(error),
-    };
+    let rows = deposits::all_deposits(alloc, conn)?;
+    let counts = counts::all_counts(alloc, conn)?;
     Ok(are_sound(alloc, rows.as_slice(), counts.as_slice())?)
 }

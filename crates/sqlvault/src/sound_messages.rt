@@ -33,16 +33,13 @@ fn find_piece<S: Alter>(
         mail place size)) }
     ensures reads { Reads S.Store conn.old conn.new result }
 {
-    match sheets::find_sheet(alloc, conn, mail, i64::from(place)) {
-        Ok(Some(sheet)) => {
-            if sheet.octets.as_slice().len() == size {
-                Ok(Some(sheet))
-            } else {
-                Ok(None)
-            }
-        }
-        Ok(None) => Ok(None),
-        Err(error) => Err(error),
+    let Some(sheet) = sheets::find_sheet(alloc, conn, mail, i64::from(place))? else {
+        return Ok(None);
+    };
+    if sheet.octets.as_slice().len() == size {
+        Ok(Some(sheet))
+    } else {
+        Ok(None)
     }
 }
 
@@ -62,11 +59,10 @@ fn find_text<S: Alter>(
     let mut text = Vec::with_capacity(alloc, long)?;
     for place in 0..long.div_ceil(SHEET_OCTETS) {
         let size = SHEET_OCTETS.min(long - place * SHEET_OCTETS);
-        match find_piece(alloc, conn, mail, place as u32, size) {
-            Ok(Some(sheet)) => text.extend_from_slice(sheet.octets.as_slice())?,
-            Ok(None) => return Ok(None),
-            Err(error) => return Err(error),
-        }
+        let Some(sheet) = find_piece(alloc, conn, mail, place as u32, size)? else {
+            return Ok(None);
+        };
+        text.extend_from_slice(sheet.octets.as_slice())?;
     }
     Ok(Some(text))
 }
@@ -90,19 +86,17 @@ fn is_numbered<S: Alter>(
         → IfOk result (Finds (IsNumber deposits row.now)) }
     ensures reads { Reads S.Store conn.old conn.new result }
 {
-    match counts::find_count(alloc, conn, row.maildrop.as_slice(), row.class.as_slice()) {
-        Ok(Some(count)) => {
-            if row.k < 1 {
-                return Ok(false);
-            }
-            if row.k > count.k {
-                return Ok(false);
-            }
-            Ok(true)
-        }
-        Ok(None) => Ok(false),
-        Err(error) => Err(error),
+    let count = counts::find_count(alloc, conn, row.maildrop.as_slice(), row.class.as_slice())?;
+    let Some(count) = count else {
+        return Ok(false);
+    };
+    if row.k < 1 {
+        return Ok(false);
     }
+    if row.k > count.k {
+        return Ok(false);
+    }
+    Ok(true)
 }
 
 /// Whether the row is that of a message whose sheets are there.
@@ -118,10 +112,9 @@ fn is_message_sound<S: Alter>(
         row.now)) }
     ensures reads { Reads S.Store conn.old conn.new result }
 {
-    match is_numbered(alloc, conn, row) {
-        Ok(true) => {}
-        Ok(false) => return Ok(false),
-        Err(error) => return Err(error),
+    let numbered = is_numbered(alloc, conn, row)?;
+    if !numbered {
+        return Ok(false);
     }
     if row.octets < 0 {
         return Ok(false);
@@ -129,10 +122,9 @@ fn is_message_sound<S: Alter>(
     if row.octets > MAX_OCTETS as i64 {
         return Ok(false);
     }
-    match find_text(alloc, conn, row.key, row.octets as u32) {
-        Ok(Some(text)) => Ok(is_kept(&text)),
-        Ok(None) => Ok(false),
-        Err(error) => Err(error),
+    match find_text(alloc, conn, row.key, row.octets as u32)? {
+        Some(text) => Ok(is_kept(&text)),
+        None => Ok(false),
     }
 }
 
@@ -150,10 +142,9 @@ fn are_all_sound<S: Alter>(
     ensures reads { Reads S.Store conn.old conn.new result }
 {
     for row in rows {
-        match is_message_sound(alloc, conn, row) {
-            Ok(true) => {}
-            Ok(false) => return Ok(false),
-            Err(error) => return Err(error),
+        let sound = is_message_sound(alloc, conn, row)?;
+        if !sound {
+            return Ok(false);
         }
     }
     Ok(true)
@@ -185,18 +176,15 @@ fn judge_maildrop<S: Alter>(
         name.now) (sheets_under (rows_in (state S.Store conn.old).now.trees) name.now)) }
     ensures reads { Reads S.Store conn.old conn.new result }
 {
-    let rows = match mail::heads(alloc, conn, name) {
-        Ok(rows) => rows,
-        Err(error) => return Err(error),
-    };
+    let rows = mail::heads(alloc, conn, name)?;
     if rows.len() as u64 > MAX_MESSAGES {
         return Ok(None);
     }
-    match are_all_sound(alloc, conn, rows.as_slice()) {
-        Ok(true) => Ok(Some(count_sheets(rows.as_slice()))),
-        Ok(false) => Ok(None),
-        Err(error) => Err(error),
+    let sound = are_all_sound(alloc, conn, rows.as_slice())?;
+    if !sound {
+        return Ok(None);
     }
+    Ok(Some(count_sheets(rows.as_slice())))
 }
 
 /// How many sheets the messages of these maildrops have, 2^64 - 1 at most; `None` if the rows of
@@ -215,11 +203,10 @@ fn judge_maildrops<S: Alter>(
 {
     let mut sheets: u64 = 0;
     for name in names {
-        match judge_maildrop(alloc, conn, name.as_slice()) {
-            Ok(Some(more)) => sheets = sheets.saturating_add(more),
-            Ok(None) => return Ok(None),
-            Err(error) => return Err(error),
-        }
+        let Some(more) = judge_maildrop(alloc, conn, name.as_slice())? else {
+            return Ok(None);
+        };
+        sheets = sheets.saturating_add(more);
     }
     Ok(Some(sheets))
 }
@@ -239,17 +226,10 @@ pub(crate) fn are_messages_sound<S: Alter>(
         → IfOk result (Finds (MessagesAre (rows_in (state S.Store conn.old).now.trees) deposits)) }
     ensures asks { Asks S.Store conn.old conn.new result }
 {
-    let names = match maildrops::all_maildrops(alloc, conn) {
-        Ok(names) => names,
-        Err(error) => return Err(error),
+    let names = maildrops::all_maildrops(alloc, conn)?;
+    let Some(sheets) = judge_maildrops(alloc, conn, names.as_slice())? else {
+        return Ok(false);
     };
-    let sheets = match judge_maildrops(alloc, conn, names.as_slice()) {
-        Ok(Some(sheets)) => sheets,
-        Ok(None) => return Ok(false),
-        Err(error) => return Err(error),
-    };
-    match sheets::sheet_count(conn) {
-        Ok(count) => Ok(count == sheets),
-        Err(error) => Err(error),
-    }
+    let count = sheets::sheet_count(conn)?;
+    Ok(count == sheets)
 }

@@ -40,10 +40,8 @@ fn are_rules_with<S: Alter>(
         → IfOk result (Finds (PolicyIs (rows_in (state S.Store conn.old).now.trees))) }
     ensures asks { Asks S.Store conn.old conn.new result }
 {
-    match rules::all_rules(alloc, conn) {
-        Ok(rows) => Ok(are_rules(alloc, groups, rows.as_slice())?),
-        Err(error) => Err(error),
-    }
+    let rows = rules::all_rules(alloc, conn)?;
+    Ok(are_rules(alloc, groups, rows.as_slice())?)
 }
 
 /// The first part of the policy's rows that isn't sound: the groups, if a name hasn't its form,
@@ -56,14 +54,12 @@ pub(crate) fn unsound_policy<S: Alter>(
         → IfOk result (JudgesPolicy (rows_in (state S.Store conn.old).now.trees)) }
     ensures asks { Asks S.Store conn.old conn.new result }
 {
-    let groups = match read_groups(alloc, conn) {
-        Ok(Some(groups)) => groups,
-        Ok(None) => return Ok(Some(Part::Groups)),
-        Err(error) => return Err(error),
+    let Some(groups) = read_groups(alloc, conn)? else {
+        return Ok(Some(Part::Groups));
     };
-    match are_rules_with(alloc, conn, groups) {
-        Ok(true) => Ok(None),
-        Ok(false) => Ok(Some(Part::Rules)),
-        Err(error) => Err(error),
+    let rules = are_rules_with(alloc, conn, groups)?;
+    if !rules {
+        return Ok(Some(Part::Rules));
     }
+    Ok(None)
 }

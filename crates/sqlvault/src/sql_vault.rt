@@ -515,7 +515,7 @@ impl<S: Alter> SqlVault<S> {
     }
 
     /// The answer as [`SqlVault::told`] gives it, of a call that writes. If it is done, the log has
-    /// about so many octets more, beside those of a small write.
+    /// grown by about `octets`, beside those of a small write.
     fn written<T: Drop>(&mut self, octets: u64, answer: Result<T, Refusal>) -> Result<T, VaultFault>
         ensures answer { result ≡ answer_of answer }
         ensures conn { self.new.conn ≡ self.old.conn }
@@ -647,12 +647,8 @@ impl<S: Alter> Vault for SqlVault<S> {
             return Ok(());
         }
         self.logged = LONG_LOG - 1;
-        match self.checkpoint() {
-            Ok(()) => {
-                self.logged = 0;
-                Ok(())
-            }
-            Err(fault) => Err(fault),
-        }
+        self.checkpoint()?;
+        self.logged = 0;
+        Ok(())
     }
 }

@@ -53,13 +53,9 @@ fn names<S: Alter>(alloc: Global, conn: &mut Connection<S>) -> Result<Vec<Name>,
         → IfOk result (λ names. names.items ≡ by_name c.maildrops) }
     ensures looks { Looks S.Store conn.old conn.new (IsOk result) }
 {
-    match maildrops::all_maildrops(alloc, conn) {
-        Ok(rows) => {
-            let names = read_names(alloc, rows.as_slice())?;
-            Ok(in_order(alloc, &names)?)
-        }
-        Err(error) => Err(error),
-    }
+    let rows = maildrops::all_maildrops(alloc, conn)?;
+    let names = read_names(alloc, rows.as_slice())?;
+    Ok(in_order(alloc, &names)?)
 }
 
 /// The octets of the messages of the rows, 2^64 - 1 at most.
@@ -81,14 +77,12 @@ fn total_of<S: Alter>(alloc: Global, conn: &mut Connection<S>, name: &Name) -> R
         → IfOk result (λ total. total ≡ capped_total c.messages name.now) }
     ensures looks { Looks S.Store conn.old conn.new (IsOk result) }
 {
-    match rows_of(alloc, conn, name) {
-        Ok(rows) => Ok(Total {
-            maildrop: *name,
-            messages: rows.len() as u64,
-            octets: octets_of(rows.as_slice()),
-        }),
-        Err(error) => Err(error),
-    }
+    let rows = rows_of(alloc, conn, name)?;
+    Ok(Total {
+        maildrop: *name,
+        messages: rows.len() as u64,
+        octets: octets_of(rows.as_slice()),
+    })
 }
 
 /// The total of each of these maildrops, in order.
@@ -120,11 +114,6 @@ pub(crate) fn maildrops<S: Alter>(
         (seen_as (answer_of result) (λ v. v.items)) }
     ensures looks { Looks S.Store conn.old conn.new (IsMet result) }
 {
-    match names(alloc, conn) {
-        Ok(names) => match totals_of(alloc, conn, &names) {
-            Ok(totals) => Ok(totals),
-            Err(error) => Err(Refusal::Met(error)),
-        },
-        Err(error) => Err(Refusal::Met(error)),
-    }
+    let names = names(alloc, conn)?;
+    Ok(totals_of(alloc, conn, &names)?)
 }

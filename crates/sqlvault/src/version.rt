@@ -48,7 +48,7 @@ fn is_version(value: i64) -> bool
 }
 
 /// What a store that has our table `meta` says of its version. Nothing is changed. The error is a
-/// statement's, or want of memory.
+/// statement's, or that memory ran out.
 pub fn find_version<S: Alter>(
     alloc: Global,
     conn: &mut Connection<S>,
@@ -62,23 +62,18 @@ pub fn find_version<S: Alter>(
     ensures asks { Asks S.Store conn.old conn.new result }
     ensures asks_older { AsksOlder S.Store conn.old conn.new result }
 {
-    let value = match meta::find_meta_row(alloc, conn, b"popbox") {
-        Ok(Some(meta_row)) => meta_row.value,
-        Ok(None) => return Ok(StoreVersion::Missing),
-        Err(error) => return Err(error),
+    let Some(meta_row) = meta::find_meta_row(alloc, conn, b"popbox")? else {
+        return Ok(StoreVersion::Missing);
     };
+    let value = meta_row.value;
     if !is_version(value) {
         return Ok(StoreVersion::Unknown(value));
     }
-    match meta::all_meta_rows(alloc, conn) {
-        Ok(meta_rows) => {
-            if meta_rows.len() == 1 {
-                Ok(StoreVersion::Alone(value))
-            } else {
-                Ok(StoreVersion::Beside(value))
-            }
-        }
-        Err(error) => Err(error),
+    let meta_rows = meta::all_meta_rows(alloc, conn)?;
+    if meta_rows.len() == 1 {
+        Ok(StoreVersion::Alone(value))
+    } else {
+        Ok(StoreVersion::Beside(value))
     }
 }
 

@@ -8,7 +8,7 @@ ghost use Rattle.sqlvault.specs.UnderWay.{GivesUp};
 use crate::coming::Coming;
 use crate::refusal::Refusal;
 use crate::removal::Removing;
-use crate::transaction::{begin, end, roll_back};
+use crate::transaction::{begin, conclude, roll_back};
 use sqlite::{Alter, Connection};
 
 /// What is under way in the transaction.
@@ -29,12 +29,6 @@ pub(crate) fn give_up<S: Alter>(conn: &mut Connection<S>) -> Result<(), Refusal>
     ensures answer { IsAnswer (Ok tt) (answer_of result) }
 {
     let _ = roll_back(conn);
-    match begin(conn) {
-        Ok(()) => {}
-        Err(error) => return Err(Refusal::Met(error)),
-    }
-    match end(conn) {
-        Ok(()) => Ok(()),
-        Err(error) => Err(Refusal::Met(error)),
-    }
+    begin(conn)?;
+    conclude(conn, Ok(()))
 }

@@ -19,7 +19,7 @@ const LONG: usize = 4_100_000;
 /// A store in two files in memory, which copies its log once that has eight pages.
 type Store = SqlVault<FileStore<Memory>>;
 
-/// Deposits a text of so many octets.
+/// Deposits a text of this many octets.
 fn deposit(alloc: Global, vault: &mut Store, id: &[u8], octets: usize) -> Result<(), Fail> {
     let name = Name::read(b"orders").ok_or("a name")?;
     let id = DepositId::read(id).ok_or("an id")?;
@@ -43,7 +43,7 @@ fn filled(alloc: Global) -> Result<Store, Fail> {
     Ok(vault)
 }
 
-/// A store with one message, whose log was copied, and then another message of so many octets.
+/// A store with one message, whose log was copied, and then another message of this many octets.
 fn maintained(alloc: Global, octets: usize) -> Result<Store, Fail> {
     let mut vault = filled(alloc)?;
     vault.maintain()?;

@@ -6,7 +6,7 @@ use sqlite::MemStore;
 use sqlvault::{Ahead, SqlVault};
 use std::alloc::Global;
 use std::test::Fail;
-use vault::{Head, MessageKey, Progress, Vault};
+use vault::{Head, MessageKey, Progress, Vault, VaultFault};
 
 /// Three pieces of a removal, of which the last is short.
 const MESSAGES: u32 = 300;
@@ -71,7 +71,7 @@ fn interrupted(
     Ok(())
 }
 
-/// How often a removal of 300 messages is asked for, after so many that were given up; and how many
+/// How often a removal of 300 messages is asked for after `times` were given up; and how many
 /// messages are there before it is done, and after it.
 fn removed_after(alloc: Global, times: u32) -> Result<(u32, usize, usize), Fail> {
     let maildrop = Name::read(b"orders").ok_or("a name")?;
@@ -158,10 +158,15 @@ fn asked_beside(alloc: Global) -> Result<u32, Fail> {
     Ok(count)
 }
 
-/// Asks for a credential, for the heads of another maildrop, and for a message that stays.
+/// Asks for a credential, for the heads of another maildrop and of a missing one, and for a message
+/// that stays.
 fn asks_beside(vault: &mut Store, other: &Name, key: MessageKey) -> Result<(), Fail> {
     let _ = vault.credential(other)?;
     let _ = vault.heads(other)?;
+    let missing = vault.heads(&Name::read(b"missing").ok_or("a name")?);
+    if !matches!(missing, Err(VaultFault::NoMaildrop)) {
+        return Err(Fail::new("heads of a missing maildrop"));
+    }
     let mut page = [0; 16];
     let _ = vault.page(key, 0, &mut page)?;
     vault.maintain()?;

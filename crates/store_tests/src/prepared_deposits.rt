@@ -26,7 +26,7 @@ fn large() -> Result<DepositId, Fail> {
     Ok(DepositId::read(b"large").ok_or("an id")?)
 }
 
-/// A text of so many octets, of lines of fifty octets that this octet fills.
+/// A text of this many octets, of lines of fifty octets that this octet fills.
 fn text_of(alloc: Global, octets: usize, fill: u8) -> Result<MailText, Fail> {
     let line = [fill; 48];
     let mut text = Vec::new(alloc);
@@ -69,7 +69,7 @@ fn deposit(vault: &mut Store, text: &MailText) -> Result<(bool, u64), Fail> {
     }
 }
 
-/// Whether the newest of so many messages has this text.
+/// Whether the newest of this many messages has this text.
 fn is_last(vault: &mut Store, count: usize, text: &MailText) -> Result<bool, Fail> {
     let heads = vault.heads(&orders()?)?;
     let Some(head) = heads.as_slice().last() else {
@@ -130,7 +130,7 @@ fn another_text_than_was_prepared(rt: HostRuntime) -> Result<(), Fail> {
     Ok(())
 }
 
-/// How often a deposit is asked for after so many that were given up, and how many messages are
+/// How often a deposit is asked for after `times` were given up, and how many messages are
 /// there before and after it.
 fn deposited_after(alloc: Global, times: u32) -> Result<(u32, usize, usize), Fail> {
     let text = text_of(alloc, OCTETS, b'a')?;

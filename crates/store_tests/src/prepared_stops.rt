@@ -22,7 +22,7 @@ const OCTETS: usize = 1_000;
 /// How many octets a deposit has: a piece of it and a rest.
 const LARGE: usize = 300_000;
 
-/// A deposit, which makes more calls than a removal, is stopped at one of so many.
+/// A deposit, which makes more calls than a removal, is stopped at every fifth call.
 const ONE_OF: u64 = 5;
 
 /// More calls of a file than a run makes.
@@ -50,7 +50,7 @@ fn fill<V: Vault>(
     Ok(())
 }
 
-/// A text of so many octets, and the end of its line.
+/// A text of this many octets, and the end of its line.
 fn text_of(alloc: Global, octets: usize) -> Result<MailText, Fail> {
     Ok(canon(alloc, vec![in alloc; b'a'; octets]?.as_slice())?)
 }
@@ -103,7 +103,7 @@ impl Work {
         }
     }
 
-    /// It is stopped at one of so many calls of a file.
+    /// It is stopped at each call of a file whose number is a multiple of this.
     fn step(&self) -> u64 {
         match self {
             Work::Removal(_) => 1,
@@ -178,7 +178,7 @@ fn count_in(alloc: Global, held: Held<'_>, maildrop: &Name) -> Result<usize, Fai
     Ok(vault.heads(maildrop)?.len())
 }
 
-/// Whether so many messages may be held after a run.
+/// Whether this many messages may be held after a run.
 fn may_hold(end: End, count: usize, after: usize) -> bool {
     match end {
         End::Before => count == MESSAGES as usize,
@@ -208,7 +208,7 @@ fn expect_whole(
     }
 }
 
-/// Stops the run at each call of one file, or one of so many. Answers how many runs were stopped,
+/// Stops the run at each call of one file, or at every `step`-th. Answers how many runs were stopped,
 /// and how many of these in the work itself.
 fn stops(
     alloc: Global,

@@ -50,14 +50,14 @@ fn kind_under(clerks: &[Clerk], name: &Name) -> Option<ClerkKind>
     }
 }
 
-/// The clerks' names. An `Err` is want of memory.
+/// The clerks' names. An `Err` means that memory ran out.
 fn names_of(alloc: Global, clerks: &[Clerk]) -> Result<Vec<Name>, AllocError>
     ensures { IfOk result (λ names. names.items ≡ map (λ x. x.name) clerks.now) }
 {
     clerks.iter().map(|clerk| clerk.name).collect(alloc)
 }
 
-/// The clerks' names, sorted by their octets. An `Err` is want of memory.
+/// The clerks' names, sorted by their octets. An `Err` means that memory ran out.
 fn names_in_order(alloc: Global, clerks: &[Clerk]) -> Result<Vec<Name>, AllocError>
     ensures { IfOk result (λ names. names.items ≡ by_name (map (λ x. x.name) clerks.now)) }
 {
@@ -116,6 +116,7 @@ pub(crate) fn put_credential(
         clerks.old.items else clerks.old.items) }
     ensures form { is_name name.now ≡ true }
 {
+    // For the proof: a name has its form.
     let _ = name.as_bytes();
     if credential_of(clerks, name).is_some() {
         replace_credential(clerks, name, credential);
@@ -146,14 +147,14 @@ pub(crate) fn drop_credential(clerks: &mut Vec<Clerk>, name: &Name) -> Result<()
     Ok(())
 }
 
-/// A digest has 32 octets.
+/// For the proof: a digest has 32 octets.
 fn is_whole(digest: [u8; 32])
     ensures { length digest ≡ 32 }
 {
     let _ = digest;
 }
 
-/// A credential has its form.
+/// For the proof: a credential has its form.
 pub(crate) fn has_form(credential: &Credential)
     ensures { is_sound_credential credential.now ≡ true }
 {

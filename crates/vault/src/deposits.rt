@@ -89,7 +89,7 @@ fn known_or_conflict(receipt: &Receipt, asked: &Asked) -> Result<Deposited, Vaul
     }
 }
 
-/// The answer to a deposit, leaving want of memory aside.
+/// The answer to a deposit, leaving aside that memory may run out.
 pub(crate) fn judge(
     names: &[Name],
     messages: &[Keyed],
@@ -183,6 +183,7 @@ pub(crate) fn ask(maildrop: &Name, class: &Name, id: &DepositId, text: &MailText
     ensures text_form { IsMailText text.now }
     ensures digest_form { length (text_digest text.now) ≡ 32 }
 {
+    // For the proof: a name and an id have their forms.
     let _ = maildrop.as_bytes();
     let _ = class.as_bytes();
     let _ = id.as_bytes();

@@ -34,6 +34,7 @@ pub(crate) fn put_name(names: &mut Vec<Name>, name: &Name) -> Result<bool, Vault
         else names.old.items) }
     ensures form { is_name name.now ≡ true }
 {
+    // For the proof: a name has its form.
     let _ = name.as_bytes();
     if has_name(names, name) {
         return Ok(false);
@@ -100,7 +101,7 @@ fn put_in_order(names: &mut Vec<Name>, name: &Name) -> Result<(), AllocError>
     Ok(())
 }
 
-/// The names, sorted by their octets. An `Err` is want of memory.
+/// The names, sorted by their octets. An `Err` means that memory ran out.
 pub fn in_order(alloc: Global, names: &[Name]) -> Result<Vec<Name>, AllocError>
     ensures { IfOk result (λ sorted. sorted.items ≡ by_name names.now) }
 {

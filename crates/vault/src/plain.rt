@@ -213,6 +213,7 @@ impl Vault for PlainVault {
     }
 
     fn set_policy(&mut self, policy: &Policy) -> Result<(), VaultFault> {
+        // For the proof: a policy is sound.
         let _ = policy.rules();
         self.policy = policy.try_copy()?;
         Ok(())

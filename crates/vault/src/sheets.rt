@@ -26,7 +26,7 @@ impl Model for Sheet {
 }
 
 impl Sheet {
-    /// A sheet of a copy of these octets. An `Err` is want of memory.
+    /// A sheet of a copy of these octets. An `Err` means that memory ran out.
     fn copy_of(alloc: Global, octets: &[u8]) -> Result<Sheet, AllocError>
         ensures { IfOk result (λ sheet. sheet ≡ octets.now) }
     {
@@ -93,7 +93,7 @@ impl Model for SheetText {
 }
 
 impl SheetText {
-    /// A copy of a text. An `Err` is want of memory.
+    /// A copy of a text. An `Err` means that memory ran out.
     pub(crate) fn copy_of(alloc: Global, text: &MailText) -> Result<SheetText, AllocError>
         ensures { IfOk result (λ copy. copy ≡ text.now) }
     {

@@ -20,10 +20,8 @@ use Rattle.vault.specs.declared.record.Keyed.{Keyed}
 use Rattle.vault.specs.declared.record.Receipt.{Receipt}
 use Rattle.vault.specs.Records.{receipts_of, class_count}
 use Rattle.vault.specs.Changes.{Contents, AreSound, with_deposit, receipt_for}
-use Rattle.vault.specs.Calls.{IsDeposited, deposit_result, deposit_answer_in}
-use Rattle.sqlite.specs.declared.error.Error.{Error}
-use Rattle.sqlvault.specs.Refusals.{fault_of}
-use Rattle.sqlvault.proofs.HoldsLemmas.{met}
+use Rattle.vault.specs.Calls.{IsDeposited, IsRefusal, deposit_result, deposit_answer_in}
+use Rattle.sqlvault.proofs.HoldsLemmas.{refusal_any}
 use Rattle.vault.proofs.ListLemmas.{In, all_last, map-append, bytes_same, bytes_are}
 use Rattle.vault.proofs.DepositLemmas.{IsNew, HaveForms, judged_new, sound_with_deposit, counted_last, counted_own}
 use Rattle.mailsql.specs.declared.rows.Count.{Count}
@@ -216,5 +214,8 @@ deposited Held c d class id text uid r is h left = record {
   held = (left.0, subst (λ (x : Receipt). Held (with_deposit left.0 (message_of x text) x c)) is left.1);
 }
 
-pub undeposited : (Held : Contents → Type 0) (c : Contents) (d class id text : List ℕ) (e : Error) → Held c → IsDeposited Held c d class id text (Err (fault_of e))
-undeposited Held c d class id text e h = record { answer = met (deposit_result (deposit_answer_in c d class id text)) e; held = h }
+pub undeposited : (Held : Contents → Type 0) (c : Contents) (d class id text : List ℕ)
+    (f : VaultFault) → (let r : Result (Unit {0}) VaultFault = Ok tt in IsRefusal r f) → Held c
+    → IsDeposited Held c d class id text (Err f)
+undeposited Held c d class id text f is h =
+    record { answer = refusal_any (deposit_result (deposit_answer_in c d class id text)) f is; held = h }

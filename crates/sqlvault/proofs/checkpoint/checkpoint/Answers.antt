@@ -1,11 +1,11 @@
-use Rattle.std.proofs.Common.{◌≡◌, ◌∷◌, [], ◌++◌, sym, ap, subst, ◌∙◌, not, Ok, Err}
+use Rattle.std.proofs.Common.{◌≡◌, ◌∷◌, [], ◌++◌, sym, ap, subst, ◌∙◌, not, Ok}
 use Rattle.std.specs.Prelude.{codes, filter}
 use Rattle.vault.specs.Changes.{Contents}
 use Rattle.mailsql.specs.Rows.{Rows, is_meta_row}
 use Rattle.mailsql.specs.Changes.{PutsMetaRow}
 use Rattle.sqlvault.specs.Keeps.{Keeps, our_meta_row}
 use Rattle.sqlvault.proofs.HoldsLemmas.{met}
-use Rattle.sqlvault.proofs.FrameLemmas.{unbegun, looks_undone, looks_committed}
+use Rattle.sqlvault.proofs.FrameLemmas.{passed, unbegun, concluded_looks, concluded_answer}
 use Rattle.sqlvault.proofs.checkpoint.checkpoint.Goals as goal
 
 -- a version row that is written anew is the one that was there
@@ -20,26 +20,16 @@ still_kept : (c : Contents) (from to : Rows) → Keeps from c → PutsMetaRow ou
 still_kept c from to keeps put =
     subst (λ rows. Keeps rows c) (sym (rewritten from to keeps.meta_row put)) keeps
 
-pub returns-in-Err-clause-looks : goal.returns-in-Err-clause-looks
-returns-in-Err-clause-looks g c = unbegun c.in-Err.ensures
+pub returns-in_err-begin-clause-looks : goal.returns-in_err-begin-clause-looks
+returns-in_err-begin-clause-looks g c = rw (passed c.from_residual.ensures.1) (unbegun c.in_err-begin.ensures)
 
-pub returns-in-Err-rewrite_version-clause-looks : goal.returns-in-Err-rewrite_version-clause-looks
-returns-in-Err-rewrite_version-clause-looks g c =
-    looks_undone c.in-Ok.ensures c.in-Err-rewrite_version.ensures c.undo.ensures.undoes
+pub returns-in_err-begin-clause-answer : goal.returns-in_err-begin-clause-answer
+returns-in_err-begin-clause-answer g c = rw (passed c.from_residual.ensures.1) (met (Ok tt) c.in_err-begin.field-0.0)
 
-pub returns-in-Ok-end-clause-looks : goal.returns-in-Ok-end-clause-looks
-returns-in-Ok-end-clause-looks g c = looks_committed (Ok c.in-Ok-end.field-0) c.in-Ok.ensures
-    c.in-Ok-rewrite_version.ensures still_kept c.in-Ok-end.ensures
+pub returns-clause-looks : goal.returns-clause-looks
+returns-clause-looks g c = concluded_looks c.rewrite_version-written.result c.conclude.result
+    c.in_ok-begin.ensures c.rewrite_version-written.ensures still_kept c.conclude.ensures
 
-pub returns-in-Err-end-clause-looks : goal.returns-in-Err-end-clause-looks
-returns-in-Err-end-clause-looks g c = looks_committed (Err c.in-Err-end.error) c.in-Ok.ensures
-    c.in-Ok-rewrite_version.ensures still_kept c.in-Err-end.ensures
-
-pub returns-in-Err-clause-answer : goal.returns-in-Err-clause-answer
-returns-in-Err-clause-answer g c = met (Ok tt) c.in-Err.error
-
-pub returns-in-Err-rewrite_version-clause-answer : goal.returns-in-Err-rewrite_version-clause-answer
-returns-in-Err-rewrite_version-clause-answer g c = met (Ok tt) c.undo.result
-
-pub returns-in-Err-end-clause-answer : goal.returns-in-Err-end-clause-answer
-returns-in-Err-end-clause-answer g c = met (Ok tt) c.in-Err-end.error
+pub returns-clause-answer : goal.returns-clause-answer
+returns-clause-answer g c =
+    concluded_answer c.rewrite_version-written.result c.conclude.result c.conclude.ensures

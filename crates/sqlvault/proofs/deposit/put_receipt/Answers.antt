@@ -5,16 +5,16 @@ use Rattle.mailsql.specs.declared.rows.Deposit.{Deposit}
 use Rattle.mailsql.specs.Changes.{AddsDeposit, ClearsCount, SetsCount}
 use Rattle.sqlvault.specs.Deposits.{PutsReceipt}
 use Rattle.sqlvault.proofs.DepositLemmas.{receipt_put}
-use Rattle.sqlvault.proofs.FrameLemmas.{wrote, written, halted_in, writes_then}
+use Rattle.sqlvault.proofs.FrameLemmas.{wrote, written, halted_in, writes_then, passed}
 use Rattle.sqlvault.proofs.deposit.put_receipt.Goals as goal
 
-pub returns-in-Err : goal.returns-in-Err
-returns-in-Err g c =
-    let row : Count = record { maildrop = c.as_bytes.result.now; class = c.as_bytes-2.result.now; k = to_z w64 c.args.receipt.now.k } in
+pub returns-in_err-set_count : goal.returns-in_err-set_count
+returns-in_err-set_count g c = rw (passed c.from_residual.ensures.1)
+    (let row : Count = record { maildrop = c.as_bytes.result.now; class = c.as_bytes-2.result.now; k = to_z w64 c.args.receipt.now.k } in
     halted_in g.S.Store c.args.conn.now c.set_count.new.conn (λ _. PutsReceipt c.args.receipt.now)
     (λ from to. ClearsCount row.maildrop row.class from to ⊎ SetsCount row from to)
-    c.in-Err.error
-    c.in-Err.ensures.err c.set_count.ensures.survives
+    c.in_err-set_count.field-0.0
+    c.in_err-set_count.ensures.err c.set_count.ensures.survives)
 
 pub returns : goal.returns
 returns g c =
@@ -25,7 +25,7 @@ returns g c =
     writes_then First (AddsDeposit put) (PutsReceipt receipt) tt c.add_deposit.result
     (wrote g.S.Store c.args.conn.now c.set_count.new.conn First
     (λ from to. ClearsCount row.maildrop row.class from to ⊎ SetsCount row from to) tt
-    c.in-Ok.ensures.ok c.set_count.ensures.survives)
+    c.in_ok-set_count.ensures.ok c.set_count.ensures.survives)
     (written g.S.Store c.set_count.new.conn c.add_deposit.new.conn (AddsDeposit put)
     c.add_deposit.result c.add_deposit.ensures.ok c.add_deposit.ensures.err
     c.add_deposit.ensures.survives)

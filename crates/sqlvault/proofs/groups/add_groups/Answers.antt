@@ -1,6 +1,6 @@
 use Rattle.std.proofs.Common.{◌≡◌, ◌<◌, ◌≤◌, ◌+◌, ◌∙◌, ◌+ℤ◌, pos, length, take, take_all, get_or, sym, ap, subst, arith, rules, w64, to_z, of_z, Ok}
 use Rattle.sqlvault.specs.Rules.{AddsGroup, AddsGroups}
-use Rattle.sqlvault.proofs.FrameLemmas.{writes_none, writes_then, writes_halted, writes_failed}
+use Rattle.sqlvault.proofs.FrameLemmas.{writes_none, writes_then, writes_halted, writes_failed, passed}
 use Rattle.sqlvault.proofs.GroupLemmas.{place_next, place_at, group_more, no_group}
 use Rattle.sqlvault.proofs.RuleLemmas.{few_groups}
 use Rattle.sqlvault.proofs.SmallLemmas.{take_next}
@@ -25,14 +25,13 @@ loop-group-preserved g c =
     (omega (arith, lt, few)) in (
       fine,
       writes_then (λ _. AddsGroups (take i groups)) (AddsGroup place x)
-          (AddsGroups (take (i + 1) groups)) tt (Ok tt) c.loop-group.invariant.1 c.in-Ok.ensures
+          (AddsGroups (take (i + 1) groups)) tt (Ok tt) c.loop-group.invariant.1 c.in_ok-add_group.ensures
           (λ from mid to a b. subst (λ l. AddsGroups l from to) (sym (take_next groups i x lt is))
           (group_more (take i groups) x place from mid to (fine ∙ place_at groups i lt) a b)),
     )
 
-pub returns-in-Err : goal.returns-in-Err
-returns-in-Err g c =
-    writes_failed (writes_halted _ tt c.loop-group.invariant.1 c.in-Err.ensures)
+pub returns-in_err-add_group : goal.returns-in_err-add_group
+returns-in_err-add_group g c = rw (passed c.from_residual.ensures.1) (writes_failed (writes_halted _ tt c.loop-group.invariant.1 c.in_err-add_group.ensures))
 
 pub returns : goal.returns
 returns g c =

@@ -4,7 +4,7 @@ use Rattle.mailsql.specs.Changes.{AddsMember}
 use Rattle.mailsql.specs.Rows.{Rows}
 use Rattle.sqlvault.specs.Rules.{AddsMembers}
 use Rattle.sqlvault.proofs.GroupLemmas.{place_next, place_at, member_more, no_members}
-use Rattle.sqlvault.proofs.FrameLemmas.{wrote, unwritten, writes_none, writes_then, writes_failed}
+use Rattle.sqlvault.proofs.FrameLemmas.{wrote, unwritten, writes_none, writes_then, writes_failed, passed}
 use Rattle.sqlvault.proofs.FrameLemmas.{writes_halted}
 use Rattle.sqlvault.proofs.SmallLemmas.{take_next}
 use Rattle.sqlvault.proofs.groups.add_members.Goals as goal
@@ -30,16 +30,15 @@ loop-member-preserved g c =
       writes_then (λ _. AddsMembers group (take i names)) (AddsMember row)
           (AddsMembers group (take (i + 1) names)) tt (Ok tt) c.loop-member.invariant.1
           (wrote g.S.Store c.loop-member.conn c.add_member.new.conn (λ _. AddsMember row)
-          (AddsMember row) tt (λ clean. rw c.as_bytes.ensures.value at (c.in-Ok.ensures.ok clean))
+          (AddsMember row) tt (λ clean. rw c.as_bytes.ensures.value at (c.in_ok-add_member.ensures.ok clean))
           survives)
           (λ from mid to a b. subst (λ l. AddsMembers group l from to)
           (sym (take_next names i x lt c.member-item.is))
           (member_more group (take i names) x place from mid to (fine ∙ place_at names i lt) a b)),
     )
 
-pub returns-in-Err : goal.returns-in-Err
-returns-in-Err g c =
-    let row : Member = record {
+pub returns-in_err-add_member : goal.returns-in_err-add_member
+returns-in_err-add_member g c = rw (passed c.from_residual.ensures.1) (let row : Member = record {
       group = to_z w64 (of_z w64 c.args.group);
       place = to_z w64 (of_z w64 (to_z w64 c.loop-member.place-bits +ℤ pos 1));
       clerk = c.as_bytes.result.now;
@@ -47,7 +46,7 @@ returns-in-Err g c =
     let Adds : Unit {0} → Rows → Rows → Type 0 = λ _. AddsMember row in
     writes_failed (writes_halted _ tt c.loop-member.invariant.1
     (unwritten g.S.Store c.loop-member.conn c.add_member.new.conn Adds (AddsMember row)
-    c.in-Err.error c.in-Err.ensures.err c.add_member.ensures.survives))
+    c.in_err-add_member.field-0.0 c.in_err-add_member.ensures.err c.add_member.ensures.survives)))
 
 pub returns : goal.returns
 returns g c =

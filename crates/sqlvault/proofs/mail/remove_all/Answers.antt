@@ -3,7 +3,7 @@ use Rattle.std.proofs.lemmas.List.{drop_all, drop_more}
 use Rattle.mailsql.specs.Changes.{RemovesMessage}
 use Rattle.mailsql.specs.Rows.{Rows}
 use Rattle.sqlvault.specs.Keeps.{row_key}
-use Rattle.sqlvault.proofs.FrameLemmas.{wrote, unwritten, writes_none, writes_then, writes_failed}
+use Rattle.sqlvault.proofs.FrameLemmas.{wrote, unwritten, writes_none, writes_then, writes_failed, passed}
 use Rattle.sqlvault.proofs.FrameLemmas.{writes_halted}
 use Rattle.sqlvault.proofs.RemoveLemmas.{Removed, none_removed, one_before}
 use Rattle.sqlvault.proofs.mail.remove_all.Goals as goal
@@ -42,7 +42,7 @@ loop-left-preserved g c =
       done = rw front (writes_then (λ _. Removed d (drop n keys)) (RemovesMessage asked t)
           (Removed d (number ∷ drop n keys)) tt (Ok tt) c.loop-left.invariant.done
           (wrote g.S.Store c.loop-left.conn c.remove_message.new.conn (λ _. RemovesMessage asked t)
-          (RemovesMessage asked t) tt c.in-Ok.ensures.ok c.remove_message.ensures.survives)
+          (RemovesMessage asked t) tt c.in_ok-remove_message.ensures.ok c.remove_message.ensures.survives)
           (λ from mid to before removes.
           let gone : RemovesMessage (row_key number) d mid to =
           subst (λ z. RemovesMessage z d mid to) key
@@ -50,16 +50,15 @@ loop-left-preserved g c =
           one_before d (drop n keys) number from mid to fits before gone));
     }
 
-pub returns-in-Err : goal.returns-in-Err
-returns-in-Err g c =
-    let asked = to_z w64 (of_z w64 c.cast_signed-key.result) in
+pub returns-in_err-remove_message : goal.returns-in_err-remove_message
+returns-in_err-remove_message g c = rw (passed c.from_residual.ensures.1) (let asked = to_z w64 (of_z w64 c.cast_signed-key.result) in
     let Removes : Unit {0} → Rows → Rows → Type 0 = λ _. RemovesMessage asked c.as_bytes.result.now in
     writes_failed (writes_halted
     (λ _. Removed c.args.maildrop.now (drop c.loop-left.left c.args.keys.now)) tt
     c.loop-left.invariant.done
     (unwritten g.S.Store c.loop-left.conn c.remove_message.new.conn Removes
-    (RemovesMessage asked c.as_bytes.result.now) c.in-Err.error c.in-Err.ensures.err
-    c.remove_message.ensures.survives))
+    (RemovesMessage asked c.as_bytes.result.now) c.in_err-remove_message.field-0.0 c.in_err-remove_message.ensures.err
+    c.remove_message.ensures.survives)))
 
 pub returns : goal.returns
 returns g c =

@@ -3,6 +3,7 @@ use Rattle.std.proofs.lemmas.List.{length-map}
 use Rattle.sqlite.specs.Held.{state}
 use Rattle.mailsql.specs.Rows.{rows_in}
 use Rattle.sqlvault.specs.Moves.{body_head}
+use Rattle.sqlvault.proofs.FrameLemmas.{passed}
 use Rattle.sqlvault.proofs.MoveLemmas.{moved_none, next_body, moved_next, moved_whole, inside_on}
 use Rattle.sqlvault.proofs.MoveLemmas.{halts_behind}
 use Rattle.sqlvault.proofs.moves.move_all.Goals as goal
@@ -28,19 +29,19 @@ loop-head-preserved g c = (
       c.head-item.is in
       moved_next s0 s1 at head n first (state g.S.Store c.move_one.new.conn) _ key
       (h.unmoved.none refl)
-      (c.in-Ok.ensures.part clean (record { under = inside_on _ s0 s1 first.0; order = first.1 })),
+      (c.in_ok-move_one.ensures.part clean (record { under = inside_on _ s0 s1 first.0; order = first.1 })),
 )
 
-pub returns-in-Err-clause-part : goal.returns-in-Err-clause-part
-returns-in-Err-clause-part g c = record {
-  clean = λ clean. c.loop-head.invariant.0 (c.in-Err.ensures.clean clean);
-  part = λ clean h.
-      let s0 = state g.S.Store c.args.conn.now in
-      let s1 = state g.S.Store c.loop-head.conn in
-      let first = c.loop-head.invariant.1 (c.in-Err.ensures.clean clean) h in
-      halts_behind _ s0 s1 (state g.S.Store c.move_one.new.conn) first.0
-      (c.in-Err.ensures.part clean (record { under = inside_on _ s0 s1 first.0; order = first.1 }));
-}
+pub returns-in_err-move_one-clause-part : goal.returns-in_err-move_one-clause-part
+returns-in_err-move_one-clause-part g c = rw (passed c.from_residual.ensures.1) (record {
+      clean = λ clean. c.loop-head.invariant.0 (c.in_err-move_one.ensures.clean clean);
+      part = λ clean h.
+          let s0 = state g.S.Store c.args.conn.now in
+          let s1 = state g.S.Store c.loop-head.conn in
+          let first = c.loop-head.invariant.1 (c.in_err-move_one.ensures.clean clean) h in
+          halts_behind _ s0 s1 (state g.S.Store c.move_one.new.conn) first.0
+          (c.in_err-move_one.ensures.part clean (record { under = inside_on _ s0 s1 first.0; order = first.1 }));
+    })
 
 pub returns-clause-part : goal.returns-clause-part
 returns-clause-part g c = record {

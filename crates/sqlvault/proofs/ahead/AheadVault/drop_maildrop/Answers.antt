@@ -1,23 +1,24 @@
 use Rattle.std.proofs.Common.{refl}
 use Rattle.vault.specs.Calls.{IsMaildropDropped}
+use Rattle.sqlvault.proofs.FrameLemmas.{passed}
 use Rattle.sqlvault.proofs.AheadLemmas.{done_after, done_refused, commits_after, commits_refused}
 use Rattle.sqlvault.proofs.ahead.AheadVault.drop_maildrop.Goals as goal
 
-pub returns-in-Ok-clause-done : goal.returns-in-Ok-clause-done
-returns-in-Ok-clause-done g c k h clean =
+pub returns-clause-done : goal.returns-clause-done
+returns-clause-done g c k h clean =
     done_after g.S.Store (record { vault = c.drop_maildrop.new.self; under_way = c.self.inside.work })
     (λ Held. IsMaildropDropped Held k c.args.maildrop.now c.drop_maildrop.result)
-    k c.self.view_is c.in-Ok.ensures.looks c.in-Ok.ensures.none refl c.drop_maildrop.ensures.commits.clean (c.drop_maildrop.ensures.done k) h clean
+    k c.self.view_is c.in_ok-give_up.ensures.looks c.in_ok-give_up.ensures.none refl c.drop_maildrop.ensures.commits.clean (c.drop_maildrop.ensures.done k) h clean
 
-pub returns-in-Err-clause-done : goal.returns-in-Err-clause-done
-returns-in-Err-clause-done g c k h clean =
-    done_refused g.S.Store {new = c.give_up.new.self} k _ _ c.in-Err.fault c.in-Err.ensures.answer c.in-Err.ensures.looks h clean
+pub returns-in_err-give_up-clause-done : goal.returns-in_err-give_up-clause-done
+returns-in_err-give_up-clause-done g c = rw (passed c.from_residual.ensures.1)
+    (λ k h clean. done_refused g.S.Store {new = c.give_up.new.self} k _ _ c.in_err-give_up.field-0.0 c.in_err-give_up.ensures.answer c.in_err-give_up.ensures.looks h clean)
 
-pub returns-in-Ok-clause-commits : goal.returns-in-Ok-clause-commits
-returns-in-Ok-clause-commits g c =
+pub returns-clause-commits : goal.returns-clause-commits
+returns-clause-commits g c =
     commits_after g.S.Store {new = record { vault = c.drop_maildrop.new.self; under_way = c.self.inside.work }}
-    _ c.self.view_is c.in-Ok.ensures.looks c.in-Ok.ensures.none c.drop_maildrop.ensures.commits
+    _ c.self.view_is c.in_ok-give_up.ensures.looks c.in_ok-give_up.ensures.none c.drop_maildrop.ensures.commits
 
-pub returns-in-Err-clause-commits : goal.returns-in-Err-clause-commits
-returns-in-Err-clause-commits g c =
-    commits_refused g.S.Store _ c.in-Err.fault c.in-Err.ensures.answer c.in-Err.ensures.looks
+pub returns-in_err-give_up-clause-commits : goal.returns-in_err-give_up-clause-commits
+returns-in_err-give_up-clause-commits g c = rw (passed c.from_residual.ensures.1)
+    (commits_refused g.S.Store _ c.in_err-give_up.field-0.0 c.in_err-give_up.ensures.answer c.in_err-give_up.ensures.looks)

@@ -1,25 +1,27 @@
 use Rattle.std.proofs.Common.{refl, ap, Ok, Err}
 use Rattle.sqlvault.specs.UnderWay.{Prepared}
-use Rattle.sqlvault.proofs.AheadLemmas.{done_after, refusal_any, looks_after, looks_refused}
+use Rattle.sqlvault.proofs.FrameLemmas.{passed}
+use Rattle.sqlvault.proofs.HoldsLemmas.{refusal_any}
+use Rattle.sqlvault.proofs.AheadLemmas.{done_after, looks_after, looks_refused}
 use Rattle.sqlvault.proofs.AheadLemmas.{looks_beside, looks_ended, told_ended}
 use Rattle.vault.specs.Calls.{IsPaged}
 use Rattle.sqlvault.proofs.BesideLemmas.{told_page}
 use Rattle.sqlvault.proofs.ahead.AheadVault.page.Goals as goal
 
-pub returns-in-Ok-give_up-clause-done : goal.returns-in-Ok-give_up-clause-done
-returns-in-Ok-give_up-clause-done g c k h clean =
+pub returns-clause-done : goal.returns-clause-done
+returns-clause-done g c k h clean =
     done_after g.S.Store (record { vault = c.page.new.self; under_way = c.self-2.inside.work })
     (λ Held. IsPaged Held k c.args.key c.args.from c.page.new.buffer c.page.result)
-    k c.self-2.view_is c.in-Ok-give_up.ensures.looks c.in-Ok-give_up.ensures.none refl c.page.ensures.looks.clean (c.page.ensures.done k) h clean
+    k c.self-2.view_is c.in_ok-give_up.ensures.looks c.in_ok-give_up.ensures.none refl c.page.ensures.looks.clean (c.page.ensures.done k) h clean
 
-pub returns-in-Ok-give_up-clause-looks : goal.returns-in-Ok-give_up-clause-looks
-returns-in-Ok-give_up-clause-looks g c =
+pub returns-clause-looks : goal.returns-clause-looks
+returns-clause-looks g c =
     looks_after g.S.Store {new = record { vault = c.page.new.self; under_way = c.self-2.inside.work }}
-    c.self-2.view_is c.in-Ok-give_up.ensures.looks c.in-Ok-give_up.ensures.none refl c.page.ensures.looks
+    c.self-2.view_is c.in_ok-give_up.ensures.looks c.in_ok-give_up.ensures.none refl c.page.ensures.looks
 
-pub returns-in-Err-give_up-clause-looks : goal.returns-in-Err-give_up-clause-looks
-returns-in-Err-give_up-clause-looks g c =
-    looks_refused g.S.Store c.in-Err-give_up.fault c.in-Err-give_up.ensures.answer c.in-Err-give_up.ensures.looks
+pub returns-in_err-give_up-clause-looks : goal.returns-in_err-give_up-clause-looks
+returns-in_err-give_up-clause-looks g c = rw (passed c.from_residual.ensures.1)
+    (looks_refused g.S.Store c.in_err-give_up.field-0.0 c.in_err-give_up.ensures.answer c.in_err-give_up.ensures.looks)
 
 pub returns-in-Ok-clause-looks : goal.returns-in-Ok-clause-looks
 returns-in-Ok-clause-looks g c =
@@ -59,8 +61,8 @@ returns-in-Err-clause-done g c k h clean =
       held = (returns-in-Err-clause-looks g c).held k clean h;
     }
 
-pub returns-in-Err-give_up-clause-done : goal.returns-in-Err-give_up-clause-done
-returns-in-Err-give_up-clause-done g c k h clean = record {
-  answer = refusal_any _ c.in-Err-give_up.fault c.in-Err-give_up.ensures.answer;
-  held = c.in-Err-give_up.ensures.looks.held k clean h;
-}
+pub returns-in_err-give_up-clause-done : goal.returns-in_err-give_up-clause-done
+returns-in_err-give_up-clause-done g c = rw (passed c.from_residual.ensures.1) (λ k h clean. record {
+      answer = refusal_any _ c.in_err-give_up.field-0.0 c.in_err-give_up.ensures.answer;
+      held = c.in_err-give_up.ensures.looks.held k clean h;
+    })

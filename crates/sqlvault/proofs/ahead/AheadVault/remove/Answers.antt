@@ -1,6 +1,7 @@
 use Rattle.std.proofs.Common.{Ok, Err, ap, ◌∙◌, refl}
 use Rattle.vault.specs.Calls.{AreRemoved}
 use Rattle.sqlvault.specs.UnderWay.{Prepared}
+use Rattle.sqlvault.proofs.FrameLemmas.{passed}
 use Rattle.sqlvault.proofs.AheadLemmas.{looks_from, done_after, done_refused, commits_after, commits_refused}
 use Rattle.sqlvault.proofs.AheadLemmas.{finish_done, finish_commits, of_these}
 use Rattle.sqlvault.proofs.ahead.AheadVault.remove.Goals as goal
@@ -26,21 +27,20 @@ pub returns-clause-done : goal.returns-clause-done
 returns-clause-done g c k h clean =
     done_after g.S.Store (record { vault = c.remove.new.self; under_way = c.self-2.inside.work })
     (λ Held. AreRemoved Held k c.args.maildrop.now c.args.keys.now c.remove.result)
-    k c.self-2.view_is (looks_from g.S.Store (Ok c.in-Ok.field-0) c.in_default.ensures.none c.in-Ok.ensures.looks)
-    c.in-Ok.ensures.none refl c.remove.ensures.commits.clean (c.remove.ensures.done k) h clean
+    k c.self-2.view_is (looks_from g.S.Store (Ok c.in_ok-give_up.field-0) c.in_default.ensures.none c.in_ok-give_up.ensures.looks)
+    c.in_ok-give_up.ensures.none refl c.remove.ensures.commits.clean (c.remove.ensures.done k) h clean
 
 pub returns-clause-commits : goal.returns-clause-commits
 returns-clause-commits g c =
     commits_after g.S.Store {new = record { vault = c.remove.new.self; under_way = c.self-2.inside.work }}
-    _ c.self-2.view_is (looks_from g.S.Store (Ok c.in-Ok.field-0) c.in_default.ensures.none c.in-Ok.ensures.looks)
-    c.in-Ok.ensures.none c.remove.ensures.commits
+    _ c.self-2.view_is (looks_from g.S.Store (Ok c.in_ok-give_up.field-0) c.in_default.ensures.none c.in_ok-give_up.ensures.looks)
+    c.in_ok-give_up.ensures.none c.remove.ensures.commits
 
-pub returns-in-Err-clause-done : goal.returns-in-Err-clause-done
-returns-in-Err-clause-done g c k h clean =
-    done_refused g.S.Store {new = c.give_up.new.self} k _ _ c.in-Err.fault c.in-Err.ensures.answer
-    (looks_from g.S.Store (Err c.in-Err.fault) c.in_default.ensures.none c.in-Err.ensures.looks) h clean
+pub returns-in_err-give_up-clause-done : goal.returns-in_err-give_up-clause-done
+returns-in_err-give_up-clause-done g c = rw (passed c.from_residual.ensures.1)
+    (λ k h clean. done_refused g.S.Store {new = c.give_up.new.self} k _ _ c.in_err-give_up.field-0.0 c.in_err-give_up.ensures.answer
+    (looks_from g.S.Store (Err c.in_err-give_up.field-0.0) c.in_default.ensures.none c.in_err-give_up.ensures.looks) h clean)
 
-pub returns-in-Err-clause-commits : goal.returns-in-Err-clause-commits
-returns-in-Err-clause-commits g c =
-    commits_refused g.S.Store _ c.in-Err.fault c.in-Err.ensures.answer
-    (looks_from g.S.Store (Err c.in-Err.fault) c.in_default.ensures.none c.in-Err.ensures.looks)
+pub returns-in_err-give_up-clause-commits : goal.returns-in_err-give_up-clause-commits
+returns-in_err-give_up-clause-commits g c = rw (passed c.from_residual.ensures.1) (commits_refused g.S.Store _ c.in_err-give_up.field-0.0 c.in_err-give_up.ensures.answer
+    (looks_from g.S.Store (Err c.in_err-give_up.field-0.0) c.in_default.ensures.none c.in_err-give_up.ensures.looks))
