@@ -1,9 +1,10 @@
 """Much of everything: long messages and replies, large offices, long scripts and policies."""
 
 import os
+import signal
 
-from clients import BYE, EMPTY, OK, POLICY, SEND_PASS, Case, is_silent, log_in, maildrop_has, put
-from clients import read, retrieved
+from clients import BYE, EMPTY, OK, POLICY, SEND_PASS, Case, Client, is_silent, log_in
+from clients import maildrop_has, put, read, retrieved, stopped
 
 LARGEST, MOST = 26_214_400, 10_000
 
@@ -279,16 +280,53 @@ class Large(Case):
             count += 1
         return count
 
-    def test_others_are_served_beside_long_work(self):
-        """Others are answered while a QUIT removes 2,000 messages, and a file of 5 MB comes in."""
+    def mark_2000(self):
+        """A server with 2,000 messages, and a client who has marked them all."""
         script = [b"deposit orders note d%d mail\n" % k for k in range(2000)]
         self.make_store([b"maildrop add orders\n", b"maildrop add sales\n", *script])
         it = self.office()
         log_in(client := self.client(it), *[b"mail\r\n"] * 2000)
-        (other := self.client(it)).tries(b"ann/sales")
-        other.takes(EMPTY)
         for k in range(1, 2001):
             client.asks(b"DELE %d\r\n" % k, b"+OK message %d deleted\r\n" % k)
+        return it, client
+
+    def quit_beside(self, it, client, method, path, body=""):
+        """Sends a QUIT, and a request that acts in the turn which first sees it: a long QUIT stays
+        unread then, and any other would act before the request."""
+        request = f"{method} {path} HTTP/1.1\r\nContent-Length: {len(body)}\r\n\r\n{body}"
+        with stopped(it), Client(it.admin) as link:
+            client.send(b"QUIT\r\n")
+            link.send(request.encode())
+            os.kill(it.run.pid, signal.SIGCONT)
+            self.assertIn("200 OK", link.line().decode())
+
+    def test_a_long_quit_is_judged_as_it_acts(self):
+        """A policy that is set while a long QUIT stays unread judges it, whichever came first."""
+        deny = POLICY.replace('"all"', '"frozen"').replace("allow", "deny")
+        frozen = deny.replace('"open", "read", ', "") + POLICY
+        it, client = self.mark_2000()
+        self.quit_beside(it, client, "PUT", "/policy", frozen)
+        client.takes(b"-ERR some deleted messages not removed, denied by rule frozen\r\n")
+        log_in(self.client(it), *[b"mail\r\n"] * 2000)
+        self.renew()
+        it, client = self.mark_2000()
+        it.administer("PUT", "/policy", frozen)
+        self.quit_beside(it, client, "PUT", "/policy", POLICY)
+        client.takes(BYE)
+        log_in(self.client(it))
+
+    def test_a_session_that_is_ended_before_its_long_quit_acts_removes_nothing(self):
+        """It gets no reply, and all its messages are there at the next login."""
+        it, client = self.mark_2000()
+        self.quit_beside(it, client, "DELETE", "/sessions/1")
+        client.ends()
+        log_in(self.client(it), *[b"mail\r\n"] * 2000)
+
+    def test_others_are_served_beside_long_work(self):
+        """Others are answered while a QUIT removes 2,000 messages, and a file of 5 MB comes in."""
+        it, client = self.mark_2000()
+        (other := self.client(it)).tries(b"ann/sales")
+        other.takes(EMPTY)
         client.send(b"QUIT\r\n")
         self.assertGreater(self.answered_until(other, lambda: not is_silent(client, 0)), 4)
         client.takes(BYE)
