@@ -221,6 +221,7 @@ class Server:
             late.cancel()
         if not all(told):
             raise Wrong(f"{' '.join(words)}: the server ended with status {self.run.wait()}")
+        self.said = b"".join(told).decode()
         self.pop, self.admin = (int(line.rpartition(b":")[2]) for line in told)
 
     def __enter__(self):
@@ -302,6 +303,21 @@ def log_in(client, *texts, first=b""):
 def proxied(source):
     """What a proxy sends first of a client from an address."""
     return b"PROXY TCP4 %s 127.0.0.1 51234 1110\r\n" % source
+
+
+def listening(server):
+    """The addresses at which the server listens, each with its port."""
+    sockets = set()
+    for name in os.listdir(f"/proc/{server.run.pid}/fd"):
+        with contextlib.suppress(OSError):
+            sockets.add(os.readlink(f"/proc/{server.run.pid}/fd/{name}"))
+    found = set()
+    with open(f"/proc/{server.run.pid}/net/tcp", encoding="ascii") as lines:
+        for words in map(str.split, lines):
+            if words[3] == "0A" and f"socket:[{words[9]}]" in sockets:
+                address, port = (bytes.fromhex(it) for it in words[1].split(":"))
+                found.add((socket.inet_ntoa(address[::-1]), int.from_bytes(port, "big")))
+    return found
 
 
 def is_silent(client, seconds):

@@ -10,10 +10,11 @@ import datetime
 import os
 import resource
 import socket
+import threading
 import time
 
 from clients import EMPTY, FAILED, IN_USE, OK, REPLY, SEND_PASS, STATE, Case, Client, log_in
-from clients import proxied, put, read, retrieved, stopped, wait_for
+from clients import Wrong, listening, proxied, put, read, retrieved, stopped, wait_for
 
 DAY = 86_400
 # How many octets a connection is lent at once, and how many a link beside others is sent in a turn.
@@ -206,6 +207,17 @@ def hold_at_wait(folder, number):
     return held[-1]
 
 
+def come_again(server, source, guess, came):
+    """A stranger who takes a place, says nothing or guesses, and comes again when he is ended."""
+    while server.run.poll() is None:
+        with contextlib.suppress(OSError, Wrong), Client(server.pop, source=source) as it:
+            came.append(it.line())
+            while guess:
+                it.tries(b"eve/orders", b"guess")
+                it.takes(FAILED)
+            it.line()
+
+
 def limit_descriptors():
     """Lets this process have 40 descriptors open."""
     resource.setrlimit(resource.RLIMIT_NOFILE, (40, 40))
@@ -249,29 +261,36 @@ class Places(Case):
                 coming = self.come(it)
             self.assertEqual(coming.line()[:4], b"+OK ")
 
-    def test_who_comes_to_a_full_house_is_greeted_after_its_seconds(self):
-        """--full-house-seconds ends clients who don't log in, only while the house is full."""
-        words = ["--login-seconds", "180", "--full-house-seconds", "20"]
-        it = self.office(*words, env=self.still("calls"))
-        self.set_on(5)
-        with stopped(it):
-            coming = [self.come(it) for _ in range(100)]
-        for client in coming[:CLIENTS]:
-            self.assertEqual(client.line()[:4], b"+OK ")
-        self.set_on(24)
-        for client in [*coming[CLIENTS:], self.come(it)]:
-            client.ends()
-        coming[0].waits()
-        # A clerk who comes in the turn that ends them is closed too; the next one is greeted. The
-        # moment of a turn is that after its wait.
-        hold_at_wait(self.folder, 0)
-        put(f"{self.folder}/clock", "25")
-        clerk = self.come(it)
-        self.assertNotEqual(read(f"{self.folder}/seen"), b"25")
-        os.remove(f"{self.folder}/gate")
-        for client in [*coming[:CLIENTS], clerk]:
-            client.ends()
-        log_in(self.client(it))
+    def test_who_is_logged_in_keeps_its_place(self):
+        """With --make-room a newcomer gets the place of who isn't logged in, and no other's."""
+        it = self.serve("--make-room")
+        it.fill(names := [f"m{k}" for k in range(CLIENTS)])
+        silent, clerks = self.client(it), []
+        for name in names:
+            clerks.append(self.client(it))
+            clerks[-1].asks(b"USER ann/%s\r\nPASS s3 cret\r\n" % name.encode(), SEND_PASS + EMPTY)
+        silent.ends()
+        self.come(it).ends()
+        for client in clerks:
+            client.asks(b"NOOP\r\n", OK)
+
+    def test_strangers_who_come_again_keep_nobody_out(self):
+        """With --make-room a clerk is in within a second, whoever takes all places over and over."""
+        one, sixteen = ["127.0.0.2"], [f"127.0.1.{k}" for k in range(1, 17)]
+        for sources, guess in (([None], False), ([None], True), (one, False), (sixteen, True)):
+            self.renew()
+            it, came = self.office("--make-room", "--slow-guesses", "--wait", "10"), []
+            for source in sources * (CLIENTS // len(sources)):
+                threading.Thread(target=come_again, args=(it, source, guess, came)).start()
+            wait_for(lambda: len(came) >= CLIENTS, "a stranger isn't greeted")
+            for _ in range(25):
+                began = time.monotonic()
+                with it.connect() as clerk:
+                    log_in(clerk)
+                    self.assertLess(time.monotonic() - began, 1, (sources, guess))
+                    clerk.quits()
+            self.assertGreater(len(came), CLIENTS)
+            it.end()
 
     def test_who_waits_for_a_descriptor_is_greeted(self):
         """Without a free descriptor clients and administrators wait, and the server rests."""
@@ -289,21 +308,6 @@ class Places(Case):
         greetings += [client.line() for client in clients[20:]]
         self.assertEqual(asking.line(), b"HTTP/1.1 200 OK\r\n")
         self.assertEqual(len({*greetings}), 45)
-
-
-def listening(server):
-    """The addresses at which the server listens, each with its port."""
-    sockets = set()
-    for name in os.listdir(f"/proc/{server.run.pid}/fd"):
-        with contextlib.suppress(OSError):
-            sockets.add(os.readlink(f"/proc/{server.run.pid}/fd/{name}"))
-    found = set()
-    with open(f"/proc/{server.run.pid}/net/tcp", encoding="ascii") as lines:
-        for words in map(str.split, lines):
-            if words[3] == "0A" and f"socket:[{words[9]}]" in sockets:
-                address, port = (bytes.fromhex(it) for it in words[1].split(":"))
-                found.add((socket.inet_ntoa(address[::-1]), int.from_bytes(port, "big")))
-    return found
 
 
 class Administration(Case):

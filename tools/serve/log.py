@@ -33,9 +33,9 @@ POLICY += RULE.format("work-on-orders", "allow", "orders", "*", '"open", "read",
 POLICY += RULE.format("work-on-sales", "allow", "sales", "*", '"open", "read", "remove"')
 CHAIR = b"A chair.\n"
 # The options that the line of a start names: without them, and with each.
-IN_FORCE = "removals=dele idle=600 wait=0 login-seconds=0 full-house-seconds=0 slow-guesses=no"
+IN_FORCE = "removals=dele idle=600 wait=0 login-seconds=0 make-room=no slow-guesses=no"
 IN_FORCE += " proxy-protocol=no log-message-ids=no log-reads=no list-clerks=no admin-site=no"
-OTHERS = "removals=quit idle=700 wait=10 login-seconds=180 full-house-seconds=20 slow-guesses=yes"
+OTHERS = "removals=quit idle=700 wait=10 login-seconds=180 make-room=yes slow-guesses=yes"
 OTHERS += " proxy-protocol=yes log-message-ids=yes log-reads=yes list-clerks=yes"
 OTHERS += " admin-site=localhost"
 
@@ -415,10 +415,9 @@ class Links(LogCase):
         self.compare(self.lines()[-1:], 'event=closed @1 cause="too late to log in"')
 
     def test_full_house(self):
-        """A client that hasn't logged in while all 64 places are taken ends for that cause."""
-        with self.log("--login-seconds", "600", "--full-house-seconds", "1") as it:
-            for _ in range(64):
-                self.enterContext(Mail(it))
+        """A client whose place another one gets, since all 64 are taken, ends for that cause."""
+        with self.log("--make-room") as it:
+            _ = [self.enterContext(Mail(it)) for _ in range(65)]
             self.wait_told("event=closed")
         ended = [line for line in self.lines("closed") if " connection=1 " in line]
         self.compare(ended, 'event=closed @1 cause="no login while all places were taken"')

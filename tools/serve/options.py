@@ -8,8 +8,8 @@ one option. If an option goes by seconds, the server's clock stands at 0 until t
 import os
 import re
 
-from clients import IN_USE, POLICY, REPLY, SEND_PASS, Case, Client, Wrong, is_silent, proxied, put
-from clients import without_slow
+from clients import IN_USE, POLICY, REPLY, SEND_PASS, Case, Client, Wrong, is_silent, listening
+from clients import proxied, put, without_slow
 
 TEXT = b"stays\r\n"
 ACCEPTED = b"+OK maildrop has 1 messages (7 octets)\r\n"
@@ -92,9 +92,11 @@ class Options(Case):
         return self.file_of_a_turn("kept/orders.note.d1.eml.bad", "--store", "mail.db", *words)
 
     def where_clients_connect(self, words):
-        """The address that a server says it listens at."""
-        said, _ = self.end_at_once("--pop-port", "0", "--admin-port", "0", *words)
-        return re.fullmatch(r"pop on (\S+):\d+\nadmin on 127\.0\.0\.1:\d+\n", said)[1]
+        """The address that a server says it listens at, and at which it does."""
+        with self.serve(*words) as it:
+            ((at, port),) = listening(it) - {("127.0.0.1", it.admin)}
+            self.assertEqual(it.said, f"pop on {at}:{port}\nadmin on 127.0.0.1:{it.admin}\n")
+            return at
 
     def port_of_clients(self, words):
         """Where clients connect; also if another process has that port."""
@@ -147,11 +149,12 @@ class Options(Case):
         client = self.client(self.house(words, stays_still=True))
         return self.seen_at(client, 28, 32) if words else self.seen_at(client, 70, 590, last=1)
 
-    def a_client_that_doesnt_log_in_while_all_places_are_taken(self, words):
-        """Whether a silent client is ended beside 63 others, before a login."""
-        it = self.house(words, stays_still=True)
-        client = [self.client(it) for _ in range(64)][0]
-        return self.seen_at(client, 28, 32, last=REPLY if words else 1)
+    def a_full_house(self, words):
+        """What becomes of a client that comes beside 64 silent ones, and of the first of these."""
+        it = self.house(words)
+        first = [self.client(it) for _ in range(64)][0]
+        client = self.enterContext(Client(it.pop))
+        return [seen_of(client, REPLY)[:8], seen_of(first, REPLY if words else 2)]
 
     def a_client_that_says_nothing(self, words):
         """Whether a client that says nothing is ended, in a session."""
@@ -268,10 +271,7 @@ TABLE = {
     "a_list_of_the_clerks": {"": NO_LIST, "--list-clerks": LIST},
     "a_login_beside_another": {"": WAITS[-1], "--wait 10": WAITS},
     "a_client_that_doesnt_log_in": {"": STAYS, "--login-seconds 30": ENDS},
-    "a_client_that_doesnt_log_in_while_all_places_are_taken": {
-        "": STAYS,
-        "--full-house-seconds 30": ENDS,
-    },
+    "a_full_house": {"": [CLOSED, NOTHING], "--make-room": ["+OK POP3", CLOSED]},
     "a_client_that_says_nothing": {"": ENDS, "--idle 700": ENDS},
     "guesses_one_after_the_other": {"": [GUESS, GUESS], "--slow-guesses": SLOWED},
     "a_line_of_a_proxy": {"": ["-ERR unknown command", PASS], "--proxy-protocol": [PASS, CLOSED]},

@@ -143,14 +143,13 @@ fn flag<'a>(alloc: Global, name: &'a str, help: &'a str) -> Arg<'a> {
         .action(ArgAction::SetTrue)
 }
 
-/// `[--idle N] [--wait N] [--login-seconds N] [--full-house-seconds N] [--slow-guesses]
-/// [--proxy-protocol]`: how long clients may be idle, wait and guess, and how their addresses are
-/// known.
+/// `[--idle N] [--wait N] [--login-seconds N] [--make-room] [--slow-guesses] [--proxy-protocol]`:
+/// how long clients may be idle, wait and guess, who gets a place, and how addresses are known.
 fn patience<'a>(alloc: Global) -> Result<Vec<Arg<'a>>, AllocError> {
     let idle = "After how many seconds an idle client is disconnected";
     let wait = "How many seconds a login waits for a maildrop that is in use";
     let login = "After how many seconds a client that hasn't logged in is disconnected; 0: never";
-    let full = "The same while all 64 places are taken; 0: no other limit";
+    let room = "While all 64 places are taken, a new client gets that of one not logged in";
     let slow = "After a refused login, the next one under that name from that address has to wait";
     let proxied = "Each connection begins with a proxy's line that has the client's address";
     let arguments = vec![in alloc;
@@ -163,9 +162,7 @@ fn patience<'a>(alloc: Global) -> Result<Vec<Arg<'a>>, AllocError> {
         option(alloc, "login-seconds", "N", login)
             .default_value("0")
             .value_parser(value_parser!(u32).range(0..=600)),
-        option(alloc, "full-house-seconds", "N", full)
-            .default_value("0")
-            .value_parser(value_parser!(u32).range(0..=600)),
+        flag(alloc, "make-room", room),
         flag(alloc, "slow-guesses", slow),
         flag(alloc, "proxy-protocol", proxied),
     ]?;
@@ -187,8 +184,8 @@ fn logging<'a>(alloc: Global) -> Result<Vec<Arg<'a>>, AllocError> {
 
 /// `serve --store PATH --spool DIR [--listen IPV4] [--pop-port N] [--admin-port N]
 /// [--admin-site NAME] [--host NAME] [--idle N] [--wait N] [--login-seconds N]
-/// [--full-house-seconds N] [--slow-guesses] [--proxy-protocol] [--removals WHEN] [--list-clerks]
-/// [--turns N] [--log] [--log-message-ids] [--log-reads] [--verbose]`.
+/// [--make-room] [--slow-guesses] [--proxy-protocol] [--removals WHEN] [--list-clerks] [--turns N]
+/// [--log] [--log-message-ids] [--log-reads] [--verbose]`.
 fn serve<'a>(alloc: Global) -> Result<Command<'a>, AllocError> {
     let listen = option(
         alloc,

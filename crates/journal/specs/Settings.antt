@@ -15,12 +15,12 @@ abbrev pub when_text : Removals → List ℕ
 when_text judged.JudgedAtDele = codes "dele"
 when_text judged.JudgedAtQuit = codes "quit"
 
--- the options that are seconds
-abbrev pub seconds_text : Settings → List ℕ
-seconds_text s =
+-- how long clients may take, and whether they make room
+abbrev pub patience_text : Settings → List ℕ
+patience_text s =
     codes " idle=" ++ decimal s.idle ++ codes " wait=" ++ decimal s.wait
     ++ codes " login-seconds=" ++ decimal s.login_seconds
-    ++ codes " full-house-seconds=" ++ decimal s.full_house_seconds
+    ++ codes " make-room=" ++ yes_or_no s.make_room
 
 -- the options that are set or aren't
 abbrev pub flags_text : Settings → List ℕ
@@ -43,4 +43,4 @@ admin_text s = codes " list-clerks=" ++ yes_or_no s.lists_clerks ++ site_text s.
 abbrev pub settings_text : Settings → List ℕ
 settings_text s =
     codes " proved=" ++ yes_or_no s.is_proved ++ codes " removals=" ++ when_text s.removals
-    ++ seconds_text s ++ flags_text s ++ admin_text s
+    ++ patience_text s ++ flags_text s ++ admin_text s

@@ -1,6 +1,6 @@
 //! Whether the server is proved and its options in force, as the line of its start has them.
 ghost use Rattle.std.specs.Prelude.{◌≡◌, IfOk, Some, string_bytes};
-ghost use Rattle.journal.specs.Settings.{yes_or_no, when_text, seconds_text, flags_text};
+ghost use Rattle.journal.specs.Settings.{yes_or_no, when_text, patience_text, flags_text};
 ghost use Rattle.journal.specs.Settings.{admin_text, site_text, settings_text};
 
 use creds::HostName;
@@ -13,11 +13,11 @@ use std::alloc::{AllocError, Global};
 pub struct Settings {
     pub is_proved: bool,
     pub removals: Removals,
-    /// In seconds, as all up to `full_house_seconds`.
+    /// In seconds, as all up to `login_seconds`.
     pub idle: u32,
     pub wait: u32,
     pub login_seconds: u32,
-    pub full_house_seconds: u32,
+    pub make_room: bool,
     pub slow_guesses: bool,
     pub proxy_protocol: bool,
     pub message_ids: bool,
@@ -45,15 +45,15 @@ fn when_word(removals: Removals) -> &'static str
     }
 }
 
-/// The options that are seconds.
-fn seconds_text(alloc: Global, settings: &Settings) -> Result<String, AllocError>
-    ensures { IfOk result (λ text. string_bytes text ≡ seconds_text settings.now) }
+/// How long clients may take, and whether they make room.
+fn patience_text(alloc: Global, settings: &Settings) -> Result<String, AllocError>
+    ensures { IfOk result (λ text. string_bytes text ≡ patience_text settings.now) }
 {
     let Settings { idle, wait, .. } = *settings;
     let login = settings.login_seconds;
-    let full = settings.full_house_seconds;
+    let room = yes_or_no(settings.make_room);
     let text = format!(in alloc;
-        " idle={idle} wait={wait} login-seconds={login} full-house-seconds={full}"
+        " idle={idle} wait={wait} login-seconds={login} make-room={room}"
     )?;
     Ok(text)
 }
@@ -106,9 +106,9 @@ pub fn settings_text(alloc: Global, settings: &Settings) -> Result<String, Alloc
 {
     let proved = yes_or_no(settings.is_proved);
     let removals = when_word(settings.removals);
-    let seconds = seconds_text(alloc, settings)?;
+    let patience = patience_text(alloc, settings)?;
     let flags = flags_text(alloc, settings)?;
     let admin = admin_text(alloc, settings)?;
-    let text = format!(in alloc; " proved={proved} removals={removals}{seconds}{flags}{admin}")?;
+    let text = format!(in alloc; " proved={proved} removals={removals}{patience}{flags}{admin}")?;
     Ok(text)
 }

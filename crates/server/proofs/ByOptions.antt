@@ -5,7 +5,7 @@ use Rattle.std.specs.List.{list_any}
 use Rattle.std.proofs.lemmas.List.Folds.{list_any-append}
 use Rattle.serving.specs.HttpTurns.{AreFew, AreShort}
 use Rattle.serving.specs.Running.{answers, HasRun, HasGoneOn}
-use Rattle.serving.specs.Settings.{settings, settings_of, none_set, with_wait, with_login_seconds, with_full_house_seconds, with_slow_guesses}
+use Rattle.serving.specs.Settings.{settings, settings_of, none_set, with_wait, with_login_seconds, with_make_room, with_slow_guesses}
 use Rattle.serving.specs.declared.links.Links.{Links}
 use Rattle.serving.specs.declared.listener.Listener as a_listener
 use Rattle.serving.specs.declared.spool.Spool as a_spool
@@ -20,18 +20,17 @@ use Rattle.arguments.specs.declared.options.ServeOptions.{ServeOptions}
 -- ---- the options
 
 -- links that began with none, and that each option has set
-pub set_so : (options : ServeOptions) (wait login full : ℕ) (l0 l1 l2 l3 l4 l5 : Links) → wait ≡ options.wait → login ≡ options.login_seconds → full ≡ options.full_house_seconds
+pub set_so : (options : ServeOptions) (wait login : ℕ) (l0 l1 l2 l3 l4 l5 : Links) → wait ≡ options.wait → login ≡ options.login_seconds
     → settings l0 ≡ none_set → settings l1 ≡ with_wait (min wait 60) (settings l0) → settings l2 ≡ with_login_seconds (min login 600) (settings l1)
-    → settings l3 ≡ with_full_house_seconds (min full 600) (settings l2) → settings l4 ≡ with_slow_guesses options.slow_guesses (settings l3) → l5.clients ≡ l4.clients
+    → settings l3 ≡ with_make_room options.make_room (settings l2) → settings l4 ≡ with_slow_guesses options.slow_guesses (settings l3) → l5.clients ≡ l4.clients
     → settings l5 ≡ settings_by options
-set_so options wait login full l0 l1 l2 l3 l4 l5 is_wait is_login is_full e0 e1 e2 e3 e4 same =
+set_so options wait login l0 l1 l2 l3 l4 l5 is_wait is_login e0 e1 e2 e3 e4 same =
     ap settings_of same
     ∙ (e4
     ∙ (ap (λ s. with_slow_guesses options.slow_guesses s) (e3
-    ∙ (ap (λ s. with_full_house_seconds (min full 600) s) (e2 ∙ ap (λ s. with_login_seconds (min login 600) s) (e1 ∙ ap (λ s. with_wait (min wait 60) s) e0))
-    ∙ (ap (λ n. with_full_house_seconds (min n 600) (with_login_seconds (min login 600) (with_wait (min wait 60) none_set))) is_full
-    ∙ (ap (λ n. with_full_house_seconds (min options.full_house_seconds 600) (with_login_seconds (min n 600) (with_wait (min wait 60) none_set))) is_login
-    ∙ ap (λ n. with_full_house_seconds (min options.full_house_seconds 600) (with_login_seconds (min options.login_seconds 600) (with_wait (min n 60) none_set))) is_wait))))))
+    ∙ (ap (λ s. with_make_room options.make_room s) (e2 ∙ ap (λ s. with_login_seconds (min login 600) s) (e1 ∙ ap (λ s. with_wait (min wait 60) s) e0))
+    ∙ (ap (λ n. with_make_room options.make_room (with_login_seconds (min n 600) (with_wait (min wait 60) none_set))) is_login
+    ∙ ap (λ n. with_make_room options.make_room (with_login_seconds (min options.login_seconds 600) (with_wait (min n 60) none_set))) is_wait)))))
 
 -- they are set by the options, if they keep the administration's links
 pub set_by : (options : ServeOptions) (l0 l5 : Links) → settings l5 ≡ settings_by options → site_by options.admin_site ≡ Ok l5.site → l5.requests ≡ l0.requests

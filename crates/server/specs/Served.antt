@@ -48,7 +48,7 @@ abbrev pub settings_by : ServeOptions → Settings
 settings_by options = record {
   wait = min options.wait 60;
   login_seconds = min options.login_seconds 600;
-  full_house_seconds = min options.full_house_seconds 600;
+  make_room = options.make_room;
   slow_guesses = options.slow_guesses;
 }
 

@@ -34,7 +34,7 @@ pub fn start_settings(options: &ServeOptions<'_>) -> Result<Settings, Fault>
         idle: options.idle,
         wait: options.wait,
         login_seconds: options.login_seconds,
-        full_house_seconds: options.full_house_seconds,
+        make_room: options.make_room,
         slow_guesses: options.slow_guesses,
         proxy_protocol: options.proxy_protocol,
         message_ids: options.message_ids,

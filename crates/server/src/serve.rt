@@ -409,7 +409,7 @@ fn set_links(links: &mut Links, options: &ServeOptions<'_>) -> Result<(), Fault>
     let site = admin_site(options)?;
     links.set_wait(u64::from(options.wait));
     links.set_login_seconds(u64::from(options.login_seconds));
-    links.set_full_house_seconds(u64::from(options.full_house_seconds));
+    links.set_make_room(options.make_room);
     links.set_slow_guesses(options.slow_guesses);
     links.set_site(site);
     Ok(())

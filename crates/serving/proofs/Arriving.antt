@@ -1,12 +1,12 @@
 -- Links that come, one after the other, and those that are closed.
 use Rattle.vault.specs.declared.vault.Vault.{Ghosts}
 use Rattle.std.proofs.Common.{◌≡◌, ℕ, zero, suc, ◌+◌, ◌<◌, ◌≤◌, Bool, true, false, not, ◌||◌, List, [], ◌∷◌, ◌++◌, length, take, drop, map, get_or, refl, sym, ◌∙◌, ap, arith, Some}
-use Rattle.std.proofs.Common.{None, ⊎_elim, inl, inr, subst, append_assoc, length-append}
+use Rattle.std.proofs.Common.{None, Option, ⊎_elim, inl, inr, subst, append_assoc, length-append}
 use Rattle.std.specs.Bool.{if◌then◌else◌}
 use Rattle.std.specs.List.{list_any, filter, filter_map, remove}
 use Rattle.std.proofs.lemmas.Bool.{cases_Bool}
 use Rattle.std.proofs.lemmas.List.{append-nil, map-append}
-use Rattle.std.proofs.lemmas.List.Elements.{All-nil, All-cons, All-append, filter_map-append}
+use Rattle.std.proofs.lemmas.List.Elements.{filter_map-append}
 use Rattle.office.specs.History.{Done, Failed, NoMemory}
 use Rattle.office.specs.Events.{EventTag, Tagged, Ignored, Log, Trace}
 use Rattle.office.specs.Events as event
@@ -20,12 +20,15 @@ use Rattle.serving.specs.declared.wire.Port.TheVariants.{Pop}
 use Rattle.serving.specs.Calls.{Call, Accepted, Closed}
 use Rattle.serving.specs.declared.links.Seat.{Seat}
 use Rattle.serving.specs.Wires.{opened_by}
-use Rattle.serving.specs.Works.{is_admin, wait_of, arrival_of, closing_of, none_waited, tells_none, moment_of, is_opening, refusals, is_refusal, HasCause, Came, Seated, TurnedAway}
+use Rattle.serving.specs.Works.{is_admin, waits, wait_of, arrivals, arrival_of, closings, closing_of, none_waited, tells_none, moment_of, is_opening, refusals, is_refusal, Came, Seated, TurnedAway}
 use Rattle.serving.specs.Works.{seat_of, unseated_of, link_of, is_open_seat, is_shut_seat, has_moved}
-use Rattle.serving.specs.ClientParts.{is_client_write, IsOpening, HaveCome, AreAccepted, closing, IsClosed, AreClosed}
+use Rattle.serving.specs.ClientParts.{is_client_write, HaveCome, AreAccepted, HasMadeRoom, closing, IsClosed, AreClosed}
+use Rattle.serving.specs.Room.{HaveRoom, NoneCame}
+use Rattle.std.specs.declared.net.ip_addr.IpAddr.{IpAddr}
+use Rattle.serving.proofs.Rooms.{gone_quiet, opened_after, refused_after, room_one, room_then}
 use Rattle.serving.specs.Parts.{WasGiven}
 use Rattle.serving.proofs.Accepting.{IsRefusal}
-use Rattle.serving.proofs.Working.{none_joined, count_joined, any_right, none_of, caused_then}
+use Rattle.serving.proofs.Working.{none_joined, count_joined, any_right, none_of}
 
 -- ---- one link
 
@@ -46,97 +49,83 @@ refusal_so (Tagged NoMemory) r = refl
 joined : {A : Type 0} (a b c d : List A) → a ≡ c → b ≡ d → a ++ b ≡ c ++ d
 joined a b c d p q = cc
 
-module _ {V : Type 0} (vault : Ghosts V) where
-  pub come_none : (o : Office V) (seats : List Seat) → HaveCome vault.holds vault.is_clean o o seats seats [] [] []
-  come_none o seats = record {
+module _ {V : Type 0} (vault : Ghosts V) (make_room : Bool) where
+  come_none : (o : Office V) (seats : List Seat) (calls : List Call) → waits calls ≡ [] → arrivals calls ≡ [] → closings calls ≡ []
+      → list_any is_admin calls ≡ false → list_any is_client_write calls ≡ false → HaveCome vault.holds vault.is_clean o o make_room seats seats [] [] calls
+  come_none o seats calls waited arrived closed apart unwritten = record {
     no_moments = refl;
-    no_waits = refl;
-    arrived = refl;
+    no_waits = waited;
+    arrived = arrived;
     opened = refl;
     refused = λ T s k. refl;
-    closed = refl;
+    closed = closed;
     seated = sym (append-nil seats);
-    apart = refl;
-    unwritten = refl;
-    only = All-nil IsOpening;
-    caused = All-nil (HasCause [] []);
+    apart = apart;
+    unwritten = unwritten;
+    room = λ B L s k. NoneCame;
   }
 
-  pub accepted_full : (o : Office V) (seats : List Seat) → length seats ≡ 128 → AreAccepted vault.holds vault.is_clean o o seats seats 1 false [] []
-  accepted_full o seats full = record { came = []; come = come_none o seats; enough = λ e. cc; few = omega arith; all = λ e. inr full }
+  pub accepted_full : (o : Office V) (seats : List Seat) → length seats ≡ 128 → AreAccepted vault.holds vault.is_clean o o make_room seats seats 1 false [] []
+  accepted_full o seats full = record { came = []; come = come_none o seats [] refl refl refl refl refl; enough = λ e. cc; few = omega arith; all = λ e. inr full }
 
-  pub accepted_none : (o : Office V) (seats : List Seat) → AreAccepted vault.holds vault.is_clean o o seats seats 1 false [] (Accepted Pop None ∷ [])
-  accepted_none o seats = record {
-    came = [];
-    come = record {
-      no_moments = refl;
-      no_waits = refl;
-      arrived = refl;
-      opened = refl;
-      refused = λ T s k. refl;
-      closed = refl;
-      seated = sym (append-nil seats);
-      apart = refl;
-      unwritten = refl;
-      only = All-nil IsOpening;
-      caused = All-nil (HasCause [] (Accepted Pop None ∷ []));
-    };
-    enough = λ e. cc;
-    few = omega arith;
-    all = λ e. inl refl;
-  }
+  pub accepted_none : (o : Office V) (seats : List Seat) → AreAccepted vault.holds vault.is_clean o o make_room seats seats 1 false [] (Accepted Pop None ∷ [])
+  accepted_none o seats = record { came = []; come = come_none o seats (Accepted Pop None ∷ []) refl refl refl refl refl; enough = λ e. cc; few = omega arith; all = λ e. inl refl }
 
-  pub accepted_seated : (o o1 : Office V) (seats seats_then : List Seat) (link : Link) (c : ℕ) (m : EventTag) → m ≡ Tagged Done → seats_then ≡ seats ++ record { link = link; connection = c } ∷ []
-      → AreAccepted vault.holds vault.is_clean o o1 seats seats_then 1 true ((event.Connect, m) ∷ []) (Accepted Pop (Some link) ∷ [])
-  accepted_seated o o1 seats seats_then link c m e is = record {
-    came = Seated (record { link = link; connection = c }) ∷ [];
-    come = record {
-      no_moments = refl;
-      no_waits = refl;
-      arrived = refl;
-      opened = refl;
-      refused = λ T s k. ap (λ x. refusals ((event.Connect, x) ∷ [])) e;
-      closed = refl;
-      seated = is;
-      apart = refl;
-      unwritten = refl;
-      only = All-cons IsOpening (event.Connect, m) [] tt (All-nil IsOpening);
-      caused = All-cons (HasCause [] (Accepted Pop (Some link) ∷ [])) (event.Connect, m) [] tt (All-nil (HasCause [] (Accepted Pop (Some link) ∷ [])));
-    };
-    enough = λ e. omega arith;
-    few = omega arith;
-    all = λ e. cc;
-  }
+  pub accepted_seated : (o o1 : Office V) (addresses : Link → Option IpAddr) (seats seats_then : List Seat) (link : Link) (c : ℕ) (m : EventTag) (gone : Log) → m ≡ Tagged Done
+      → seats_then ≡ seats ++ record { link = link; connection = c } ∷ [] → HasMadeRoom vault.holds o make_room addresses seats gone
+      → AreAccepted vault.holds vault.is_clean o o1 make_room seats seats_then 1 true ((event.Connect, m) ∷ gone) (Accepted Pop (Some link) ∷ [])
+  accepted_seated o o1 addresses seats seats_then link c m gone e is made =
+      let quiet = gone_quiet made.who gone made.gone in
+      let last = Seated (record { link = link; connection = c }) in
+      record {
+        came = last ∷ [];
+        come = record {
+          no_moments = quiet.2;
+          no_waits = refl;
+          arrived = refl;
+          opened = opened_after m gone quiet.0;
+          refused = λ T s k. refused_after m gone 0 (ap (λ x. refusals ((event.Connect, x) ∷ [])) e) quiet.1;
+          closed = refl;
+          seated = is;
+          apart = refl;
+          unwritten = refl;
+          room = λ B L s k. room_one make_room B L seats addresses made.who last gone m (made.gives (trace_of B L) s) made.gone;
+        };
+        enough = λ e. omega arith;
+        few = omega arith;
+        all = λ e. cc;
+      }
 
-  pub accepted_unseated : (o o1 : Office V) (seats : List Seat) (link : Link) (m : EventTag)
-      → ((T : Trace) → StandsFor vault.holds o T → vault.is_clean (vault_of o1) → is_refusal (event.Connect, m) ≡ true)
-      → AreAccepted vault.holds vault.is_clean o o1 seats seats 1 true ((event.Connect, m) ∷ []) (Accepted Pop (Some link) ∷ Closed Pop link ∷ [])
-  accepted_unseated o o1 seats link m r = record {
-    came = TurnedAway link ∷ [];
-    come = record {
-      no_moments = refl;
-      no_waits = refl;
-      arrived = refl;
-      opened = refl;
-      refused = λ T s k. (let e = r T s k in rw e refl);
-      closed = refl;
-      seated = sym (append-nil seats);
-      apart = refl;
-      unwritten = refl;
-      only = All-cons IsOpening (event.Connect, m) [] tt (All-nil IsOpening);
-      caused = All-cons (HasCause [] (Accepted Pop (Some link) ∷ Closed Pop link ∷ [])) (event.Connect, m) [] tt (All-nil (HasCause [] (Accepted Pop (Some link) ∷ Closed Pop link ∷ [])));
-    };
-    enough = λ e. omega arith;
-    few = omega arith;
-    all = λ e. cc;
-  }
+  pub accepted_unseated : (o o1 : Office V) (addresses : Link → Option IpAddr) (seats : List Seat) (link : Link) (m : EventTag) (gone : Log)
+      → ((T : Trace) → StandsFor vault.holds o T → vault.is_clean (vault_of o1) → is_refusal (event.Connect, m) ≡ true) → HasMadeRoom vault.holds o make_room addresses seats gone
+      → AreAccepted vault.holds vault.is_clean o o1 make_room seats seats 1 true ((event.Connect, m) ∷ gone) (Accepted Pop (Some link) ∷ Closed Pop link ∷ [])
+  accepted_unseated o o1 addresses seats link m gone r made =
+      let quiet = gone_quiet made.who gone made.gone in
+      record {
+        came = TurnedAway link ∷ [];
+        come = record {
+          no_moments = quiet.2;
+          no_waits = refl;
+          arrived = refl;
+          opened = opened_after m gone quiet.0;
+          refused = λ T s k. refused_after m gone 1 (let e = r T s k in rw e refl) quiet.1;
+          closed = refl;
+          seated = sym (append-nil seats);
+          apart = refl;
+          unwritten = refl;
+          room = λ B L s k. room_one make_room B L seats addresses made.who (TurnedAway link) gone m (made.gives (trace_of B L) s) made.gone;
+        };
+        enough = λ e. omega arith;
+        few = omega arith;
+        all = λ e. cc;
+      }
 
   -- ---- one after the other
 
   come_then : (o o1 o2 : Office V) (seats seats1 seats2 : List Seat) (came1 came2 : List Came) (g1 g2 : Log) (c1 c2 : List Call)
       → WasGiven vault o o1 g1 → WasGiven vault o1 o2 g2
-      → HaveCome vault.holds vault.is_clean o o1 seats seats1 came1 g1 c1 → HaveCome vault.holds vault.is_clean o1 o2 seats1 seats2 came2 g2 c2
-      → HaveCome vault.holds vault.is_clean o o2 seats seats2 (came1 ++ came2) (g2 ++ g1) (c1 ++ c2)
+      → HaveCome vault.holds vault.is_clean o o1 make_room seats seats1 came1 g1 c1 → HaveCome vault.holds vault.is_clean o1 o2 make_room seats1 seats2 came2 g2 c2
+      → HaveCome vault.holds vault.is_clean o o2 make_room seats seats2 (came1 ++ came2) (g2 ++ g1) (c1 ++ c2)
   come_then o o1 o2 seats seats1 seats2 came1 came2 g1 g2 c1 c2 wa wb a b = record {
     no_moments = none_joined moment_of g2 g1 b.no_moments a.no_moments;
     no_waits = none_joined wait_of c1 c2 a.no_waits b.no_waits;
@@ -154,17 +143,19 @@ module _ {V : Type 0} (vault : Ghosts V) where
         ∙ (append_assoc seats (filter_map seat_of came1) (filter_map seat_of came2) ∙ ap (λ xs. seats ++ xs) (sym (filter_map-append seat_of came1 came2))));
     apart = none_of is_admin c1 c2 a.apart b.apart;
     unwritten = none_of is_client_write c1 c2 a.unwritten b.unwritten;
-    only = All-append IsOpening g2 g1 b.only a.only;
-    caused = caused_then [] g1 g2 c1 c2 a.caused b.caused;
+    room = λ B L s k.
+        (let s1 = wa.stands B L s (wb.clean k) in
+        room_then make_room B L seats came1 g1 (a.room B L s (wb.clean k)) came2 g2
+        (subst (λ xs. HaveRoom make_room B (g1 ++ L) xs came2 g2) a.seated (b.room B (g1 ++ L) s1 k)));
   }
 
-  pub accepting_none : (o : Office V) (seats : List Seat) → AreAccepted vault.holds vault.is_clean o o seats seats 0 true [] []
-  accepting_none o seats = record { came = []; come = come_none o seats; enough = λ e. omega arith; few = omega arith; all = λ e. cc }
+  pub accepting_none : (o : Office V) (seats : List Seat) → AreAccepted vault.holds vault.is_clean o o make_room seats seats 0 true [] []
+  accepting_none o seats = record { came = []; come = come_none o seats [] refl refl refl refl refl; enough = λ e. omega arith; few = omega arith; all = λ e. cc }
 
   pub accepted_then : (o o1 o2 : Office V) (seats seats1 seats2 : List Seat) (n : ℕ) (goes : Bool) (g1 g2 : Log) (c1 c2 : List Call)
       → WasGiven vault o o1 g1 → WasGiven vault o1 o2 g2
-      → AreAccepted vault.holds vault.is_clean o o1 seats seats1 n true g1 c1 → AreAccepted vault.holds vault.is_clean o1 o2 seats1 seats2 1 goes g2 c2
-      → AreAccepted vault.holds vault.is_clean o o2 seats seats2 (n + 1) goes (g2 ++ g1) (c1 ++ c2)
+      → AreAccepted vault.holds vault.is_clean o o1 make_room seats seats1 n true g1 c1 → AreAccepted vault.holds vault.is_clean o1 o2 make_room seats1 seats2 1 goes g2 c2
+      → AreAccepted vault.holds vault.is_clean o o2 make_room seats seats2 (n + 1) goes (g2 ++ g1) (c1 ++ c2)
   accepted_then o o1 o2 seats seats1 seats2 n goes g1 g2 c1 c2 wa wb a b = record {
     came = a.came ++ b.came;
     come = come_then o o1 o2 seats seats1 seats2 a.came b.came g1 g2 c1 c2 wa wb a.come b.come;
@@ -178,11 +169,11 @@ module _ {V : Type 0} (vault : Ghosts V) where
   }
 
   pub accepted_ended : (o o1 : Office V) (seats seats1 : List Seat) (n most : ℕ) (g : Log) (c : List Call) → n ≤ most
-      → AreAccepted vault.holds vault.is_clean o o1 seats seats1 n false g c → AreAccepted vault.holds vault.is_clean o o1 seats seats1 most false g c
+      → AreAccepted vault.holds vault.is_clean o o1 make_room seats seats1 n false g c → AreAccepted vault.holds vault.is_clean o o1 make_room seats seats1 most false g c
   accepted_ended o o1 seats seats1 n most g c less a = record { came = a.came; come = a.come; enough = λ e. cc; few = (let p = a.few in omega (arith, p, less)); all = a.all }
 
   pub accepted_all : (o o1 : Office V) (seats seats1 : List Seat) (n most : ℕ) (g : Log) (c : List Call) → n ≤ most → most ≤ n
-      → AreAccepted vault.holds vault.is_clean o o1 seats seats1 n true g c → AreAccepted vault.holds vault.is_clean o o1 seats seats1 most true g c
+      → AreAccepted vault.holds vault.is_clean o o1 make_room seats seats1 n true g c → AreAccepted vault.holds vault.is_clean o o1 make_room seats seats1 most true g c
   accepted_all o o1 seats seats1 n most g c less h a = record {
     came = a.came;
     come = a.come;

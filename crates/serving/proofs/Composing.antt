@@ -1,5 +1,5 @@
 -- What parts of a turn keep of what serving holds, one after the other; and what they do to a server.
-use Rattle.std.proofs.Common.{◌≡◌, ◌≤◌, ℕ, Bool, List, [], ◌∷◌, ◌++◌, refl, sym, subst, ◌∙◌}
+use Rattle.std.proofs.Common.{◌≡◌, ◌≤◌, ℕ, ◌+◌, Bool, true, List, [], ◌∷◌, ◌++◌, refl, sym, subst, ap, ◌∙◌}
 use Rattle.vault.specs.Changes.{Contents}
 use Rattle.vault.specs.declared.vault.Vault.{Ghosts}
 use Rattle.office.specs.Accounts.{account_of}
@@ -16,21 +16,25 @@ use Rattle.serving.specs.declared.server.Server.{Server}
 use Rattle.serving.specs.declared.wire.Wire as the_wire
 use Rattle.serving.specs.declared.listener.Listener as the_listener
 use Rattle.serving.specs.declared.links.Clients.{Clients}
-use Rattle.serving.specs.Settings.{Settings}
-use Rattle.serving.specs.Parts.{Keeps, KeepsSeats, Ends, Closes, Does, Asks, WasGiven}
-use Rattle.serving.proofs.Hearing.{unheard, heard_then, heard_one}
+use Rattle.serving.specs.declared.links.Seat.{Seat}
+use Rattle.serving.specs.Settings.{Settings, settings_of}
+use Rattle.serving.specs.Parts.{Keeps, KeepsSeats, Ends, Closes, Does, Asks, Accepts, WasGiven}
+use Rattle.serving.specs.ClientParts.{AreAccepted}
+use Rattle.serving.proofs.Arriving.{accepted_then}
+use Rattle.serving.proofs.Hearing.{unheard, heard_then, heard_one, hears_ends}
+use Rattle.office.specs.declared.account.End.TheVariants.{FullHouse}
 use Rattle.serving.proofs.Late.{late_same, late_then}
 use Rattle.serving.proofs.Working.{asked_none, asked_one, asking_then, given_none, given_one, part_none, part_so, part_then}
 
 -- the settings stay where these do
-abbrev made : (wait seconds full : ℕ) (slow : Bool) → Settings
-made wait seconds full slow = record { wait = wait; login_seconds = seconds; full_house_seconds = full; slow_guesses = slow }
+abbrev made : (wait seconds : ℕ) (make_room slow : Bool) → Settings
+made wait seconds make_room slow = record { wait = wait; login_seconds = seconds; make_room = make_room; slow_guesses = slow }
 
-pub set_same : (wait seconds seconds_then full full_then : ℕ) (slow : Bool) → seconds_then ≡ seconds → full_then ≡ full → made wait seconds_then full_then slow ≡ made wait seconds full slow
-set_same wait seconds seconds_then full full_then slow a b = rw (a, b) refl
+pub set_same : (wait seconds seconds_then : ℕ) (make_room slow : Bool) → seconds_then ≡ seconds → made wait seconds_then make_room slow ≡ made wait seconds make_room slow
+set_same wait seconds seconds_then make_room slow e = rw e refl
 
-pub set_slow : (wait seconds full : ℕ) (slow slow_then : Bool) → slow_then ≡ slow → made wait seconds full slow_then ≡ made wait seconds full slow
-set_slow wait seconds full slow slow_then e = rw e refl
+pub set_slow : (wait seconds : ℕ) (make_room slow slow_then : Bool) → slow_then ≡ slow → made wait seconds make_room slow_then ≡ made wait seconds make_room slow
+set_slow wait seconds make_room slow slow_then e = rw e refl
 
 pub keeps_none : (a : Clients) → Keeps a a
 keeps_none a = record { set = refl; last = refl; polled = λ e. e; pacing = λ h. h }
@@ -82,6 +86,21 @@ module _ {V W L : Type 0} (vault : Ghosts V) (wire : the_wire.Ghosts W) (listene
       )) a b
 
   -- the same, of which something else holds
+  -- one link more is accepted
+  pub accepts_then : (a : Clients) (s s1 s2 : Server V W L) (seats : List Seat) (b : Clients) (seats2 : List Seat) (n : ℕ) (has_more goes : Bool) → settings_of b ≡ settings_of a → has_more ≡ goes
+      → Accepts vault wire listener s s1 (AreAccepted vault.holds vault.is_clean s.office s1.office a.make_room seats b.seats.items n true)
+      → Accepts vault wire listener s1 s2 (AreAccepted vault.holds vault.is_clean s1.office s2.office b.make_room b.seats.items seats2 1 has_more)
+      → Accepts vault wire listener s s2 (AreAccepted vault.holds vault.is_clean s.office s2.office a.make_room seats seats2 (n + 1) goes)
+  accepts_then a s s1 s2 seats b seats2 n has_more goes set is x y =
+      let once = subst (λ t. Accepts vault wire listener s1 s2 (AreAccepted vault.holds vault.is_clean s1.office s2.office b.make_room b.seats.items seats2 1 t)) is y in
+      let next = subst (λ r. Accepts vault wire listener s1 s2 (AreAccepted vault.holds vault.is_clean s1.office s2.office r b.seats.items seats2 1 goes))
+      (ap (λ (t : Settings). t.make_room) set) once in
+      part_then vault wire.asked s.office s1.office s2.office s.wire s1.wire s2.wire _ _ _
+      (λ g1 g2 c1 c2 wa wb p q. (
+        hears_ends listener.heard FullHouse s.listener s1.listener s2.listener g1 g2 p.0 q.0,
+        accepted_then vault a.make_room s.office s1.office s2.office seats b.seats.items seats2 n goes g1 g2 c1 c2 wa wb p.1 q.1,
+      )) x next
+
   pub does_so : (s s1 : Server V W L) (F G : Log → List Call → Type 0)
       → ((g : Log) (c : List Call) → WasGiven vault s.office s1.office g → F g c → G g c)
       → Does vault wire listener s s1 F → Does vault wire listener s s1 G

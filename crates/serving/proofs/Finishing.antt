@@ -30,7 +30,8 @@ use Rattle.serving.specs.HttpWorks.{HasAcceptedForAdmin, HadHttpTurns}
 use Rattle.serving.specs.declared.requests.Exchange.{Exchange}
 use Rattle.serving.specs.Settings.{settings, last_tried}
 use Rattle.serving.specs.SpoolTurns.{IsSpoolTurn, has_dealt, SpoolPart}
-use Rattle.serving.specs.Hearing.{Hearing, HasHeard, WithHeard, HeardApart, idle_ends, heard_of_all, late_ends}
+use Rattle.serving.specs.Hearing.{Hearing, HasHeard, WithHeard, HeardApart, idle_ends, heard_of_all, ends_by}
+use Rattle.office.specs.declared.account.End.TheVariants.{FullHouse, TooLate}
 use Rattle.serving.specs.Turns.{millis_of, HadItsTurn, Works}
 use Rattle.serving.proofs.Staying.{Fewer, deposit_same}
 use Rattle.serving.proofs.Resting.{rests_so, waits_then, not_true, is_left, or_neither}
@@ -38,7 +39,7 @@ use Rattle.serving.proofs.Arriving.{shut_moved}
 use Rattle.serving.proofs.Hearing.{hears_then, turn_heard}
 use Rattle.serving.proofs.Turns.{served_so}
 use Rattle.serving.proofs.Offering.{none_offered, offered_left, offered_right, unwritten_turns, unwritten_accepted, unwritten_closings}
-use Rattle.serving.specs.Newcomers.{newcomer, limit, lies_unread, waited_of, AllHaveSeats, IsSettled, CountsFrom, IsComer}
+use Rattle.serving.specs.Newcomers.{newcomer, lies_unread, waited_of, AllHaveSeats, IsSettled, CountsFrom, IsComer}
 use Rattle.serving.specs.Late.{HasLived, IsNotedSince, HasEndedLate}
 use Rattle.serving.proofs.Timely.{lived_left, lived_right}
 use Rattle.serving.proofs.Settling.{late_still, may_same}
@@ -144,11 +145,11 @@ module _ (cp ca cq cl cr cx : List Call) where
   seen_fifth : (p : Call → Bool) → list_any p cr ≡ true → list_any p (((((cp ++ ca) ++ cq) ++ cl) ++ cr) ++ cx) ≡ true
   seen_fifth p h = any_left p ((((cp ++ ca) ++ cq) ++ cl) ++ cr) cx (any_right p (((cp ++ ca) ++ cq) ++ cl) cr h)
 
-accepted_so : {V : Type 0} (vault : Ghosts V) (o o1 : Office V) (seats seats1 : List Seat) (goes : Bool) (g : Log) (c all : List Call)
-    → (list_any tells_none c ≡ true → list_any tells_none all ≡ true) → (a : AreAccepted vault.holds vault.is_clean o o1 seats seats1 64 goes g c)
+accepted_so : {V : Type 0} (vault : Ghosts V) (o o1 : Office V) (make_room : Bool) (seats seats1 : List Seat) (goes : Bool) (g : Log) (c all : List Call)
+    → (list_any tells_none c ≡ true → list_any tells_none all ≡ true) → (a : AreAccepted vault.holds vault.is_clean o o1 make_room seats seats1 64 goes g c)
     → HasAccepted (length seats1) all ⊎ (most_links ≤ length a.came)
-accepted_so vault o o1 seats seats1 true g c all more a = inr (a.enough refl)
-accepted_so vault o o1 seats seats1 false g c all more a =
+accepted_so vault o o1 make_room seats seats1 true g c all more a = inr (a.enough refl)
+accepted_so vault o o1 make_room seats seats1 false g c all more a =
     ⊎_elim
     (λ (none : none_waited c ≡ true). inl (inl (more none)))
     (λ (full : length seats1 ≡ 128). inl (inr full))
@@ -165,9 +166,9 @@ module _ {V W S H : Type 0} (vault : Ghosts V) (Asked : W → List Call → Type
       (l l1 l2 l3 l4 l5 : H) (seats2 : List Seat) (goes : Bool) (held : List Exchange) (more lock_released is_preparing polling polled : Bool) (n0 n1 n2 : List Newcomer)
       → Part vault Asked o w o1 w1 (IsPassed (Waited (millis_of links) ∷ []) now)
       → ((U : Trace) → StandsFor vault.holds o1 U → HasHeard Heard l l1 (idle_ends U links.clients.seats.items))
-      → (acc : Part vault Asked o1 w1 o2 w2 (AreAccepted vault.holds vault.is_clean o1 o2 links.clients.seats.items seats2 64 goes))
+      → (acc : Part vault Asked o1 w1 o2 w2
+      (λ g c. HasHeard Heard l1 l2 (ends_by FullHouse g) × AreAccepted vault.holds vault.is_clean o1 o2 links.clients.make_room links.clients.seats.items seats2 64 goes g c))
       → Asking Asked w2 w3 (AskedApart (HasAcceptedForAdmin now 64 more links.requests.exchanges.items held))
-      → HasHeard Heard l1 l2 []
       → Part vault Asked o2 w3 o3 w4
       (WithHeard vault.holds vault.is_clean Heard o2 l2 o3 l3
       (Also (WereServed vault.holds vault.is_clean o2 o3 (settings links) now n0 lock_released is_preparing polling n1 seats2 seats2) (PollsBy (is_preparing || lock_released) polling)))
@@ -177,10 +178,10 @@ module _ {V W S H : Type 0} (vault : Ghosts V) (Asked : W → List Call → Type
       (PollsBy false links_then.requests.poll_now))
       → ((c : ℕ) → waited_of now (newcomer c n0) ≡ waited_of now (newcomer c links.clients.newcomers.newcomers.items))
       → ((c : ℕ) (n : Newcomer) → newcomer c links.clients.newcomers.newcomers.items ≡ Some n → IsSettled now (Some n) (newcomer c n1))
-      → (AllHaveSeats links → All (IsComer now links.clients.newcomers.newcomers.items n1) (filter_map seat_of acc.facts.came))
+      → (AllHaveSeats links → All (IsComer now links.clients.newcomers.newcomers.items n1) (filter_map seat_of acc.facts.1.came))
       → Giving vault o4 o5
-      (λ g. AreLateGone now (limit links (length seats2)) links.clients.newcomers.newcomers.items g × HasEndedLate vault.holds vault.is_clean o4 o5 now (limit links (length seats2)) n1 n2 seats2 g
-      × HasHeard Heard l4 l5 (late_ends now links.clients.newcomers.seconds links.clients.newcomers.newcomers.items g))
+      (λ g. AreLateGone now links.clients.newcomers.seconds links.clients.newcomers.newcomers.items g
+      × HasEndedLate vault.holds vault.is_clean o4 o5 now links.clients.newcomers.seconds n1 n2 seats2 g × HasHeard Heard l4 l5 (ends_by TooLate g))
       → ((U : Trace) → StandsFor vault.holds o5 U → (c : ℕ) → is_open U c ≡ true → newcomer c links_then.clients.newcomers.newcomers.items ≡ newcomer c n2)
       → ((U : Trace) → StandsFor vault.holds o5 U
       → Asking Asked w5 w6 (λ calls. AreClosed U seats2 links_then.clients.seats.items calls × PollsBy polling polled calls × PollsAfterClosing links.clients.wait polled calls))
@@ -189,10 +190,10 @@ module _ {V W S H : Type 0} (vault : Ghosts V) (Asked : W → List Call → Type
       → StandsFor vault.holds o T → vault.is_clean (vault_of o6)
       → (turn : Works vault Asked AskedFiles Heard T now links o w f l o6 links_then w6 f1 l5) × (turn.seen.is_preparing ≡ is_preparing)
   turn_done T now links links_then o o1 o2 o3 o4 o5 o6 w w1 w2 w3 w4 w5 w6 f f1 l l1 l2 l3 l4 l5 seats2 goes held more lock_released is_preparing polling polled n0 n1 n2
-      pass idle acc asked unheard served releasing preparing still reqs waited keeps comers late forgets close spool s k6 =
+      pass idle acc asked served releasing preparing still reqs waited keeps comers late forgets close spool s k6 =
       let B = T.base in
       let L = T.log in
-      let seconds = limit links (length seats2) in
+      let seconds = links.clients.newcomers.seconds in
       let newcomers = links.clients.newcomers.newcomers.items in
       let millis = millis_of links in
       let way = way_by (settings links) now newcomers seats2 lock_released is_preparing (millis_of links_then == 0) in
@@ -244,12 +245,13 @@ module _ {V W S H : Type 0} (vault : Ghosts V) (Asked : W → List Call → Type
       (lies_left B L way.wait (way.may q.connection) seats2 q.connection G2 gr (((cp ++ ca) ++ cq) ++ cl) cr
       (lies_right B L way.wait (way.may q.connection) seats2 q.connection G1 gl ((cp ++ ca) ++ cq) cl (h e))))
       seats2 (had.noted_so B (G1 ++ L) s2 k3) in
-      let come = acc.facts.come in
+      let come = acc.facts.1.come in
       let idle_heard = idle_ends (trace_of B (gp ++ L)) links.clients.seats.items in
       let links_heard = heard_of_all B (G1 ++ L) gl in
       let reqs_heard = heard_of_all B (G2 ++ L) gr in
-      let late_heard = late_ends now links.clients.newcomers.seconds newcomers gz in
-      let came = acc.facts.came in
+      let late_heard = ends_by TooLate gz in
+      let rooms_heard = ends_by FullHouse ga in
+      let came = acc.facts.1.came in
       let quiet = deposits_quiet gs spool.deposits in
       let hush = late_quiet now seconds newcomers gz late.facts.0 in
       let log_is : G4 ++ L ≡ gs ++ (gz ++ (G3 ++ L)) = append_assoc gx G3 L ∙ append_assoc gs gz (G3 ++ L) in
@@ -265,7 +267,6 @@ module _ {V W S H : Type 0} (vault : Ghosts V) (Asked : W → List Call → Type
       let none : (q : Seat) → Contains [] q → Contains seats2 q = λ q h. absurd (none_contained q h) in
       let caused_r : AreCaused seats2 C5 gr = caused_more [] seats2 cr C5 gr none (λ l h. seen_fifth cp ca cq cl cr cx (is_cut_of l) h) reqs.facts.0.caused in
       let caused_l : AreCaused seats2 C5 gl = caused_more seats2 seats2 cl C5 gl (λ q h. h) cut served.facts.1.0.turns.of_seats.caused in
-      let caused_a : AreCaused seats2 C5 ga = caused_more [] seats2 ca C5 ga none (λ l h. seen_second cp ca cq cl cr cx (is_cut_of l) h) come.caused in
       let lq = served.facts.1.0.turns.of_seats.quiet in
       let rq = reqs.facts.0.quiet in
       let waits_x : waits cx ≡ [] = ap waits x.facts.0.calls_are ∙ waits_of (filter (is_shut_seat trace4) seats2) in
@@ -314,9 +315,9 @@ module _ {V W S H : Type 0} (vault : Ghosts V) (Asked : W → List Call → Type
               (asked_then Asked w w3 w4 ((cp ++ ca) ++ cq) cl
               (asked_then Asked w w2 w3 (cp ++ ca) cq (asked_then Asked w w1 w2 cp ca pass.was_asked acc.was_asked) asked.was_asked) served.was_asked) reqs.was_asked) x.was_asked;
           asked_files = spool.was_asked;
-          heard = subst (λ h. HasHeard Heard l l5 (idle_heard ++ (h ++ late_heard))) (turn_heard B L gp ga gl gr come.only)
-              (hears_then Heard l l1 l5 idle_heard ((links_heard ++ reqs_heard) ++ late_heard) (idle (trace_of B (gp ++ L)) s1)
-              (hears_then Heard l1 l2 l5 [] ((links_heard ++ reqs_heard) ++ late_heard) unheard
+          heard = subst (λ h. HasHeard Heard l l5 (idle_heard ++ (rooms_heard ++ (h ++ late_heard)))) (turn_heard B L gp ga gl gr)
+              (hears_then Heard l l1 l5 idle_heard (rooms_heard ++ ((links_heard ++ reqs_heard) ++ late_heard)) (idle (trace_of B (gp ++ L)) s1)
+              (hears_then Heard l1 l2 l5 rooms_heard ((links_heard ++ reqs_heard) ++ late_heard) acc.facts.0
               (hears_then Heard l2 l4 l5 (links_heard ++ reqs_heard) late_heard
               (hears_then Heard l2 l3 l4 links_heard reqs_heard (served.facts.0.is B (G1 ++ L) s2 k3) (reqs.facts.0.did B (G2 ++ L) s3 k4).0) late.facts.2)));
           waits = record {
@@ -331,8 +332,8 @@ module _ {V W S H : Type 0} (vault : Ghosts V) (Asked : W → List Call → Type
                 ∙ (only_last moment_of gr G2 rq.no_moments ∙ (only_last moment_of gl G1 lq.no_moments ∙ (only_last moment_of ga gp come.no_moments ∙ moments_p)));
           };
           accepts = record {
-            enough = accepted_so vault o1 o2 links.clients.seats.items seats2 goes ga ca C5 (seen_second cp ca cq cl cr cx tells_none) acc.facts;
-            few = acc.facts.few;
+            enough = accepted_so vault o1 o2 links.clients.make_room links.clients.seats.items seats2 goes ga ca C5 (seen_second cp ca cq cl cr cx tells_none) acc.facts.1;
+            few = acc.facts.1.few;
             arrived = only_first _ ((((cp ++ ca) ++ cq) ++ cl) ++ cr) cx arrivals_x
                 ∙ (seen_first cp ca cq cl cr cx arrival_of asked.facts.0.no_arrivals lq.no_arrivals rq.no_arrivals ∙ (only_last arrival_of cp ca arrivals_p ∙ come.arrived));
             opened =
@@ -359,6 +360,7 @@ module _ {V W S H : Type 0} (vault : Ghosts V) (Asked : W → List Call → Type
                 let d = rq.no_refusals in
                 let f = lq.no_refusals in
                 omega (arith, e5, e4, e3, e2, e1, a, b, z, d, f, refusals_p));
+            room = come.room B (gp ++ L) s1 k2;
             seated = come.seated;
             has_more = more;
             admin = asked.facts.1;
@@ -389,7 +391,7 @@ module _ {V W S H : Type 0} (vault : Ghosts V) (Asked : W → List Call → Type
                   awaits_left B L q G3 gx ((((cp ++ ca) ++ cq) ++ cl) ++ cr) cx
                       (awaits_left B L q G2 gr (((cp ++ ca) ++ cq) ++ cl) cr (awaits_right B L q G1 gl ((cp ++ ca) ++ cq) cl some.2)),
                 ));
-            caused = All-append (HasCause seats2 C5) gr (gl ++ ga) caused_r (All-append (HasCause seats2 C5) gl ga caused_l caused_a);
+            caused = All-append (HasCause seats2 C5) gr gl caused_r caused_l;
           };
           admin = record {
             served = (reqs.facts.0.did B (G2 ++ L) s3 k4).1;

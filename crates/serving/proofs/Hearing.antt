@@ -1,8 +1,8 @@
 -- What a listener heard of parts of a turn, one after the other, is what is heard of them all.
 use Rattle.std.proofs.Common.{◌≡◌, ℕ, suc, ◌+◌, ◌<◌, ◌≤◌, true, false, List, [], ◌∷◌, ◌++◌, length, take, get_or, map, refl, sym, ◌∙◌, ap, arith, subst, append_assoc}
-use Rattle.std.specs.List.{All, filter}
+use Rattle.std.specs.List.{filter}
 use Rattle.std.proofs.lemmas.List.{append-nil, map-append}
-use Rattle.std.proofs.lemmas.List.Elements.{All-head, All-tail, filter-append}
+use Rattle.std.proofs.lemmas.List.Elements.{filter-append}
 use Rattle.vault.specs.declared.vault.Vault.{Ghosts}
 use Rattle.vault.specs.Records.{Records}
 use Rattle.office.specs.Accounts.{account_of}
@@ -13,15 +13,14 @@ use Rattle.office.specs.Taken.{trace_of}
 use Rattle.office.specs.Stands.{StandsFor, vault_of}
 use Rattle.office.specs.declared.office.Office.{Office}
 use Rattle.office.specs.declared.account.Account.{Account}
+use Rattle.office.specs.declared.account.End.{End}
+use Rattle.office.specs.declared.account.End.TheVariants.{FullHouse}
 use Rattle.serving.specs.declared.links.Seat.{Seat}
-use Rattle.serving.specs.declared.newcomers.Newcomer.{Newcomer}
-use Rattle.serving.specs.Works.{is_open_seat, is_shut_seat, AreLateGone}
-use Rattle.serving.specs.Parts.{WasGiven, AreNoMoreLate}
-use Rattle.serving.specs.ClientParts.{IsOpening}
-use Rattle.serving.specs.Hearing.{Hearing, heard_by, heard_of, heard_of_all, late_end, late_ends, idle_end, idle_ends, HasHeard, HasHeardOf}
+use Rattle.serving.specs.Works.{is_open_seat, is_shut_seat}
+use Rattle.serving.specs.Parts.{WasGiven}
+use Rattle.serving.specs.Hearing.{Hearing, heard_by, heard_of, heard_of_all, end_by, ends_by, idle_end, idle_ends, HasHeard, HasHeardOf}
 use Rattle.serving.proofs.Seating.{whole_front}
 use Rattle.serving.proofs.Arriving.{take_next}
-use Rattle.serving.proofs.Late.{same_ends}
 
 -- ---- events
 
@@ -33,35 +32,17 @@ heard_joined B L g1 ((e, m) ∷ g2) =
     let x = heard_of (trace_of B (g2 ++ (g1 ++ L))) e m in
     ap (λ l. heard_of_all B L (g2 ++ g1) ++ heard_of (trace_of B l) e m) (append_assoc g2 g1 L) ∙ (ap (λ h. h ++ x) (heard_joined B L g1 g2) ∙ append_assoc a b x)
 
-late_joined : (now seconds : ℕ) (ns : List Newcomer) (g1 g2 : Log) → late_ends now seconds ns (g2 ++ g1) ≡ late_ends now seconds ns g1 ++ late_ends now seconds ns g2
-late_joined now seconds ns g1 [] = sym (append-nil (late_ends now seconds ns g1))
-late_joined now seconds ns g1 ((e, m) ∷ g2) =
-    let x = late_end now seconds ns e in
-    ap (λ h. h ++ x) (late_joined now seconds ns g1 g2) ∙ append_assoc (late_ends now seconds ns g1) (late_ends now seconds ns g2) x
-
--- nothing is heard of openings
-pub openings_unheard : (B : Records) (L given : Log) → All IsOpening given → heard_of_all B L given ≡ []
-openings_unheard B L [] a = refl
-openings_unheard B L ((event.Connect, m) ∷ given) a = ap (λ h. h ++ []) (openings_unheard B L given (All-tail IsOpening (event.Connect, m) given a))
-openings_unheard B L ((event.Start host boot idle, m) ∷ given) a = absurd (All-head IsOpening (event.Start host boot idle, m) given a)
-openings_unheard B L ((event.Bytes c piece, m) ∷ given) a = absurd (All-head IsOpening (event.Bytes c piece, m) given a)
-openings_unheard B L ((event.Took c n, m) ∷ given) a = absurd (All-head IsOpening (event.Took c n, m) given a)
-openings_unheard B L ((event.Gone c, m) ∷ given) a = absurd (All-head IsOpening (event.Gone c, m) given a)
-openings_unheard B L ((event.Tick now, m) ∷ given) a = absurd (All-head IsOpening (event.Tick now, m) given a)
-openings_unheard B L ((event.Deposit d class id text, m) ∷ given) a = absurd (All-head IsOpening (event.Deposit d class id text, m) given a)
-openings_unheard B L ((event.Admin command, m) ∷ given) a = absurd (All-head IsOpening (event.Admin command, m) given a)
-openings_unheard B L ((event.Restart boot, m) ∷ given) a = absurd (All-head IsOpening (event.Restart boot, m) given a)
+ends_joined : (why : End) (g1 g2 : Log) → ends_by why (g2 ++ g1) ≡ ends_by why g1 ++ ends_by why g2
+ends_joined why g1 [] = sym (append-nil (ends_by why g1))
+ends_joined why g1 ((e, m) ∷ g2) =
+    ap (λ h. h ++ end_by why e) (ends_joined why g1 g2) ∙ append_assoc (ends_by why g1) (ends_by why g2) (end_by why e)
 
 -- what is heard of the clients and the commands of a turn
-pub turn_heard : (B : Records) (L gp ga gl gr : Log) → All IsOpening ga
-    → heard_of_all B ((ga ++ gp) ++ L) gl ++ heard_of_all B ((gl ++ (ga ++ gp)) ++ L) gr ≡ heard_of_all B (gp ++ L) (gr ++ (gl ++ ga))
-turn_heard B L gp ga gl gr only =
-    let K : Log = gp ++ L in
-    let last = heard_of_all B ((gl ++ ga) ++ K) gr in
-    let none = openings_unheard B K ga only in
-    ap (λ l. heard_of_all B l gl ++ heard_of_all B ((gl ++ (ga ++ gp)) ++ L) gr) (append_assoc ga gp L)
-    ∙ (ap (λ l. heard_of_all B (ga ++ K) gl ++ heard_of_all B l gr) (ap (λ l. l ++ L) (sym (append_assoc gl ga gp)) ∙ append_assoc (gl ++ ga) gp L)
-    ∙ (ap (λ h. (h ++ heard_of_all B (ga ++ K) gl) ++ last) (sym none) ∙ (ap (λ h. h ++ last) (sym (heard_joined B K ga gl)) ∙ sym (heard_joined B K (gl ++ ga) gr))))
+pub turn_heard : (B : Records) (L gp ga gl gr : Log)
+    → heard_of_all B ((ga ++ gp) ++ L) gl ++ heard_of_all B ((gl ++ (ga ++ gp)) ++ L) gr ≡ heard_of_all B (ga ++ (gp ++ L)) (gr ++ gl)
+turn_heard B L gp ga gl gr =
+    ap (λ l. heard_of_all B ((ga ++ gp) ++ L) gl ++ heard_of_all B l gr) (append_assoc gl (ga ++ gp) L)
+    ∙ (ap (λ l. heard_of_all B l gl ++ heard_of_all B (gl ++ l) gr) (append_assoc ga gp L) ∙ sym (heard_joined B (ga ++ (gp ++ L)) gl gr))
 
 -- ---- seats
 
@@ -114,17 +95,16 @@ module _ {H : Type 0} (Heard : H → List Hearing → Type 0) where
   pub idle_whole : (l l1 : H) (T : Trace) (seats : List Seat) (n : ℕ) → length seats ≤ n → HasHeard Heard l l1 (idle_ends T (take n seats)) → HasHeard Heard l l1 (idle_ends T seats)
   idle_whole l l1 T seats n h a = subst (λ v. HasHeard Heard l l1 (idle_ends T v)) (whole_front seats n h) a
 
-  -- clients that are late
-  pub hears_late : (now seconds : ℕ) (ns : List Newcomer) (l l1 l2 : H) (g1 g2 : Log) → HasHeard Heard l l1 (late_ends now seconds ns g1) → HasHeard Heard l1 l2 (late_ends now seconds ns g2)
-      → HasHeard Heard l l2 (late_ends now seconds ns (g2 ++ g1))
-  hears_late now seconds ns l l1 l2 g1 g2 a b =
-      subst (HasHeard Heard l l2) (sym (late_joined now seconds ns g1 g2)) (hears_then l l1 l2 (late_ends now seconds ns g1) (late_ends now seconds ns g2) a b)
+  -- connections that serving ends
+  pub hears_ends : (why : End) (l l1 l2 : H) (g1 g2 : Log) → HasHeard Heard l l1 (ends_by why g1) → HasHeard Heard l1 l2 (ends_by why g2) → HasHeard Heard l l2 (ends_by why (g2 ++ g1))
+  hears_ends why l l1 l2 g1 g2 a b = subst (HasHeard Heard l l2) (sym (ends_joined why g1 g2)) (hears_then l l1 l2 (ends_by why g1) (ends_by why g2) a b)
 
-  -- the same by who was noted before
-  pub late_heard : (now seconds other other_then : ℕ) (xs ys : List Newcomer) → AreNoMoreLate now seconds xs ys → other_then ≡ other → (l l1 : H) (g : Log) → AreLateGone now seconds ys g
-      → HasHeard Heard l l1 (late_ends now other_then ys g) → HasHeard Heard l l1 (late_ends now other xs g)
-  late_heard now seconds other other_then xs ys less is l l1 g gone a =
-      subst (HasHeard Heard l l1) (ap (λ n. late_ends now n ys g) is ∙ same_ends now seconds other xs ys less g gone) a
+  -- links that came with a connection that made room: nothing else was heard
+  pub made_heard : (l l1 l2 l3 : H) (gone : Log) (m : EventTag) → ((h : List Hearing) → Heard l h → Heard l1 h) → HasHeard Heard l1 l2 (ends_by FullHouse gone)
+      → ((h : List Hearing) → Heard l2 h → Heard l3 h) → HasHeard Heard l l3 (ends_by FullHouse ((event.Connect, m) ∷ gone))
+  made_heard l l1 l2 l3 gone m first made last = record {
+    is = λ before k. subst (λ h. Heard l3 (before ++ h)) (sym (append-nil (ends_by FullHouse gone))) (last (before ++ ends_by FullHouse gone) (made.is before (first before k)));
+  }
 
   -- of what was done after a log
   pub apart_then : (l l1 l2 : H) (B : Records) (L g1 g2 : Log) → HasHeard Heard l l1 (heard_of_all B L g1)

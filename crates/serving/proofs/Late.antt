@@ -1,18 +1,13 @@
 -- Clients that are late, of those that haven't logged in.
-use Rattle.std.proofs.Common.{◌≡◌, ◌≤◌, ℕ, ◌-◌, ◌==◌, min, nat_le, Bool, true, false, not, ◌&&◌, List, [], ◌∷◌, ◌++◌, refl, sym, ◌∙◌, ap, arith, Some, None, Option, ⊎_elim, ◌⊎◌}
-use Rattle.std.proofs.Common.{inl, inr, subst, true≢false, eqb-true, eq-eqb, leb-true, if◌then◌else◌}
-use Rattle.std.proofs.lemmas.Bool.{cases_Bool, leb-false}
-use Rattle.std.proofs.Math.Nat.{min-eq_left, min_comm}
+use Rattle.std.proofs.Common.{◌≡◌, ◌≤◌, ℕ, ◌-◌, ◌==◌, nat_le, Bool, true, false, not, ◌&&◌, List, [], ◌∷◌, ◌++◌, refl, sym, ◌∙◌, ap, arith, Some, None, Option, ⊎_elim, ◌⊎◌}
+use Rattle.std.proofs.Common.{inl, inr, subst, true≢false, eqb-true, eq-eqb, leb-true}
+use Rattle.std.proofs.lemmas.Bool.{cases_Bool}
 use Rattle.serving.specs.declared.newcomers.Newcomer.{Newcomer}
-use Rattle.serving.specs.Newcomers.{newcomer, others, is_late_by, smaller_limit, is_full_house, limit_by, AreNotedNow}
-use Rattle.serving.specs.Works.{is_late, IsLateGone, AreLateGone}
+use Rattle.serving.specs.Newcomers.{newcomer, others, is_late_by, AreNotedNow}
+use Rattle.serving.specs.Works.{is_late, IsLateGone}
 use Rattle.serving.specs.Parts.{AreNoMoreLate}
-use Rattle.office.specs.Events.{Event, EventTag, Log}
+use Rattle.office.specs.Events.{Event, EventTag}
 use Rattle.office.specs.Events as event
-use Rattle.office.specs.declared.account.Account.TheVariants as account
-use Rattle.office.specs.declared.account.End.TheVariants as end
-use Rattle.std.proofs.lemmas.List.Elements.{All-head, All-tail}
-use Rattle.serving.specs.Hearing.{late_end, late_ends}
 
 -- ---- who is found
 
@@ -102,25 +97,25 @@ not_yet now seconds c e =
     true≢false (sym some ∙ ap not k)
 
 pub late_same : (now seconds : ℕ) (xs : List Newcomer) → AreNoMoreLate now seconds xs xs
-late_same now seconds xs = λ c h other. refl
+late_same now seconds xs = λ c h. h
 
 pub late_then : (now seconds : ℕ) (xs ys zs : List Newcomer) → AreNoMoreLate now seconds xs ys → AreNoMoreLate now seconds ys zs → AreNoMoreLate now seconds xs zs
-late_then now seconds xs ys zs a b = λ c h other. a c (b c h seconds ∙ h) other ∙ b c h other
+late_then now seconds xs ys zs a b = λ c h. a c (b c h)
 
 pub late_others : (now seconds d : ℕ) (xs : List Newcomer) → AreNoMoreLate now seconds xs (others d xs)
-late_others now seconds d xs = λ c h other.
+late_others now seconds d xs = λ c h.
     ⊎_elim
     (λ (e : (c == d) ≡ true).
     (let is : newcomer c (others d xs) ≡ None = subst (λ k. newcomer k (others d xs) ≡ None) (sym (eqb-true c d e)) (none_of d xs) in
     absurd (never (not (seconds == 0)) (sym (ap (late_if now seconds) is) ∙ h))))
-    (λ (e : (c == d) ≡ false). sym (ap (late_if now other) (others_of c d xs (λ f. apart c d e f))))
+    (λ (e : (c == d) ≡ false). sym (ap (late_if now seconds) (others_of c d xs (λ f. apart c d e f))) ∙ h)
     (cases_Bool (c == d))
 
 -- nobody is late by being noted at this moment
 pub late_comers : (now seconds : ℕ) (xs ys : List Newcomer) → AreNotedNow now xs ys → AreNoMoreLate now seconds xs ys
-late_comers now seconds xs ys each = λ c h other.
+late_comers now seconds xs ys each = λ c h.
     ⊎_elim
-    (λ (e : newcomer c ys ≡ newcomer c xs). sym (ap (late_if now other) e))
+    (λ (e : newcomer c ys ≡ newcomer c xs). sym (ap (late_if now seconds) e) ∙ h)
     (λ (e : newcomer c ys ≡ Some (record { connection = c; since = now; held = None })). absurd (not_yet now seconds c (sym (ap (late_if now seconds) e) ∙ h)))
     (each c)
 
@@ -134,7 +129,7 @@ late_so now seconds xs c on h = ap (λ b. not b && is_late_by now seconds (newco
 
 -- whoever is late was so before
 pub late_gone_one : (now seconds : ℕ) (xs ys : List Newcomer) → AreNoMoreLate now seconds xs ys → (x : Event × EventTag) → IsLateGone now seconds ys x → IsLateGone now seconds xs x
-late_gone_one now seconds xs ys less (event.Gone c, m) h = less c h seconds ∙ h
+late_gone_one now seconds xs ys less (event.Gone c, m) h = less c h
 late_gone_one now seconds xs ys less (event.Start host boot idle, m) h = absurd h
 late_gone_one now seconds xs ys less (event.Connect, m) h = absurd h
 late_gone_one now seconds xs ys less (event.Bytes c piece, m) h = absurd h
@@ -143,73 +138,3 @@ late_gone_one now seconds xs ys less (event.Tick moment, m) h = absurd h
 late_gone_one now seconds xs ys less (event.Deposit d class id text, m) h = absurd h
 late_gone_one now seconds xs ys less (event.Admin command, m) h = absurd h
 late_gone_one now seconds xs ys less (event.Restart boot, m) h = absurd h
-
--- why is heard alike
-same_end : (now seconds other : ℕ) (xs ys : List Newcomer) → AreNoMoreLate now seconds xs ys → (e : Event) (m : EventTag)
-    → IsLateGone now seconds ys (e, m) → late_end now other ys e ≡ late_end now other xs e
-same_end now seconds other xs ys less (event.Gone c) m h = ap (λ b. (c, account.Ended (if b then end.TooLate else end.FullHouse)) ∷ []) (sym (less c h other))
-same_end now seconds other xs ys less (event.Start host boot idle) m h = refl
-same_end now seconds other xs ys less event.Connect m h = refl
-same_end now seconds other xs ys less (event.Bytes c piece) m h = refl
-same_end now seconds other xs ys less (event.Took c n) m h = refl
-same_end now seconds other xs ys less (event.Tick moment) m h = refl
-same_end now seconds other xs ys less (event.Deposit d class id text) m h = refl
-same_end now seconds other xs ys less (event.Admin command) m h = refl
-same_end now seconds other xs ys less (event.Restart boot) m h = refl
-
-pub same_ends : (now seconds other : ℕ) (xs ys : List Newcomer) → AreNoMoreLate now seconds xs ys → (given : Log) → AreLateGone now seconds ys given
-    → late_ends now other ys given ≡ late_ends now other xs given
-same_ends now seconds other xs ys less [] a = refl
-same_ends now seconds other xs ys less ((e, m) ∷ given) a =
-    let rest = same_ends now seconds other xs ys less given (All-tail (IsLateGone now seconds ys) (e, m) given a) in
-    let one = same_end now seconds other xs ys less e m (All-head (IsLateGone now seconds ys) (e, m) given a) in
-    ap (λ h. h ++ late_end now other ys e) rest ∙ ap (λ h. late_ends now other xs given ++ h) one
-
--- ---- by which seconds
-
-limit_second : (a b : ℕ) → (a == 0) ≡ true → smaller_limit a b ≡ b
-limit_second a b e = rw e refl
-
-limit_first : (a b : ℕ) → (a == 0) ≡ false → (b == 0) ≡ true → smaller_limit a b ≡ a
-limit_first a b e f = rw (e, f) refl
-
-limit_both : (a b : ℕ) → (a == 0) ≡ false → (b == 0) ≡ false → smaller_limit a b ≡ min a b
-limit_both a b e f = rw (e, f) refl
-
-late_min : (now a b : ℕ) (ns : List Newcomer) (c : ℕ) → is_late now (min a b) ns c ≡ true → (is_late now a ns c ≡ true) ⊎ (is_late now b ns c ≡ true)
-late_min now a b ns c h =
-    ⊎_elim
-    (λ (e : nat_le a b ≡ true). inl (subst (λ n. is_late now n ns c ≡ true) (min-eq_left (leb-true a b e)) h))
-    (λ (e : nat_le a b ≡ false).
-    (let less = leb-false a b e in
-    inr (subst (λ n. is_late now n ns c ≡ true) (min_comm a b ∙ min-eq_left (omega (arith, less))) h)))
-    (cases_Bool (nat_le a b))
-
-late_smaller : (now a b : ℕ) (ns : List Newcomer) (c : ℕ) → is_late now (smaller_limit a b) ns c ≡ true → (is_late now a ns c ≡ true) ⊎ (is_late now b ns c ≡ true)
-late_smaller now a b ns c h =
-    ⊎_elim
-    (λ (e : (a == 0) ≡ true). inr (subst (λ n. is_late now n ns c ≡ true) (limit_second a b e) h))
-    (λ (e : (a == 0) ≡ false).
-    ⊎_elim
-    (λ (f : (b == 0) ≡ true). inl (subst (λ n. is_late now n ns c ≡ true) (limit_first a b e f) h))
-    (λ (f : (b == 0) ≡ false). late_min now a b ns c (subst (λ n. is_late now n ns c ≡ true) (limit_both a b e f) h))
-    (cases_Bool (b == 0)))
-    (cases_Bool (a == 0))
-
-late_limit : (full : Bool) (now a b : ℕ) (ns : List Newcomer) (c : ℕ) → is_late now (if full then smaller_limit a b else a) ns c ≡ true
-    → (is_late now a ns c ≡ true) ⊎ ((full ≡ true) × (is_late now b ns c ≡ true))
-late_limit true now a b ns c h = ⊎_elim (λ (k : is_late now a ns c ≡ true). inl k) (λ (k : is_late now b ns c ≡ true). inr (refl, k)) (late_smaller now a b ns c h)
-late_limit false now a b ns c h = inl h
-
--- whoever is late is so by its login seconds, or by those of a full house
-pub timed_out : (now taken a b : ℕ) (ns : List Newcomer) (x : Event × EventTag) → IsLateGone now (limit_by taken a b) ns x
-    → IsLateGone now a ns x ⊎ ((is_full_house taken ≡ true) × IsLateGone now b ns x)
-timed_out now taken a b ns (event.Gone c, m) h = late_limit (is_full_house taken) now a b ns c h
-timed_out now taken a b ns (event.Start host boot idle, m) h = absurd h
-timed_out now taken a b ns (event.Connect, m) h = absurd h
-timed_out now taken a b ns (event.Bytes c piece, m) h = absurd h
-timed_out now taken a b ns (event.Took c n, m) h = absurd h
-timed_out now taken a b ns (event.Tick moment, m) h = absurd h
-timed_out now taken a b ns (event.Deposit d class id text, m) h = absurd h
-timed_out now taken a b ns (event.Admin command, m) h = absurd h
-timed_out now taken a b ns (event.Restart boot, m) h = absurd h

@@ -15,6 +15,7 @@ pub mod Places
 pub mod Pacing
 pub mod Waiting
 pub mod Working
+pub mod Rooms
 pub mod Offering
 pub mod Ordered
 pub mod Turns

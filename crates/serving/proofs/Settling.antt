@@ -168,7 +168,7 @@ pub late_alike : (now seconds : ℕ) (xs ys : List Newcomer) (c : ℕ) → AreSe
 late_alike now seconds xs ys c a = ap (λ b. not (seconds == 0) && b) (late_as now seconds (newcomer c xs) (newcomer c ys) (a.each c))
 
 pub late_settled : (now seconds : ℕ) (xs ys : List Newcomer) → AreSettled now xs ys → AreNoMoreLate now seconds xs ys
-late_settled now seconds xs ys a = λ c h other. sym (late_alike now other xs ys c a)
+late_settled now seconds xs ys a = λ c h. sym (late_alike now seconds xs ys c a) ∙ h
 
 -- ---- whose login lies unread
 

@@ -176,14 +176,14 @@ module _ {V : Type 0} (vault : Ghosts V) (now seconds : ℕ) where
       }
 
   pub late_step : (o o1 o2 : Office V) (xs ys zs : List Newcomer) (seats cur : List Seat) (i : ℕ) (d : Seat) (M N K : Log → Type 0) → cur ≡ seats → i < length cur → AreNoMoreLate now seconds xs ys
-      → ((g1 g2 : Log) → AreLateGone now seconds ys g2 → M g1 → N g2 → K (g2 ++ g1))
+      → ((g1 g2 : Log) → M g1 → N g2 → K (g2 ++ g1))
       → Giving vault o o1 (λ g. HasEndedLate vault.holds vault.is_clean o o1 now seconds xs ys (take i seats) g × M g)
       → Giving vault o1 o2 (λ g. ((e : Seat) → HasEndedLate vault.holds vault.is_clean o1 o2 now seconds ys zs (get_or cur i e ∷ []) g) × N g)
       → Giving vault o o2 (λ g. HasEndedLate vault.holds vault.is_clean o o2 now seconds xs zs (take (i + 1) seats) g × K g)
   late_step o o1 o2 xs ys zs seats cur i d M N K is within less join a b = record {
     given = b.given ++ a.given;
     was_given = given_then vault o o1 o2 a.given b.given a.was_given b.was_given;
-    facts = (late_more o o1 o2 xs ys zs seats cur i d a.given b.given is within less a.was_given b.was_given a.facts.0 (b.facts.0 d), join a.given b.given (b.facts.0 d).gone a.facts.1 b.facts.1);
+    facts = (late_more o o1 o2 xs ys zs seats cur i d a.given b.given is within less a.was_given b.was_given a.facts.0 (b.facts.0 d), join a.given b.given a.facts.1 b.facts.1);
   }
 
   pub late_whole : (o o1 : Office V) (xs ys : List Newcomer) (seats cur : List Seat) (n : ℕ) (M : Log → Type 0) → cur ≡ seats → length cur ≤ n
@@ -196,7 +196,7 @@ module _ {V : Type 0} (vault : Ghosts V) (now seconds : ℕ) where
 -- who went was late before, and what else is known of it by that
 pub late_both : {V : Type 0} (vault : Ghosts V) (now seconds seconds0 : ℕ)
     (xs ys zs : List Newcomer) (seats : List Seat) (o o1 : Office V) (M K : Log → Type 0) → seconds ≡ seconds0 → AreNoMoreLate now seconds0 xs ys
-    → ((g : Log) → AreLateGone now seconds0 ys g → M g → K g)
+    → ((g : Log) → M g → K g)
     → Giving vault o o1 (λ g. HasEndedLate vault.holds vault.is_clean o o1 now seconds ys zs seats g × M g)
     → Giving vault o o1 (λ g. AreLateGone now seconds0 xs g × HasEndedLate vault.holds vault.is_clean o o1 now seconds0 ys zs seats g × K g)
 late_both vault now seconds seconds0 xs ys zs seats o o1 M K is less more a =
@@ -204,5 +204,5 @@ late_both vault now seconds seconds0 xs ys zs seats o o1 M K is less more a =
     record {
       given = b.given;
       was_given = b.was_given;
-      facts = (All-weaker (IsLateGone now seconds0 ys) (IsLateGone now seconds0 xs) (late_gone_one now seconds0 xs ys less) b.given b.facts.0.gone, b.facts.0, more b.given b.facts.0.gone b.facts.1);
+      facts = (All-weaker (IsLateGone now seconds0 ys) (IsLateGone now seconds0 xs) (late_gone_one now seconds0 xs ys less) b.given b.facts.0.gone, b.facts.0, more b.given b.facts.1);
     }

@@ -1,6 +1,6 @@
 -- What the parts of a turn do for clients, each in one word that its contract cites: the moment,
 -- links that come, what is written and read on one link and on all, and links that are closed.
-use Rattle.std.specs.Prelude.{◌≡◌, ◌⊎◌, ◌≤◌, ◌<◌, ⊤, ℕ, ◌+◌, Bool, true, false, ◌&&◌, ◌||◌, ◌==◌}
+use Rattle.std.specs.Prelude.{◌≡◌, ◌⊎◌, ◌≤◌, ◌<◌, ℕ, ◌+◌, Bool, true, false, ◌&&◌, ◌||◌, ◌==◌}
 use Rattle.std.specs.Prelude.{List, [], ◌∷◌, ◌++◌, length, map, filter, filter_map, Option, None}
 use Rattle.std.specs.Prelude.{if◌then◌else◌, nat_lt}
 use Rattle.std.specs.List.{All, Contains, list_any, remove}
@@ -29,7 +29,7 @@ use Rattle.office.specs.Logins.{login_brought}
 use Rattle.office.specs.Quitting.{brings_long_quit}
 use Rattle.serving.specs.Works.{waits, arrivals, closings, is_admin, is_read_of, is_later_of}
 use Rattle.serving.specs.Works.{is_taking_of, octets_taken, most_writes, share_by, moments}
-use Rattle.serving.specs.Works.{openings, refusals, AreCaused, IsKeptBack, reads_by_line}
+use Rattle.serving.specs.Works.{openings, refusals, IsKeptBack, reads_by_line}
 use Rattle.serving.specs.Works.{IsReadByLine, LiesUnread, Came, seat_of, unseated_of, link_of}
 use Rattle.serving.specs.Works.{HasAccepted, is_open_seat}
 use Rattle.serving.specs.InOrder.{ServesSeat, ServesInOrder}
@@ -37,6 +37,9 @@ use Rattle.serving.specs.Quits.{AwaitsQuit, SomeAwaitsQuit}
 use Rattle.serving.specs.Ways.{Way, way_by, HadTurn}
 use Rattle.serving.specs.Works.{is_shut_seat, IsOffered}
 use Rattle.serving.specs.Parts.{IsQuietFor}
+use Rattle.serving.specs.Room.{GivesPlace, IsGoneOf, HaveRoom}
+use Rattle.serving.specs.declared.wire.Link.{Link}
+use Rattle.std.specs.declared.net.ip_addr.IpAddr.{IpAddr}
 
 -- a write on a client's link
 abbrev pub is_client_write : Call → Bool
@@ -51,11 +54,6 @@ AreOffered Holds IsClean office office_then seats given calls =
     (B : Records) (L : Log) → StandsFor Holds office (trace_of B L) → IsClean (vault_of office_then)
     → All (IsOffered B L given seats) calls
 
--- an event is one
-abbrev pub IsOpening : Event × EventTag → Type 0
-IsOpening (event.Connect, m) = ⊤
-IsOpening _ = ⊥
-
 -- if a seat's login is noted as lying unread, it does
 abbrev pub IsNotedSo : (noted : List Newcomer) (B : Records) (older given : Log)
     (calls : List Call) (wait : ℕ) (may : ℕ → Bool) (seats : List Seat) → Seat → Type 0
@@ -69,8 +67,10 @@ pub record IsPassed (asked : List Call) (now : ℕ) (given : Log) (calls : List 
   pub given_is : given ≡ (event.Tick now, event_tag) ∷ []
   pub calls_are : calls ≡ asked
 
--- So many links came, each with an opening: those whose opening was done got the next seats, and the others were closed.
-pub record HaveCome {V : Type 0} (Holds : V → Contents → Type 0) (IsClean : V → Type 0) (office office_then : Office V) (seats seats_then : List Seat) (came : List Came)
+-- So many links came, each with an opening: those whose opening was done got the next seats, and the others were closed. Right before it that connection went whose place
+-- it got, if one did.
+pub record HaveCome {V : Type 0} (Holds : V → Contents → Type 0) (IsClean : V → Type 0)
+    (office office_then : Office V) (make_room : Bool) (seats seats_then : List Seat) (came : List Came)
     (given : Log) (calls : List Call) : Type 0 where
   pub no_moments : moments given ≡ []
   pub no_waits : waits calls ≡ []
@@ -81,16 +81,24 @@ pub record HaveCome {V : Type 0} (Holds : V → Contents → Type 0) (IsClean : 
   pub seated : seats_then ≡ seats ++ filter_map seat_of came
   pub apart : list_any is_admin calls ≡ false
   pub unwritten : list_any is_client_write calls ≡ false
-  pub only : All IsOpening given
-  pub caused : AreCaused [] calls given
+  pub room : (B : Records) (L : Log) → StandsFor Holds office (trace_of B L) → IsClean (vault_of office_then) → HaveRoom make_room B L seats came given
 
-pub record AreAccepted {V : Type 0} (Holds : V → Contents → Type 0) (IsClean : V → Type 0) (office office_then : Office V) (seats seats_then : List Seat) (most : ℕ) (has_more : Bool)
-    (given : Log) (calls : List Call) : Type 0 where
+pub record AreAccepted {V : Type 0} (Holds : V → Contents → Type 0) (IsClean : V → Type 0)
+    (office office_then : Office V) (make_room : Bool) (seats seats_then : List Seat) (most : ℕ)
+    (has_more : Bool) (given : Log) (calls : List Call) : Type 0 where
   pub came : List Came
-  pub come : HaveCome Holds IsClean office office_then seats seats_then came given calls
+  pub come : HaveCome Holds IsClean office office_then make_room seats seats_then came given calls
   pub enough : has_more ≡ true → most ≤ length came
   pub few : length came ≤ most
   pub all : has_more ≡ false → HasAccepted (length seats_then) calls
+
+-- The connection went whose place a newcomer gets, or none went.
+pub record HasMadeRoom {V : Type 0} (Holds : V → Contents → Type 0) (office : Office V)
+    (make_room : Bool) (addresses : Link → Option IpAddr) (seats : List Seat) (given : Log)
+    : Type 0 where
+  pub who : Option Seat
+  pub gives : (T : Trace) → StandsFor Holds office T → GivesPlace make_room T addresses seats who
+  pub gone : IsGoneOf who given
 
 -- nothing is owed to a connection by then
 abbrev pub OwesNothing : {V : Type 0} (Holds : V → Contents → Type 0) (IsClean : V → Type 0) (office office_then : Office V) (c : ℕ) (given : Log) → Type 0

@@ -1,5 +1,5 @@
 -- What a listener hears of a turn: accounts of connections, by the history.
-use Rattle.std.specs.Prelude.{ℕ, List, [], ◌∷◌, ◌++◌, map, filter, if◌then◌else◌}
+use Rattle.std.specs.Prelude.{ℕ, List, [], ◌∷◌, ◌++◌, map, filter}
 use Rattle.vault.specs.Records.{Records}
 use Rattle.vault.specs.Changes.{Contents}
 use Rattle.office.specs.Accounts.{account_of}
@@ -14,13 +14,10 @@ use Rattle.office.specs.declared.account.Account.TheVariants as account
 use Rattle.office.specs.declared.account.End.{End}
 use Rattle.office.specs.declared.account.End.TheVariants as end
 use Rattle.serving.specs.Calls.{Call}
-use Rattle.serving.specs.Late.{noted_by}
 use Rattle.serving.specs.Seen.{Seen}
-use Rattle.serving.specs.Settings.{settings}
-use Rattle.serving.specs.Works.{is_late, is_shut_seat}
+use Rattle.serving.specs.Works.{is_shut_seat}
 use Rattle.serving.specs.declared.links.Links.{Links}
 use Rattle.serving.specs.declared.links.Seat.{Seat}
-use Rattle.serving.specs.declared.newcomers.Newcomer.{Newcomer}
 
 -- of which connection something is heard, and what
 abbrev pub Hearing : Type 0
@@ -47,24 +44,17 @@ heard_of_all B older [] = []
 heard_of_all B older ((e, m) ∷ given) =
     heard_of_all B older given ++ heard_of (trace_of B (given ++ older)) e m
 
--- ---- of connections that end because they are late, or that a moment ended
+-- ---- of connections that serving ends, or that a moment ended
 
--- why a client that is late is ended: its login seconds are over, or only those of a full house
-abbrev pub why_late : (now login_seconds : ℕ) → List Newcomer → (c : ℕ) → End
-why_late now seconds newcomers c =
-    if is_late now seconds newcomers c then end.TooLate else end.FullHouse
-
--- of an event by which a client goes because it is late
-abbrev pub late_end : (now login_seconds : ℕ) → List Newcomer → Event → List Hearing
-late_end now seconds newcomers (event.Gone c) =
-    (c, account.Ended (why_late now seconds newcomers c)) ∷ []
-late_end now seconds newcomers e = []
+-- of an event by which serving ends a connection for this cause
+abbrev pub end_by : End → Event → List Hearing
+end_by why (event.Gone c) = (c, account.Ended why) ∷ []
+end_by why e = []
 
 -- of such events, in their order
-abbrev pub late_ends : (now login_seconds : ℕ) → List Newcomer → Log → List Hearing
-late_ends now seconds newcomers [] = []
-late_ends now seconds newcomers ((e, m) ∷ given) =
-    late_ends now seconds newcomers given ++ late_end now seconds newcomers e
+abbrev pub ends_by : End → Log → List Hearing
+ends_by why [] = []
+ends_by why ((e, m) ∷ given) = ends_by why given ++ end_by why e
 
 -- of a seat whose connection was idle for too long
 abbrev pub idle_end : Seat → Hearing
@@ -74,13 +64,14 @@ idle_end s = (s.connection, account.Ended end.Idle)
 abbrev pub idle_ends : (after : Trace) → List Seat → List Hearing
 idle_ends after seats = map idle_end (filter (is_shut_seat after) seats)
 
--- Of a turn, in this order: of each seat whose connection the moment ended, that it was idle; the
--- accounts of clients' events and of commands that end sessions; and of each client that is late,
--- that its login seconds are over, or only those of a full house.
-abbrev pub hearings : Trace → (now : ℕ) → Links → Seen → List Hearing
-hearings T now links t = idle_ends (trace_of T.base (t.tick ++ T.log)) links.clients.seats.items
-    ++ (heard_of_all T.base (t.tick ++ T.log) (t.commands ++ (t.served ++ t.connects))
-    ++ late_ends now (settings links).login_seconds (noted_by links) t.late)
+-- Of a turn, in this order: of each seat whose connection the moment ended, that it was idle; of
+-- each client whose place a newcomer got, that the house was full; the accounts of clients' events
+-- and of commands that end sessions; and of each client that is late, that it is.
+abbrev pub hearings : Trace → Links → Seen → List Hearing
+hearings T links t = idle_ends (trace_of T.base (t.tick ++ T.log)) links.clients.seats.items
+    ++ (ends_by end.FullHouse t.connects
+    ++ (heard_of_all T.base (t.connects ++ (t.tick ++ T.log)) (t.commands ++ t.served)
+    ++ ends_by end.TooLate t.late))
 
 -- ---- what a listener heard, and nothing else
 

@@ -1,6 +1,6 @@
 -- Clients that take too long for their login: each is ended, and nobody is forgotten but who logged
 -- in or is gone.
-use Rattle.std.specs.Prelude.{◌≡◌, ◌⊎◌, ℕ, true, false, List, ◌++◌, length, None}
+use Rattle.std.specs.Prelude.{◌≡◌, ◌⊎◌, ℕ, true, false, List, ◌++◌, None}
 use Rattle.std.specs.List.{All}
 use Rattle.vault.specs.Records.{Records}
 use Rattle.vault.specs.Changes.{Contents}
@@ -11,9 +11,10 @@ use Rattle.office.specs.Taken.{trace_of}
 use Rattle.office.specs.Stands.{StandsFor, vault_of}
 use Rattle.office.specs.declared.office.Office.{Office}
 use Rattle.serving.specs.Given.{AreLateGone}
-use Rattle.serving.specs.Newcomers.{newcomer, is_late, limit, lies_unread, CountsFrom}
+use Rattle.serving.specs.Newcomers.{newcomer, is_late, lies_unread, CountsFrom}
 use Rattle.serving.specs.Seen.{Seen, given_in, calls_in, trace_after, may_keep}
 use Rattle.serving.specs.KeptBack.{LiesUnread}
+use Rattle.serving.specs.Settings.{settings}
 use Rattle.serving.specs.declared.links.Links.{Links}
 use Rattle.serving.specs.declared.links.Seat.{Seat}
 use Rattle.serving.specs.declared.newcomers.Newcomer.{Newcomer}
@@ -43,7 +44,7 @@ module _ (T : Trace) (now : ℕ) (links links_then : Links) (t : Seen) where
 
   -- whoever is late logged in, or its login was put off, if its connection is open as the turn ends
   abbrev pub IsInTime : Seat → Type 0
-  IsInTime s = is_late now (limit links (length t.seats)) (noted_by links) s.connection ≡ true
+  IsInTime s = is_late now (settings links).login_seconds (noted_by links) s.connection ≡ true
       → is_open (trace_after T t) s.connection ≡ true
       → LoggedIn s.connection ⊎ WasPutOff s.connection
 

@@ -14,6 +14,7 @@ pub mod Settings
 pub mod Given
 pub mod KeptBack
 pub mod Works
+pub mod Room
 pub mod Ways
 pub mod InOrder
 pub mod Quits

@@ -34,24 +34,6 @@ abbrev pub is_late : (now seconds : ℕ) → List Newcomer → (c : ℕ) → Boo
 is_late now seconds newcomers c =
     not (seconds == 0) && is_late_by now seconds (newcomer c newcomers)
 
--- the smaller of two limits, of which 0 is none
-abbrev pub smaller_limit : (one other : ℕ) → ℕ
-smaller_limit one other = if one == 0 then other else if other == 0 then one else min one other
-
--- from 64 taken seats on the house is full
-abbrev pub is_full_house : (taken : ℕ) → Bool
-is_full_house taken = nat_le 64 taken
-
--- How many seconds a client has for its login while so many seats are taken; 0 for no limit. In a
--- full house it is the smaller of both limits.
-abbrev pub limit_by : (taken seconds full_house_seconds : ℕ) → ℕ
-limit_by taken seconds full_house_seconds =
-    if is_full_house taken then smaller_limit seconds full_house_seconds else seconds
-
-abbrev pub limit : Links → (taken : ℕ) → ℕ
-limit links taken =
-    limit_by taken links.clients.newcomers.seconds links.clients.newcomers.full_house_seconds
-
 -- a login of it lies unread
 abbrev pub lies_unread : Option Newcomer → Bool
 lies_unread None = false

@@ -5,15 +5,16 @@
 -- clients (`Ends`, `IsEnded`), closes links (`Closes`, `ClosesSeat`), or gives seats to those that
 -- came (`AreNoted`). Two parts compose: `part_then` of proofs/Working, `keeps_then` of
 -- proofs/Composing, and the others there.
-use Rattle.std.specs.Prelude.{◌≡◌, ◌⊎◌, ◌≤◌, ℕ, Bool, true, false, ◌||◌, ◌==◌, List, [], ◌++◌}
+use Rattle.std.specs.Prelude.{◌≡◌, ◌⊎◌, ◌≤◌, ℕ, Bool, true, false, ◌||◌, ◌==◌, List, [], ◌∷◌, ◌++◌}
 use Rattle.std.specs.Prelude.{Some, if◌then◌else◌, slice_index_or}
 use Rattle.std.specs.List.{All, Contains, list_any}
 use Rattle.vault.specs.Records.{Records}
 use Rattle.vault.specs.Calls.{has_grown}
 use Rattle.vault.specs.Changes.{Contents}
 use Rattle.vault.specs.declared.vault.Vault.{Ghosts}
-use Rattle.office.specs.Events.{Log, Trace}
-use Rattle.office.specs.Trace.{history}
+use Rattle.office.specs.Events.{EventTag, Log, Trace}
+use Rattle.office.specs.Events as event
+use Rattle.office.specs.Trace.{history, is_open}
 use Rattle.office.specs.Sessions.{live}
 use Rattle.office.specs.Taken.{trace_of}
 use Rattle.office.specs.Stands.{StandsFor, vault_of}
@@ -29,10 +30,11 @@ use Rattle.serving.specs.Guesses.{ArePacing}
 use Rattle.serving.specs.Settings.{settings_of}
 use Rattle.serving.specs.Newcomers.{newcomer, others, AreSeatedAt, AreNotedNow, IsNewlyNoted}
 use Rattle.serving.specs.Paces.{releases_lock}
-use Rattle.serving.specs.Works.{is_late, AreLateGone, waits, arrivals, closings, is_admin}
+use Rattle.serving.specs.Works.{is_late, waits, arrivals, closings, is_admin}
 use Rattle.serving.specs.Works.{has_moved, moments, openings, refusals, is_failed, AreNewlyAdmitted}
 use Rattle.serving.specs.Works.{AreCaused, WasAsked}
-use Rattle.serving.specs.Hearing.{Hearing, WithHeard}
+use Rattle.serving.specs.Hearing.{Hearing, HasHeard, WithHeard, ends_by}
+use Rattle.office.specs.declared.account.End.TheVariants as end
 use Rattle.serving.specs.Served.{Precedes, StillServes}
 use Rattle.serving.specs.Late.{IsShutBy}
 use Rattle.serving.specs.Stopping.{Outlasts}
@@ -53,11 +55,10 @@ abbrev pub Also : (Log → List Call → Type 0) → (List Call → Type 0) → 
     → Type 0
 Also Facts More given calls = Facts given calls × More calls
 
--- whoever is late was so before, by any number of seconds
+-- whoever is late was so before
 abbrev pub AreNoMoreLate : (now seconds : ℕ) → (newcomers newcomers_then : List Newcomer) → Type 0
 AreNoMoreLate now seconds newcomers newcomers_then = (c : ℕ)
-    → is_late now seconds newcomers_then c ≡ true
-    → (other : ℕ) → is_late now other newcomers c ≡ is_late now other newcomers_then c
+    → is_late now seconds newcomers_then c ≡ true → is_late now seconds newcomers c ≡ true
 
 pub record WasGiven {V : Type 0} (vault : Ghosts V) (office office_then : Office V) (given : Log) : Type 0 where
   pub clean : vault.is_clean (vault_of office_then) → vault.is_clean (vault_of office)
@@ -116,6 +117,15 @@ Does vault wire listener old new Facts =
     (WithHeard vault.holds vault.is_clean listener.heard old.office old.listener
     new.office new.listener Facts)
 
+-- One that accepts links: the listener heard of those that made room, and nothing else.
+abbrev pub Accepts : {V W L : Type 0} (vault : Ghosts V) (wire : the_wire.Ghosts W)
+    (listener : the_listener.Ghosts L) (old new : Server V W L) (Facts : Log → List Call → Type 0)
+    → Type 0
+Accepts vault wire listener old new Facts =
+    Part vault wire.asked old.office old.wire new.office new.wire
+    (λ given calls. HasHeard listener.heard old.listener new.listener (ends_by end.FullHouse given)
+    × Facts given calls)
+
 -- One that gives events to the office, and asks the wire nothing.
 pub record Gives {V W L : Type 0} (vault : Ghosts V) (old new : Server V W L)
     (Facts : Log → Type 0) : Type 0 where
@@ -143,12 +153,17 @@ KeepsServingOne vault wire seat old new =
     (seats these : List Seat) → Contains seats seat → All (λ s. Precedes s seat) these
     → KeepsServing vault wire old new seats these seats these
 
--- a late client's connection was ended, or wasn't open
+-- The connection is open.
+abbrev pub IsOpenIn : {V : Type 0} (Holds : V → Contents → Type 0) (office : Office V) (c : ℕ)
+    → Type 0
+IsOpenIn Holds office c = (T : Trace) → StandsFor Holds office T → is_open T c ≡ true
+
+-- It went by one event, and isn't open if it was.
 pub record IsEnded {V : Type 0} (Holds : V → Contents → Type 0) (IsClean : V → Type 0)
     (office office_then : Office V) (c : ℕ) (given : Log) : Type 0 where
-  pub gone : (now seconds : ℕ) (newcomers : List Newcomer)
-      → is_late now seconds newcomers c ≡ true → AreLateGone now seconds newcomers given
-  pub shut : IsShutBy Holds IsClean office office_then c given
+  pub event_tag : EventTag
+  pub is : given ≡ (event.Gone c, event_tag) ∷ []
+  pub shut : IsOpenIn Holds office c → IsShutBy Holds IsClean office office_then c given
 
 module _ (links links_then : Clients) where
   -- The settings stay, and which spool file was tried last; if the next turn didn't wait before, it

@@ -45,6 +45,7 @@ polled is_coming links = record {
     last = links.clients.last;
     wait = links.clients.wait;
     lock_released = links.clients.lock_released;
+    make_room = links.clients.make_room;
     newcomers = links.clients.newcomers;
     guesses = links.clients.guesses;
   };

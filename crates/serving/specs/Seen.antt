@@ -18,8 +18,8 @@ pub record Seen : Type 0 where
   pub wait : List Call
   -- 2. the events by which the office learns the moment
   pub tick : Log
-  -- 3. the clients' links that came, with the openings that were asked for; which seats are taken
-  -- then; and which links of the administration are held then
+  -- 3. the clients' links that came, with the openings that were asked for, and the ends of those
+  -- that made room; which seats are taken then; and which links of the administration are held then
   pub came : List Came
   pub connects : Log
   pub accepts : List Call

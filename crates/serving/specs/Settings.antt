@@ -9,8 +9,8 @@ pub record Settings : Type 0 where
   pub wait : ℕ
   -- how many seconds a client has for its login; 0, if that has no limit of its own
   pub login_seconds : ℕ
-  -- the same while the house is full; 0, if that changes nothing
-  pub full_house_seconds : ℕ
+  -- at a full house a newcomer gets the place of a client that isn't logged in
+  pub make_room : Bool
   -- logins are kept back after refused ones
   pub slow_guesses : Bool
 
@@ -18,7 +18,7 @@ abbrev pub settings_of : Clients → Settings
 settings_of clients = record {
   wait = clients.wait;
   login_seconds = clients.newcomers.seconds;
-  full_house_seconds = clients.newcomers.full_house_seconds;
+  make_room = clients.make_room;
   slow_guesses = clients.guesses.are_slow;
 }
 
@@ -29,16 +29,17 @@ settings links = settings_of links.clients
 abbrev pub last_tried : Links → Option FileName
 last_tried links = links.clients.last
 
--- no login waits, none has a limit of its own, and guesses come as fast as they come
+-- no login waits, none has a limit of its own, nobody makes room, and guesses come as fast as they
+-- come
 abbrev pub none_set : Settings
-none_set = record { wait = 0; login_seconds = 0; full_house_seconds = 0; slow_guesses = false }
+none_set = record { wait = 0; login_seconds = 0; make_room = false; slow_guesses = false }
 
 -- one of them is set, and the others stay
 abbrev pub with_wait : ℕ → Settings → Settings
 with_wait seconds s = record {
   wait = seconds;
   login_seconds = s.login_seconds;
-  full_house_seconds = s.full_house_seconds;
+  make_room = s.make_room;
   slow_guesses = s.slow_guesses;
 }
 
@@ -46,15 +47,15 @@ abbrev pub with_login_seconds : ℕ → Settings → Settings
 with_login_seconds seconds s = record {
   wait = s.wait;
   login_seconds = seconds;
-  full_house_seconds = s.full_house_seconds;
+  make_room = s.make_room;
   slow_guesses = s.slow_guesses;
 }
 
-abbrev pub with_full_house_seconds : ℕ → Settings → Settings
-with_full_house_seconds seconds s = record {
+abbrev pub with_make_room : Bool → Settings → Settings
+with_make_room make_room s = record {
   wait = s.wait;
   login_seconds = s.login_seconds;
-  full_house_seconds = seconds;
+  make_room = make_room;
   slow_guesses = s.slow_guesses;
 }
 
@@ -62,6 +63,6 @@ abbrev pub with_slow_guesses : Bool → Settings → Settings
 with_slow_guesses slow s = record {
   wait = s.wait;
   login_seconds = s.login_seconds;
-  full_house_seconds = s.full_house_seconds;
+  make_room = s.make_room;
   slow_guesses = slow;
 }

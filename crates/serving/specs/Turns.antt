@@ -22,7 +22,8 @@ use Rattle.serving.specs.HttpWorks.{HasAcceptedForAdmin, HadHttpTurns}
 use Rattle.serving.specs.InOrder.{ServesInOrder}
 use Rattle.serving.specs.KeptBack.{reads_by_line, IsHeldBack}
 use Rattle.serving.specs.Late.{noted_by, LoggedIn, IsInTime, IsNotedSince, IsCountedOn}
-use Rattle.serving.specs.Newcomers.{newcomer, limit, AllHaveSeats, IsSettled}
+use Rattle.serving.specs.Newcomers.{newcomer, AllHaveSeats, IsSettled}
+use Rattle.serving.specs.Room.{HaveRoom}
 use Rattle.serving.specs.Quits.{AwaitsQuit, SomeAwaitsQuit}
 use Rattle.serving.specs.Seen.{Seen, before_commands, before_deposits, given_in, calls_in}
 use Rattle.serving.specs.Seen.{trace_after, may_keep}
@@ -55,13 +56,17 @@ module _ (T : Trace) (now : ℕ) (links links_then : Links) (t : Seen) where
 
   -- 3. It accepts clients' links until the wire gives none, 64 came, or all places are taken. For
   -- each it asks for an opening; as many are refused as links get no seat, and the others get the
-  -- next seats. It accepts links of the administration until the wire gives none, or 64 came.
+  -- next seats. Right before an opening the connection is Gone whose place the newcomer gets, if one
+  -- is to make room (specs/Room); no other event is given. It accepts links of the administration
+  -- until the wire gives none, or 64 came.
   pub record Accepts : Type 0 where
     pub enough : HasAccepted (length t.seats) (calls_in t) ⊎ (most_links ≤ length t.came)
     pub few : length t.came ≤ most_links
     pub arrived : arrivals (calls_in t) ≡ map link_of t.came
     pub opened : openings (given_in t) ≡ length t.came
     pub refused : refusals (given_in t) ≡ length (filter_map unseated_of t.came)
+    pub room : HaveRoom (settings links).make_room T.base (t.tick ++ T.log)
+        links.clients.seats.items t.came t.connects
     pub seated : t.seats ≡ links.clients.seats.items ++ filter_map seat_of t.came
     pub has_more : Bool
     pub admin : HasAcceptedForAdmin now 64 has_more links.requests.exchanges.items t.held
@@ -92,7 +97,7 @@ module _ (T : Trace) (now : ℕ) (links links_then : Links) (t : Seen) where
         t.seats t.served t.serves t.lock_released
     pub awaits : t.is_preparing ≡ true
         → SomeAwaitsQuit T.base T.log (given_in t) (calls_in t) t.seats
-    pub caused : AreCaused t.seats (calls_in t) (t.commands ++ (t.served ++ t.connects))
+    pub caused : AreCaused t.seats (calls_in t) (t.commands ++ t.served)
 
   -- 5. It serves each link of the administration, one after the other, and makes no other call on
   -- one but as it accepts them.
@@ -104,7 +109,7 @@ module _ (T : Trace) (now : ℕ) (links links_then : Links) (t : Seen) where
   -- 5. It gives a Gone to clients past their login seconds.
   pub record EndsLate : Type 0 where
     -- Each Gone is of a client that is late.
-    pub gone : AreLateGone now (limit links (length t.seats)) (noted_by links) t.late
+    pub gone : AreLateGone now (settings links).login_seconds (noted_by links) t.late
     -- Whoever is late isn't open as the turn ends, or logged in, or its login was put off.
     pub timely : All (IsInTime T now links links_then t) t.seats
     -- Nobody is forgotten whose connection is open and who didn't log in, and as many of its
@@ -170,7 +175,7 @@ pub record Works {V W S H : Type 0} (vault : Ghosts V)
   pub asked : WasAsked Asked wire wire_then (calls_in seen)
   pub asked_files : (before : List FileCall) → AskedFiles spool before
       → AskedFiles spool_then (before ++ seen.file_calls)
-  pub heard : HasHeard Heard listener listener_then (hearings T now links seen)
+  pub heard : HasHeard Heard listener listener_then (hearings T links seen)
   -- the numbered sentences
   pub waits : Waits T now links links_then seen
   pub ticks : Ticks T now links links_then seen

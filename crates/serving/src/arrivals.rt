@@ -1,9 +1,8 @@
 //! The clients' links that come in a turn.
-ghost use Rattle.std.specs.Prelude.{◌≡◌, Bool, List, []};
+ghost use Rattle.std.specs.Prelude.{◌≡◌, Bool, []};
 ghost use Rattle.office.specs.Seen.{outcome_seen};
 ghost use Rattle.serving.specs.Wires.{opened_by};
-ghost use Rattle.serving.specs.Hearing.{Hearing};
-ghost use Rattle.serving.specs.Parts.{AreNoted, Does, KeepsServing};
+ghost use Rattle.serving.specs.Parts.{Accepts, AreNoted, KeepsServing};
 ghost use Rattle.serving.specs.ClientParts.{AreAccepted};
 
 use crate::ends::close_link;
@@ -25,17 +24,16 @@ fn opened(outcome: Outcome) -> Option<u64>
 }
 
 impl<V: Vault, W: Wire, L: Listener> Server<V, W, L> {
-    /// Accepts the next client's link. It gets a seat with its connection, or is closed if the
-    /// office opens none. Returns whether one came. While all 128 seats are taken none is accepted.
+    /// Accepts the next client's link. At a full house it gets another's place, if one is to make
+    /// room. It gets a seat with its connection, or is closed if the office opens none. Returns
+    /// whether one came. While all 128 seats are taken none is accepted.
     fn accept_link(&mut self, clients: &mut Clients, now: u64) -> bool
         ensures serves { KeepsServing V.Vault W.Wire self.old self.new
             clients.old.seats.items [] clients.new.seats.items [] }
         ensures comers { AreNoted clients.old clients.new now }
-        ensures heard { (h : List Hearing) → L.heard self.old.listener h
-            → L.heard self.new.listener h }
-        ensures works { Does V.Vault W.Wire L.Listener self.old self.new
+        ensures works { Accepts V.Vault W.Wire L.Listener self.old self.new
             (AreAccepted V.holds V.is_clean self.old.office self.new.office
-            clients.old.seats.items clients.new.seats.items 1 result) }
+            clients.old.make_room clients.old.seats.items clients.new.seats.items 1 result) }
     {
         if clients.seats.is_full() {
             return false;
@@ -45,6 +43,7 @@ impl<V: Vault, W: Wire, L: Listener> Server<V, W, L> {
         };
         self.listener
             .on_link(&self.wire, Port::Pop, link, LinkEvent::Came);
+        self.make_room(clients);
         let number = opened(self.office.step(Event::Connect));
         match number {
             Some(connection) => {
@@ -62,11 +61,9 @@ impl<V: Vault, W: Wire, L: Listener> Server<V, W, L> {
         ensures serves { KeepsServing V.Vault W.Wire self.old self.new
             clients.old.seats.items [] clients.new.seats.items [] }
         ensures comers { AreNoted clients.old clients.new now }
-        ensures heard { (h : List Hearing) → L.heard self.old.listener h
-            → L.heard self.new.listener h }
-        ensures works { (has_more : Bool) × Does V.Vault W.Wire L.Listener self.old self.new
+        ensures works { (has_more : Bool) × Accepts V.Vault W.Wire L.Listener self.old self.new
             (AreAccepted V.holds V.is_clean self.old.office self.new.office
-            clients.old.seats.items clients.new.seats.items 64 has_more) }
+            clients.old.make_room clients.old.seats.items clients.new.seats.items 64 has_more) }
     {
         for _times in 0..MOST_LINKS {
             if !self.accept_link(clients, now) {

@@ -2,16 +2,18 @@
 //! are closed for it.
 ghost use Rattle.std.specs.Prelude.{◌≡◌, ◌<◌, ◌+◌, ◌==◌, ℕ, true, false, List, ◌∷◌, [], ◌++◌};
 ghost use Rattle.std.specs.Prelude.{slice_index_or, take, if◌then◌else◌};
+ghost use Rattle.std.specs.List.{All, Contains};
 ghost use Rattle.office.specs.Events.{Trace};
 ghost use Rattle.office.specs.Trace.{is_open};
 ghost use Rattle.office.specs.Stands.{StandsFor};
 ghost use Rattle.serving.specs.Calls.{Call, Closed};
 ghost use Rattle.serving.specs.Wires.{ToldOfPorts, at_port, has_closed};
-ghost use Rattle.serving.specs.Hearing.{Hearing, HasHeard, idle_ends, late_ends};
+ghost use Rattle.serving.specs.Hearing.{Hearing, HasHeard, idle_ends, ends_by};
 ghost use Rattle.serving.specs.Late.{HasEndedLate};
 ghost use Rattle.serving.specs.Newcomers.{newcomer, lies_unread};
+ghost use Rattle.serving.specs.Served.{Precedes, StillServes};
 ghost use Rattle.serving.specs.Parts.{Asks, Gives, KeepsServing, KeepsServingOne, KeepsSeats};
-ghost use Rattle.serving.specs.Parts.{IsEnded, Ends, Closes, ClosesSeat};
+ghost use Rattle.serving.specs.Parts.{IsOpenIn, IsEnded, Ends, Closes, ClosesSeat};
 ghost use Rattle.serving.specs.Parts.{PollsBy, PollsAfterClosing};
 ghost use Rattle.serving.specs.ClientParts.{AreClosed, IsClosed};
 ghost use Rattle.serving.specs.declared.links.Seat as declared;
@@ -79,20 +81,19 @@ pub(crate) fn close_link<W: Wire, L: Listener>(
 }
 
 impl<V: Vault, W: Wire, L: Listener> Server<V, W, L> {
-    /// Ends the connection of a seat, if it is open, whose client is late at a moment. The listener
-    /// hears whether its login seconds are over, or only those of a full house.
-    fn end_seat(&mut self, clients: &Clients, seat: Seat, now: u64)
-        ensures serves { KeepsServingOne V.Vault W.Wire seat self.old self.new }
+    /// Ends the connection of a seat. The listener hears why.
+    ///
+    /// `serves`: so it is over any wire, if the connection is open.
+    pub(crate) fn end_seat(&mut self, seat: Seat, why: End)
+        ensures serves { IsOpenIn V.holds self.old.office seat.connection → (wire : W)
+            (seats these : List declared.Seat) → Contains seats seat
+            → All (λ s. Precedes s seat) these → StillServes V.holds V.is_clean W.tells
+            self.old.office wire seats these self.new.office wire seats these }
         ensures works { Gives V.Vault self.old self.new (λ given.
             IsEnded V.holds V.is_clean self.old.office self.new.office seat.connection given
-            × HasHeard L.heard self.old.listener self.new.listener (late_ends now
-            clients.now.newcomers.seconds clients.now.newcomers.newcomers.items given)) }
+            × HasHeard L.heard self.old.listener self.new.listener (ends_by why given)) }
     {
-        if self.office.ended(seat.connection) {
-            return;
-        }
         let _ = self.office.step(Event::Gone(seat.connection));
-        let why = clients.newcomers.why_late(seat.connection, now);
         self.listener
             .on_account(seat.connection, &Account::Ended(why));
     }
@@ -109,8 +110,7 @@ impl<V: Vault, W: Wire, L: Listener> Server<V, W, L> {
             ((seconds == 0) ≡ false → HasEndedLate V.holds V.is_clean self.old.office
             self.new.office now seconds clients.old.newcomers.newcomers.items
             clients.new.newcomers.newcomers.items (seat ∷ []) given)
-            × HasHeard L.heard self.old.listener self.new.listener (late_ends now
-            clients.old.newcomers.seconds clients.old.newcomers.newcomers.items given)) }
+            × HasHeard L.heard self.old.listener self.new.listener (ends_by End.TooLate given)) }
     {
         if self.office.is_logged_in(seat.connection) {
             clients.newcomers.forget(seat.connection);
@@ -122,7 +122,10 @@ impl<V: Vault, W: Wire, L: Listener> Server<V, W, L> {
         if !clients.newcomers.is_late(seat.connection, now, seconds) {
             return;
         }
-        self.end_seat(clients, seat, now);
+        if self.office.ended(seat.connection) {
+            return;
+        }
+        self.end_seat(seat, End::TooLate);
     }
 
     /// Ends the connection of each client that hasn't logged in although so many or more of its
@@ -137,8 +140,7 @@ impl<V: Vault, W: Wire, L: Listener> Server<V, W, L> {
             HasEndedLate V.holds V.is_clean self.old.office self.new.office now seconds
             clients.old.newcomers.newcomers.items clients.new.newcomers.newcomers.items
             clients.old.seats.items given
-            × HasHeard L.heard self.old.listener self.new.listener (late_ends now
-            clients.old.newcomers.seconds clients.old.newcomers.newcomers.items given)) }
+            × HasHeard L.heard self.old.listener self.new.listener (ends_by End.TooLate given)) }
     {
         if seconds == 0 {
             return;

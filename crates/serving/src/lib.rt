@@ -31,6 +31,7 @@ mod octets;
 mod pace;
 mod quits;
 mod requests;
+mod room;
 mod running;
 mod script_links;
 mod script_spool;

@@ -1,8 +1,7 @@
 //! The open links, each with its connection.
 ghost use Rattle.std.specs.Prelude.{◌≡◌, ◌||◌, [], None, length, min};
 ghost use Rattle.serving.specs.Settings.{settings, settings_of, none_set, with_wait};
-ghost use Rattle.serving.specs.Settings.{with_login_seconds, with_full_house_seconds};
-ghost use Rattle.serving.specs.Settings.{with_slow_guesses};
+ghost use Rattle.serving.specs.Settings.{with_login_seconds, with_make_room, with_slow_guesses};
 
 use crate::file_name::FileName;
 use crate::guesses::Guesses;
@@ -109,19 +108,18 @@ impl Links {
         self.clients.newcomers.seconds = seconds.min(MOST_LOGIN_SECONDS);
     }
 
-    /// While 64 clients or more have seats, gives each so many seconds for its login, at most 600,
-    /// if that is less than what it has otherwise. Links begin with 0: that changes nothing then.
-    pub fn set_full_house_seconds(&mut self, seconds: u64)
-        ensures settings { settings self.new ≡ with_full_house_seconds (min seconds 600)
-            (settings self.old) }
-        ensures seconds { self.new.clients.newcomers.full_house_seconds ≡ min seconds 600 }
-        ensures newcomers { self.new.clients.newcomers.newcomers
-            ≡ self.old.clients.newcomers.newcomers }
+    /// Lets clients make room, or keep their places. At a full house a newcomer then gets the place
+    /// of a client that isn't logged in: of the address that holds the most such places, the one
+    /// that came first. Addresses that aren't known count as one. If all are logged in, the
+    /// newcomer's link is closed. Links begin with places that are kept.
+    pub fn set_make_room(&mut self, make_room: bool)
+        ensures settings { settings self.new ≡ with_make_room make_room (settings self.old) }
+        ensures make_room { self.new.clients.make_room ≡ make_room }
         ensures seats { self.new.clients.seats ≡ self.old.clients.seats }
         ensures requests { self.new.requests ≡ self.old.requests }
         ensures site { self.new.site ≡ self.old.site }
     {
-        self.clients.newcomers.full_house_seconds = seconds.min(MOST_LOGIN_SECONDS);
+        self.clients.make_room = make_room;
     }
 
     /// Makes guesses slow, or as fast as they come. After a refused PASS or APOP the next one under
@@ -157,12 +155,11 @@ impl Links {
         self.clients.newcomers.seconds
     }
 
-    /// How many seconds each client has for its login while the house is full; 0 if that changes
-    /// nothing. Only tests call it.
-    pub fn full_house_seconds(&self) -> u64
-        ensures { result ≡ (settings self.now).full_house_seconds }
+    /// Whether clients make room. Only tests call it.
+    pub fn makes_room(&self) -> bool
+        ensures { result ≡ (settings self.now).make_room }
     {
-        self.clients.newcomers.full_house_seconds
+        self.clients.make_room
     }
 
     /// Whether guesses are slow. Only tests call it.
@@ -208,6 +205,8 @@ pub(crate) struct Clients {
     /// If logins wait: a session ended while this turn served the links. No further login is
     /// read in it, so that in the next turn those who wait are tried by number.
     pub(crate) lock_released: bool,
+    /// At a full house a newcomer gets the place of a client that isn't logged in.
+    pub(crate) make_room: bool,
     /// Who hasn't logged in, and how long each may take.
     pub(crate) newcomers: Newcomers,
     /// Which logins were refused.
@@ -228,6 +227,7 @@ impl Clients {
             poll_now: false,
             wait: 0,
             lock_released: false,
+            make_room: false,
             newcomers: Newcomers::new(),
             guesses: Guesses::new(),
         }

@@ -5,15 +5,9 @@ ghost use Rattle.serving.specs.Newcomers.{newcomer, others, is_late_by, noted};
 ghost use Rattle.serving.specs.Newcomers.{spent as spent_by, waited as waited_by, settled};
 ghost use Rattle.serving.specs.Newcomers.{settled_if, settled_in, lies_unread, waited_of};
 ghost use Rattle.serving.specs.Newcomers.{held_at as held_at_by, since_at as since_at_by};
-ghost use Rattle.serving.specs.Newcomers.{limit_by, smaller_limit as smaller_limit_of};
-ghost use Rattle.serving.specs.Hearing.{why_late};
 
 use crate::links::PLACES;
 use arrayvec::ArrayVec;
-use office::End;
-
-/// From so many taken seats on the house is full: as many connections as an office has at once.
-const FULL_HOUSE: usize = 64;
 
 /// A client that hasn't logged in.
 #[derive(Clone, Copy, PartialEq, Eq, Default, Debug)]
@@ -101,19 +95,6 @@ fn settle_all(newcomers: &mut [Newcomer], connection: u64, lies_unread: bool, no
     }
 }
 
-/// The smaller of two limits, of which 0 is none.
-fn smaller_limit(one: u64, other: u64) -> u64
-    ensures { result ≡ smaller_limit_of one other }
-{
-    if one == 0 {
-        return other;
-    }
-    if other == 0 {
-        return one;
-    }
-    one.min(other)
-}
-
 /// The first newcomer of a connection.
 fn first_of(newcomers: &[Newcomer], connection: u64) -> Option<&Newcomer>
     ensures { option_copied result ≡ newcomer connection newcomers.now }
@@ -128,8 +109,6 @@ fn first_of(newcomers: &[Newcomer], connection: u64) -> Option<&Newcomer>
 pub(crate) struct Newcomers {
     /// How many seconds each has for its login; 0 if that has no limit of its own.
     pub(crate) seconds: u64,
-    /// The same while the house is full; 0 if that changes nothing.
-    pub(crate) full_house_seconds: u64,
     pub(crate) newcomers: ArrayVec<Newcomer, PLACES>,
 }
 
@@ -137,12 +116,10 @@ impl Newcomers {
     /// None came, and none is noted.
     pub(crate) fn new() -> Newcomers
         ensures seconds { result.seconds ≡ 0 }
-        ensures full { result.full_house_seconds ≡ 0 }
         ensures newcomers { result.newcomers.items ≡ [] }
     {
         Newcomers {
             seconds: 0,
-            full_house_seconds: 0,
             newcomers: ArrayVec::new(),
         }
     }
@@ -151,7 +128,6 @@ impl Newcomers {
     /// if each that is noted has a seat, and a seat is free.
     pub(crate) fn note(&mut self, connection: u64, now: u64) -> bool
         ensures seconds { self.new.seconds ≡ self.old.seconds }
-        ensures full { self.new.full_house_seconds ≡ self.old.full_house_seconds }
         ensures newcomers { self.new.newcomers.items
             ≡ noted result connection now self.old.newcomers.items }
         ensures room { length self.old.newcomers.items < 128 → result ≡ true }
@@ -170,7 +146,6 @@ impl Newcomers {
     /// Forgets a connection: it logged in, or ended.
     pub(crate) fn forget(&mut self, connection: u64)
         ensures seconds { self.new.seconds ≡ self.old.seconds }
-        ensures full { self.new.full_house_seconds ≡ self.old.full_house_seconds }
         ensures newcomers { self.new.newcomers.items ≡ others connection self.old.newcomers.items }
     {
         self.newcomers.retain(|it| it.connection != connection);
@@ -179,7 +154,6 @@ impl Newcomers {
     /// Notes that the login of a connection lies unread at this moment, or that none does.
     pub(crate) fn settle(&mut self, connection: u64, lies_unread: bool, now: u64)
         ensures seconds { self.new.seconds ≡ self.old.seconds }
-        ensures full { self.new.full_house_seconds ≡ self.old.full_house_seconds }
         ensures newcomers { self.new.newcomers.items
             ≡ settled_in connection lies_unread now self.old.newcomers.items }
     {
@@ -214,17 +188,6 @@ impl Newcomers {
         }
     }
 
-    /// How many seconds each has for its login while so many seats are taken; 0 if there is no
-    /// limit. From 64 seats on it is the smaller of both limits.
-    pub(crate) fn limit(&self, taken: usize) -> u64
-        ensures { result ≡ limit_by taken self.now.seconds self.now.full_house_seconds }
-    {
-        if taken >= FULL_HOUSE {
-            return smaller_limit(self.seconds, self.full_house_seconds);
-        }
-        self.seconds
-    }
-
     /// Whether a connection hasn't logged in, and so many of its seconds are over at this moment.
     pub(crate) fn is_late(&self, connection: u64, now: u64, seconds: u64) -> bool
         ensures { result ≡ is_late_by now seconds (newcomer connection self.now.newcomers.items) }
@@ -233,19 +196,5 @@ impl Newcomers {
             None => false,
             Some(newcomer) => newcomer.spent(now) >= seconds,
         }
-    }
-
-    /// Why a connection that is late at this moment is ended: its login seconds are over, or only
-    /// those of a full house.
-    pub(crate) fn why_late(&self, connection: u64, now: u64) -> End
-        ensures { result ≡ why_late now self.now.seconds self.now.newcomers.items connection }
-    {
-        if self.seconds == 0 {
-            return End::FullHouse;
-        }
-        if self.is_late(connection, now, self.seconds) {
-            return End::TooLate;
-        }
-        End::FullHouse
     }
 }

@@ -124,7 +124,7 @@ impl<V: Vault, W: Wire, L: Listener> Server<V, W, L> {
         self.serve_links(&mut links.clients, quits, now);
         let site = &links.site;
         self.serve_requests(&mut links.requests, site, now);
-        let seconds = links.clients.newcomers.limit(links.clients.seats.len());
+        let seconds = links.clients.newcomers.seconds;
         self.end_late_ones(&mut links.clients, now, seconds);
         self.close_links(&mut links.clients);
         self.serve_spool(&mut links.clients, spool);

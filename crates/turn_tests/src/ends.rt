@@ -1,11 +1,12 @@
 //! Why a connection ended, as a server's listener hears it: of one that was idle, of one that took
-//! too long to log in, and of one that hadn't logged in while all places were taken.
+//! too long to log in, and of one whose place another got.
 use crate::two_clerks::office_of_two;
 use office::{Account, End};
 use serving::{
     AdminRequest, Link, LinkEvent, Listener, Port, ScriptSpool, ScriptWire, Server, Wire,
 };
 use std::alloc::{AllocError, Global};
+use std::net::{IpAddr, Ipv4Addr};
 use std::test::Fail;
 
 /// Each connection that ended if no line ended it, and why, in their order.
@@ -56,11 +57,11 @@ impl Listener for Ends {
 }
 
 /// What is heard of silent clients: so many come before the turn at each of these moments, and each
-/// has so many seconds for its login, and so many while all places are taken.
+/// has so many seconds for its login. If they make room, the first ones come from these addresses.
 fn ends_by(
     alloc: Global,
     login_seconds: u64,
-    full_house_seconds: u64,
+    make_room: Option<&[IpAddr]>,
     turns: &[(usize, u64)],
 ) -> Result<String, Fail> {
     let mut spool = ScriptSpool::new(alloc);
@@ -75,7 +76,12 @@ fn ends_by(
     };
     let mut links = server.begin(alloc, &spool);
     links.set_login_seconds(login_seconds);
-    links.set_full_house_seconds(full_house_seconds);
+    if let Some(from) = make_room {
+        links.set_make_room(true);
+        let mut addresses = Vec::new(alloc);
+        addresses.extend_from_slice(from)?;
+        server.wire.set_addresses(addresses);
+    }
     for (coming, now) in turns {
         connect_all(alloc, &mut server.wire, *coming)?;
         server.serve_turn(&mut links, &mut spool, *now);
@@ -105,7 +111,7 @@ fn idle_ones_are_heard(rt: HostRuntime) -> Result<(), Fail> {
         (0, 607),
         (0, 608),
     ];
-    let ends = ends_by(rt.alloc(), 0, 0, &turns)?;
+    let ends = ends_by(rt.alloc(), 0, None, &turns)?;
     assert!(rt; ends.as_str() == "1 idle, 2 idle, ", "{ends}");
     Ok(())
 }
@@ -113,25 +119,40 @@ fn idle_ones_are_heard(rt: HostRuntime) -> Result<(), Fail> {
 #[test]
 fn late_ones_are_heard(rt: HostRuntime) -> Result<(), Fail> {
     let turns = [(1, 5), (1, 7), (0, 14), (0, 15), (0, 16), (0, 17), (0, 18)];
-    let ends = ends_by(rt.alloc(), 10, 0, &turns)?;
+    let ends = ends_by(rt.alloc(), 10, None, &turns)?;
     assert!(rt; ends.as_str() == "1 too late, 2 too late, ", "{ends}");
     Ok(())
 }
 
-/// The first one's four seconds are over while 64 are there. Then the house isn't full any more,
-/// and the others have their ten.
+/// If clients keep their places, one that comes to a full house ends nobody.
 #[test]
-fn end_in_a_full_house_is_heard(rt: HostRuntime) -> Result<(), Fail> {
-    let turns = [(1, 5), (63, 8), (0, 8), (0, 9), (0, 12), (0, 17)];
-    let ends = ends_by(rt.alloc(), 10, 4, &turns)?;
-    assert!(rt; ends.as_str() == "1 full house, ", "{ends}");
+fn full_house_ends_nobody(rt: HostRuntime) -> Result<(), Fail> {
+    let ends = ends_by(rt.alloc(), 0, None, &[(64, 5), (3, 6), (0, 7)])?;
+    assert!(rt; ends.as_str() == "", "{ends}");
     Ok(())
 }
 
-/// As the 64th comes, the first one's ten seconds are over too.
+/// A full house alone ends nobody: each that comes to it ends one, the oldest first, if their
+/// addresses aren't known or are the same.
 #[test]
-fn late_one_in_a_full_house_is_heard(rt: HostRuntime) -> Result<(), Fail> {
-    let ends = ends_by(rt.alloc(), 10, 4, &[(1, 5), (63, 15), (0, 16)])?;
-    assert!(rt; ends.as_str() == "1 too late, ", "{ends}");
+fn newcomers_get_the_oldest_places(rt: HostRuntime) -> Result<(), Fail> {
+    let here = [IpAddr::V4(Ipv4Addr::new(192, 0, 2, 1)); 80];
+    for from in [&here[..0], &here[..]] {
+        let ends = ends_by(rt.alloc(), 0, Some(from), &[(64, 5), (0, 6), (2, 7), (1, 8)])?;
+        assert!(rt; ends.as_str() == "1 full house, 2 full house, 3 full house, ", "{ends}");
+    }
+    Ok(())
+}
+
+/// The first one came alone from its address, and keeps its place as long as another address has
+/// more.
+#[test]
+fn newcomers_get_places_of_the_address_with_most(rt: HostRuntime) -> Result<(), Fail> {
+    let mut from = [IpAddr::V4(Ipv4Addr::new(192, 0, 2, 1)); 67];
+    from[0] = IpAddr::V4(Ipv4Addr::new(192, 0, 2, 2));
+    from[1] = IpAddr::V4(Ipv4Addr::new(192, 0, 2, 3));
+    from[2] = IpAddr::V4(Ipv4Addr::new(192, 0, 2, 3));
+    let ends = ends_by(rt.alloc(), 0, Some(&from[..]), &[(64, 5), (3, 6)])?;
+    assert!(rt; ends.as_str() == "4 full house, 5 full house, 6 full house, ", "{ends}");
     Ok(())
 }

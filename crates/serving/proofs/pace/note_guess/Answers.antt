@@ -10,7 +10,7 @@ returns-then-refusals-before-clause-keeps g c =
     record {
       keeps = record {
         keeps = record {
-          set = set_slow old.wait old.newcomers.seconds old.newcomers.full_house_seconds old.guesses.are_slow _ c.refuse.ensures.slow;
+          set = set_slow old.wait old.newcomers.seconds old.make_room old.guesses.are_slow _ c.refuse.ensures.slow;
           last = refl;
           polled = λ e. e;
           pacing = λ h. subst ArePacing (sym c.refuse.ensures.refusals) (pacing_more _ _ _ _ h);
@@ -28,7 +28,7 @@ returns-then-is_logged_in-clause-keeps g c =
     record {
       keeps = record {
         keeps = record {
-          set = set_slow old.wait old.newcomers.seconds old.newcomers.full_house_seconds old.guesses.are_slow _ c.forget.ensures.slow;
+          set = set_slow old.wait old.newcomers.seconds old.make_room old.guesses.are_slow _ c.forget.ensures.slow;
           last = refl;
           polled = λ e. e;
           pacing = λ h. subst ArePacing (sym c.forget.ensures.refusals) (pacing_without _ _ _ h);

@@ -123,7 +123,7 @@ returns-clause-closes g c =
     record {
       closes = record {
         keeps = record {
-          set = set_same links.wait links.newcomers.seconds _ links.newcomers.full_house_seconds _ links.guesses.are_slow c.forget.ensures.seconds c.forget.ensures.full;
+          set = set_same links.wait links.newcomers.seconds _ links.make_room links.guesses.are_slow c.forget.ensures.seconds;
           last = refl;
           polled = λ e. is_left links.poll_now (nat_lt 0 links.wait) e;
           pacing = λ h. h;

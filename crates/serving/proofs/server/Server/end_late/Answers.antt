@@ -1,4 +1,12 @@
 use Rattle.std.proofs.Common.{rules, ◌≡◌, [], true, false, refl, sym, subst, ◌∙◌, true≢false}
+use Rattle.std.specs.List.{All}
+use Rattle.std.proofs.lemmas.List.Elements.{All-nil, All-cons}
+use Rattle.office.specs.Events as event
+use Rattle.office.specs.Taken.{trace_of}
+use Rattle.office.specs.Trace.{is_open}
+use Rattle.serving.specs.Served.{IsServing}
+use Rattle.serving.specs.Works.{IsLateGone}
+use Rattle.serving.proofs.Seating.{open_so, shut_so}
 use Rattle.serving.specs.Newcomers.{HaveSeats}
 use Rattle.serving.proofs.Composing.{ends_none}
 use Rattle.serving.proofs.Hearing.{hears_none}
@@ -22,6 +30,9 @@ returns-then-lies_unread-clause-ends g c = ends_none c.args.now c.args.seconds c
 
 pub returns-then-not-is_late-clause-ends : goal.returns-then-not-is_late-clause-ends
 returns-then-not-is_late-clause-ends g c = ends_none c.args.now c.args.seconds c.args.clients.now
+
+pub returns-then-ended-clause-ends : goal.returns-then-ended-clause-ends
+returns-then-ended-clause-ends g c = ends_none c.args.now c.args.seconds c.args.clients.now
 
 pub returns-clause-ends : goal.returns-clause-ends
 returns-clause-ends g c = ends_none c.args.now c.args.seconds c.args.clients.now
@@ -75,11 +86,36 @@ returns-then-not-is_late-clause-works g c =
       };
     }
 
+pub returns-then-ended-clause-works : goal.returns-then-ended-clause-works
+returns-then-ended-clause-works g c =
+    let over : c.ended.result ≡ true = search rules in
+    record {
+      wire = refl;
+      part = record {
+        given = [];
+        was_given = given_none g.V.Vault c.args.self.now.office;
+        facts = (
+          λ on. late_shut g.V.Vault c.args.now c.args.seconds c.args.self.now.office c.args.self.now.office c.args.clients.now.newcomers.newcomers.items c.args.seat []
+              (All-nil (IsLateGone c.args.now c.args.seconds c.args.clients.now.newcomers.newcomers.items))
+              (λ B L s clean. shut_so (is_open (trace_of B L) c.args.seat.connection) c.ended.result (c.ended.ensures (trace_of B L) s) over),
+          hears_none g.L.Listener.heard c.args.self.now.listener,
+        );
+      };
+    }
+
+pub returns-clause-serves : goal.returns-clause-serves
+returns-clause-serves g c = λ seats these has before T elsewhere s clean.
+    (let stays : c.ended.result ≡ false = search rules in
+    subst (λ w. IsServing g.V.Vault.holds g.W.Wire.tells T elsewhere c.end_seat.new.self.office w seats these) (sym c.end_seat.ensures.works.wire)
+    (c.end_seat.ensures.serves (λ U su. open_so (is_open U c.args.seat.connection) c.ended.result (c.ended.ensures U su) stays) c.args.self.now.wire seats these has before T elsewhere s clean))
+
 pub returns-clause-works : goal.returns-clause-works
 returns-clause-works g c =
     let n = c.args.clients.now.newcomers in
     let is : c.is_late.result ≡ true = search rules in
+    let stays : c.ended.result ≡ false = search rules in
     let w = c.end_seat.ensures.works.part in
+    let P = IsLateGone c.args.now c.args.seconds n.newcomers.items in
     record {
       wire = c.end_seat.ensures.works.wire;
       part = record {
@@ -88,7 +124,9 @@ returns-clause-works g c =
         facts = (
           λ on. late_shut g.V.Vault c.args.now c.args.seconds
               c.args.self.now.office c.end_seat.new.self.office n.newcomers.items c.args.seat w.given
-              (w.facts.0.gone c.args.now c.args.seconds n.newcomers.items (late_so c.args.now c.args.seconds n.newcomers.items _ on (sym c.is_late.ensures ∙ is))) w.facts.0.shut,
+              (subst (λ given. All P given) (sym w.facts.0.is)
+              (All-cons P (event.Gone c.args.seat.connection, w.facts.0.event_tag) [] (late_so c.args.now c.args.seconds n.newcomers.items _ on (sym c.is_late.ensures ∙ is)) (All-nil P)))
+              (w.facts.0.shut (λ U su. open_so (is_open U c.args.seat.connection) c.ended.result (c.ended.ensures U su) stays)),
           w.facts.1,
         );
       };

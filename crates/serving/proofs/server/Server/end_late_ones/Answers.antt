@@ -3,9 +3,9 @@ use Rattle.serving.specs.declared.links.Seat.{Seat}
 use Rattle.serving.specs.Late.{HasEndedLate}
 use Rattle.serving.proofs.Timely.{late_none, late_off, late_step, late_whole}
 use Rattle.serving.specs.Served.{IsServing}
-use Rattle.serving.specs.Hearing.{HasHeard, late_ends}
-use Rattle.serving.proofs.Hearing.{hears_none, hears_late, late_heard}
-use Rattle.serving.specs.Settings.{Settings}
+use Rattle.serving.specs.Hearing.{HasHeard, ends_by}
+use Rattle.serving.proofs.Hearing.{hears_none, hears_ends}
+use Rattle.office.specs.declared.account.End.TheVariants.{TooLate}
 use Rattle.serving.proofs.Working.{given_none}
 use Rattle.serving.proofs.Composing.{seats_none, seats_then, ends_none, ends_then}
 use Rattle.serving.proofs.Releasing.{at_place}
@@ -69,7 +69,6 @@ loop-place-preserved g c =
     let ys = c.deref.result.now in
     let within : k.place < length seats = search rules in
     let w = x.ensures.works.part in
-    let same : k.clients.newcomers.seconds ≡ n.seconds = ap (λ (s : Settings). s.login_seconds) k.invariant.keeps.keeps.set in
     record {
       serves = λ T elsewhere s clean.
           (let served = x.ensures.serves seats [] (contained seats ys k.place _ c.deref.ensures.0 within) (λ j d inside. absurd (omega (arith, inside))) T elsewhere
@@ -82,13 +81,10 @@ loop-place-preserved g c =
         part = late_step g.V.Vault now c.args.seconds
             c.args.self.now.office k.self.office x.new.self.office n.newcomers.items k.clients.newcomers.newcomers.items
             x.new.clients.newcomers.newcomers.items c.args.clients.now.seats.items k.clients.seats.items k.place no_seat
-            (λ given. HasHeard Heard l k.self.listener (late_ends now n.seconds n.newcomers.items given))
-            (λ given. HasHeard Heard k.self.listener x.new.self.listener (late_ends now k.clients.newcomers.seconds k.clients.newcomers.newcomers.items given))
-            (λ given. HasHeard Heard l x.new.self.listener (late_ends now n.seconds n.newcomers.items given)) (ap (λ v. v.items) k.invariant.keeps.seats) within k.invariant.ends.late
-            (λ g1 g2 gone a b.
-            hears_late Heard now n.seconds n.newcomers.items l k.self.listener x.new.self.listener g1 g2 a
-            (late_heard Heard now c.args.seconds n.seconds k.clients.newcomers.seconds n.newcomers.items k.clients.newcomers.newcomers.items
-            k.invariant.ends.late same k.self.listener x.new.self.listener g2 gone b))
+            (λ given. HasHeard Heard l k.self.listener (ends_by TooLate given))
+            (λ given. HasHeard Heard k.self.listener x.new.self.listener (ends_by TooLate given))
+            (λ given. HasHeard Heard l x.new.self.listener (ends_by TooLate given)) (ap (λ v. v.items) k.invariant.keeps.seats) within k.invariant.ends.late
+            (λ g1 g2 a b. hears_ends Heard TooLate l k.self.listener x.new.self.listener g1 g2 a b)
             k.invariant.works.part
             (record {
               given = w.given;
@@ -111,6 +107,6 @@ returns-clause-works g c =
       wire = k.invariant.works.wire;
       part = late_whole g.V.Vault c.args.now c.args.seconds c.args.self.now.office k.self.office c.args.clients.now.newcomers.newcomers.items
           k.clients.newcomers.newcomers.items c.args.clients.now.seats.items k.clients.seats.items k.place
-          (λ given. HasHeard g.L.Listener.heard c.args.self.now.listener k.self.listener (late_ends c.args.now c.args.clients.now.newcomers.seconds c.args.clients.now.newcomers.newcomers.items given))
+          (λ given. HasHeard g.L.Listener.heard c.args.self.now.listener k.self.listener (ends_by TooLate given))
           (ap (λ v. v.items) k.invariant.keeps.seats) done k.invariant.works.part;
     }

@@ -1,7 +1,8 @@
 use Rattle.std.proofs.Common.{◌-◌, [], take}
 use Rattle.arrayvec.specs.ArrayVec.{array_vec_len}
 use Rattle.serving.specs.Late.{HasEndedLate}
-use Rattle.serving.specs.Hearing.{HasHeard, late_ends}
+use Rattle.serving.specs.Hearing.{HasHeard, ends_by}
+use Rattle.office.specs.declared.account.End.TheVariants.{TooLate}
 use Rattle.serving.specs.Parts.{Gives, KeepsServing, KeepsSeats, Ends}
 use Rattle.serving.proofs.server.Server.end_late_ones.Given as goal
 
@@ -13,7 +14,7 @@ invariant-loop-place g l = record {
   works : Gives g.V.Vault l.fn.self l.self
       (λ given. HasEndedLate g.V.Vault.holds g.V.Vault.is_clean l.fn.self.office l.self.office l.fn.now l.fn.seconds l.fn.clients.newcomers.newcomers.items l.clients.newcomers.newcomers.items
       (take l.place l.fn.clients.seats.items) given
-      × HasHeard g.L.Listener.heard l.fn.self.listener l.self.listener (late_ends l.fn.now l.fn.clients.newcomers.seconds l.fn.clients.newcomers.newcomers.items given));
+      × HasHeard g.L.Listener.heard l.fn.self.listener l.self.listener (ends_by TooLate given));
 }
 
 abbrev pub decreases-loop-place : goal.decreases-loop-place

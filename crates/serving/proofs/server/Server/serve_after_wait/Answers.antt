@@ -1,4 +1,4 @@
-use Rattle.std.proofs.Common.{arith, length, refl, sym, subst}
+use Rattle.std.proofs.Common.{arith, refl, sym, subst}
 use Rattle.serving.specs.Calls.{Waited}
 use Rattle.serving.specs.Turns.{millis_of}
 use Rattle.serving.proofs.Depositing.{so_far_first, so_far_served, so_far_came, so_far_asked, so_far_tried}
@@ -13,7 +13,7 @@ use Rattle.office.specs.Events.{Trace}
 use Rattle.office.specs.Trace.{is_open}
 use Rattle.office.specs.Stands.{StandsFor}
 use Rattle.serving.specs.declared.newcomers.Newcomer.{Newcomer}
-use Rattle.serving.specs.Newcomers.{newcomer, limit, limit_by, HaveSeats, IsNewlyNoted, AllHaveSeats, IsSettled, IsComer}
+use Rattle.serving.specs.Newcomers.{newcomer, HaveSeats, IsNewlyNoted, AllHaveSeats, IsSettled, IsComer}
 use Rattle.std.proofs.lemmas.List.Elements.{All-weaker}
 use Rattle.serving.proofs.Late.{late_then, late_comers}
 use Rattle.serving.proofs.Settling.{late_settled, settled_seats, comer_so, waited_same}
@@ -24,8 +24,9 @@ use Rattle.serving.specs.Guesses.{ArePacing}
 use Rattle.serving.specs.Parts.{Giving}
 use Rattle.serving.specs.Late.{HasEndedLate}
 use Rattle.serving.proofs.Timely.{late_both}
-use Rattle.serving.specs.Hearing.{HasHeard, WithHeard, heard_of_all, idle_ends, late_ends}
-use Rattle.serving.proofs.Hearing.{hears_on, hears_same, hears_then, late_heard}
+use Rattle.serving.specs.Hearing.{HasHeard, WithHeard, heard_of_all, idle_ends, ends_by}
+use Rattle.office.specs.declared.account.End.TheVariants.{FullHouse, TooLate}
+use Rattle.serving.proofs.Hearing.{hears_on, hears_then}
 use Rattle.serving.proofs.Composing.{clean_same}
 use Rattle.serving.proofs.Working.{part_so}
 use Rattle.serving.proofs.Going.{passed_by}
@@ -120,8 +121,10 @@ returns-clause-works g c = λ wire asked T s clean.
     let l5 = c.end_late_ones.new.self.listener in
     let l6 = c.serve_spool.new.self.listener in
     let a = c.accept_links.ensures.works in
-    let accepted : Part g.V.Vault Asked o1 w1 o2 c.accept_links.new.self.wire (AreAccepted Holds IsClean o1 o2 old.seats.items seats2 64 a.0) =
-    part_so g.V.Vault Asked o1 o2 w1 c.accept_links.new.self.wire _ _ (λ gv cl wa x. x.1) a.1 in
+    let accepted : Part g.V.Vault Asked o1 w1 o2 c.accept_links.new.self.wire
+    (λ given calls. HasHeard Heard l1 l2 (ends_by FullHouse given) × AreAccepted Holds IsClean o1 o2 old.make_room old.seats.items seats2 64 a.0 given calls) =
+    part_so g.V.Vault Asked o1 o2 w1 c.accept_links.new.self.wire _ _
+    (λ gv cl wa x. (hears_on Heard l1 c.accept_links.new.self.listener l2 _ c.accept_admin_links.ensures.works.1.unheard x.0, x.1)) a.1 in
     let ticked : Part g.V.Vault Asked c.args.self.now.office c.args.self.now.wire o1 w1 (IsPassed [] now) =
     part_so g.V.Vault Asked c.args.self.now.office o1 c.args.self.now.wire w1 _ _ (λ gv cl wa x. x.1) c.tick.ensures.works in
     let passed = passed_by g.V.Vault Asked c.args.self.now.office o1 wire c.args.self.now.wire w1
@@ -140,34 +143,28 @@ returns-clause-works g c = λ wire asked T s clean.
     (PollsBy (came.poll_now || (preparing || served.lock_released)) served.poll_now)))) c.accept_admin_links.ensures.works.1.office c.serve_links.ensures.works)) in
     let settled = c.serve_links.ensures.settled in
     let set = c.serve_links.ensures.keeps.keeps.set ∙ c.accept_links.ensures.comers.keeps.set in
-    let most = limit links (length seats2) in
-    let seconds : c.limit-seconds.result ≡ most =
-    c.limit-seconds.ensures
-    ∙ (ap (λ n. limit_by n served.newcomers.seconds served.newcomers.full_house_seconds) (c.len.ensures.value ∙ ap (λ v. length v.items) c.serve_links.ensures.keeps.seats)
-    ∙ (ap (λ (s : Settings). limit_by (length seats2) s.login_seconds s.full_house_seconds) set)) in
+    let most = old.newcomers.seconds in
+    let seconds : served.newcomers.seconds ≡ most = ap (λ (s : Settings). s.login_seconds) set in
     let less = late_then now most old.newcomers.newcomers.items came.newcomers.newcomers.items served.newcomers.newcomers.items
     (late_comers now most old.newcomers.newcomers.items came.newcomers.newcomers.items c.accept_links.ensures.comers.each)
     (late_settled now most came.newcomers.newcomers.items served.newcomers.newcomers.items settled) in
-    let login_same : served.newcomers.seconds ≡ old.newcomers.seconds = ap (λ (s : Settings). s.login_seconds) set in
-    let late = late_both g.V.Vault now c.limit-seconds.result most
+    let late = late_both g.V.Vault now served.newcomers.seconds most
     old.newcomers.newcomers.items served.newcomers.newcomers.items ended.newcomers.newcomers.items seats2 o4 o5
-    (λ given. HasHeard Heard l4 l5 (late_ends now served.newcomers.seconds served.newcomers.newcomers.items given))
-    (λ given. HasHeard Heard l4 l6 (late_ends now old.newcomers.seconds old.newcomers.newcomers.items given)) seconds less
-    (λ given gone told. hears_on Heard l4 l5 l6 _ (λ h q. subst (λ x. Heard x h) (sym c.serve_spool.ensures.works.listener) (c.close_links.ensures.works.unheard h q))
-    (late_heard Heard now most old.newcomers.seconds served.newcomers.seconds old.newcomers.newcomers.items served.newcomers.newcomers.items less login_same l4 l5 given gone told))
+    (λ given. HasHeard Heard l4 l5 (ends_by TooLate given)) (λ given. HasHeard Heard l4 l6 (ends_by TooLate given)) seconds less
+    (λ given told. hears_on Heard l4 l5 l6 _ (λ h q. subst (λ x. Heard x h) (sym c.serve_spool.ensures.works.listener) (c.close_links.ensures.works.unheard h q)) told)
     (subst (λ v. Giving g.V.Vault o4 o5
-    (λ given. HasEndedLate Holds IsClean o4 o5 now c.limit-seconds.result served.newcomers.newcomers.items ended.newcomers.newcomers.items v.items given
-    × HasHeard Heard l4 l5 (late_ends now served.newcomers.seconds served.newcomers.newcomers.items given)))
+    (λ given. HasEndedLate Holds IsClean o4 o5 now served.newcomers.seconds served.newcomers.newcomers.items ended.newcomers.newcomers.items v.items given
+    × HasHeard Heard l4 l5 (ends_by TooLate given)))
     c.serve_links.ensures.keeps.seats c.end_late_ones.ensures.works.part) in
     let keeps : (n : ℕ) (x : Newcomer) → newcomer n old.newcomers.newcomers.items ≡ Some x → IsSettled now (Some x) (newcomer n served.newcomers.newcomers.items) =
     λ n x h. subst (λ m. IsSettled now m (newcomer n served.newcomers.newcomers.items)) (c.accept_links.ensures.comers.noted n x h) (settled.each n) in
     let comers = c.accept_links.ensures.comers in
     let waited = waited_same now old.newcomers.newcomers.items came.newcomers.newcomers.items comers.each c.accept_links.ensures.comers.noted in
-    let newly : AllHaveSeats links → All (IsComer now old.newcomers.newcomers.items served.newcomers.newcomers.items) (filter_map seat_of accepted.facts.came) =
+    let newly : AllHaveSeats links → All (IsComer now old.newcomers.newcomers.items served.newcomers.newcomers.items) (filter_map seat_of accepted.facts.1.came) =
     λ h. All-weaker (IsNewlyNoted now old.newcomers.newcomers.items came.newcomers.newcomers.items) (IsComer now old.newcomers.newcomers.items served.newcomers.newcomers.items)
-    (λ q k. comer_so now old.newcomers.newcomers.items came.newcomers.newcomers.items served.newcomers.newcomers.items q settled k) (filter_map seat_of accepted.facts.came)
+    (λ q k. comer_so now old.newcomers.newcomers.items came.newcomers.newcomers.items served.newcomers.newcomers.items q settled k) (filter_map seat_of accepted.facts.1.came)
     (subst (All (IsNewlyNoted now old.newcomers.newcomers.items came.newcomers.newcomers.items))
-    (more_is old.seats.items comers.more (filter_map seat_of accepted.facts.came) seats2 comers.is accepted.facts.come.seated) (comers.newly h)) in
+    (more_is old.seats.items comers.more (filter_map seat_of accepted.facts.1.came) seats2 comers.is accepted.facts.1.come.seated) (comers.newly h)) in
     let forgets : (U : Trace) → StandsFor Holds o5 U → (n : ℕ) → is_open U n ≡ true → newcomer n c.serve_spool.new.clients.newcomers.newcomers.items ≡ newcomer n ended.newcomers.newcomers.items =
     λ U su n here. ap (λ v. newcomer n v.newcomers.items) c.serve_spool.ensures.keeps.newcomers ∙ c.close_links.ensures.newcomers U su n here in
     let last = c.close_links.ensures.closes.keeps.last ∙ (c.end_late_ones.ensures.keeps.keeps.last ∙ (c.serve_links.ensures.keeps.keeps.last ∙ c.accept_links.ensures.comers.keeps.last)) in
@@ -186,7 +183,7 @@ returns-clause-works g c = λ wire asked T s clean.
     seats2 a.0 c.accept_admin_links.new.requests.exchanges.items c.accept_admin_links.ensures.works.0 served.lock_released preparing served.poll_now
     c.close_links.new.clients.poll_now came.newcomers.newcomers.items served.newcomers.newcomers.items ended.newcomers.newcomers.items passed
     (λ U su. hears_then Heard l l0 l1 [] (idle_ends U old.seats.items) untold (c.report_idle_ones.ensures U su)) accepted c.accept_admin_links.ensures.works.1.part
-    (hears_same Heard l1 l2 (λ h q. c.accept_admin_links.ensures.works.1.unheard h (c.accept_links.ensures.heard h q))) turned c.serve_links.ensures.releases c.serve_links.ensures.prepares
+    turned c.serve_links.ensures.releases c.serve_links.ensures.prepares
     (λ e. c.close_links.ensures.closes.keeps.polled (c.end_late_ones.ensures.ends.poll_now ∙ e)) c.serve_requests.ensures.works waited keeps newly late forgets
     (λ U su.
     subst (λ w. Asking Asked w w6 (λ calls. AreClosed U seats2 c.serve_spool.new.clients.seats.items calls
