@@ -15,9 +15,8 @@ import tomllib
 
 HOST, DOMAIN = "pop.office.test", "office.test"
 CERTIFICATE, SORTING = "/etc/ssl/certs/pop.pem", "/etc/popbox/sorting.toml"
-SPOOL = "/var/lib/popbox/spool"
 # The clerks' programs run as this user, each in a folder of its own.
-USER, HOME = "month", "/home/month"
+SPOOL, USER, HOME = "/var/lib/popbox/spool", "month", "/home/month"
 # The seconds that tools/preload/clock.c adds to each moment, and to the date alone.
 CLOCK, DATE, LIBRARY = "/run/month/clock", "/run/month/date", "/run/month/clock.so"
 DAY = 86_400
@@ -25,20 +24,16 @@ DAY = 86_400
 LONGEST = 300
 # Each class with a subject by which the patterns of the office give it.
 SUBJECTS = {
-    "note": "two more chairs, no. {}",
-    "payment": "payment received, no. {}",
-    "invoice": "your invoice {}",
-    "complaint": "complaint {}: a leg is loose",
+    "note": "two more chairs, no. {}", "payment": "payment received, no. {}",
+    "invoice": "your invoice {}", "complaint": "complaint {}: a leg is loose",
     "legal": "letter {} from our lawyers",
 }
 RULES = "".join(
     f'[[sort]]\nclass = "{name}"\nsubject = "{word}"\n'
     for name, word in (
-        ("payment", "payment received"),
-        ("invoice", "invoice"),
-        ("complaint", "complaint"),
+        ("payment", "payment received"), ("invoice", "invoice"), ("complaint", "complaint"),
         ("legal", "lawyers"),
-    )
+    )  # fmt: skip
 ) + '[otherwise]\nclass = "note"\n'
 
 
@@ -345,8 +340,13 @@ class Office:
     def __init__(self, seed, policy):
         self.chance = random.Random(seed)
         self.messages, self.present, self.removed, self.lost = {}, {}, {}, {}
-        self.secrets, self.programs = {}, []
+        self.secrets, self.programs, self.policies = {}, [], []
         self.policy, self.day, self.fetches, self.again = Policy(policy), 0, 0, 0
+
+    def bind(self, policy):
+        """A policy came into force."""
+        self.policy = Policy(policy)
+        self.policies.append(self.policy.rules)
 
     # Mail
 
@@ -438,6 +438,6 @@ class Office:
             old = self.day - program.after
             removable = {it for it in removable if program.first[it] <= old}
         wants({uid for _, uid in gone}, removable, f"{program.name} removed")
-        self.removed.update({number: (program.name, self.day) for number in gone.values()})
+        self.removed.update({number: (program.clerk, *place) for place, number in gone.items()})
         self.fetches += 1
         return len(got), len(gone)

@@ -9,7 +9,8 @@ import signal
 import tempfile
 import time
 
-from clients import wait_for, wants
+from cases import needs
+from clients import Mail, wait_for, wants
 from harness import (
     LIMIT, TEXTS, TIME, ScriptCase, fits, is_halted, limit_files, read, read_text, run, serves,
     write,
@@ -342,3 +343,21 @@ class Copies(ScriptCase):
         drop = ["setpriv", "--bounding-set=-dac_override", "--inh-caps=-dac_override"]
         words = [*(drop if os.geteuid() == 0 else []), self.program, *self.check]
         wants(run(*words), (1, "", "popbox: Store\n"))
+
+    def test_removed_mail_is_erased_as_the_recipe_says(self):
+        """What a clerk removed stays in the store's files; after the line of recipes/backup.md it
+        doesn't, and the store opens with all else."""
+        needs("sqlite3")
+        form, recipe = r"^    (sqlite3 .* VACUUM.*)$", f"{self.packaging}/recipes/backup.md"
+        line = re.search(form, read_text(recipe), re.M)[1]
+        stays = lambda: any(b"A chair." in read(it) for it in glob.glob(f"{self.store}*"))
+        with self.office(TEXTS[:1]) as server:
+            server.administer("PUT", "/clerks/ann", "pass x")
+            wants(Mail(server).say("USER ann/orders", "PASS x", "DELE 1", "QUIT")[3][:3], "+OK")
+            for number in range(3):
+                server.deposit(f"orders.note.n{number}.eml", TEXTS[1])
+        wants(stays(), True)
+        ran = run("sh", "-c", line.replace("/var/lib/popbox/mail.db", self.store))
+        wants((ran, stays()), ((0, "0|0|0\nok\n", ""), False))
+        wants(self.popbox("check", "--store", self.store)[0], 0)
+        wants(self.office().administer("GET", "/maildrops").split()[:2], ["orders", "3"])

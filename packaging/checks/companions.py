@@ -115,16 +115,15 @@ class Companions(ScriptCase):
         second = in_force()
         wants((second == first, '"remove"' in second), (False, False))
         # What somebody else put there isn't shown.
-        moment = "2026-11-29T10-00-00Z"
-        for it in ("x.toml", "2026.toml", f"a-{moment}.toml", f"{moment}.tomlx"):
-            write(f"{kept}/{it}", "x")
+        for it in ("x.toml", "2026.toml", "puts", f"{'a' * 17}.toml"):
+            write(f"{kept}/{it}x", "x")
             wants((it, policies(it, "")), (it, (404, "not found\n")))
         status, names = policies("list", "")
-        kept, put = (line.split() for line in names.splitlines())
-        wants((status, kept[0], put[0], put[3]), (200, "kept", "put", "eve"))
-        wants(policies(kept[1], ""), (200, first))
-        # The text with its comments, by the digest of what is in force.
-        wants(put[2], hashlib.sha256(second.encode()).hexdigest())
+        was, put = (line.split() for line in names.splitlines())
+        wants((status, was[0], put[0], put[3]), (200, "was", "put", "eve"))
+        wants(policies(was[2], ""), (200, first))
+        # The text with its comments, by the name of what is in force.
+        wants(put[2], hashlib.sha256(second.encode()).hexdigest()[:16])
         wants(policies(put[2], ""), (200, f"# Why.\n{READ_ONLY}"))
         wants(policies("set", second, "# Nobody.\n", NOBODY="yes")[0], 200)
         wants(in_force(), "")

@@ -1,12 +1,12 @@
 """popbox-history: what it answers from a log of two starts, which the cases make themselves."""
 
-import glob
 import gzip
 import itertools
 import json
+import lzma
 import os
 import re
-import shutil
+import resource
 import tempfile
 import time
 
@@ -16,6 +16,7 @@ from harness import ScriptCase, fits, read_text, run, write
 RULE = '[[rule]]\nname = "{}"\neffect = "{}"\nclerk = "*"\nmaildrop = "*"\nclass = "{}"\n'
 ALLOWS = RULE.format("desk", "allow", "*") + 'actions = ["open", "read", "remove"]\n'
 KEEPS = RULE.format("keep-payments", "deny", "payment") + 'actions = ["remove"]\n'
+WHY = "# Payments stay.\n"
 LOGS = ("--log", "--log-reads", "--log-message-ids")
 ANN, BOB = ("USER ann/orders", "PASS s3 cret"), ("USER bob/orders", "PASS tanstaaf")
 IN_USE = "[IN-USE] maildrop is in use"
@@ -39,7 +40,7 @@ class History(ScriptCase):
         cls.at = cls.enterClassContext(tempfile.TemporaryDirectory())
         cls.log, cls.policies = f"{cls.at}/events", f"{cls.at}/policies"
         cls.address, cls.while_kept, cls.while_free = {}, "", ""
-        for it in ("policies", "box/new", "box/cur"):
+        for it in ("policies", "kept", "box/new", "box/cur"):
             os.makedirs(f"{cls.at}/{it}")
         cls.first_start()
         # What comes in while no server runs isn't in the log.
@@ -48,6 +49,11 @@ class History(ScriptCase):
         ran = run(f"{cls.packaging}/import-maildir", *words, "orders", f"{cls.at}/box")
         wants(ran, (0, "orders: 1 new, 0 known, 0 left\n", ""))
         cls.second_start()
+        # The cases look at a log that names no rule and no policy, as older ones.
+        cls.named, text = f"{cls.at}/named", read_text(cls.log)
+        write(cls.named, text)
+        text = re.sub(r"(?m)^((?!.* event=denied).*) (?:rule|policy)=\S+", r"\1", text)
+        write(cls.log, re.sub(r"(\.\d+)=[a-z0-9-]+", r"\1", text))
 
     @classmethod
     def serve(cls):
@@ -59,12 +65,12 @@ class History(ScriptCase):
         """A policy comes into force by popbox-set-policy; gives a moment at which it is."""
         time.sleep(QUIET)
         new, kept = write(f"{cls.at}/new.toml", text), f"{cls.at}/kept"
-        words = ["--yes", "--program", cls.program, "--keep", kept, "--port", str(server.admin)]
-        wants(run(f"{cls.packaging}/popbox-set-policy", *words, new)[0], 0)
-        time.sleep(QUIET)
         # A server of each start has its own port here.
-        for it in glob.glob(f"{kept}/*/*.toml"):
-            shutil.move(it, cls.policies)
+        os.symlink(cls.policies, f"{kept}/port-{server.admin}")
+        words = ["--yes", "--program", cls.program, "--keep", kept, "--port", str(server.admin)]
+        env = {**os.environ, "POPBOX_WHO": "eve"}
+        wants(run(f"{cls.packaging}/popbox-set-policy", *words, new, env=env)[0], 0)
+        time.sleep(QUIET)
         return now()
 
     @classmethod
@@ -80,7 +86,7 @@ class History(ScriptCase):
         """Bob is denied a removal, ann is refused twice, and the server is killed under bob."""
         with cls.serve() as server:
             server.fill(("orders",), (("ann", "pass s3 cret"), ("bob", "pass tanstaaf")), "")
-            cls.while_kept = cls.sets(server, KEEPS + ALLOWS)
+            cls.while_kept = cls.sets(server, WHY + KEEPS + ALLOWS)
             server.deposit("orders.payment.p-1.eml", b"Message-ID: <p@x>\n\nPaid.\n")
             server.deposit("orders.note.n-1.eml", b"A chair.\n")
             bob = cls.mail(server, "bob", *BOB, "RETR 1", "DELE 1")
@@ -130,7 +136,7 @@ class History(ScriptCase):
             ["deposit", "payment.1", "new"],
             ["retr", "bob", at["bob"], "payment.1", "desk"],
             ["denied", "bob", at["bob"], "payment.1", "keep-payments"],
-            ["removed", "ann", at["removes"], "payment.1"],
+            ["removed", "ann", at["removes"], "payment.1", "desk"],
         ]
         wants(self.events("message", "orders", "payment.1"), wanted)
         said = self.asks("message", "orders", "payment.1")
@@ -157,7 +163,7 @@ class History(ScriptCase):
 
     def test_imported_message(self):
         """Of a message that was put in while no server ran it says that no line has its coming."""
-        wanted = [["removed", "ann", self.address["removes"], "note.2"]]
+        wanted = [["removed", "ann", self.address["removes"], "note.2", "desk"]]
         wants(self.events("message", "orders", "note.2"), wanted)
         wants(self.asks("message", "orders", "note.2")["not known"][0], CAME)
 
@@ -165,9 +171,9 @@ class History(ScriptCase):
         """A clerk's logins with their addresses, reads, denials and removals, since a moment."""
         at = self.address
         later = [
-            ["login", "ann", at["removes"], "accepted", "QUIT"],
-            ["removed", "ann", at["removes"], "payment.1"],
-            ["removed", "ann", at["removes"], "note.2"],
+            ["login", "ann", at["removes"], "accepted", "desk", "QUIT"],
+            ["removed", "ann", at["removes"], "payment.1", "desk"],
+            ["removed", "ann", at["removes"], "note.2", "desk"],
         ]
         wanted = [
             ["login", "ann", at["in use"], "refused", IN_USE],
@@ -176,17 +182,36 @@ class History(ScriptCase):
         wants(self.events("clerk", "ann"), wanted + later)
         wants(self.events("clerk", "ann", "--since", self.while_free), later)
 
+    def test_denials_beyond_those_that_have_lines(self):
+        """Of a session with 64 lines of denials it says that others may have none."""
+        for count in (63, 64):
+            log = self.edited((r"^(.* event=denied .*)$", r"\n".join([r"\1"] * count)))
+            for words, said in (("message orders note.1", "whether bob tried"),
+                                ("clerk bob", "what else was denied")):
+                found = self.asks(*words.split(), log=log)["not known"]
+                wants((count, len([it for it in found if said in it])), (count, count - 63))
+
     def test_held(self):
-        """Who held a maildrop, how that ended, and who found it in use."""
+        """Who held a maildrop, for how long, how that ended, and who found it in use."""
         at, found = self.address, self.events("held", "orders")
         fits(found[2].pop(), r"the server ended, after 2\S+Z")
         wanted = [
             ["login", "bob", at["bob"], "accepted", "desk", "QUIT"],
             ["login", "ann", at["in use"], "refused", IN_USE],
             ["login", "bob", at["killed"], "accepted", "desk"],
-            ["login", "ann", at["removes"], "accepted", "QUIT"],
+            ["login", "ann", at["removes"], "accepted", "desk", "QUIT"],
         ]
         wants(found, wanted)
+        quit = (r"^\S+( event=quit connection=1 .* clerk=bob)", r"2099-01-01T00:00:00Z\1")
+        login = (r"^\S+( event=login .* clerk=bob .*)", r"2098-12-31T22:57:56Z\1")
+        log = self.edited(quit, login)
+        found = [it.get("held") for it in self.asks("held", "orders", log=log)["events"]]
+        wants((found[:3], found[3] < 60), ([3724, None, None], True))
+        wants(", for 1:02:04: QUIT\n" in self.prints("held", "orders", log=log), True)
+
+    def began(self):
+        """When the second start was."""
+        return re.findall(r"(?m)^(\S+) event=start", read_text(self.log))[-1]
 
     def policy(self, at, **how):
         """The text of the policy in force at a moment, and what isn't known of it."""
@@ -194,13 +219,20 @@ class History(ScriptCase):
         return said["text"] and read_text(said["text"]), said["not known"]
 
     def test_policy(self):
-        """The policy in force at a moment is the one that was kept when the next was set."""
-        written = self.popbox("check-policy", "--write", write(f"{self.folder}/p", KEEPS + ALLOWS))
-        wants(self.policy(self.while_kept), (written[1], [OUTSIDE]))
-        wants(self.policy(self.while_free), (None, [NO_TEXT]))
+        """The policy in force at a moment is the one that popbox-set-policy set last."""
+        kept, free = (self.popbox("check-policy", "--write", write(f"{self.folder}/p", it))[1]
+                      for it in (KEEPS + ALLOWS, ALLOWS))
+        wants(self.policy(self.while_kept), (kept, []))
+        wants(self.policy(self.while_free), (free, []))
         wants(self.policy("2020-01-01")[1], [OUTSIDE, NO_TEXT])
         text = self.prints("policy", "--at", self.while_kept)
-        wants(text.endswith(f"\n\n{written[1]}"), True)
+        wants(("by: eve\n" in text, text.endswith(f"\n\n{kept}")), (True, True))
+        said = self.asks("policy", "--at", self.while_kept)
+        wants(read_text(said["given"]), WHY + KEEPS + ALLOWS)
+        wants(self.policy(self.began()), (kept, [OUTSIDE]))
+        # Another set the one that is in force.
+        log = self.edited((r'"1 rules"', r'\g<0> policy=0123456789abcdef'))
+        wants(self.policy(self.while_free, log=log), (None, [NO_TEXT]))
 
     def test_read_as_a_policy_comes_into_force(self):
         """It gives no rule for what was done within two seconds of a policy's coming into force."""
@@ -213,7 +245,9 @@ class History(ScriptCase):
         """If the log's lines have rules and policies, the answers are by these."""
         name = self.asks("policy", "--at", self.while_kept)["policy"]
         named = ('"1 rules"', rf"\g<0> policy={name}")
-        log = self.edited(("event=removed .*", r"\g<0> rule=by-line"), named)
+        start = ("event=start .*", rf"\g<0> policy={name}")
+        log = self.edited(("event=removed .*", r"\g<0> rule=by-line"), named, start)
+        wants(self.policy(self.began(), log=log)[1], [])
         wants(self.events("message", "orders", "payment.1", log=log)[-1][-1], "by-line")
         wants(self.policy(self.while_free, log=log)[1], [])
         log = self.edited(("uids=payment.1,note.2", "uids=payment.1=one,note.2=two"))
@@ -232,23 +266,40 @@ class History(ScriptCase):
         wants([it in text for it in told], [True] * 2)
         wants(self.asks("held", "orders")["log"]["unread"], 0)
 
+    def test_a_long_log_takes_its_time(self):
+        """Ten times as many lines and policies take at most twenty times as long."""
+        took = []
+        for count in (200, 2000):
+            log = write(f"{self.folder}/long", read_text(self.log) * count)
+            before = resource.getrusage(resource.RUSAGE_CHILDREN).ru_utime
+            wants(len(self.asks("clerk", "ann", log=log)["events"]), 5 * count)
+            took.append(resource.getrusage(resource.RUSAGE_CHILDREN).ru_utime - before)
+        wants(took[1] < 20 * took[0], True)
+
     def test_rotated_files_and_the_journal(self):
         """The answers are the same from files that were rotated and compressed, and from the
         journal, of which only the service's own lines count."""
         questions = [("message", "orders", "payment.1"), ("clerk", "bob"), ("held", "orders")]
         wanted = [self.events(*it) for it in questions]
+        # What the log itself names is what the kept texts say.
+        wants([self.events(*it, log=self.named) for it in questions], wanted)
         second = "event=open .* file=[1-9]|event=deposit file=orders.payment"
         parts = re.split(f"(?m)^(?=\\S+ (?:{second}))", read_text(self.log))
         wants(len(parts), 3)
         log = f"{self.folder}/events"
-        names = [log, f"{log}-20261129.gz", f"{log}.2"]
+        names = [log, f"{log}-20261129.gz", f"{log}.2.xz"]
+        opens = {"gz": gzip.open, "xz": lzma.open}
         # However the files are named, the oldest lines are read first.
         for order in itertools.permutations(parts):
             for name, part in zip(names, order):
-                with (gzip.open if name.endswith(".gz") else open)(name, "wt") as file:
+                with opens.get(name[-2:], open)(name, "wt") as file:
                     file.write(part)
             wants(self.events(*questions[2], log=log), wanted[2])
         wants([self.events(*it, log=log) for it in questions], wanted)
+        # One that can't be read is named.
+        other = write(f"{log}.3.zst", "")
+        wants(self.asks("held", "orders", log=log)["log"]["passed"], [other])
+        wants(f"\nlog: {other} isn't read: " in self.prints("held", "orders", log=log), True)
         unit = "_SYSTEMD_UNIT=popbox.service"
         self.stand_in("journalctl", f'case "$*" in *-o\\ cat*{unit}) cat {self.log} ;; esac')
         wants([self.events(*it, log="journal") for it in questions], wanted)

@@ -1,6 +1,8 @@
 """popbox-set-policy: how an administrator sets a policy, and goes back."""
 
 import concurrent.futures
+import glob
+import hashlib
 import os
 import re
 
@@ -54,6 +56,16 @@ class SetPolicy(ScriptCase):
     def in_force(self):
         return self.server.administer("GET", "/policy")
 
+    def text(self, policy, end=".toml"):
+        """Where a policy is kept, under its name."""
+        return f"{self.of_port}/{hashlib.sha256(policy.encode()).hexdigest()[:16]}{end}"
+
+    def noted(self, *puts):
+        """Fails unless these came into force, of each how, which, and by a form who set it."""
+        puts = [(what, os.path.basename(self.text(it, "")), who) for what, it, who in puts]
+        form = "".join(f"{what} {TIME} {name} {who}\n" for what, name, who in puts)
+        fits(read_text(f"{self.of_port}/puts"), form)
+
     def decision(self):
         return self.server.administer("GET", "/explain/ann/orders/note/remove")
 
@@ -87,26 +99,24 @@ class Sets(SetPolicy):
         wants(self.decision(), ALLOWS)
 
     def test_set_policy_sets_and_goes_back(self):
-        """The policy that was in force is kept; setting it again is the way back."""
-        said, narrow = self.sets(self.new)
-        last = rf"in force: 1 rules; what was before: {self.of_port}/{TIME}\.toml"
-        fits(said.splitlines()[-1], last)
+        """What was in force is kept, and the new one with its comments, also if it is set again
+        without them; and it is noted who set it."""
+        said, narrow = self.sets(self.new, env={"POPBOX_WHO": "eve\nput"})
+        kept = self.text(self.before)
+        wants(said.splitlines()[-1], f"in force: 1 rules; what was before: {kept}")
         wants(self.decision(), DENIES)
-        names = os.listdir(self.of_port)
-        kept = f"{self.of_port}/{names[0]}"
-        wants((len(names), read_text(kept)), (1, self.before))
+        wants([read_text(self.text(it)) for it in (self.before, narrow)], [self.before, narrow])
         wants(os.stat(kept).st_mode & 0o777, 0o600)
-        wants(self.sets(self.new, said=b""), ("in force already: 1 rules\n", narrow))
-        # The way back is the newest that was kept, and needs no answer with --yes. It is in force
-        # then, and not kept any more.
-        later = "2099-01-01T00-00-00Z"
-        self.stand_in("date", f"echo {later}")
-        said, after = self.sets("--yes", kept, said=b"")
-        wants(after, self.before)
-        undone = f"{self.of_port}/undone-{later}.toml"
-        wants(said.splitlines()[-1], f"in force: 1 rules; what was before: {undone}")
-        wants(os.listdir(self.of_port), [f"undone-{later}.toml"])
-        wants(read_text(undone), narrow)
+        # Other comments are kept, too.
+        why = write(self.new, f"# Why.\n{READ_ONLY}")
+        wants(self.sets(why, said=b""), ("in force already: 1 rules\n", narrow))
+        # The way back needs no answer with --yes.
+        _, after = self.sets("--yes", "--back", said=b"", env={"SUDO_USER": "ann"})
+        wants((after, self.decision()), (self.before, ALLOWS))
+        self.sets(self.text(narrow))
+        wants(read_text(self.text(narrow, ".source.toml")), read_text(why))
+        puts = ("put", narrow, "eve_put"), ("back", self.before, "ann"), ("put", narrow, r"\w+")
+        self.noted(("was", self.before, "-"), *puts)
 
     def test_set_policy_goes_back_step_by_step(self):
         """--back goes back by one policy that was in force, several of one second too; what is
@@ -114,7 +124,7 @@ class Sets(SetPolicy):
         nothing = f"popbox-set-policy: no policy is kept in {self.of_port} {NOTHING}"
         os.makedirs(f"{self.kept}/port-1")
         for folder in (self.kept, f"{self.kept}/port-1"):
-            write(f"{folder}/2099-01-01T00-00-00Z.toml", POLICY)
+            write(f"{folder}/puts", f"put 2099-01-01T00-00-00Z {'0' * 16} ann\n" * 2)
         wants(self.set_policy("--back", said=b"y\n")[:3], (1, "", nothing))
         self.stand_in("date", "echo 2026-11-29T09-15-02Z")
         policies = [self.before]
@@ -141,41 +151,33 @@ class Sets(SetPolicy):
     def test_set_policy_sets_nothing_before_the_old_one_is_on_the_disk(self):
         """If the old policy can't be brought to the disk, the new one isn't set."""
         env = self.note_calls()
-        failing = {**env, "FAILS": f"sync {self.kept}/*"}
-        status, _, why, after = self.set_policy("--yes", self.new, env=failing)
-        wants((status, after), (1, self.before))
-        wants(why.endswith(f" can't be written {NOTHING}"), True)
+        for path in (self.text(self.before), f"{self.of_port}/puts"):
+            failing = {**env, "FAILS": f"sync {path}"}
+            status, _, why, after = self.set_policy("--yes", self.new, env=failing)
+            wants((path, status, after), (path, 1, self.before))
+            wants(why.endswith(f" {path} can't be written {NOTHING}"), True)
         status, said, _, _ = self.set_policy("--yes", self.new, env=env)
         kept = said.splitlines()[-1].partition("what was before: ")[2]
         wants((status, f"sync {kept}" in self.calls()), (0, True))
         wants(self.decision(), DENIES)
 
     def test_set_policy_sets_what_it_showed(self):
-        """What is set, and its page, is what was shown, if the file is another one by then."""
+        """What is set, and kept, is what was shown, if the file is another one by then."""
         other = write(f"{self.folder}/other.toml", rule("eve", "*", ["open"]))
         self.stand_in("diff", f'REAL "$@"\ncp {other} {self.new}')
-        said, after = self.sets("--yes", "--html", self.new)
+        said, after = self.sets("--yes", self.new)
         wants((CHANGE in said, '"eve"' in after, self.decision()), (True, False, DENIES))
-        page = next(it for it in os.listdir(self.of_port) if it.endswith(".html"))
-        told = read_text(f"{self.of_port}/{page}")
-        wants(("# Nobody may remove." in told, "eve" in told), (True, False))
+        wants(read_text(self.text(after, ".source.toml")), READ_ONLY)
 
-    def test_set_policy_leaves_a_page(self):
-        """--html leaves a page of the change beside what is kept; it goes when that is undone."""
-        self.sets("--html", self.new)
-        names = sorted(os.listdir(self.of_port))
-        wants([it.partition(".")[2] for it in names], ["html", "toml"])
-        wants(names[0].partition(".")[0], names[1].partition(".")[0])
-        page = read_text(f"{self.of_port}/{names[0]}")
-        wants(page.startswith("<!doctype html>\n"), True)
-        wants("\n# Nobody may remove.\n" in page, True)
-        wants(CHANGE.replace(">", "&gt;") + "\n" in page, True)
-        wants(os.stat(f"{self.of_port}/{names[0]}").st_mode & 0o777, 0o600)
-        wants(self.decision(), DENIES)
-        # Without the option there is none.
-        self.sets("--back")
-        wants([it.rpartition(".")[2] for it in os.listdir(self.of_port)], ["toml"])
-        wants(self.decision(), ALLOWS)
+    def test_set_policy_follows_no_link_of_what_it_keeps(self):
+        """root writes nothing where a link of the folder's owner leads, and says so."""
+        other = write(f"{self.folder}/other", "")
+        os.makedirs(self.of_port)
+        for it in (self.text(self.before), f"{self.of_port}/puts"):
+            os.symlink(other, it)
+        status, _, why, _ = self.set_policy("--yes", self.new)
+        wants((status, why.endswith(f"/puts can't be written {NOTHING}")), (1, True))
+        wants((self.decision(), read_text(other)), (ALLOWS, ""))
 
     def test_set_policy_gives_what_is_kept_to_the_folders_owner(self):
         """What is kept belongs to the owner of the folder, and only he can read it."""
@@ -184,7 +186,7 @@ class Sets(SetPolicy):
         os.mkdir(self.kept)
         os.chown(self.kept, nobody, nobody)
         wants(self.set_policy("--yes", self.new)[0], 0)
-        for path in (self.of_port, f"{self.of_port}/{os.listdir(self.of_port)[0]}"):
+        for path in [self.of_port, *glob.glob(f"{self.of_port}/**/*", recursive=True)]:
             found = os.stat(path)
             wants((path, found.st_uid, found.st_gid), (path, nobody, nobody))
             wants((path, found.st_mode & 0o077), (path, 0))
@@ -309,8 +311,8 @@ class Refuses(SetPolicy):
         with concurrent.futures.ThreadPoolExecutor() as both:
             ran = [both.submit(self.set_policy, *words) for _ in range(2)]
             wants(sorted(it.result()[0] for it in ran), [0, 3])
-        wants(len(os.listdir(self.of_port)), 1)
+        self.noted(("was", self.before, "-"), ("put", self.in_force(), r"\w+"))
         self.stand_in("flock", OTHER_SETS.format(self.port))
         status, _, why, after = self.set_policy("--yes", write(self.new, POLICY))
         wants((status, why.endswith(ANOTHER), after), (3, True, ""))
-        wants(len(os.listdir(self.of_port)), 1)
+        wants(len(read_text(f"{self.of_port}/puts").splitlines()), 2)

@@ -87,14 +87,10 @@ COMMANDS = {
 # No question before the password, nor for that of another site's frame or script, which is asked of
 # a person; and no request to its makers.
 SETTINGS = {
-    "marionette.port": 0,
-    "network.auth.confirmAuth.enabled": False,
-    "network.auth.subresource-http-auth-allow": 1,
-    "network.dns.localDomains": FOREIGN,
-    "browser.shell.checkDefaultBrowser": False,
-    "browser.safebrowsing.update.enabled": False,
-    "datareporting.policy.dataSubmissionEnabled": False,
-    "app.normandy.enabled": False,
+    "marionette.port": 0, "network.auth.confirmAuth.enabled": False,
+    "network.auth.subresource-http-auth-allow": 1, "network.dns.localDomains": FOREIGN,
+    "browser.shell.checkDefaultBrowser": False, "browser.safebrowsing.update.enabled": False,
+    "datareporting.policy.dataSubmissionEnabled": False, "app.normandy.enabled": False,
     "intl.accept_languages": "en-GB",
 }
 # How long Firefox may take to start, in seconds.

@@ -1,6 +1,7 @@
 """What is changed from the page: from an empty server to a policy, a draft, what two people do at
 once, clerks, maildrops and sessions."""
 
+import hashlib
 import os
 import poplib
 
@@ -35,11 +36,9 @@ class Begin(PageCase):
         for word in ("Add a maildrop", "Add a clerk", "Write the first rule", "an example"):
             self.assertIn(word, page.text("begin"))
         for it in ("orders", "billing"):
-            page.fill("maildrops", m_name=it)
-            self.assertEqual(page.sent("maildrops", "m-told"), f"{it}: added")
+            self.adds(page, "maildrops", m_name=it)
         for it in ("ann", "bob"):
-            page.fill("clerks", c_name=it, c_secret="a long one")
-            self.assertEqual(page.sent("clerks", "c-told"), f"{it}: added")
+            self.adds(page, "clerks", c_name=it, c_secret="a long one")
         page.view("table")
         page.wait(lambda: len(page.cells("grid")) == 3, "the clerks have no rows")
         self.assertIn("✓ A clerk", page.text("begin"))
@@ -54,8 +53,7 @@ class Begin(PageCase):
         ):
             page.click("d-add")
             self.rule(page, **values)
-        told = "No maildrop sale"
-        page.says("lacking", told)
+        page.says("lacking", "No maildrop sale")
         page.put_in_force("In force: 5 rules.")
         names = [it.split('"')[1] for it in place.get("/policy").split("\n") if it[:4] == "name"]
         wanted = ["ann-all", "keep-payments", "bob-orders", "bob-billing", "all-sales"]
@@ -159,7 +157,6 @@ class Draft(PageCase):
         second = place.get("/policy")
         self.assertIn("dans-support", second)
         self.assertFalse(page.shows("draft-box"))
-        self.assertIn("Put in force by admin", page.text("force-of"))
         for _ in range(2):
             page.view("table")
             page.says("table-of", "By the policy in force. 6 clerks and 3 maildrops. A *")
@@ -168,6 +165,8 @@ class Draft(PageCase):
             page.driver.refresh()
             page.loaded()
         page.view("policy")
+        names = [hashlib.sha256(it.encode()).hexdigest()[:16] for it in (first, second)]
+        self.assertIn(f"11 rules: policy {names[1]}, put in force by admin", page.text("force-of"))
         page.click("d-take")
         page.wait(lambda: page.value("draft") == DRAFT, "the comments are lost")
         page.says("draft-of", SAME)
@@ -179,6 +178,7 @@ class Draft(PageCase):
         page.view("history")
         page.wait(lambda: len(page.cells("before-list")) == 2, "it isn't kept")
         self.assertRegex(page.cells("before-list")[0][1], "^admin, ")
+        self.assertEqual([it[0][-16:] for it in page.cells("before-list")], names[::-1])
 
     def test_that_nobody_may_open_is_warned_of(self):
         """A draft without a rule is put in force only after a warning."""
@@ -273,10 +273,17 @@ class TwoPeople(PageCase):
         place, page = self.office()
         page.draft(DRAFT)
         place.put("/policy", DRAFT)
-        page.fill("clerks", c_name="gil", c_secret="x")
-        self.assertEqual(page.sent("clerks", "c-told"), "gil: added")
+        self.adds(page, "clerks", c_name="gil", c_secret="x")
         page.says("draft-of", SAME)
         self.assertFalse(page.may_be_put())
+        # Whatever filters are kept, all rows stand there, and nothing false is said.
+        page.click("d-table")
+        page.says("table-of", f"{SAME} 7 clerks and 3 maildrops.")
+        self.assertEqual(len(page.cells("grid")), 8)
+        page.draft(DRAFT.replace('name = "ann-all"', 'name = "ann-any"'))
+        page.click("d-table")
+        page.says("table-of", "not in force. The draft changes nothing of this. 7 clerks")
+        self.assertEqual(len(page.cells("grid")), 8)
 
     def test_two_browsers_lose_nothing(self):
         """Of two drafts that began on one policy, the second is put in force only with the first
@@ -302,8 +309,7 @@ class Clerks(PageCase):
     def test_clerks_are_added_replaced_and_removed(self):
         """A clerk logs in by what was set; no password stays; popbox's words are shown."""
         place, page = self.office()
-        page.fill("clerks", c_name="gil", c_kind="pass", c_secret="a good one")
-        self.assertEqual(page.sent("clerks", "c-told"), "gil: added")
+        self.adds(page, "clerks", c_name="gil", c_kind="pass", c_secret="a good one")
         client = poplib.POP3("127.0.0.1", place.server.pop)
         client.user("gil/orders")
         with self.assertRaisesRegex(poplib.error_proto, "denied by rule default"):
@@ -341,8 +347,21 @@ class Clerks(PageCase):
         client.user("bob/orders")
         self.assertIn(b"+OK", client.pass_(page.text("made-secret")))
         client.quit()
+        page.driver.find_element("css selector", "#made-secret + button").click()
+        page.says("made", "copied")
+        page.find("c-secret").send_keys(Keys.CONTROL, "v")
+        page.wait(lambda: page.value("c-secret") == secret, "it isn't copied")
+        page.fill(None, c_secret="")
         page.click("#made .head button")
         self.assertNotIn(secret, page.js(STAYS))
+        # Also if it isn't shown as it is set; of a clerk whom no rule names, by a rule for all.
+        place.put("/policy", OFFICE.replace('clerk = "ann"', 'clerk = "*"'))
+        page.reload()
+        page.fill("clerks", c_name="gil")
+        page.click("c-make")
+        page.click("c-show")
+        self.assertEqual(page.sent("clerks", "c-told"), "gil: added")
+        page.says("made", "gil/orders", "gil/billing", "gil/support")
 
     def test_what_is_not_known_is_said_so(self):
         """If nothing answers, no question is asked about a clerk of whom nothing is known, and
@@ -381,8 +400,7 @@ class Clerks(PageCase):
         said = "The server does not list its clerks (serve --list-clerks)"
         self.assertEqual(listed(), ["ann", "bob", "cat", "dan"])
         self.assertIn(said, page.text("c-of"))
-        page.fill("clerks", c_name="gil", c_secret="x")
-        self.assertEqual(page.sent("clerks", "c-told"), "gil: added")
+        self.adds(page, "clerks", c_name="gil", c_secret="x")
         place.put("/clerks/hal", "pass x")
         page.reload()
         self.assertEqual(listed(), ["ann", "bob", "cat", "dan", "gil"])
@@ -398,8 +416,7 @@ class Maildrops(PageCase):
     def test_maildrops_are_added_and_removed(self):
         """One that has messages or is in use stays; its classes are counted; a session is ended."""
         place, page = self.office()
-        page.fill("maildrops", m_name="sales")
-        self.assertEqual(page.sent("maildrops", "m-told"), "sales: added")
+        self.adds(page, "maildrops", m_name="sales")
         self.assertEqual(page.pressed("Remove maildrop sales", "m-told"), "sales: dropped")
         self.assertEqual(page.pressed("Remove maildrop orders", "m-told"), "orders: not empty")
         client = self.log_in(place)

@@ -141,8 +141,8 @@ class Door(PageCase):
                 "/api/clerks/a%0aDELETE", f"/api/clerks/{'a' * 33}", "/api/groups",
                 "/api/explain/ann/orders/note/read", "/api/sessions/1/2", "/nginx.conf",
                 "/../nginx.conf", "/answer-review", "/page/", "/policies/../users", "/js/",
-                "/js/../nginx.conf", "/policies/x.toml", f"/policies/{'a' * 36}.toml",
-                f"/policies/{'a' * 64}", "/policies/..%2f..%2fusers.toml", "/policies/", "/review/",
+                "/js/../nginx.conf", "/policies/x.toml", f"/policies/{'a' * 16}.toml",
+                f"/policies/{'a' * 16}", "/policies/..%2f..%2fusers.toml", "/policies/", "/review/",
                 "/review/written/x", "/checks/door.py",
             ):
                 with self.subTest(path):

@@ -300,6 +300,14 @@ return [...document.querySelectorAll('header :is(a, button),'
 """
 TOP_OF = "return document.querySelector(arguments[0]).getBoundingClientRect().top"
 HIGH_OF = "return document.querySelector(arguments[0]).getBoundingClientRect().height"
+# How many borders lists have, how many looks a clerk's buttons, and what type isn't of the scale.
+LOOKS = """
+const all = (path, look) => [...new Set([...document.querySelectorAll(path)]
+  .filter((it) => it.checkVisibility()).map((it) => look(getComputedStyle(it))))];
+return [all('.list :is(th, td)', (it) => it.borderWidth).length,
+  all('#c-list .buttons button', (it) => it.height + it.borderColor).length,
+  all('body *', (it) => it.fontSize).filter((it) => !/^(13|15|18|22)px$/.test(it))];
+"""
 
 
 RULE = """[[rule]]
@@ -322,13 +330,21 @@ class Looks(PageCase):
                 self.assertEqual(page.js(CONTRAST), [])
                 self.assertEqual(page.driver.nameless(), [])
                 self.assertEqual(page.js(CUT), [])
+                self.assertEqual(page.js(LOOKS)[2], [])
         return page
 
     def test_it_is_read_by_day(self):
-        """Contrast is at least 4.5, all has a name for a screen reader, and nothing is cut off;
-        a form has one line at 1,280 px."""
+        """Contrast is at least 4.5, all has a name for a screen reader, type is of one scale, and
+        nothing is cut off; lists have one border, a line's buttons one look, an opened cell's title
+        no ring; a form has one line at 1,280 px."""
         page = self.looks_well(width=1280)
+        page.view("table/dan/orders")
+        page.says("cell-title", "dan")
+        ring = "return getComputedStyle(document.activeElement).outlineStyle"
+        found = page.focused().get_attribute("id"), page.js(ring)
+        self.assertEqual(found, ("cell-title", "none"))
         page.view("clerks")
+        self.assertEqual(page.js(LOOKS), [1, 1, []])
         self.assertLess(page.js(HIGH_OF, "#c-form"), 50)
         page.view("table")
         self.assertLess(page.js(HIGH_OF, "#filters"), 60)

@@ -116,18 +116,14 @@ class Site:
         with open(f"{PAGE}/nginx.conf", encoding="utf-8") as file:
             site = file.read()
         for old, new in (
-            ("listen 443", f"listen 127.0.0.1:{self.port}"),
-            ("https://page.office.test", self.url),
-            ("page.office.test", "localhost"),
+            ("listen 443", f"listen 127.0.0.1:{self.port}"), ("https://page.office.test", self.url),
+            ("page.office.test", "localhost"), ("default COOKIE;", f"default {COOKIE};"),
             ("/etc/ssl/certs/page.pem", f"{self.folder}/page.pem"),
             ("/etc/ssl/private/page.key", f"{self.folder}/page.key"),
             ("/etc/nginx/popbox-page.users", f"{self.folder}/users"),
             ("/var/log/nginx/popbox-page.log", f"{self.folder}/access.log"),
-            ("/usr/share/popbox-page", PAGE),
-            ("127.0.0.1:1111", f"127.0.0.1:{self.admin}"),
-            ("/run/popbox-", f"{self.folder}/popbox-"),
-            ('    #"~^desk', '    "~^desk'),
-            ("default COOKIE;", f"default {COOKIE};"),
+            ("127.0.0.1:1111", f"127.0.0.1:{self.admin}"), ("/usr/share/popbox-page", PAGE),
+            ("/run/popbox-", f"{self.folder}/popbox-"), ('    #"~^desk', '    "~^desk'),
         ):
             if old not in site:
                 raise Wrong(f"nginx.conf has no {old}")
@@ -192,8 +188,8 @@ class Site:
         self.server.end()
 
     def kept(self):
-        """How many policies are kept."""
-        return self.asked("GET", "/policies", *OWN)[1].count("kept ")
+        """How many policies were put in force."""
+        return self.asked("GET", "/policies", *OWN)[1].count("put ")
 
     def read(self, name):
         with open(f"{self.folder}/{name}", encoding="utf-8") as file:
@@ -407,6 +403,12 @@ class PageCase(cases.Case):
         """A site, and a browser that shows it."""
         place = self.site(**how)
         return place, self.browser(place)
+
+    def adds(self, page, view, **values):
+        """Adds a maildrop or a clerk by the view's form."""
+        page.fill(view, **values)
+        name = values[f"{view[0]}_name"]
+        self.assertEqual(page.sent(view, f"{view[0]}-told"), f"{name}: added")
 
     def write(self, name, text, mode=0o644):
         """A file of the case's folder, and its path."""

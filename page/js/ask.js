@@ -72,8 +72,9 @@ export function review(what, old, text, signal) {
   return ask('POST', `/review/${what}?old=${octets(old)}`, old + text, signal);
 }
 
-/** The SHA-256 of a text, by which its author's comments are kept. */
-export async function digestOf(text) {
+/** The name of a policy that popbox has written: the first 16 digits of its SHA-256. */
+export async function policyName(text) {
   const digest = await crypto.subtle.digest('SHA-256', new TextEncoder().encode(text));
-  return [...new Uint8Array(digest)].map((it) => it.toString(16).padStart(2, '0')).join('');
+  const first = [...new Uint8Array(digest, 0, 8)];
+  return first.map((it) => it.toString(16).padStart(2, '0')).join('');
 }

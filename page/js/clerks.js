@@ -1,7 +1,7 @@
 // Draws the clerks and the form of a credential, and shows a new password until it is closed.
 
 import { change } from './ask.js';
-import { allows } from './decisions.js';
+import { allows, OTHERS } from './decisions.js';
 import {
   $, agrees, button, byName, counted, data, dim, h, paragraph, removing, rowHead, tableHead, tell,
 } from './dom.js';
@@ -37,6 +37,9 @@ function beginClerk(name, kind) {
   $('c-secret').focus();
 }
 
+// Whether the page made what stands in the field, and nobody typed in it since.
+let isMade = false;
+
 export function forgetSecret() {
   $('c-secret').value = '';
   showSecret(false);
@@ -48,7 +51,8 @@ export function showSecret(isShown) {
 }
 
 /** What popbox refuses in a password is said before it is sent. */
-export function checkSecret() {
+export function checkSecret(event) {
+  isMade = !event;
   const [odd] = $('c-secret').value.match(/[^ -~]/u) ?? [];
   const told = odd ? `“${odd}” can't be in a password: it has letters without accents, digits, `
     + 'spaces and the signs of an American keyboard' : '';
@@ -71,7 +75,7 @@ export async function putClerk(event) {
   const answer = await change('PUT', `/api/clerks/${name}`, `${way} ${secret}`);
   const isDone = [200, 201].includes(answer.status);
   if (isDone) {
-    if ($('c-show').checked) showMade(name, way, secret);
+    if (isMade || $('c-show').checked) showMade(name, way, secret);
     forgetSecret();
     $('c-name').value = '';
     state.clerks.set(name, way);
@@ -88,11 +92,10 @@ function showMade(name, way, secret) {
     await navigator.clipboard.writeText(secret).catch(mark);
     copied.textContent = ' copied, or marked to be copied';
   });
-  const clerk = state.alone?.clerks.indexOf(name) ?? -1;
-  const places = state.alone?.maildrops.filter((it, m) => {
-    const cell = clerk < 0 ? null : state.alone.cell(clerk, m);
-    return cell && allows(cell.open) && it !== '(others)';
-  }) ?? [];
+  const { clerks, maildrops } = state.alone ?? { clerks: [], maildrops: [] };
+  const clerk = clerks.indexOf(clerks.includes(name) ? name : OTHERS);
+  const opens = (it, m) => it !== OTHERS && allows(state.alone.cell(clerk, m).open);
+  const places = maildrops.filter(opens);
   const users = places.length ? places.map((it) => `${name}/${it}`) : [`${name}/MAILDROP`];
   const line = (what, ...told) => h('tr', null, rowHead(what), data(...told));
   const title = h('h3', null, `For ${name}'s mail program`);

@@ -5,7 +5,7 @@ import { diff, merged } from './diff.js';
 import { $, agrees, button, folded, on, paragraph, say } from './dom.js';
 import { drawLinesOf, faultLine, forgetReview, reviewDraft } from './review.js';
 import { askRule, ruleAt, tablesOf } from './rules.js';
-import { hasDraft, isStale, kept, putOf, setView, state, textOf, VIEW } from './store.js';
+import { hasDraft, isStale, kept, putOf, setView, state, textInForce, VIEW } from './store.js';
 import { timeOf } from './policy.js';
 
 let timer = 0;
@@ -79,12 +79,12 @@ export async function replaceDraft(text) {
 
 /** Begins with what is in force, with its author's comments if they are known. */
 async function beginDraft() {
-  if (!hasDraft()) await replaceDraft(await textOf(state.digest, state.force));
+  if (!hasDraft()) await replaceDraft(await textInForce());
 }
 
 /** Changes rule N of the draft by the form, or adds one if N is 0; may begin a draft. */
 export async function editRule(n, begin) {
-  const text = hasDraft() ? state.draft : await textOf(state.digest, state.force);
+  const text = hasDraft() ? state.draft : await textInForce();
   const done = await askRule(text, n, begin);
   if (!done) return;
   setDraft(done.text);
@@ -106,7 +106,7 @@ async function discard() {
 function drawStale() {
   $('stale').hidden = !isStale();
   if (!isStale()) return;
-  const { by, at } = putOf(state.digest), { base, force, draft } = state;
+  const { by, at } = putOf(state.name), { base, force, draft } = state;
   const who = by ? ` ${by} put it in force, ${timeOf(at)}.` : '';
   const isMerged = merged(base, draft, force) !== null;
   const told = isMerged ? 'They touch different lines.'

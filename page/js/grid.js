@@ -24,11 +24,17 @@ function chosen() {
   const { force, draft, change } = narrowed(whole), { view } = state;
   const isEqual = view.equal ?? force.clerks.length > 40;
   const isDraft = draft && view.which === 'draft';
-  const isChanged = draft && view.changed;
+  const changes = draft ? changedCells(force, change) : 0, isChanged = changes && view.changed;
   const places = placesOf(force, isChanged ? change : null);
   const groups = isEqual ? equalOnes(places.clerks, force, draft) : places.clerks.map((c) => [c]);
   const table = isDraft ? draft : force, columns = places.maildrops;
-  return { whole, force, draft, table, isDraft, isEqual, isChanged, columns, groups, change };
+  return { whole, force, draft, table, isDraft, isEqual, changes, columns, groups, change };
+}
+
+/** In how many cells the draft gives or takes something. */
+function changedCells({ clerks, maildrops }, change) {
+  const all = clerks.flatMap((_, c) => maildrops.map((_, m) => change(c, m)));
+  return all.filter((it) => it.gives || it.takes).length;
 }
 
 /** The places of the clerks and maildrops that the filters let through. */
@@ -102,29 +108,32 @@ function focusCell(clerk, maildrop) {
 }
 
 function drawFilters() {
-  const { view } = state, { whole, draft, isDraft, isEqual, isChanged } = shown;
+  const { view } = state, { whole, draft, isDraft, isEqual, changes } = shown;
   const kinds = whole.force.classes.map((name) => h('option', { value: name }, shownName(name)));
   $('f-kind').replaceChildren(h('option', { value: '' }, 'all'), ...kinds);
   $('f-kind').value = whole.force.classes.includes(view.kind) ? view.kind : '';
   $('f-clerks').value = view.clerks;
   $('f-maildrops').value = view.maildrops;
   $('f-equal').checked = isEqual;
-  $('f-changed').checked = Boolean(isChanged);
+  $('f-changed').checked = view.changed;
+  $('f-changed').disabled = !changes;
   $('f-which').value = isDraft ? 'draft' : 'force';
   $('of-draft').hidden = !draft;
 }
 
 /** What the table shows, and of what it shows only a part. */
 function toldOfTable() {
-  const { force, draft, isDraft, groups, columns, change } = shown;
+  const { force, draft, isDraft, groups, columns, changes } = shown;
   const clerks = groups.flat(), isAll = clerks.length === force.clerks.length;
   const isWhole = isAll && columns.length === force.maildrops.length;
-  const told = [isDraft ? 'By the draft, which is not in force.' : 'By the policy in force.'];
-  if (draft) {
-    const changes = force.clerks.flatMap((_, c) => force.maildrops.map((_, m) => change(c, m)));
-    const count = changes.filter((it) => it.gives || it.takes).length;
-    const all = changes.length.toLocaleString();
-    told.push(` The draft changes ${counted(count, 'cell')} of ${all}.`);
+  const isSame = draft && state.review?.written === state.force;
+  const by = isDraft ? 'By the draft, which is not in force.' : 'By the policy in force.';
+  const told = [isSame ? 'The draft says what is in force.' : by];
+  if (changes) {
+    const all = (force.clerks.length * force.maildrops.length).toLocaleString();
+    told.push(` The draft changes ${counted(changes, 'cell')} of ${all}.`);
+  } else if (draft && !isSame) {
+    told.push(' The draft changes nothing of this.');
   }
   told.push(` ${countedNames(clerks.map((c) => force.clerks[c]), 'clerk')} and `);
   told.push(`${countedNames(columns.map((m) => force.maildrops[m]), 'maildrop')}.`);

@@ -1,12 +1,13 @@
 // Asks the server for everything, and has every view drawn from it.
 
+import { ask } from './ask.js';
 import { begin } from './begin.js';
 import { drawClerks } from './clerks.js';
 import { counted, say } from './dom.js';
 import { editRule, replaceDraft, reviewLater, showDraft } from './draft.js';
 import { drawTable } from './grid.js';
 import { drawMaildrops } from './maildrops.js';
-import { drawBefore, drawForce, textBefore } from './policy.js';
+import { drawBefore, drawForce } from './policy.js';
 import { drawSessions } from './sessions.js';
 import { existing, fetchAll, hasDraft, state } from './store.js';
 
@@ -41,10 +42,10 @@ async function loadNow() {
   return true;
 }
 
-async function takeBefore(kept) {
-  const { text, told } = await textBefore(kept);
-  if (text === undefined) say(told, true);
-  else await replaceDraft(text);
+async function takeBefore(name) {
+  const { status, text, told } = await ask('GET', `/policies/${name}`);
+  if (status === 200) await replaceDraft(text);
+  else say(told, true);
 }
 
 function sayCounts() {

@@ -1,8 +1,7 @@
 // Draws the policy in force, and the history: who is in, and the policies that were in force.
 
-import { ask } from './ask.js';
 import { $, button, counted, data, dim, h, tableHead } from './dom.js';
-import { putOf, state, textOf } from './store.js';
+import { putOf, state } from './store.js';
 
 /** Each `[[rule]]` and `[[group]]` is a block, with its lines' numbers; `edit` changes one. */
 export function drawForce(edit) {
@@ -19,37 +18,33 @@ export function drawForce(edit) {
   });
   $('force').classList.toggle('many', blocks.length > 100);
   $('force').replaceChildren(...blocks);
-  const { by, at } = putOf(state.digest);
-  const since = by ? ` Put in force by ${by}, ${timeOf(at)}.` : '';
-  $('force-of').textContent = count ? `${counted(count, 'rule')}.${since}` : `No rule yet.${since}`;
+  const { by, at } = putOf(state.name);
+  const since = by ? `, put in force by ${by}, ${timeOf(at)}` : '';
+  const rules = count ? counted(count, 'rule') : 'No rule yet';
+  $('force-of').replaceChildren(`${rules}: policy `, h('code', null, state.name), `${since}.`);
 }
 
-/** `2026-11-29T10-15-02Z` in a name or alone, as a person reads it. */
-export function timeOf(name) {
-  const [, day, h, m, s] = /(\d{4}-\d\d-\d\d)T(\d\d)-(\d\d)-(\d\d)Z/.exec(name);
+/** `2026-11-29T10-15-02Z` as a person reads it. */
+export function timeOf(moment) {
+  const [, day, h, m, s] = /(\d{4}-\d\d-\d\d)T(\d\d)-(\d\d)-(\d\d)Z/.exec(moment);
   return new Date(`${day}T${h}:${m}:${s}Z`).toLocaleString();
 }
 
 /** The policies that were in force before, each with who put it in force. */
 export function drawBefore(take) {
-  const all = state.policies ?? [];
-  const line = (it) => {
-    const until = timeOf(it.name), isUndone = it.name.startsWith('undone-');
-    const text = button('Take as the draft', () => take(it), `Take as the draft, until ${until}`);
-    const by = it.by ? `${it.by}, ${timeOf(it.at)}` : 'not from this page';
-    return h('tr', null, data(until + (isUndone ? ' (undone)' : '')), data(by), data(text));
+  const all = (state.puts ?? []).map((it, n) => ({ ...it, next: state.puts[n + 1] }));
+  const before = all.filter(({ name, next }) => next || name !== state.name).reverse();
+  const line = ({ what, at, name, by, next }) => {
+    const until = next ? timeOf(next.at) : 'not known';
+    const text = button('Take as the draft', () => take(name), `Take as the draft, until ${until}`);
+    const who = what === 'was' ? 'not known' : `${by}, ${timeOf(at)}`;
+    const end = next?.what === 'back' ? `${until} (taken back)` : until;
+    return h('tr', null, data(end, h('div', null, h('code', null, name))), data(who), data(text));
   };
-  const lacks = state.policies ? 'None is kept yet.' : 'The companion that keeps them is down.';
-  const rows = all.length ? all.map(line) : h('tr', null, h('td', { colspan: 3 }, dim(lacks)));
+  const lacks = state.puts ? 'None is kept yet.' : 'The companion that keeps them is down.';
+  const rows = before.length ? before.map(line) : h('tr', null, h('td', { colspan: 3 }, dim(lacks)));
   const head = tableHead('in force until', 'put in force by', '');
   $('before-list').replaceChildren(head, h('tbody', null, rows));
-}
-
-/** An earlier policy's text, with its author's comments if it was put in force from here. */
-export async function textBefore({ name, digest }) {
-  const written = await ask('GET', `/policies/${name}`);
-  if (written.status !== 200) return { told: written.told };
-  return { text: await textOf(digest, written.text) };
 }
 
 export function showRule(n) {

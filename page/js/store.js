@@ -1,7 +1,7 @@
 // What the server holds, as it was asked last, and what this browser keeps: the draft, the policy
 // on which it began, and the filters; no password. Draws nothing.
 
-import { ask, digestOf, lines, review, rows } from './ask.js';
+import { ask, lines, policyName, review, rows } from './ask.js';
 import { byName } from './dom.js';
 import { OTHERS, tableFrom } from './decisions.js';
 
@@ -35,9 +35,8 @@ export const state = {
   clerks: new Map(), // a name's kind: pass, apop, null for no such clerk, '?' if that isn't known
   hasList: false, // whether the server lists its clerks
   force: null, // the policy in force, as popbox writes it
-  digest: '', // its SHA-256
-  policies: null, // those that were in force before: { name, digest, by, at }
-  puts: [], // what was put in force from here: { at, digest, by }
+  name: '', // its name
+  puts: null, // which policies came into force: { what, at, name, by }
   alone: null, // who may do what by the policy in force
   beside: null, // the same by it and by the draft, over the names of both, and the changes
   noTable: '', // why there is no table
@@ -78,8 +77,9 @@ export async function fetchAll(drawn) {
   state.maildrops = rows(maildrops.text).map(([name, n, size]) => ({ name, n: +n, octets: +size }));
   state.maildrops.sort((a, b) => byName(a.name, b.name));
   state.sessions = rows(sessions.text).map(([n, clerk, maildrop]) => ({ n, clerk, maildrop }));
-  [state.force, state.digest] = [policy.text, await digestOf(policy.text)];
-  setPolicies(policies);
+  [state.force, state.name] = [policy.text, await policyName(policy.text)];
+  const puts = rows(policies.text).map(([what, at, name, by]) => ({ what, at, name, by }));
+  state.puts = policies.status === 200 ? puts : null;
   state.alone = await table;
   if (clerks.status !== 200) drawn();
   await loadClerks(clerks);
@@ -87,20 +87,9 @@ export async function fetchAll(drawn) {
   return null;
 }
 
-/** The lines `kept NAME DIGEST` and `put TIME DIGEST WHO` of what was in force. */
-function setPolicies({ status, text }) {
-  const told = rows(text);
-  state.puts = told.filter(([what]) => what === 'put')
-    .map(([, at, digest, by]) => ({ at, digest, by }));
-  const names = told.filter(([what]) => what === 'kept')
-    .map(([, name, digest]) => ({ name, digest, ...putOf(digest) }));
-  state.policies = status === 200 ? names : null;
-}
-
-/** Who put the policy of this digest in force last, and when; nothing if it wasn't from here. */
-export function putOf(digest) {
-  const { by, at } = state.puts.findLast((it) => it.digest === digest) ?? {};
-  return { by, at };
+/** Who put the policy of this name in force last, and when; nothing if that isn't known. */
+export function putOf(name) {
+  return state.puts?.findLast((it) => it.name === name && it.what !== 'was') ?? {};
 }
 
 /** The table of the policy in force; null if it can't be had. */
@@ -136,11 +125,11 @@ export async function kindOf(name) {
   return { kind: status === 404 ? null : '?', told };
 }
 
-/** The text of a policy as its author wrote it, with comments, if it was put in force from here. */
-export async function textOf(digest, written) {
-  if (!putOf(digest).at) return written;
-  const { status, text } = await ask('GET', `/policies/${digest}`);
-  return status === 200 ? text : written;
+/** The text of what is in force as its author wrote it, with comments, if it is kept. */
+export async function textInForce() {
+  if (!putOf(state.name).at) return state.force;
+  const { status, text } = await ask('GET', `/policies/${state.name}`);
+  return status === 200 ? text : state.force;
 }
 
 /** The classes of the messages that the server has, in so many maildrops. */
