@@ -1,7 +1,7 @@
 -- The calls of a vault that does removals in parts, by those of the vault inside.
 use Rattle.std.proofs.Common.{◌≡◌, ◌⊎◌, ◌≤◌, inl, inr, ℕ, List, true, refl, sym, ap, subst, ◌∙◌, arith, true≢false}
 use Rattle.std.proofs.Common.{Result, Ok, Err, Some, None}
-use Rattle.std.specs.Prelude.{Option, IsTrue, is_ok, is_some, false}
+use Rattle.std.specs.Prelude.{Option, IsTrue, IsErrAnd, is_ok, is_some, false}
 use Rattle.std.proofs.lemmas.Bool.Decides.{nat_tests}
 use Rattle.sqlite_trees.specs.declared.store.Store.{Ghosts}
 use Rattle.sqlite.specs.Held.{Held, state}
@@ -25,6 +25,7 @@ use Rattle.sqlvault.specs.UnderWay.{EndsBeside, GivesUp}
 use Rattle.sqlvault.specs.Frame.{Sees}
 use Rattle.sqlvault.proofs.HoldsLemmas.{refusal_any}
 use Rattle.sqlvault.proofs.SmallLemmas.{none_of}
+use Rattle.sqlvault.proofs.FrameLemmas.{passed}
 use Rattle.sqlvault.proofs.StopLemmas.{left_as, left_done, refusal_not_own}
 use Rattle.sqlvault.proofs.UnderWayLemmas.{prepares_own, prepares_seen, prepares_unseen}
 use Rattle.sqlvault.proofs.UnderWayLemmas.{told_under_way, gives_up_own}
@@ -194,40 +195,45 @@ abbrev as_unit : {A : Type 0} → Result A VaultFault → Result (Unit {0}) Vaul
 as_unit (Ok x) = Ok tt
 as_unit (Err e) = Err e
 
-pub looks_refused : {S A : Type 0} (store : Ghosts S) {old new : Prepared S} (e : VaultFault)
+pub looks_refused : {S A : Type 0} (store : Ghosts S) {old new : Prepared S} {e : VaultFault}
+    {answered : Result A VaultFault} → IsErrAnd answered (λ y. y ≡ e)
     → (let r : Result (Unit {0}) VaultFault = Ok tt in IsRefusal r e)
     → (let r : Result (Unit {0}) VaultFault = Err e in LooksIn store old new r)
-    → (let r : Result A VaultFault = Err e in LooksIn store old new r)
-looks_refused {A = A} store e is it = record {
-  counted = record { kept = it.counted.kept; cause = λ so. it.counted.cause (ap as_unit so) };
-  clean = it.clean;
-  held = it.held;
-  up = λ c clean h up own. absurd (refusal_not_own A e is own);
-  stop = it.stop;
-}
+    → LooksIn store old new answered
+looks_refused {A = A} store {old = old} {new = new} {e = e} failed is it =
+    subst (λ (a : Result A VaultFault). LooksIn store old new a) (sym (passed failed)) (record {
+      counted = record { kept = it.counted.kept; cause = λ so. it.counted.cause (ap as_unit so) };
+      clean = it.clean;
+      held = it.held;
+      up = λ c clean h up own. absurd (refusal_not_own A e is own);
+      stop = it.stop;
+    })
 
-pub commits_refused : {S A : Type 0} (store : Ghosts S) {old new : Prepared S}
-    (Done : Contents → (Contents → Type 0) → Result A VaultFault → Type 0) (e : VaultFault)
+pub commits_refused : {S A : Type 0} (store : Ghosts S) {old new : Prepared S} {e : VaultFault}
+    {answered : Result A VaultFault}
+    (Done : Contents → (Contents → Type 0) → Result A VaultFault → Type 0)
+    → IsErrAnd answered (λ y. y ≡ e)
     → (let r : Result (Unit {0}) VaultFault = Ok tt in IsRefusal r e)
     → (let r : Result (Unit {0}) VaultFault = Err e in LooksIn store old new r)
-    → CommitsIn store old new Done (Err e)
-commits_refused {A = A} store Done e is it = record {
-  counted = record { kept = it.counted.kept; cause = λ so. it.counted.cause (ap as_unit so) };
-  clean = it.clean;
-  up = λ c clean h up own. absurd (refusal_not_own A e is own);
-  stop = λ c clean up h left may. inl (it.stop c clean up h left may);
-}
+    → CommitsIn store old new Done answered
+commits_refused {A = A} store {old = old} {new = new} {e = e} Done failed is it =
+    subst (λ (a : Result A VaultFault). CommitsIn store old new Done a) (sym (passed failed)) (record {
+      counted = record { kept = it.counted.kept; cause = λ so. it.counted.cause (ap as_unit so) };
+      clean = it.clean;
+      up = λ c clean h up own. absurd (refusal_not_own A e is own);
+      stop = λ c clean up h left may. inl (it.stop c clean up h left may);
+    })
 
-pub done_refused : {S A : Type 0} (store : Ghosts S) {old new : Prepared S} (c after : Contents)
-    (expected : Result A VaultFault) (e : VaultFault)
+pub done_refused : {S A : Type 0} (store : Ghosts S) {old new : Prepared S} {e : VaultFault}
+    {answered : Result A VaultFault} (c after : Contents) (expected : Result A VaultFault)
+    → IsErrAnd answered (λ y. y ≡ e)
     → (let r : Result (Unit {0}) VaultFault = Ok tt in IsRefusal r e)
     → (let r : Result (Unit {0}) VaultFault = Err e in LooksIn store old new r)
     → holds_in store old c → clean_in store new
-    → IsDone (holds_in store new) c after expected (Err e)
-done_refused store c after expected e is it h clean = record {
-  answer = refusal_any expected e is;
-  held = it.held c clean h;
-}
+    → IsDone (holds_in store new) c after expected answered
+done_refused {A = A} store {new = new} {e = e} c after expected failed is it h clean =
+    subst (λ (a : Result A VaultFault). IsDone (holds_in store new) c after expected a)
+    (sym (passed failed)) (record { answer = refusal_any expected e is; held = it.held c clean h })
 
 -- ---- the removal that is under way is finished
 

@@ -31,7 +31,7 @@ use Rattle.sqlvault.specs.Deposits.{PutsReceipt, Accepts, count_row, message_of}
 use Rattle.sqlvault.specs.Refusals.{fault_of, answer_of, as_met, told}
 use Rattle.sqlvault.specs.declared.refusal.Refusal.{Refusal}
 use Rattle.sqlvault.specs.Stands.{Holds}
-use Rattle.sqlvault.specs.Transactions.{Begins, Undoes, Ends, Concludes}
+use Rattle.sqlvault.specs.Transactions.{Begins, Concludes}
 use Rattle.sqlvault.specs.Frame.{IsOk, MadeOr, Looks, Writes}
 use Rattle.sqlvault.specs.Arrivals.{Arrival, ShowsPart, AcceptsAny, AddsRow, PutsRest, with_put, arrival_row, arrival_uid}
 use Rattle.sqlvault.specs.UnderWay.{Prepares, Finishes, begun}
@@ -41,8 +41,8 @@ use Rattle.sqlvault.proofs.SmallLemmas.{lt-nat_lt, below_64}
 use Rattle.sqlvault.proofs.HoldsLemmas.{met}
 use Rattle.sqlvault.proofs.StopLemmas.{not_own, or_said}
 use Rattle.sqlvault.proofs.WithinLemmas as within
-use Rattle.sqlvault.proofs.FrameLemmas.{was_clean, begins_clean, ends_held, ends_leaves, ends_up, made_or}
-use Rattle.sqlvault.proofs.UnderWayLemmas.{prepares_more, prepares_undone}
+use Rattle.sqlvault.proofs.FrameLemmas.{was_clean, begins_clean, concluded_in, of_ended}
+use Rattle.sqlvault.proofs.UnderWayLemmas.{prepares_more}
 use Rattle.sqlvault.proofs.DepositLemmas.{judged_unknown}
 use Rattle.sqlvault.proofs.deposit.KeptLemmas.{accepts, deposited, undeposited, kept_after}
 
@@ -172,7 +172,7 @@ deposited_as uid (Ok x) = Ok (stored.New uid)
 deposited_as uid (Err r) = Err (told r)
 
 own_deposited : (uid : Uid) (r : Result (Unit {0}) Error) → IsOwn (deposited_as uid (as_met r))
-    → IsOk r
+    → IsOk (as_met r)
 own_deposited uid (Ok x) own = tt
 own_deposited uid (Err e) own = absurd (not_own Deposited e own)
 
@@ -183,7 +183,7 @@ module _ (a : Arrival) (c : Contents) (text : List ℕ) where
   deposit_new : (Held : Contents → Type 0) → AcceptsAny c a.maildrop a.class a.id (arrival_uid a) → Held after_it → IsDeposited Held c a.maildrop a.class a.id text (Ok (stored.New (arrival_uid a)))
   deposit_new Held accepted held = deposited Held c a.maildrop a.class a.id text (arrival_uid a) (own_receipt a c text) refl (accepted text) (a.key, held)
 
-  deposit_done : (Held : Contents → Type 0) (r : Result (Unit {0}) Error) → AcceptsAny c a.maildrop a.class a.id (arrival_uid a) → MadeOr r (λ H. H after_it) c Held
+  deposit_done : (Held : Contents → Type 0) (r : Result (Unit {0}) Error) → AcceptsAny c a.maildrop a.class a.id (arrival_uid a) → MadeOr (as_met r) (λ H. H after_it) c Held
       → IsDeposited Held c a.maildrop a.class a.id text (deposited_as (arrival_uid a) (as_met r))
   deposit_done Held (Ok x) accepted held = deposit_new Held accepted held
   deposit_done Held (Err e) accepted held = undeposited Held c a.maildrop a.class a.id text (fault_of e) (met (Ok tt) e) held
@@ -200,44 +200,7 @@ pub record IsWhole (a : Arrival) (text : List ℕ) (r : Receipt) : Type 0 where
   pub whole : length a.put % 4096 ≡ 0
   pub begins : take (length a.put) text ≡ a.put
 
--- the rest was put, and it is committed, or an error came
-coming_whole : {S : Type 0} {store : Ghosts S} {old last new : Held S} {u : Unit {0}} (a : Arrival) (text : List ℕ) (r : Receipt) (ended : Result (Unit {0}) Error) → IsWhole a text r
-    → (let done : Result (Unit {0}) Error = Ok u in Writes store old last (λ _. PutsRest (length a.put / 4096) a.key text r) done)
-    → Ends store last new ended
-    → Finishes store old new (works.Deposit a) (λ c Held answered. IsDeposited Held c a.maildrop a.class a.id text answered) (deposited_as (arrival_uid a) (as_met ended))
-coming_whole {store = store} {new = new} a text r ended is part ends = record {
-  clean = λ clean. part.clean (ends.clean clean);
-  turns = λ clean c h.
-      let own = own_receipt a c text in
-      let made = part.made (ends.clean clean) c h.rows h.within in
-      let accepted = accepts c a.maildrop a.class a.id text (arrival_uid a) own refl is.maildrop is.id is.class is.form is.digest (h.shown.accepted text) in
-      let all = shows_more a c h.rows made.1.0 text is.whole is.begins h.shown made.1.1 in
-      let keeps = whole_kept (with_put text a) c text made.1.0 made.0 is.octets refl all (subst (λ (x : Receipt). PutsReceipt x made.1.0 made.0) is.receipt made.1.2) accepted in
-      let after = after_it a c text in
-      record {
-        done = deposit_done a c text (Holds (state store new)) ended h.shown.accepted
-            (made_or (λ Held. Held after) (state store new) c after ended (λ Held held. held) (ends_held ended ends c after made.0 clean made.2 keeps));
-        up = λ _ own. ends_up ended ends clean (own_deposited (arrival_uid a) ended own);
-        stop = λ _ _. or_said (λ Held. Held after) (λ Held. (x : Deposited) × IsDeposited Held c a.maildrop a.class a.id text (Ok x)) (state store new) c
-            (λ Held held. (stored.New (arrival_uid a), deposit_new a c text Held h.shown.accepted held)) (ends_leaves ends c after made.0 clean made.2 keeps);
-      };
-}
-
--- the rest met an error, and the transaction was undone
-coming_undone : {S A : Type 0} {store : Ghosts S} {old last new : Held S} {Change : A → Rows → Rows → Type 0} {e : Error} (a : Arrival) (text : List ℕ) (said : Error)
-    → Writes store old last Change (Err e) → Undoes store last new
-    → Finishes store old new (works.Deposit a) (λ c Held answered. IsDeposited Held c a.maildrop a.class a.id text answered) (Err (fault_of said))
-coming_undone {store = store} {last = last} {new = new} a text said part back = record {
-  clean = λ clean. part.clean (was_clean store last new back.survives clean);
-  turns = λ clean c h.
-      let it = prepares_undone (works.Deposit a) part back in
-      record {
-        done = undeposited (Holds (state store new)) c a.maildrop a.class a.id text (fault_of said) (met (Ok tt) said) (it.held clean c h);
-        up = λ up own. absurd (not_own Deposited said own);
-        stop = λ up left db may. inl (it.stop clean c h up left db may);
-      };
-}
-
+-- the rest was put, and the transaction is concluded
 pub coming_concluded : {S : Type 0} {store : Ghosts S} {old last new : Held S} (a : Arrival)
     (text : List ℕ) (r : Receipt) (w : Result (Unit {0}) Error) (said : Result (Unit {0}) Refusal)
     → IsWhole a text r
@@ -245,16 +208,26 @@ pub coming_concluded : {S : Type 0} {store : Ghosts S} {old last new : Held S} (
     → Concludes store last new w said
     → Finishes store old new (works.Deposit a) (λ c Held answered. IsDeposited Held c a.maildrop a.class a.id text answered)
     (deposited_as (arrival_uid a) said)
-coming_concluded {store = store} {old = old} {new = new} a text r (Ok x) said is part it =
-    subst (λ (s : Result (Unit {0}) Refusal). Finishes store old new (works.Deposit a)
-    (λ c Held answered. IsDeposited Held c a.maildrop a.class a.id text answered)
-    (deposited_as (arrival_uid a) s)) (sym it.ends.1)
-    (coming_whole a text r it.ends.0 is part it.ends.2)
-coming_concluded {store = store} {old = old} {new = new} a text r (Err e) said is part it =
-    subst (λ (s : Result (Unit {0}) Refusal). Finishes store old new (works.Deposit a)
-    (λ c Held answered. IsDeposited Held c a.maildrop a.class a.id text answered)
-    (deposited_as (arrival_uid a) s)) (sym it.undoes.1)
-    (coming_undone a text it.undoes.0 part it.undoes.2)
+coming_concluded {store = store} {old = old} {new = new} a text r w said is part it = record {
+  clean = λ clean. part.clean (it.clean clean);
+  turns = λ clean c h.
+      let own = own_receipt a c text in
+      let accepted = accepts c a.maildrop a.class a.id text (arrival_uid a) own refl is.maildrop is.id is.class is.form is.digest (h.shown.accepted text) in
+      let after = after_it a c text in
+      let turns = concluded_in {old = old} (λ Held. Held after) w said c h.rows h.within part (λ to puts.
+      let all = shows_more a c h.rows puts.0 text is.whole is.begins h.shown puts.1 in (
+        after,
+        whole_kept (with_put text a) c text puts.0 to is.octets refl all (subst (λ (x : Receipt). PutsReceipt x puts.0 to) is.receipt puts.2) accepted,
+        λ Held held. held,
+      )) it clean in
+      record {
+        done = of_ended (λ s. MadeOr s (λ Held. Held after) c (Holds (state store new)) → IsDeposited (Holds (state store new)) c a.maildrop a.class a.id text (deposited_as (arrival_uid a) s))
+            w said it (λ ended. deposit_done a c text (Holds (state store new)) ended h.shown.accepted) turns.done;
+        up = λ up own. turns.up up (of_ended (λ s. IsOwn (deposited_as (arrival_uid a) s) → IsOk s) w said it (own_deposited (arrival_uid a)) own);
+        stop = λ up left. or_said (λ Held. Held after) (λ Held. (x : Deposited) × IsDeposited Held c a.maildrop a.class a.id text (Ok x)) (state store new) c
+            (λ Held held. (stored.New (arrival_uid a), deposit_new a c text Held h.shown.accepted held)) (turns.stop up left);
+      };
+}
 
 -- ---- how it was judged
 

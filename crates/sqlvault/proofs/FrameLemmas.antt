@@ -470,6 +470,16 @@ pub writes_failed : {S A B : Type 0} {store : Ghosts S} {old new : Held S}
     → Writes store old new Change (Err e) → Writes store old new Said (Err e)
 writes_failed it = record { clean = it.clean; made = λ clean. it.made clean }
 
+-- what is known of it if it is done, as a part of the change
+pub writes_given : {S Given : Type 0} {store : Ghosts S} {old new : Held S}
+    {Change : Rows → Rows → Type 0} (w : Result (Unit {0}) Error) → OnOk w Given
+    → Writes store old new (λ _. Change) w → Writes store old new (λ _ from to. Given × Change from to) w
+writes_given (Ok x) given it = record {
+  clean = it.clean;
+  made = λ clean base rows within. let m = it.made clean base rows within in (m.0, (given, m.1), m.2);
+}
+writes_given (Err e) given it = writes_failed it
+
 -- two parts, of which the first is done
 pub writes_then : {S A : Type 0} {store : Ghosts S} {old mid new : Held S}
     (First : A → Rows → Rows → Type 0) (Second Both : Rows → Rows → Type 0) (x : A)
@@ -531,40 +541,30 @@ rest it = record {
   stop = λ up left db may. inl (it.stop up left db may);
 }
 
--- a part met an error, and the transaction was undone
-pub undone_whole : {S A : Type 0} {store : Ghosts S} {old first last new : Held S}
-    {Change : A → Rows → Rows → Type 0} {x : Unit {0}} {e : Error} (c : Contents)
-    → Begins store old first (Ok x) → Writes store first last Change (Err e)
-    → Undoes store last new → HasCleanDisk (state store new) → Holds (state store old) c
-    → Rests store old new ⊥ c
-undone_whole {store = store} {old = old} {first = first} {last = last} {new = new} c begins part
-    back clean h =
-    let clean2 = was_clean store last new back.survives clean in
-    let clean1 = part.clean clean2 in
-    let b = begun (state store old) (state store first) c clean1 begins.law (begins.ok clean1).1
-    begins.survives h in
-    let halted = part.made clean2 c b.0 b.2 in
-    record {
-      held = back.holds c clean halted.0;
-      up = λ _ none. absurd none;
-      stop = λ _ _. leaves_on (λ rows. Keeps rows c) (state store last) (state store new) clean
-          back.survives halted.1;
-    }
-
--- so the whole changed nothing
+-- a part met an error, and the transaction was undone: nothing is changed
 pub looks_undone : {S A : Type 0} {store : Ghosts S} {old first last new : Held S}
     {Change : A → Rows → Rows → Type 0} {x : Unit {0}} {e : Error}
     → Begins store old first (Ok x) → Writes store first last Change (Err e)
     → Undoes store last new → Looks store old new ⊥
 looks_undone {store = store} {old = old} {first = first} {last = last} {new = new} begins part
     back = record {
-      clean = λ clean. was_clean store old first begins.survives
-          (part.clean (was_clean store last new back.survives clean));
-      rests = λ clean c h. undone_whole c begins part back clean h;
+      clean = λ clean. begins_clean begins (part.clean (undoes_clean back clean));
+      rests = λ clean c h.
+          let clean2 = undoes_clean back clean in
+          let clean1 = part.clean clean2 in
+          let b = begun (state store old) (state store first) c clean1 begins.law
+          (begins.ok clean1).1 begins.survives h in
+          let halted = part.made clean2 c b.0 b.2 in
+          record {
+            held = back.holds c clean halted.0;
+            up = λ _ none. absurd none;
+            stop = λ _ _. leaves_on (λ rows. Keeps rows c) (state store last) (state store new)
+                clean back.survives halted.1;
+          };
     }
 
 -- the end of one that shows the rows of these contents: it was committed, or an error came
-pub ends_held : {S : Type 0} {store : Ghosts S} {last new : Held S} (r : Result (Unit {0}) Error)
+ends_held : {S : Type 0} {store : Ghosts S} {last new : Held S} (r : Result (Unit {0}) Error)
     → Ends store last new r → (base after : Contents) (rows : Rows) → HasCleanDisk (state store new)
     → Within (state store last) base rows → Keeps rows after
     → IsEnded base after (state store new) r
@@ -575,7 +575,7 @@ ends_held {store = store} {last = last} {new = new} (Err e) ends base after rows
     (ends.err last clean (goes_still (state store last) base rows w)) w
 
 -- a stop in it leaves the one or the other
-pub ends_leaves : {S : Type 0} {store : Ghosts S} {last new : Held S} {r : Result (Unit {0}) Error}
+ends_leaves : {S : Type 0} {store : Ghosts S} {last new : Held S} {r : Result (Unit {0}) Error}
     → Ends store last new r → (base after : Contents) (rows : Rows) → HasCleanDisk (state store new)
     → Within (state store last) base rows → Keeps rows after
     → Leaves (state store new) (λ left. Keeps left base ⊎ Keeps left after)
@@ -584,141 +584,47 @@ ends_leaves ends base after rows clean w keeps db may = elim (ends.stop clean db
   | inr made ↦ inr (subst (λ r. Keeps r after) (sym (ap rows_in made ∙ w.rows_are)) keeps)
 ]
 
-pub ends_up : {S : Type 0} {store : Ghosts S} {last new : Held S} (r : Result (Unit {0}) Error)
+ends_up : {S : Type 0} {store : Ghosts S} {last new : Held S} (r : Result (Unit {0}) Error)
     → Ends store last new r → HasCleanDisk (state store new) → IsOk r
     → IsTrue (state store new).is_open
 ends_up (Ok x) ends clean own = (ends.ok clean).is_open
 ends_up (Err e) ends clean own = absurd own
 
-pub made_or : (Made : (Contents → Type 0) → Type 0) (s : State) (c after : Contents)
+made_or : (Made : (Contents → Type 0) → Type 0) (s : State) (c after : Contents)
     (r : Result (Unit {0}) Error) → ((Held : Contents → Type 0) → Held after → Made Held)
     → IsEnded c after s r → MadeOr r Made c (Holds s)
 made_or Made s c after (Ok x) say held = say (Holds s) held
 made_or Made s c after (Err e) say held = held
 
--- it was ended, and what it made of the contents is committed, or nothing is
-pub ended_whole : {S A : Type 0} {store : Ghosts S} {old first last new : Held S}
-    {Change : A → Rows → Rows → Type 0} {u : Unit {0}} {x : A} (Made : (Contents → Type 0) → Type 0)
-    (r : Result (Unit {0}) Error) (c : Contents)
-    → Begins store old first (Ok u) → Writes store first last Change (Ok x)
-    → ((from to : Rows) → Keeps from c → Change x from to → (after : Contents) × Keeps to after
-    × ((Held : Contents → Type 0) → Held after → Made Held))
-    → Ends store last new r → HasCleanDisk (state store new) → Holds (state store old) c
-    → Turns store old new (IsOk r) (MadeOr r Made c) Made c
-ended_whole {store = store} {old = old} {first = first} {new = new} Made r c begins part keeps ends
-    clean h =
-    let clean2 = ends.clean clean in
-    let clean1 = part.clean clean2 in
-    let b = begun (state store old) (state store first) c clean1 begins.law (begins.ok clean1).1
-    begins.survives h in
-    let made = part.made clean2 c b.0 b.2 in
-    let k = keeps b.0 made.0 b.1 made.1 in
-    record {
-      done = made_or Made (state store new) c k.0 r k.2
-          (ends_held r ends c k.0 made.0 clean made.2 k.1);
-      up = λ _ own. ends_up r ends clean own;
-      stop = λ _ _. or_said (λ Held. Held k.0) Made (state store new) c k.2
-          (ends_leaves ends c k.0 made.0 clean made.2 k.1);
-    }
-
--- what is own of a call's answer is that its last part was done
-pub own_ok : (r : Result (Unit {0}) Error) → IsOwn (answer_of (as_met r)) → IsOk r
-own_ok (Ok x) own = tt
-own_ok (Err e) own = absurd (not_own (Unit {0}) e own)
-
-pub met_done : (Held : Contents → Type 0) (c after : Contents) (r : Result (Unit {0}) Error)
-    → MadeOr r (λ H. H after) c Held → IsDone Held c after (Ok tt) (answer_of (as_met r))
-met_done Held c after (Ok x) held = record { answer = refl; held = held }
-met_done Held c after (Err e) held = refused Held c after (Ok tt) e held
-
--- a call that is one transaction, of which one part made the change
-pub commits_whole : {S A : Type 0} {store : Ghosts S} {old first last new : Held S}
-    {Change : A → Rows → Rows → Type 0} {u : Unit {0}} {x : A} (after : Contents → Contents)
-    (r : Result (Unit {0}) Error)
-    → Begins store old first (Ok u) → Writes store first last Change (Ok x)
-    → ((c : Contents) (from to : Rows) → Keeps from c → Change x from to → Keeps to (after c))
-    → Ends store last new r
-    → Acts store old new (λ c Held answered. IsDone Held c (after c) (Ok tt) answered)
-    (answer_of (as_met r))
-commits_whole {store = store} {old = old} {first = first} {new = new} after r begins part keeps
-    ends = record {
-      clean = λ clean. was_clean store old first begins.survives (part.clean (ends.clean clean));
-      turns = λ clean c h.
-          let it = ended_whole {new = new} (λ Held. Held (after c)) r c begins part
-          (λ from to kept change. (after c, keeps c from to kept change, λ Held held. held))
-          ends clean h in
-          record {
-            done = met_done (Holds (state store new)) c (after c) r it.done;
-            up = λ up own. it.up up (own_ok r own);
-            stop = λ up left. or_said (λ Held. Held (after c))
-                (λ Held. (y : Unit {0}) × IsDone Held c (after c) (Ok tt) (Ok y))
-                (state store new) c (λ Held held. (tt, record { answer = refl; held = held }))
-                (it.stop up left);
-          };
-    }
-
--- a transaction that keeps the rows those of the contents only looks
-made_held : (Held : Contents → Type 0) (c : Contents) (r : Result (Unit {0}) Error)
-    → MadeOr r (λ H. H c) c Held → Held c
-made_held Held c (Ok x) held = held
-made_held Held c (Err e) held = held
-
-pub looks_committed : {S A : Type 0} {store : Ghosts S} {old first last new : Held S}
-    {Change : A → Rows → Rows → Type 0} {u : Unit {0}} {x : A} (r : Result (Unit {0}) Error)
-    → Begins store old first (Ok u) → Writes store first last Change (Ok x)
-    → ((c : Contents) (from to : Rows) → Keeps from c → Change x from to → Keeps to c)
-    → Ends store last new r → Looks store old new (IsOk r)
-looks_committed {store = store} {old = old} {first = first} {new = new} r begins part keeps ends =
-    record {
-      clean = λ clean. was_clean store old first begins.survives (part.clean (ends.clean clean));
-      rests = λ clean c h.
-          let it = ended_whole {new = new} (λ Held. Held c) r c begins part
-          (λ from to kept change. (c, keeps c from to kept change, λ Held held. held))
-          ends clean h in
-          record {
-            held = made_held (Holds (state store new)) c r it.done;
-            up = it.up;
-            stop = λ up left db may. elim (it.stop up left db may) [ inl was ↦ was | inr made ↦ made ];
-          };
-    }
-
 -- ---- a transaction that is concluded, whatever was written
 
-pub met_ok : (r : Result (Unit {0}) Refusal) (ended : Result (Unit {0}) Error) → r ≡ as_met ended
-    → IsMet r → IsOk ended
-met_ok r (Ok x) is own = tt
-met_ok r (Err e) is own = subst (λ (a : Result (Unit {0}) Refusal). IsMet a) is own
+-- what is so however its last statement was answered
+pub of_ended : {S : Type 0} {store : Ghosts S} {last new : Held S}
+    (P : Result (Unit {0}) Refusal → Type 0) (w : Result (Unit {0}) Error)
+    (r : Result (Unit {0}) Refusal) → Concludes store last new w r
+    → ((ended : Result (Unit {0}) Error) → P (as_met ended)) → P r
+of_ended P (Ok x) r it all = subst P (sym it.ends.1) (all it.ends.0)
+of_ended P (Err e) r it all = subst P (sym it.undoes.1) (all (Err it.undoes.0))
 
--- a call that is one transaction, of which one part made the change
-pub concluded_whole : {S : Type 0} {Given : Type 0} {store : Ghosts S} {old first last new : Held S}
-    {Change : Rows → Rows → Type 0} {u : Unit {0}} (after : Contents → Contents)
-    (w : Result (Unit {0}) Error) (r : Result (Unit {0}) Refusal)
-    → Begins store old first (Ok u) → Writes store first last (λ _. Change) w → OnOk w Given
-    → (Given → (c : Contents) (from to : Rows) → Keeps from c → Change from to → Keeps to (after c))
-    → Concludes store last new w r
-    → Acts store old new (λ c Held answered. IsDone Held c (after c) (Ok tt) answered) (answer_of r)
-concluded_whole {store = store} {old = old} {new = new} after (Ok x) r begins part given keeps it =
-    subst (λ (a : Result (Unit {0}) Refusal). Acts store old new
-    (λ c Held answered. IsDone Held c (after c) (Ok tt) answered) (answer_of a)) (sym it.ends.1)
-    (commits_whole after it.ends.0 begins part (keeps given) it.ends.2)
-concluded_whole {store = store} {old = old} {new = new} after (Err e) r begins part given keeps it =
-    subst (λ (a : Result (Unit {0}) Refusal). Acts store old new
-    (λ c Held answered. IsDone Held c (after c) (Ok tt) answered) (answer_of a)) (sym it.undoes.1)
-    (met_whole after (λ _. Ok tt) it.undoes.0 (looks_undone begins part it.undoes.2))
+pub concluded_answer : {S : Type 0} {store : Ghosts S} {last new : Held S}
+    (w : Result (Unit {0}) Error) (r : Result (Unit {0}) Refusal) → Concludes store last new w r
+    → IsAnswer (Ok tt) (answer_of r)
+concluded_answer w r it = of_ended (λ a. IsAnswer (Ok tt) (answer_of a)) w r it at
+  where
+    at : (ended : Result (Unit {0}) Error) → IsAnswer (Ok tt) (answer_of (as_met ended))
+    at (Ok x) = refl
+    at (Err e) = met (Ok tt) e
 
--- one that keeps the rows those of the contents only looks
-pub concluded_looks : {S : Type 0} {store : Ghosts S} {old first last new : Held S}
-    {Change : Rows → Rows → Type 0} {u : Unit {0}} (w : Result (Unit {0}) Error)
-    (r : Result (Unit {0}) Refusal)
-    → Begins store old first (Ok u) → Writes store first last (λ _. Change) w
-    → ((c : Contents) (from to : Rows) → Keeps from c → Change from to → Keeps to c)
-    → Concludes store last new w r → Looks store old new (IsMet r)
-concluded_looks (Ok x) r begins part keeps it = looks_own (met_ok r it.ends.0 it.ends.1)
-    (looks_committed it.ends.0 begins part keeps it.ends.2)
-concluded_looks (Err e) r begins part keeps it = looks_own (met_ok r (Err it.undoes.0) it.undoes.1)
-    (looks_undone begins part it.undoes.2)
+pub concluded_kinds : {S : Type 0} {store : Ghosts S} {last new : Held S}
+    (w : Result (Unit {0}) Error) (r : Result (Unit {0}) Refusal) → Concludes store last new w r
+    → IfErr r (λ refusal. IsAdoptFault (told refusal))
+concluded_kinds w r it = of_ended (λ a. IfErr a (λ refusal. IsAdoptFault (told refusal))) w r it at
+  where
+    at : (ended : Result (Unit {0}) Error) → IfErr (as_met ended) (λ refusal. IsAdoptFault (told refusal))
+    at (Ok x) = tt
+    at (Err e) = kinds_met e
 
--- what such a part makes of the contents is committed, or nothing is
+-- what its part made of the contents, inside it, is committed, or nothing is
 turns_met : {S : Type 0} {store : Ghosts S} {old new : Held S}
     {Made : (Contents → Type 0) → Type 0} (r : Result (Unit {0}) Error) (c : Contents)
     → Turns store old new (IsOk r) (MadeOr r Made c) Made c
@@ -726,6 +632,38 @@ turns_met : {S : Type 0} {store : Ghosts S} {old new : Held S}
 turns_met (Ok x) c it = it
 turns_met (Err e) c it = it
 
+pub concluded_in : {S : Type 0} {store : Ghosts S} {old first last new : Held S}
+    {Change : Rows → Rows → Type 0} (Made : (Contents → Type 0) → Type 0)
+    (w : Result (Unit {0}) Error) (r : Result (Unit {0}) Refusal) (c : Contents) (rows : Rows)
+    → Within (state store first) c rows → Writes store first last (λ _. Change) w
+    → ((to : Rows) → Change rows to → (after : Contents) × Keeps to after
+    × ((Held : Contents → Type 0) → Held after → Made Held))
+    → Concludes store last new w r → HasCleanDisk (state store new)
+    → Turns store old new (IsOk r) (MadeOr r Made c) Made c
+concluded_in {store = store} {old = old} {new = new} Made (Ok x) r c rows within part keeps it clean =
+    let made = part.made (it.clean clean) c rows within in
+    let k = keeps made.0 made.1 in
+    subst (λ (a : Result (Unit {0}) Refusal). Turns store old new (IsOk a) (MadeOr a Made c) Made c)
+    (sym it.ends.1) (turns_met it.ends.0 c (record {
+      done = made_or Made (state store new) c k.0 it.ends.0 k.2
+          (ends_held it.ends.0 it.ends.2 c k.0 made.0 clean made.2 k.1);
+      up = λ _ own. ends_up it.ends.0 it.ends.2 clean own;
+      stop = λ _ _. or_said (λ Held. Held k.0) Made (state store new) c k.2
+          (ends_leaves it.ends.2 c k.0 made.0 clean made.2 k.1);
+    }))
+concluded_in {store = store} {old = old} {last = last} {new = new} Made (Err e) r c rows within part
+    keeps it clean =
+    let halted = part.made (it.clean clean) c rows within in
+    let back = it.undoes.2 in
+    subst (λ (a : Result (Unit {0}) Refusal). Turns store old new (IsOk a) (MadeOr a Made c) Made c)
+    (sym it.undoes.1) (record {
+      done = back.holds c clean halted.0;
+      up = λ _ none. absurd none;
+      stop = λ _ _ db may. inl (leaves_on (λ rows. Keeps rows c) (state store last) (state store new)
+          clean back.survives halted.1 db may);
+    })
+
+-- over these contents
 pub concluded_turns : {S : Type 0} {store : Ghosts S} {old first last new : Held S}
     {Change : Rows → Rows → Type 0} {u : Unit {0}} (Made : (Contents → Type 0) → Type 0)
     (w : Result (Unit {0}) Error) (r : Result (Unit {0}) Refusal) (c : Contents)
@@ -734,37 +672,75 @@ pub concluded_turns : {S : Type 0} {store : Ghosts S} {old first last new : Held
     × ((Held : Contents → Type 0) → Held after → Made Held))
     → Concludes store last new w r → HasCleanDisk (state store new) → Holds (state store old) c
     → Turns store old new (IsOk r) (MadeOr r Made c) Made c
-concluded_turns {store = store} {old = old} {new = new} Made (Ok x) r c begins part keeps it clean h =
-    subst (λ (a : Result (Unit {0}) Refusal). Turns store old new (IsOk a) (MadeOr a Made c) Made c)
-    (sym it.ends.1) (turns_met it.ends.0 c
-    (ended_whole Made it.ends.0 c begins part keeps it.ends.2 clean h))
-concluded_turns {store = store} {old = old} {new = new} Made (Err e) r c begins part keeps it clean h =
-    subst (λ (a : Result (Unit {0}) Refusal). Turns store old new (IsOk a) (MadeOr a Made c) Made c)
-    (sym it.undoes.1) (rest (undone_whole c begins part it.undoes.2 clean h))
+concluded_turns {store = store} {old = old} {first = first} Made w r c begins part keeps it clean h =
+    let clean1 = part.clean (it.clean clean) in
+    let b = begun (state store old) (state store first) c clean1 begins.law (begins.ok clean1).1
+    begins.survives h in
+    concluded_in Made w r c b.0 b.2 part (λ to change. keeps b.0 to b.1 change) it clean
 
--- how it is answered
-answered_met : (r : Result (Unit {0}) Refusal) (ended : Result (Unit {0}) Error) → r ≡ as_met ended
-    → IsAnswer (Ok tt) (answer_of r)
-answered_met r (Ok x) is =
-    subst (λ (a : Result (Unit {0}) Refusal). IsAnswer (Ok tt) (answer_of a)) (sym is) refl
-answered_met r (Err e) is =
-    subst (λ (a : Result (Unit {0}) Refusal). IsAnswer (Ok tt) (answer_of a)) (sym is) (met (Ok tt) e)
-
-pub concluded_answer : {S : Type 0} {store : Ghosts S} {last new : Held S}
+-- as what a call does
+pub turns_done : {S : Type 0} {store : Ghosts S} {old last new : Held S} (c after : Contents)
     (w : Result (Unit {0}) Error) (r : Result (Unit {0}) Refusal) → Concludes store last new w r
-    → IsAnswer (Ok tt) (answer_of r)
-concluded_answer (Ok x) r it = answered_met r it.ends.0 it.ends.1
-concluded_answer (Err e) r it = answered_met r (Err it.undoes.0) it.undoes.1
+    → Turns store old new (IsOk r) (MadeOr r (λ Held. Held after) c) (λ Held. Held after) c
+    → Turns store old new (IsOwn (answer_of r)) (λ Held. IsDone Held c after (Ok tt) (answer_of r))
+    (λ Held. (y : Unit {0}) × IsDone Held c after (Ok tt) (Ok y)) c
+turns_done {store = store} {new = new} c after w r it turns = record {
+  done = of_ended (λ a. MadeOr a (λ Held. Held after) c (Holds (state store new))
+      → IsDone (Holds (state store new)) c after (Ok tt) (answer_of a)) w r it done turns.done;
+  up = λ up own. turns.up up (of_ended (λ a. IsOwn (answer_of a) → IsOk a) w r it own_ok own);
+  stop = λ up left. or_said (λ Held. Held after)
+      (λ Held. (y : Unit {0}) × IsDone Held c after (Ok tt) (Ok y)) (state store new) c
+      (λ Held held. (tt, record { answer = refl; held = held })) (turns.stop up left);
+}
+  where
+    done : (ended : Result (Unit {0}) Error)
+        → MadeOr (as_met ended) (λ Held. Held after) c (Holds (state store new))
+        → IsDone (Holds (state store new)) c after (Ok tt) (answer_of (as_met ended))
+    done (Ok x) held = record { answer = refl; held = held }
+    done (Err e) held = refused (Holds (state store new)) c after (Ok tt) e held
+    own_ok : (ended : Result (Unit {0}) Error) → IsOwn (answer_of (as_met ended)) → IsOk (as_met ended)
+    own_ok (Ok x) own = tt
+    own_ok (Err e) own = absurd (not_own (Unit {0}) e own)
 
-kinds_of : (r : Result (Unit {0}) Refusal) (ended : Result (Unit {0}) Error) → r ≡ as_met ended
-    → IfErr r (λ refusal. IsAdoptFault (told refusal))
-kinds_of r (Ok x) is = subst (λ (a : Result (Unit {0}) Refusal). IfErr a
-    (λ refusal. IsAdoptFault (told refusal))) (sym is) tt
-kinds_of r (Err e) is = subst (λ (a : Result (Unit {0}) Refusal). IfErr a
-    (λ refusal. IsAdoptFault (told refusal))) (sym is) (kinds_met e)
+-- a call that is one transaction, of which one part made the change
+pub concluded_whole : {S : Type 0} {store : Ghosts S} {old first last new : Held S}
+    {Change : Rows → Rows → Type 0} {u : Unit {0}} (after : Contents → Contents)
+    (w : Result (Unit {0}) Error) (r : Result (Unit {0}) Refusal)
+    → Begins store old first (Ok u) → Writes store first last (λ _. Change) w
+    → ((c : Contents) (from to : Rows) → Keeps from c → Change from to → Keeps to (after c))
+    → Concludes store last new w r
+    → Acts store old new (λ c Held answered. IsDone Held c (after c) (Ok tt) answered) (answer_of r)
+concluded_whole after w r begins part keeps it = record {
+  clean = λ clean. begins_clean begins (part.clean (it.clean clean));
+  turns = λ clean c h. turns_done c (after c) w r it (concluded_turns (λ Held. Held (after c)) w r c
+      begins part (λ from to kept change. (after c, keeps c from to kept change, λ Held held. held))
+      it clean h);
+}
 
-pub concluded_kinds : {S : Type 0} {store : Ghosts S} {last new : Held S}
-    (w : Result (Unit {0}) Error) (r : Result (Unit {0}) Refusal) → Concludes store last new w r
-    → IfErr r (λ refusal. IsAdoptFault (told refusal))
-concluded_kinds (Ok x) r it = kinds_of r it.ends.0 it.ends.1
-concluded_kinds (Err e) r it = kinds_of r (Err it.undoes.0) it.undoes.1
+-- one that keeps the rows those of the contents only looks
+pub concluded_looks : {S : Type 0} {store : Ghosts S} {old first last new : Held S}
+    {Change : Rows → Rows → Type 0} {u : Unit {0}} (w : Result (Unit {0}) Error)
+    (r : Result (Unit {0}) Refusal)
+    → Begins store old first (Ok u) → Writes store first last (λ _. Change) w
+    → ((c : Contents) (from to : Rows) → Keeps from c → Change from to → Keeps to c)
+    → Concludes store last new w r → Looks store old new (IsMet r)
+concluded_looks {store = store} {new = new} w r begins part keeps it = record {
+  clean = λ clean. begins_clean begins (part.clean (it.clean clean));
+  rests = λ clean c h.
+      let turns = concluded_turns (λ Held. Held c) w r c begins part
+      (λ from to kept change. (c, keeps c from to kept change, λ Held held. held)) it clean h in
+      record {
+        held = of_ended (λ a. MadeOr a (λ Held. Held c) c (Holds (state store new))
+            → Holds (state store new) c) w r it (held c) turns.done;
+        up = λ up own. turns.up up (of_ended (λ a. IsMet a → IsOk a) w r it met_ok own);
+        stop = λ up left db may. elim (turns.stop up left db may) [ inl was ↦ was | inr made ↦ made ];
+      };
+}
+  where
+    held : (c : Contents) (ended : Result (Unit {0}) Error)
+        → MadeOr (as_met ended) (λ Held. Held c) c (Holds (state store new)) → Holds (state store new) c
+    held c (Ok x) it = it
+    held c (Err e) it = it
+    met_ok : (ended : Result (Unit {0}) Error) → IsMet (as_met ended) → IsOk (as_met ended)
+    met_ok (Ok x) own = tt
+    met_ok (Err e) own = own

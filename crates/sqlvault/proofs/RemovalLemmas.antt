@@ -6,22 +6,19 @@ use Rattle.sqlite_trees.specs.declared.store.Store.{Ghosts}
 use Rattle.sqlite.specs.Held.{Held, state}
 use Rattle.sqlite.specs.declared.error.Error.{Error}
 use Rattle.vault.specs.Changes.{Contents, without_keys, with_messages}
-use Rattle.vault.specs.Calls.{IsDone, AreRemoved}
+use Rattle.vault.specs.Calls.{AreRemoved}
 use Rattle.mailsql.specs.Rows.{Rows}
 use Rattle.sqlvault.specs.Keeps.{Keeps}
 use Rattle.sqlvault.specs.declared.refusal.Refusal.{Refusal}
-use Rattle.sqlvault.specs.Refusals.{fault_of, answer_of, as_met}
+use Rattle.sqlvault.specs.Refusals.{answer_of}
 use Rattle.sqlvault.specs.Stands.{Holds}
-use Rattle.sqlvault.specs.Transactions.{Begins, Undoes, Ends, Concludes}
+use Rattle.sqlvault.specs.Transactions.{Begins, Concludes}
 use Rattle.sqlvault.specs.Frame.{Writes}
 use Rattle.sqlvault.specs.Removals.{Removal, removal_of, with_left, removed_so_far}
 use Rattle.sqlvault.specs.declared.work.Work.TheVariants as works
 use Rattle.sqlvault.specs.UnderWay.{Prepares, Finishes}
-use Rattle.sqlvault.proofs.HoldsLemmas.{refused}
-use Rattle.sqlvault.proofs.StopLemmas.{not_own, or_said}
-use Rattle.sqlvault.proofs.FrameLemmas.{ends_held, ends_leaves, ends_up, made_or, own_ok}
-use Rattle.sqlvault.proofs.FrameLemmas.{met_done, was_clean}
-use Rattle.sqlvault.proofs.UnderWayLemmas.{prepares_begun, prepares_more, prepares_undone}
+use Rattle.sqlvault.proofs.FrameLemmas.{concluded_in, turns_done}
+use Rattle.sqlvault.proofs.UnderWayLemmas.{prepares_begun, prepares_more}
 use Rattle.sqlvault.proofs.RemoveLemmas.{Removed, none_removed, removed_both}
 
 -- ---- its beginning
@@ -60,68 +57,23 @@ removal_more r piece from is part = prepares_more (works.Removal r) (works.Remov
 abbrev all_removed : Removal → Contents → Contents
 all_removed r c = with_messages (without_keys r.maildrop r.keys c.messages) c
 
--- the rest is done, and it is committed, or an error came
-finishes_whole : {S : Type 0} {store : Ghosts S} {old last new : Held S} {x : Unit {0}}
-    (r : Removal) (rest : List ℕ) (ended : Result (Unit {0}) Error)
-    → rest ++ drop r.left r.keys ≡ r.keys
-    → (let done : Result (Unit {0}) Error = Ok x in
-    Writes store old last (λ _. Removed r.maildrop rest) done)
-    → Ends store last new ended
-    → Finishes store old new (works.Removal r) (λ c Held answered. AreRemoved Held c r.maildrop r.keys answered)
-    (answer_of (as_met ended))
-finishes_whole {store = store} {new = new} r rest ended is part ends = record {
-  clean = λ clean. part.clean (ends.clean clean);
-  turns = λ clean c h.
-      let made = part.made (ends.clean clean) c h.rows h.within in
-      let after = all_removed r c in
-      let keeps : Keeps made.0 after =
-      subst (λ ks. Keeps made.0 (with_messages (without_keys r.maildrop ks c.messages) c)) is
-      (removed_both r.maildrop rest (drop r.left r.keys) made.0 c
-      (made.1 (removed_so_far r c) h.shown)) in
-      record {
-        done = met_done (Holds (state store new)) c after ended
-            (made_or (λ Held. Held after) (state store new) c after ended (λ Held held. held)
-            (ends_held ended ends c after made.0 clean made.2 keeps));
-        up = λ _ own. ends_up ended ends clean (own_ok ended own);
-        stop = λ _ _. or_said (λ Held. Held after)
-            (λ Held. (y : Unit {0}) × IsDone Held c after (Ok tt) (Ok y))
-            (state store new) c (λ Held held. (tt, record { answer = refl; held = held }))
-            (ends_leaves ends c after made.0 clean made.2 keeps);
-      };
-}
-
--- the rest met an error, and the transaction was undone
-finishes_undone : {S A : Type 0} {store : Ghosts S} {old last new : Held S}
-    {Change : A → Rows → Rows → Type 0} {e : Error} (r : Removal) (said : Error)
-    → Writes store old last Change (Err e) → Undoes store last new
-    → Finishes store old new (works.Removal r) (λ c Held answered. AreRemoved Held c r.maildrop r.keys answered)
-    (Err (fault_of said))
-finishes_undone {store = store} {last = last} {new = new} r said part back = record {
-  clean = λ clean. part.clean (was_clean store last new back.survives clean);
-  turns = λ clean c h.
-      let it = prepares_undone (works.Removal r) part back in
-      record {
-        done = refused (Holds (state store new)) c (all_removed r c) (Ok tt) said
-            (it.held clean c h);
-        up = λ up own. absurd (not_own (Unit {0}) said own);
-        stop = λ up left db may. inl (it.stop clean c h up left db may);
-      };
-}
-
+-- the rest is done, and the transaction is concluded
 pub finishes_concluded : {S : Type 0} {store : Ghosts S} {old last new : Held S} (r : Removal)
     (rest : List ℕ) (w : Result (Unit {0}) Error) (said : Result (Unit {0}) Refusal)
     → rest ++ drop r.left r.keys ≡ r.keys → Writes store old last (λ _. Removed r.maildrop rest) w
     → Concludes store last new w said
     → Finishes store old new (works.Removal r) (λ c Held answered. AreRemoved Held c r.maildrop r.keys answered)
     (answer_of said)
-finishes_concluded {store = store} {old = old} {new = new} r rest (Ok x) said is part it =
-    subst (λ (a : Result (Unit {0}) Refusal). Finishes store old new (works.Removal r)
-    (λ c Held answered. AreRemoved Held c r.maildrop r.keys answered) (answer_of a)) (sym it.ends.1)
-    (finishes_whole r rest it.ends.0 is part it.ends.2)
-finishes_concluded {store = store} {old = old} {new = new} r rest (Err e) said is part it =
-    subst (λ (a : Result (Unit {0}) Refusal). Finishes store old new (works.Removal r)
-    (λ c Held answered. AreRemoved Held c r.maildrop r.keys answered) (answer_of a)) (sym it.undoes.1)
-    (finishes_undone r it.undoes.0 part it.undoes.2)
+finishes_concluded r rest w said is part it = record {
+  clean = λ clean. part.clean (it.clean clean);
+  turns = λ clean c h. turns_done c (all_removed r c) w said it (concluded_in
+      (λ Held. Held (all_removed r c)) w said c h.rows h.within part (λ to made. (
+      all_removed r c,
+      subst (λ ks. Keeps to (with_messages (without_keys r.maildrop ks c.messages) c)) is
+          (removed_both r.maildrop rest (drop r.left r.keys) to c (made (removed_so_far r c) h.shown)),
+      λ Held held. held,
+    )) it clean);
+}
 
 -- ---- the keys of a piece
 

@@ -1,5 +1,4 @@
 use Rattle.vault.specs.Changes.{without_keys, with_messages}
-use Rattle.sqlvault.proofs.HoldsLemmas.{any_ok}
 use Rattle.sqlvault.proofs.FrameLemmas.{passed, unbegun, met_whole, concluded_whole}
 use Rattle.sqlvault.proofs.mail.remove.Goals as goal
 
@@ -10,5 +9,4 @@ pub returns : goal.returns
 returns g c =
     concluded_whole (λ k. with_messages (without_keys c.args.maildrop.now c.args.keys.now k.messages) k)
     c.remove_all-removed.result c.conclude.result c.in_ok-begin.ensures c.remove_all-removed.ensures
-    (any_ok (Unit {0}) c.remove_all-removed.result tt) (λ _ k from to kept change. change k kept)
-    c.conclude.ensures
+    (λ k from to kept change. change k kept) c.conclude.ensures

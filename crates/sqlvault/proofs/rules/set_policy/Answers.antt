@@ -1,5 +1,5 @@
 use Rattle.vault.specs.Changes.{with_policy}
-use Rattle.sqlvault.proofs.FrameLemmas.{passed, unbegun, met_whole, concluded_whole}
+use Rattle.sqlvault.proofs.FrameLemmas.{passed, unbegun, met_whole, writes_given, concluded_whole}
 use Rattle.sqlvault.proofs.RuleLemmas.{keeps_set}
 use Rattle.sqlvault.proofs.rules.set_policy.Goals as goal
 
@@ -9,6 +9,6 @@ returns-in_err-begin g c = rw (passed c.from_residual.ensures.1) (met_whole _ _ 
 pub returns : goal.returns
 returns g c =
     concluded_whole (with_policy c.args.policy.now) c.replace_policy-replaced.result c.conclude.result
-    c.in_ok-begin.ensures c.replace_policy-replaced.ensures.written c.replace_policy-replaced.ensures.sound
-    (λ sound k from to kept change. keeps_set c.args.policy.now from to k sound change kept)
-    c.conclude.ensures
+    c.in_ok-begin.ensures (writes_given c.replace_policy-replaced.result c.replace_policy-replaced.ensures.sound
+    c.replace_policy-replaced.ensures.written)
+    (λ k from to kept change. keeps_set c.args.policy.now from to k change.0 change.1 kept) c.conclude.ensures

@@ -45,5 +45,6 @@ returns-in_err-give_up-clause-done g c = rw (passed c.from_residual.ensures.1)
     })
 
 pub returns-in_err-give_up-clause-commits : goal.returns-in_err-give_up-clause-commits
-returns-in_err-give_up-clause-commits g c = rw (passed c.from_residual.ensures.1) (commits_refused g.S.Store _ c.in_err-give_up.field-0.0 c.in_err-give_up.ensures.answer
-    (looks_from g.S.Store (Err c.in_err-give_up.field-0.0) c.in_default.ensures.none c.in_err-give_up.ensures.looks))
+returns-in_err-give_up-clause-commits g c =
+    commits_refused g.S.Store _ c.from_residual.ensures.1 c.in_err-give_up.ensures.answer
+    (looks_from g.S.Store (Err c.in_err-give_up.field-0.0) c.in_default.ensures.none c.in_err-give_up.ensures.looks)

@@ -21,8 +21,8 @@ returns-clause-looks g c =
     c.self-2.view_is c.in_ok-give_up.ensures.looks c.in_ok-give_up.ensures.none refl c.heads.ensures.looks
 
 pub returns-in_err-give_up-clause-looks : goal.returns-in_err-give_up-clause-looks
-returns-in_err-give_up-clause-looks g c = rw (passed c.from_residual.ensures.1)
-    (looks_refused g.S.Store c.in_err-give_up.field-0.0 c.in_err-give_up.ensures.answer c.in_err-give_up.ensures.looks)
+returns-in_err-give_up-clause-looks g c =
+    looks_refused g.S.Store c.from_residual.ensures.1 c.in_err-give_up.ensures.answer c.in_err-give_up.ensures.looks
 
 pub returns-in-Ok-clause-looks : goal.returns-in-Ok-clause-looks
 returns-in-Ok-clause-looks g c =
@@ -82,5 +82,5 @@ returns-in-Err-clause-done g c k h clean =
     }
 
 pub returns-in_err-give_up-clause-done : goal.returns-in_err-give_up-clause-done
-returns-in_err-give_up-clause-done g c = rw (passed c.from_residual.ensures.1)
-    (λ k h clean. done_refused g.S.Store {new = c.give_up.new.self} k _ _ c.in_err-give_up.field-0.0 c.in_err-give_up.ensures.answer c.in_err-give_up.ensures.looks h clean)
+returns-in_err-give_up-clause-done g c =
+    rw (passed c.from_residual.ensures.1) (λ k h clean. done_refused g.S.Store k _ _ refl c.in_err-give_up.ensures.answer c.in_err-give_up.ensures.looks h clean)

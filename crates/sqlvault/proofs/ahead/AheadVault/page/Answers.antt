@@ -20,8 +20,8 @@ returns-clause-looks g c =
     c.self-2.view_is c.in_ok-give_up.ensures.looks c.in_ok-give_up.ensures.none refl c.page.ensures.looks
 
 pub returns-in_err-give_up-clause-looks : goal.returns-in_err-give_up-clause-looks
-returns-in_err-give_up-clause-looks g c = rw (passed c.from_residual.ensures.1)
-    (looks_refused g.S.Store c.in_err-give_up.field-0.0 c.in_err-give_up.ensures.answer c.in_err-give_up.ensures.looks)
+returns-in_err-give_up-clause-looks g c =
+    looks_refused g.S.Store c.from_residual.ensures.1 c.in_err-give_up.ensures.answer c.in_err-give_up.ensures.looks
 
 pub returns-in-Ok-clause-looks : goal.returns-in-Ok-clause-looks
 returns-in-Ok-clause-looks g c =

@@ -1,6 +1,5 @@
 use Rattle.std.proofs.Common.{Ok, Err, Some, None, refl}
 use Rattle.sqlvault.specs.declared.work.Work.TheVariants as works
-use Rattle.sqlvault.proofs.FrameLemmas.{passed}
 use Rattle.sqlvault.proofs.AheadLemmas.{looks_from, looks_then_in, looks_prepared, looks_refused}
 use Rattle.sqlvault.proofs.ahead.AheadVault.prepare_removal.Goals as goal
 
@@ -21,5 +20,6 @@ returns-clause-looks g c =
     (λ db o m. g.met.S.Store.settled c.give_up.new.self.vault.conn.store db o m))
 
 pub returns-in_err-give_up-clause-looks : goal.returns-in_err-give_up-clause-looks
-returns-in_err-give_up-clause-looks g c = rw (passed c.from_residual.ensures.1) (looks_refused g.S.Store c.in_err-give_up.field-0.0 c.in_err-give_up.ensures.answer
-    (looks_from g.S.Store (Err c.in_err-give_up.field-0.0) c.in_default.ensures.none c.in_err-give_up.ensures.looks))
+returns-in_err-give_up-clause-looks g c =
+    looks_refused g.S.Store c.from_residual.ensures.1 c.in_err-give_up.ensures.answer
+    (looks_from g.S.Store (Err c.in_err-give_up.field-0.0) c.in_default.ensures.none c.in_err-give_up.ensures.looks)

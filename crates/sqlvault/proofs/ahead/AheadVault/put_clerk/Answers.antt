@@ -1,6 +1,5 @@
 use Rattle.std.proofs.Common.{refl}
 use Rattle.vault.specs.Calls.{IsClerkPut}
-use Rattle.sqlvault.proofs.FrameLemmas.{passed}
 use Rattle.sqlvault.proofs.AheadLemmas.{done_after, done_refused, commits_after, commits_refused}
 use Rattle.sqlvault.proofs.ahead.AheadVault.put_clerk.Goals as goal
 
@@ -11,8 +10,8 @@ returns-clause-done g c k h clean =
     k c.self.view_is c.in_ok-give_up.ensures.looks c.in_ok-give_up.ensures.none refl c.put_clerk.ensures.commits.clean (c.put_clerk.ensures.done k) h clean
 
 pub returns-in_err-give_up-clause-done : goal.returns-in_err-give_up-clause-done
-returns-in_err-give_up-clause-done g c = rw (passed c.from_residual.ensures.1)
-    (λ k h clean. done_refused g.S.Store {new = c.give_up.new.self} k _ _ c.in_err-give_up.field-0.0 c.in_err-give_up.ensures.answer c.in_err-give_up.ensures.looks h clean)
+returns-in_err-give_up-clause-done g c k h clean =
+    done_refused g.S.Store k _ _ c.from_residual.ensures.1 c.in_err-give_up.ensures.answer c.in_err-give_up.ensures.looks h clean
 
 pub returns-clause-commits : goal.returns-clause-commits
 returns-clause-commits g c =
@@ -20,5 +19,5 @@ returns-clause-commits g c =
     _ c.self.view_is c.in_ok-give_up.ensures.looks c.in_ok-give_up.ensures.none c.put_clerk.ensures.commits
 
 pub returns-in_err-give_up-clause-commits : goal.returns-in_err-give_up-clause-commits
-returns-in_err-give_up-clause-commits g c = rw (passed c.from_residual.ensures.1)
-    (commits_refused g.S.Store _ c.in_err-give_up.field-0.0 c.in_err-give_up.ensures.answer c.in_err-give_up.ensures.looks)
+returns-in_err-give_up-clause-commits g c =
+    commits_refused g.S.Store _ c.from_residual.ensures.1 c.in_err-give_up.ensures.answer c.in_err-give_up.ensures.looks

@@ -1,7 +1,6 @@
 use Rattle.std.proofs.Common.{Ok, Err, ap, ◌∙◌, refl}
 use Rattle.vault.specs.Calls.{AreRemoved}
 use Rattle.sqlvault.specs.UnderWay.{Prepared}
-use Rattle.sqlvault.proofs.FrameLemmas.{passed}
 use Rattle.sqlvault.proofs.AheadLemmas.{looks_from, done_after, done_refused, commits_after, commits_refused}
 use Rattle.sqlvault.proofs.AheadLemmas.{finish_done, finish_commits, of_these}
 use Rattle.sqlvault.proofs.ahead.AheadVault.remove.Goals as goal
@@ -37,10 +36,11 @@ returns-clause-commits g c =
     c.in_ok-give_up.ensures.none c.remove.ensures.commits
 
 pub returns-in_err-give_up-clause-done : goal.returns-in_err-give_up-clause-done
-returns-in_err-give_up-clause-done g c = rw (passed c.from_residual.ensures.1)
-    (λ k h clean. done_refused g.S.Store {new = c.give_up.new.self} k _ _ c.in_err-give_up.field-0.0 c.in_err-give_up.ensures.answer
-    (looks_from g.S.Store (Err c.in_err-give_up.field-0.0) c.in_default.ensures.none c.in_err-give_up.ensures.looks) h clean)
+returns-in_err-give_up-clause-done g c k h clean =
+    done_refused g.S.Store k _ _ c.from_residual.ensures.1 c.in_err-give_up.ensures.answer
+    (looks_from g.S.Store (Err c.in_err-give_up.field-0.0) c.in_default.ensures.none c.in_err-give_up.ensures.looks) h clean
 
 pub returns-in_err-give_up-clause-commits : goal.returns-in_err-give_up-clause-commits
-returns-in_err-give_up-clause-commits g c = rw (passed c.from_residual.ensures.1) (commits_refused g.S.Store _ c.in_err-give_up.field-0.0 c.in_err-give_up.ensures.answer
-    (looks_from g.S.Store (Err c.in_err-give_up.field-0.0) c.in_default.ensures.none c.in_err-give_up.ensures.looks))
+returns-in_err-give_up-clause-commits g c =
+    commits_refused g.S.Store _ c.from_residual.ensures.1 c.in_err-give_up.ensures.answer
+    (looks_from g.S.Store (Err c.in_err-give_up.field-0.0) c.in_default.ensures.none c.in_err-give_up.ensures.looks)
