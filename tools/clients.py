@@ -207,7 +207,7 @@ class Server:
         os.makedirs(self.spool, exist_ok=True)
         store = [] if "--store" in words else ["--store", self.store]
         spool = [] if "--spool" in words else ["--spool", self.spool]
-        ports = ["--pop-port", "0", "--admin-port", "0"]
+        ports = [] if "--pop-port" in words else ["--pop-port", "0", "--admin-port", "0"]
         command = [program, "serve", *store, *spool, *ports, *words]
         self.run = subprocess.Popen(command, stdout=subprocess.PIPE, **how)
         late = threading.Timer(START, self.run.kill)
@@ -215,7 +215,8 @@ class Server:
         try:
             told = [self.run.stdout.readline() for _ in range(2)]
         except BaseException:
-            self.run.kill()
+            self.run.terminate()
+            self.run.wait()
             raise
         finally:
             late.cancel()

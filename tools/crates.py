@@ -1,5 +1,5 @@
-"""What tools share: which crate uses which, the free memory, the tree of a commit, and how a run of
-`rt try` is made quicker."""
+"""What tools share: which crate uses which, the free memory, how a process gives way, the tree of a
+commit, and how a run of `rt try` is made quicker."""
 
 import contextlib
 import os
@@ -47,6 +47,17 @@ def free_memory():
                 word = limit.read().strip()
             free = min(free, int(word) // 1024) if word.isdecimal() else free
     return free
+
+
+def give_way(group, nice):
+    """Has a group of processes, a session's first, take what others leave of the processors."""
+    # To lower it needs a privilege, but not to lower that of a session, if Linux shares the
+    # processors by sessions first.
+    with contextlib.suppress(OSError):
+        os.setpriority(os.PRIO_PGRP, group, nice)
+    with contextlib.suppress(OSError):
+        with open(f"/proc/{group or 'self'}/autogroup", "w", encoding="utf-8") as file:
+            file.write(str(nice))
 
 
 @contextlib.contextmanager

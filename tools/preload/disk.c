@@ -84,20 +84,22 @@ ssize_t write(int file, const void *octets, size_t count)
     return syscall(SYS_write, file, octets, count);
 }
 
-int fsync(int file)
+static int sync_by(long call, int file)
 {
-    int failed = fails_open(file) ? -1 : (int)syscall(SYS_fsync, file);
+    int failed = fails_open(file) ? -1 : (int)syscall(call, file);
     if (!failed)
         tell_open("sync", file);
     return failed;
 }
 
+int fsync(int file)
+{
+    return sync_by(SYS_fsync, file);
+}
+
 int fdatasync(int file)
 {
-    int failed = fails_open(file) ? -1 : (int)syscall(SYS_fdatasync, file);
-    if (!failed)
-        tell_open("sync", file);
-    return failed;
+    return sync_by(SYS_fdatasync, file);
 }
 
 int renameat2(int from, const char *old, int into, const char *name, unsigned flags)

@@ -583,7 +583,7 @@ class Visits(Case):
         pop, admin = re.search(rb"at 127.0.0.1:(\d+), administrators at (\d+)", shown).groups()
         for words in (["--pop-port", pop], ["--admin-port", admin]):
             second = self.begin(*words)
-            self.ends(second, 1, "popbox try: the server ended, .* a port is taken: --pop-port N")
+            self.ends(second, 1, "popbox try: .*: the server ended with .*a port is taken: --pop-port")
         first.send_signal(signal.SIGINT)
         self.ends(first, 0, "note: |$")
 
@@ -615,10 +615,9 @@ class Visits(Case):
 
     def test_another_answer_or_none_is_said(self):
         """A server that can't run, answers nothing or something else is told, status 1."""
-        request = "PUT /maildrops/orders"
         for text, word in (
-            ("no program", "the server can't be started: .*Exec format error"),
-            (FALSE.replace("ANSWER", ""), f"{request}: Remote end closed connection"),
+            ("no program", ".*Exec format error: .*program"),
+            (FALSE.replace("ANSWER", ""), "Remote end closed connection"),
             (FALSE.replace("ANSWER", OTHER), "the answer should be added"),
         ):
             self.ends(self.begin(text=text), 1, f"popbox try: {word}")
