@@ -9,6 +9,7 @@ mod Parts
 mod SampleSound
 pub mod Laws
 pub mod Served
+mod Vanishing
 pub mod Snapshot
 pub mod UniqueIds
 pub mod OwnRecords
