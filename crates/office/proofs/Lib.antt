@@ -10,6 +10,7 @@ mod SampleSound
 pub mod Laws
 pub mod Served
 mod Vanishing
+mod Reviewed
 pub mod Snapshot
 pub mod UniqueIds
 pub mod OwnRecords

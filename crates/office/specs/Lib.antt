@@ -31,6 +31,7 @@ pub mod Stands
 pub mod Laws
 pub mod Served
 pub mod Vanishing
+pub mod Reviewed
 pub mod Seen
 pub mod Output
 pub mod PutPages

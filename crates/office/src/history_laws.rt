@@ -14,6 +14,7 @@ ghost use Rattle.office.specs.Laws.{same_uid_text};
 ghost use Rattle.office.specs.Served.{AllServed, ServedIsAllowed};
 ghost use Rattle.office.specs.Vanishing.{AllRemovedSo, RemovedIsAllowed, AllAccountedFor};
 ghost use Rattle.office.specs.Vanishing.{NothingElseVanishes, StaysGone, NoneComesBack};
+ghost use Rattle.office.specs.Reviewed.{AllEnforced, DecisionsAreEnforced};
 ghost use Rattle.office.specs.Runs.{FailuresAreCounted};
 ghost use Rattle.vault.specs.Changes.{Contents, records_of};
 ghost use Rattle.office.specs.Stands.{Keeps, StandsFor, begun};
@@ -93,6 +94,14 @@ pub fn none_comes_back()
     ensures { NoneComesBack }
 {}
 
+/// What the policy in force at a line decides on its clerk's reading of a class is what the line is
+/// answered: if that is no, no octets of a message of that class; if it is yes, a RETR of an
+/// unmarked number that is done gets them. These decisions are those that a review of that policy
+/// shows (`asks_the_policy` in the crate `review`).
+pub fn decisions_are_enforced()
+    ensures { DecisionsAreEnforced }
+{}
+
 /// If each event is answered as it may be, what a connection took, followed by what it is still
 /// owed, is exactly what the history sends it. Once it is ended, it took a beginning of that; and
 /// all of it, if its own closing ended it.
@@ -122,7 +131,8 @@ pub fn own_trace_is_kept<V: Vault>(vault: &V)
 
 /// Of the trace that an office stands for: if boot numbers differ, the greetings' timestamps
 /// differ; unique-ids as they are written differ; replies have their form; each message that is
-/// served or removed was allowed; and nothing else vanishes or comes back.
+/// served or removed was allowed, nothing else vanishes, and none comes back; and what the policy
+/// decides on reading is done.
 pub fn laws_of_its_trace<V: Vault>(office: &Office<V>)
     ensures greetings { (T : Trace) → StandsFor V.holds office.now T → TimestampsDiffer T }
     ensures unique_ids { (T : Trace) → StandsFor V.holds office.now T → (d : List ℕ)
@@ -135,6 +145,8 @@ pub fn laws_of_its_trace<V: Vault>(office: &Office<V>)
     ensures accounted { (T : Trace) → StandsFor V.holds office.now T
         → AllAccountedFor T.base (history T) }
     ensures gone { (T : Trace) → StandsFor V.holds office.now T → StaysGone T.base (acts T) }
+    ensures enforced { (T : Trace) → StandsFor V.holds office.now T
+        → AllEnforced T.base (history T) }
 {
     let _office = office;
 }

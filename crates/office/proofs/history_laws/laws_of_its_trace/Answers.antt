@@ -1,6 +1,7 @@
 use Rattle.office.proofs.Beginning.{begins_so}
 use Rattle.office.proofs.Greetings as greetings
 use Rattle.office.proofs.RepliesForm as replies
+use Rattle.office.proofs.Reviewed as reviewing
 use Rattle.office.proofs.Served as serving
 use Rattle.office.proofs.UniqueIdTexts as texts
 use Rattle.office.proofs.Vanishing as vanishing
@@ -24,6 +25,9 @@ returns-clause-removed g c T st = vanishing.removed_is_allowed T.base (acts T)
 
 pub returns-clause-accounted : goal.returns-clause-accounted
 returns-clause-accounted g c T st = vanishing.nothing_else_vanishes T.base st.keeps.sound (acts T)
+
+pub returns-clause-enforced : goal.returns-clause-enforced
+returns-clause-enforced g c T st = reviewing.decisions_are_enforced T.base (acts T)
 
 pub returns-clause-gone : goal.returns-clause-gone
 returns-clause-gone g c T st = vanishing.none_comes_back T.base st.keeps.sound (acts T)
