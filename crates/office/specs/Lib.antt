@@ -32,6 +32,7 @@ pub mod Laws
 pub mod Served
 pub mod Vanishing
 pub mod Reviewed
+pub mod Sights
 pub mod Seen
 pub mod Output
 pub mod PutPages

@@ -15,6 +15,8 @@ ghost use Rattle.office.specs.Served.{AllServed, ServedIsAllowed};
 ghost use Rattle.office.specs.Vanishing.{AllRemovedSo, RemovedIsAllowed, AllAccountedFor};
 ghost use Rattle.office.specs.Vanishing.{NothingElseVanishes, StaysGone, NoneComesBack};
 ghost use Rattle.office.specs.Reviewed.{AllEnforced, DecisionsAreEnforced};
+ghost use Rattle.office.specs.Sights.{IsSentBySight, HiddenMailLeavesNoTrace};
+ghost use Rattle.office.specs.Sights.{HidesDeposits, HiddenDepositLeavesNoTrace};
 ghost use Rattle.office.specs.Runs.{FailuresAreCounted};
 ghost use Rattle.vault.specs.Changes.{Contents, records_of};
 ghost use Rattle.office.specs.Stands.{Keeps, StandsFor, begun};
@@ -102,6 +104,19 @@ pub fn decisions_are_enforced()
     ensures { DecisionsAreEnforced }
 {}
 
+/// What a connection is sent depends on its own acts, and else only on the policy, the setting, the
+/// credential, the maildrop and the lock that its lines meet, and on the messages that its accepted
+/// logins find, all of which the policy lets that clerk read.
+pub fn hidden_mail_leaves_no_trace()
+    ensures { HiddenMailLeavesNoTrace }
+{}
+
+/// Without a deposit of a class that the policy didn't let a connection's clerk read when he logged
+/// in, the connection is sent the same, so long as the same other messages and maildrops are there.
+pub fn hidden_deposit_leaves_no_trace()
+    ensures { HiddenDepositLeavesNoTrace }
+{}
+
 /// If each event is answered as it may be, what a connection took, followed by what it is still
 /// owed, is exactly what the history sends it. Once it is ended, it took a beginning of that; and
 /// all of it, if its own closing ended it.
@@ -131,8 +146,8 @@ pub fn own_trace_is_kept<V: Vault>(vault: &V)
 
 /// Of the trace that an office stands for: if boot numbers differ, the greetings' timestamps
 /// differ; unique-ids as they are written differ; replies have their form; each message that is
-/// served or removed was allowed, nothing else vanishes, and none comes back; and what the policy
-/// decides on reading is done.
+/// served or removed was allowed, nothing else vanishes, and none comes back; what the policy
+/// decides on reading is done; and hidden mail leaves no trace.
 pub fn laws_of_its_trace<V: Vault>(office: &Office<V>)
     ensures greetings { (T : Trace) → StandsFor V.holds office.now T → TimestampsDiffer T }
     ensures unique_ids { (T : Trace) → StandsFor V.holds office.now T → (d : List ℕ)
@@ -147,6 +162,10 @@ pub fn laws_of_its_trace<V: Vault>(office: &Office<V>)
     ensures gone { (T : Trace) → StandsFor V.holds office.now T → StaysGone T.base (acts T) }
     ensures enforced { (T : Trace) → StandsFor V.holds office.now T
         → AllEnforced T.base (history T) }
+    ensures hidden { (T : Trace) → StandsFor V.holds office.now T
+        → IsSentBySight T.base (history T) }
+    ensures deposits { (T : Trace) → StandsFor V.holds office.now T
+        → HidesDeposits T.base (acts T) }
 {
     let _office = office;
 }

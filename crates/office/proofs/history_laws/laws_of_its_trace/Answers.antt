@@ -1,5 +1,7 @@
 use Rattle.office.proofs.Beginning.{begins_so}
 use Rattle.office.proofs.Greetings as greetings
+use Rattle.office.proofs.HiddenDeposit as depositing
+use Rattle.office.proofs.Sights as hiding
 use Rattle.office.proofs.RepliesForm as replies
 use Rattle.office.proofs.Reviewed as reviewing
 use Rattle.office.proofs.Served as serving
@@ -29,5 +31,11 @@ returns-clause-accounted g c T st = vanishing.nothing_else_vanishes T.base st.ke
 pub returns-clause-enforced : goal.returns-clause-enforced
 returns-clause-enforced g c T st = reviewing.decisions_are_enforced T.base (acts T)
 
+pub returns-clause-hidden : goal.returns-clause-hidden
+returns-clause-hidden g c T st = hiding.hidden_mail_leaves_no_trace T.base (acts T)
+
 pub returns-clause-gone : goal.returns-clause-gone
 returns-clause-gone g c T st = vanishing.none_comes_back T.base st.keeps.sound (acts T)
+
+pub returns-clause-deposits : goal.returns-clause-deposits
+returns-clause-deposits g c T st = depositing.hidden_deposit_leaves_no_trace T.base (acts T)
