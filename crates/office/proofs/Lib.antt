@@ -5,10 +5,15 @@ mod JudgedRows
 mod OfficeRows
 mod RefusedRows
 mod AccountRows
+mod HiddenRows
 mod Parts
 mod SampleSound
 pub mod Laws
 pub mod Served
+mod Vanishing
+mod Reviewed
+mod Sights
+mod HiddenDeposit
 pub mod Snapshot
 pub mod UniqueIds
 pub mod OwnRecords

@@ -30,6 +30,9 @@ pub mod Input
 pub mod Stands
 pub mod Laws
 pub mod Served
+pub mod Vanishing
+pub mod Reviewed
+pub mod Sights
 pub mod Seen
 pub mod Output
 pub mod PutPages

@@ -44,10 +44,12 @@ pub use bodies::answer_body;
 pub use command::AdminCommand;
 pub use event::{Event, Outcome, Reason};
 pub use history_laws::{
-    deposit_ids_act_once, failures_are_counted, greetings_differ, laws_of_its_trace,
-    marks_are_by_view, one_holder, openings_are_admitted, own_records_agree, own_trace_is_kept,
-    replies_have_their_form, served_is_allowed, taken_is_sent, unique_id_texts_differ,
-    unique_ids_are_unique, view_stays_present,
+    decisions_are_enforced, deposit_ids_act_once, failures_are_counted, greetings_differ,
+    hidden_deposit_leaves_no_trace, hidden_mail_leaves_no_trace, laws_of_its_trace,
+    marks_are_by_view, none_comes_back, nothing_else_vanishes, one_holder, openings_are_admitted,
+    own_records_agree, own_trace_is_kept, removed_is_allowed, replies_have_their_form,
+    served_is_allowed, taken_is_sent, unique_id_texts_differ, unique_ids_are_unique,
+    view_stays_present,
 };
 pub use limits::{AdminAccess, Limits};
 pub use numbers::read_number;
