@@ -190,8 +190,8 @@ fn go_through<V: Vault>(vault: &mut V, stock: &Stock, buffer: &mut [u8]) -> Resu
 }
 
 /// Puts the stock into a new store in memory, looks at all of it, and takes it out again, using
-/// every call of a vault but `maintain`. An error is that memory ran out, or that the store refused a
-/// statement.
+/// every call of a vault but `maintain`. An error is that memory ran out, or that the store refused
+/// a statement.
 pub fn sample(alloc: Global, stock: &Stock, buffer: &mut [u8]) -> Result<Seen, VaultFault>
     ensures saw { IfOk result (Saw stock.now buffer.new) }
     ensures cause { IfErr result IsOfAnyCall }

@@ -24,8 +24,7 @@ pub returns-then-not-has_columns-clause-asks : goal.returns-then-not-has_columns
 returns-then-not-has_columns-clause-asks g c = asks_refused c.in_ok-judge_meta_rows.ensures.asks
 
 pub returns-clause-asks : goal.returns-clause-asks
-returns-clause-asks g c =
-    asks_then c.in_ok-judge_meta_rows.ensures.asks (asks_ok c.in_ok-sound.ensures.asks)
+returns-clause-asks g c = asks_then c.in_ok-judge_meta_rows.ensures.asks (asks_ok c.in_ok-sound.ensures.asks)
 
 pub returns-then-not-sound-clause-asks : goal.returns-then-not-sound-clause-asks
 returns-then-not-sound-clause-asks g c =

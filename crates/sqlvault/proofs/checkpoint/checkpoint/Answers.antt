@@ -31,5 +31,4 @@ returns-clause-looks g c = concluded_looks c.rewrite_version-written.result c.co
     c.in_ok-begin.ensures c.rewrite_version-written.ensures still_kept c.conclude.ensures
 
 pub returns-clause-answer : goal.returns-clause-answer
-returns-clause-answer g c =
-    concluded_answer c.rewrite_version-written.result c.conclude.result c.conclude.ensures
+returns-clause-answer g c = concluded_answer c.rewrite_version-written.result c.conclude.result c.conclude.ensures

@@ -44,8 +44,7 @@ pub returns-then-count-ge-MAX_CLERKS-clause-looks : goal.returns-then-count-ge-M
 returns-then-count-ge-MAX_CLERKS-clause-looks g c = looks_then c.in_ok-there.ensures.looks c.in_ok-count.ensures.looks
 
 pub returns-clause-looks : goal.returns-clause-looks
-returns-clause-looks g c =
-    looks_then c.in_ok-there.ensures.looks c.in_ok-count.ensures.looks
+returns-clause-looks g c = looks_then c.in_ok-there.ensures.looks c.in_ok-count.ensures.looks
 
 pub returns-in_err-count-clause-looks : goal.returns-in_err-count-clause-looks
 returns-in_err-count-clause-looks g c = rw (passed c.from_residual-in_err-count.ensures.1) (looks_then c.in_ok-there.ensures.looks c.in_err-count.ensures.looks)

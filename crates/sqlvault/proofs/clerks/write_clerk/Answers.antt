@@ -38,8 +38,7 @@ returns-clause-written g c k after clean h keep =
     c.conclude.ensures clean h
 
 pub returns-clause-answer : goal.returns-clause-answer
-returns-clause-answer g c =
-    concluded_answer c.put_clerk-put.result c.conclude.result c.conclude.ensures
+returns-clause-answer g c = concluded_answer c.put_clerk-put.result c.conclude.result c.conclude.ensures
 
 pub returns-clause-clean : goal.returns-clause-clean
 returns-clause-clean g c clean = begins_clean c.begin.ensures (was_clean g.S.Store c.begin.new.conn

@@ -49,8 +49,7 @@ pub returns-in_err-used-clause-answered : goal.returns-in_err-used-clause-answer
 returns-in_err-used-clause-answered g c = rw (passed c.from_residual-in_err-used.ensures.1) (λ held text clean2 h d. met _ c.in_err-used.field-0.0)
 
 pub returns-in-None-clause-within : goal.returns-in-None-clause-within
-returns-in-None-clause-within g c u is =
-    c.judge_new.ensures.within u is
+returns-in-None-clause-within g c u is = c.judge_new.ensures.within u is
 
 pub returns-in_err-there-clause-within : goal.returns-in_err-there-clause-within
 returns-in_err-there-clause-within g c = rw (passed c.from_residual.ensures.1) (λ u is. absurd (no_new _ u is))
@@ -59,12 +58,10 @@ pub returns-in_err-used-clause-within : goal.returns-in_err-used-clause-within
 returns-in_err-used-clause-within g c = rw (passed c.from_residual-in_err-used.ensures.1) (λ u is. absurd (no_new _ u is))
 
 pub returns-then-not-there-clause-within : goal.returns-then-not-there-clause-within
-returns-then-not-there-clause-within g c u is =
-    absurd (no_new _ u is)
+returns-then-not-there-clause-within g c u is = absurd (no_new _ u is)
 
 pub returns-in-Some-clause-within : goal.returns-in-Some-clause-within
-returns-in-Some-clause-within g c u is =
-    absurd (c.known_or_conflict.ensures.old u is)
+returns-in-Some-clause-within g c u is = absurd (c.known_or_conflict.ensures.old u is)
 
 pub returns-in_err-there-clause-looks : goal.returns-in_err-there-clause-looks
 returns-in_err-there-clause-looks g c = rw (passed c.from_residual.ensures.1) (c.in_err-there.ensures.looks)

@@ -42,8 +42,7 @@ pub returns-then-present-ge-MAX_MESSAGES-clause-within : goal.returns-then-prese
 returns-then-present-ge-MAX_MESSAGES-clause-within g c u is = absurd (no_new _ u is)
 
 pub returns-then-before-ge-MAX_DEPOSITS-clause-within : goal.returns-then-before-ge-MAX_DEPOSITS-clause-within
-returns-then-before-ge-MAX_DEPOSITS-clause-within g c u is =
-    absurd (no_new _ u is)
+returns-then-before-ge-MAX_DEPOSITS-clause-within g c u is = absurd (no_new _ u is)
 
 pub returns-in_err-present-clause-looks : goal.returns-in_err-present-clause-looks
 returns-in_err-present-clause-looks g c = rw (passed c.from_residual.ensures.1) (c.in_err-present.ensures.looks)

@@ -20,8 +20,7 @@ returns-clause-clean g c clean =
     begins_clean c.begin.ensures (c.put_deposit-put.ensures.clean (c.conclude.ensures.clean clean))
 
 pub returns-clause-answer : goal.returns-clause-answer
-returns-clause-answer g c =
-    concluded_answer c.put_deposit-put.result c.conclude.result c.conclude.ensures
+returns-clause-answer g c = concluded_answer c.put_deposit-put.result c.conclude.result c.conclude.ensures
 
 pub returns-clause-stored : goal.returns-clause-stored
 returns-clause-stored g c k clean h a =

@@ -40,12 +40,10 @@ returns-clause-judged g c deposits clean h d =
     each_passes (HasMessage (rows_in (state g.S.Store c.args.conn.now).now.trees) deposits) c.args.rows.now c.loop-row.row-index all (c.loop-row.invariant.1 deposits clean h d)
 
 pub returns-then-not-sound-clause-reads : goal.returns-then-not-sound-clause-reads
-returns-then-not-sound-clause-reads g c =
-    reads_ok (reads_then c.loop-row.invariant.0 c.in_ok-sound.ensures.reads)
+returns-then-not-sound-clause-reads g c = reads_ok (reads_then c.loop-row.invariant.0 c.in_ok-sound.ensures.reads)
 
 pub returns-in_err-sound-clause-reads : goal.returns-in_err-sound-clause-reads
 returns-in_err-sound-clause-reads g c = rw (passed c.from_residual.ensures.1) (reads_then c.loop-row.invariant.0 c.in_err-sound.ensures.reads)
 
 pub returns-clause-reads : goal.returns-clause-reads
-returns-clause-reads g c =
-    reads_ok c.loop-row.invariant.0
+returns-clause-reads g c = reads_ok c.loop-row.invariant.0

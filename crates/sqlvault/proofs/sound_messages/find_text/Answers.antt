@@ -39,8 +39,7 @@ returns-in_default-clause-judged g c clean h =
     (rows_stay s0 s1 was) mail c.in_default.is c.div_ceil-place-end.ensures c.loop-place-test.true c.min-size.ensures judged
 
 pub returns-in_default-clause-reads : goal.returns-in_default-clause-reads
-returns-in_default-clause-reads g c =
-    reads_ok (reads_then c.loop-place.invariant.0 c.in_ok-sheet.ensures.reads)
+returns-in_default-clause-reads g c = reads_ok (reads_then c.loop-place.invariant.0 c.in_ok-sheet.ensures.reads)
 
 pub returns-in_err-sheet-clause-reads : goal.returns-in_err-sheet-clause-reads
 returns-in_err-sheet-clause-reads g c = rw (passed c.from_residual-in_err-sheet.ensures.1) (reads_err (reads_then c.loop-place.invariant.0 c.in_err-sheet.ensures.reads))
@@ -52,5 +51,4 @@ returns-in_err-extend_from_slice-clause-reads g c =
     c.from_residual-in_err-extend_from_slice.ensures.1 read
 
 pub returns-clause-reads : goal.returns-clause-reads
-returns-clause-reads g c =
-    reads_ok c.loop-place.invariant.0
+returns-clause-reads g c = reads_ok c.loop-place.invariant.0

@@ -37,8 +37,7 @@ returns-in-Some-clause-judged g c deposits clean h d =
     (octets_back c.args.row.now.octets (to_z w64 (of_z w64 c.args.row.now.octets)) (back.to_z-of_z f2) low) f d number
 
 pub returns-then-not-numbered-clause-reads : goal.returns-then-not-numbered-clause-reads
-returns-then-not-numbered-clause-reads g c =
-    reads_ok c.in_ok-numbered.ensures.reads
+returns-then-not-numbered-clause-reads g c = reads_ok c.in_ok-numbered.ensures.reads
 
 pub returns-in_err-numbered-clause-reads : goal.returns-in_err-numbered-clause-reads
 returns-in_err-numbered-clause-reads g c = rw (passed c.from_residual.ensures.1) (c.in_err-numbered.ensures.reads)
@@ -47,16 +46,13 @@ pub returns-then-row-lt0-clause-reads : goal.returns-then-row-lt0-clause-reads
 returns-then-row-lt0-clause-reads g c = reads_ok c.in_ok-numbered.ensures.reads
 
 pub returns-then-row-clause-reads : goal.returns-then-row-clause-reads
-returns-then-row-clause-reads g c =
-    reads_ok c.in_ok-numbered.ensures.reads
+returns-then-row-clause-reads g c = reads_ok c.in_ok-numbered.ensures.reads
 
 pub returns-in-None-clause-reads : goal.returns-in-None-clause-reads
-returns-in-None-clause-reads g c =
-    reads_ok (reads_then c.in_ok-numbered.ensures.reads c.in_ok-text.ensures.reads)
+returns-in-None-clause-reads g c = reads_ok (reads_then c.in_ok-numbered.ensures.reads c.in_ok-text.ensures.reads)
 
 pub returns-in-Some-clause-reads : goal.returns-in-Some-clause-reads
-returns-in-Some-clause-reads g c =
-    reads_ok (reads_then c.in_ok-numbered.ensures.reads c.in_ok-text.ensures.reads)
+returns-in-Some-clause-reads g c = reads_ok (reads_then c.in_ok-numbered.ensures.reads c.in_ok-text.ensures.reads)
 
 pub returns-in_err-text-clause-reads : goal.returns-in_err-text-clause-reads
 returns-in_err-text-clause-reads g c = rw (passed c.from_residual-in_err-text.ensures.1)

@@ -51,12 +51,10 @@ returns-clause-judged g c deposits clean h d =
     )
 
 pub returns-in_default-clause-reads : goal.returns-in_default-clause-reads
-returns-in_default-clause-reads g c =
-    reads_ok (reads_then c.loop-name.invariant.0 c.in_ok-more.ensures.reads)
+returns-in_default-clause-reads g c = reads_ok (reads_then c.loop-name.invariant.0 c.in_ok-more.ensures.reads)
 
 pub returns-in_err-more-clause-reads : goal.returns-in_err-more-clause-reads
 returns-in_err-more-clause-reads g c = rw (passed c.from_residual.ensures.1) (reads_then c.loop-name.invariant.0 c.in_err-more.ensures.reads)
 
 pub returns-clause-reads : goal.returns-clause-reads
-returns-clause-reads g c =
-    reads_ok c.loop-name.invariant.0
+returns-clause-reads g c = reads_ok c.loop-name.invariant.0

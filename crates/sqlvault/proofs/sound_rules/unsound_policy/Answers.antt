@@ -52,12 +52,10 @@ pub returns-in_err-groups-clause-asks : goal.returns-in_err-groups-clause-asks
 returns-in_err-groups-clause-asks g c = rw (passed c.from_residual.ensures.1) (asks_err c.in_err-groups.ensures.asks)
 
 pub returns-clause-asks : goal.returns-clause-asks
-returns-clause-asks g c =
-    asks_ok (asks_then c.in_ok-groups.ensures.asks c.in_ok-rules.ensures.asks)
+returns-clause-asks g c = asks_ok (asks_then c.in_ok-groups.ensures.asks c.in_ok-rules.ensures.asks)
 
 pub returns-then-not-rules-clause-asks : goal.returns-then-not-rules-clause-asks
-returns-then-not-rules-clause-asks g c =
-    asks_ok (asks_then c.in_ok-groups.ensures.asks c.in_ok-rules.ensures.asks)
+returns-then-not-rules-clause-asks g c = asks_ok (asks_then c.in_ok-groups.ensures.asks c.in_ok-rules.ensures.asks)
 
 pub returns-in_err-rules-clause-asks : goal.returns-in_err-rules-clause-asks
 returns-in_err-rules-clause-asks g c = rw (passed c.from_residual-in_err-rules.ensures.1) (asks_err (asks_then c.in_ok-groups.ensures.asks c.in_err-rules.ensures.asks))

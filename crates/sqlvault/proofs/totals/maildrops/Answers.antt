@@ -35,8 +35,7 @@ returns-in_err-names-clause-done g c = rw (passed c.from_residual.ensures.1)
     c.in_err-names.field-0.0 (c.in_err-names.ensures.looks.rests clean k h).held)
 
 pub returns-clause-looks : goal.returns-clause-looks
-returns-clause-looks g c =
-    looks_then c.in_ok-names.ensures.looks c.in_ok-totals_of.ensures.looks
+returns-clause-looks g c = looks_then c.in_ok-names.ensures.looks c.in_ok-totals_of.ensures.looks
 
 pub returns-in_err-totals_of-clause-looks : goal.returns-in_err-totals_of-clause-looks
 returns-in_err-totals_of-clause-looks g c = rw (passed c.from_residual-in_err-totals_of.ensures.1)

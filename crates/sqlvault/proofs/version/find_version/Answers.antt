@@ -1,16 +1,17 @@
-use Rattle.std.proofs.Common.{◌≡◌, ◌≢◌, ◌∙◌, ◌⊎◌, Some, codes, refl, ap, sym, length, rules, SFits, w64, to_z, of_z, to_z-of_z}
+use Rattle.std.proofs.Common.{◌≡◌, ◌≢◌, ◌∙◌, ◌⊎◌, Result, Ok, Some, codes, refl, ap, sym, length, rules, SFits, w64, to_z, of_z, to_z-of_z}
 use Rattle.std.specs.Prelude.{find}
 use Rattle.sqlite.specs.Held.{state}
 use Rattle.sqlite.specs.State.{HasCleanDisk}
 use Rattle.sqlite.specs.declared.error.Error.{Error}
 use Rattle.mailsql.specs.Rows.{HasTables, HasOldTables, is_meta_row, rows_in}
-use Rattle.sqlvault.proofs.AskLemmas.{answered, asks_then}
+use Rattle.sqlvault.proofs.AskLemmas.{answered, asks_ok, asks_then}
 use Rattle.sqlvault.proofs.FrameLemmas.{was_clean}
 use Rattle.sqlvault.proofs.OlderLemmas.{looked_older, older_then}
 use Rattle.sqlvault.proofs.VersionLemmas.{alone, all_then, found_here, no_version}
 use Rattle.sqlvault.specs.Adopts.{IsOfUnknownVersion}
+use Rattle.sqlvault.specs.Frame.{Asks}
 use Rattle.sqlvault.proofs.version.find_version.Given.{Over}
-use Rattle.sqlvault.proofs.version.find_version.Goals.{After-all_meta_rows}
+use Rattle.sqlvault.proofs.version.find_version.Goals.{After-all_meta_rows, In_ok-meta_rows}
 use Rattle.sqlvault.proofs.version.find_version.Goals as goal
 
 -- ---- what is known of the version row
@@ -54,16 +55,17 @@ returns-clause-told g c clean2 here =
       c.if-not-is_version.ensures.known refl,
     )
 
+-- both queries were answered
+asked : (g : Over) (c : In_ok-meta_rows g) → (let done : Result (Unit {0}) Error = Ok tt in Asks g.S.Store c.args.conn.now c.all_meta_rows.new.conn done)
+asked g c =
+    asks_then (answered {A = Unit {0}} {E = Error} {x = tt} g.S.Store c.args.conn.now c.find_meta_row.new.conn c.in_ok-meta_row.ensures.same c.find_meta_row.ensures.survives)
+    (answered g.S.Store c.find_meta_row.new.conn c.all_meta_rows.new.conn c.in_ok-meta_rows.ensures.same c.all_meta_rows.ensures.survives)
+
 pub returns-then-len-eq1-clause-asks : goal.returns-then-len-eq1-clause-asks
-returns-then-len-eq1-clause-asks g c = asks_then (answered {A = Unit {0}} {E = Error} {x = tt} g.S.Store c.args.conn.now c.find_meta_row.new.conn
-    c.in_ok-meta_row.ensures.same c.find_meta_row.ensures.survives) (answered g.S.Store c.find_meta_row.new.conn c.all_meta_rows.new.conn c.in_ok-meta_rows.ensures.same c.all_meta_rows.ensures.survives)
+returns-then-len-eq1-clause-asks g c = asks_ok (asked g (goal.at.returns-then-len-eq1-clause-asks g c).In_ok-meta_rows)
 
 pub returns-clause-asks : goal.returns-clause-asks
-returns-clause-asks g c =
-    asks_then (answered {A = Unit {0}} {E = Error} {x = tt} g.S.Store c.args.conn.now c.find_meta_row.new.conn
-    c.in_ok-meta_row.ensures.same c.find_meta_row.ensures.survives)
-    (answered g.S.Store c.find_meta_row.new.conn c.all_meta_rows.new.conn c.in_ok-meta_rows.ensures.same
-    c.all_meta_rows.ensures.survives)
+returns-clause-asks g c = asks_ok (asked g (goal.at.returns-clause-asks g c).In_ok-meta_rows)
 
 pub returns-then-len-eq1-clause-asks_older : goal.returns-then-len-eq1-clause-asks_older
 returns-then-len-eq1-clause-asks_older g c = older_then g.S.Store c.args.conn.now c.find_meta_row.new.conn c.all_meta_rows.new.conn _
