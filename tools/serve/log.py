@@ -323,13 +323,13 @@ class Starts(LogCase):
     def test_refusals_of_a_store(self):
         """What a store refuses is logged with the call and the cause; nothing as removed."""
         changes = [
-            ("PUT", "/maildrops/sales", None, "add_maildrop"),
-            ("DELETE", "/maildrops/orders", None, "drop_maildrop"),
+            ("PUT", "/maildrops/bills", None, "add_maildrop"),
+            ("DELETE", "/maildrops/sales", None, "drop_maildrop"),
             ("DELETE", "/clerks/c1", None, "drop_clerk"),
             ("PUT", "/policy", POLICY, "set_policy"),
         ]
         with self.log(preexec_fn=limit_files) as it:
-            it.fill(("orders",), CLERKS[:1], POLICY)
+            it.fill(("orders", "sales"), CLERKS[:1], POLICY)
             it.deposit("orders.note.n-1.eml", CHAIR)
             for number in range(1, 1000):
                 if it.ask("PUT", f"/clerks/c{number}", f"pass {PASSWORD}")[0] != 201:
@@ -348,7 +348,7 @@ class Starts(LogCase):
         for method, path, _, call in [("PUT", f"/clerks/c{number}", None, "put_clerk"), *changes]:
             wanted += f"event=refused call={call} cause={failed}\n"
             wanted += f"event=admin @ method={method} path={path} status=503 answer={failed}\n"
-        self.compare(self.lines("refused", "admin")[number + 2 :], wanted)
+        self.compare(self.lines("refused", "admin")[number + 3 :], wanted)
 
     def test_store_that_is_lost(self):
         """A server whose store was moved logs why it ends, and its end."""
