@@ -1,7 +1,7 @@
 -- The text of the log's lines for an account: what the office judged of a client's line.
 -- `who` are the connection and the client's address, as each line has them.
 use Rattle.std.specs.Prelude.{ℕ, Bool, true, false, ◌==◌, List, [], ◌∷◌, ◌++◌}
-use Rattle.std.specs.Prelude.{Option, Some, None, codes, if◌then◌else◌}
+use Rattle.std.specs.Prelude.{map, Option, Some, None, codes, if◌then◌else◌}
 use Rattle.std.specs.List.{flat_map}
 use Rattle.std.specs.Fmt.{decimal}
 use Rattle.creds.specs.Uid.{uid_text}
@@ -18,6 +18,7 @@ use Rattle.office.specs.declared.account.Way.{Way}
 use Rattle.office.specs.declared.account.Way.TheVariants as way
 use Rattle.office.specs.declared.account.Verdict.{Verdict}
 use Rattle.office.specs.declared.account.Verdict.TheVariants as judged
+use Rattle.session.specs.declared.removed.RemovedMessage.{RemovedMessage}
 use Rattle.serving.specs.declared.wire.Refusal.{Refusal}
 use Rattle.serving.specs.declared.wire.Refusal.TheVariants as refused
 
@@ -32,7 +33,7 @@ way_text way.Apop = codes "apop"
 
 -- how a login was judged: the reply's own words
 abbrev pub verdict_text : Verdict → List ℕ
-verdict_text judged.Accepted = codes "answer=accepted"
+verdict_text (judged.Accepted rule) = codes "answer=accepted"
 verdict_text judged.WrongCredential = codes "answer=refused reason=\"login failed\""
 verdict_text judged.ThirdWrongCredential = codes "answer=refused reason=\"login failed, closing\""
 verdict_text (judged.Denied rule) =
@@ -86,13 +87,13 @@ account_text who account.NoName =
     codes "event=login " ++ who ++ codes " answer=refused reason=\"bad arguments\""
 account_text who (account.Quit removal) = quit_text who removal
 account_text who account.QuitBeforeLogin = codes "event=quit " ++ who ++ codes " answer=\"bye\""
-account_text who (account.Retrieved message) = retr_text who message
+account_text who (account.Retrieved message rule) = retr_text who message
 account_text who (account.Denied command uid rule) = denied_text who command uid rule
 account_text who account.Nothing = []
 account_text who account.Marked = []
 account_text who account.Unmarked = []
 account_text who account.Taken = []
-account_text who (account.Topped message) = []
+account_text who (account.Topped message rule) = []
 account_text who (account.Ended cause) = []
 
 -- whether an account may have a line; that of a RETR has one if each RETR is to have one
@@ -102,12 +103,12 @@ is_told reads account.NoName = true
 is_told reads (account.Quit removal) = true
 is_told reads account.QuitBeforeLogin = true
 is_told reads (account.Denied command uid rule) = true
-is_told reads (account.Retrieved message) = reads
+is_told reads (account.Retrieved message rule) = reads
 is_told reads account.Nothing = false
 is_told reads account.Marked = false
 is_told reads account.Unmarked = false
 is_told reads account.Taken = false
-is_told reads (account.Topped message) = false
+is_told reads (account.Topped message rule) = false
 is_told reads (account.Ended cause) = false
 
 -- why a connection ended, as the line of its end says it, if the account says so
@@ -123,15 +124,15 @@ cause_text (account.Ended end.FullHouse) =
     codes " cause=\"no login while all places were taken\""
 cause_text (account.Login name by judged.ThirdWrongCredential) =
     codes " cause=\"login failed, closing\""
-cause_text (account.Login name by judged.Accepted) = []
+cause_text (account.Login name by (judged.Accepted rule)) = []
 cause_text (account.Login name by judged.WrongCredential) = []
 cause_text (account.Login name by (judged.Denied rule)) = []
 cause_text (account.Login name by judged.NoSuchMaildrop) = []
 cause_text (account.Login name by judged.InUse) = []
 cause_text (account.Login name by judged.StoreFailed) = []
 cause_text account.NoName = []
-cause_text (account.Retrieved message) = []
-cause_text (account.Topped message) = []
+cause_text (account.Retrieved message rule) = []
+cause_text (account.Topped message rule) = []
 cause_text (account.Denied command uid rule) = []
 cause_text (account.Quit removal) = []
 cause_text account.QuitBeforeLogin = []
@@ -147,6 +148,10 @@ refusal_text refused.TooLate = codes " cause=\"no PROXY line in time\""
 refusal_text refused.NoMemory = codes " cause=\"out of memory\""
 
 -- ---- what a QUIT removed
+
+-- the unique-ids of what is removed
+abbrev pub uids_of : List RemovedMessage → List Uid
+uids_of removed = map (λ m. m.uid) removed
 
 -- how many unique-ids are on a line at most
 abbrev pub most_on_a_line : ℕ

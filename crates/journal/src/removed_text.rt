@@ -1,7 +1,7 @@
 //! The lines of what a QUIT removed.
 ghost use Rattle.std.specs.Prelude.{◌≡◌, ◌++◌, take, drop, slice_get, IfOk, OnOk, string_bytes};
 ghost use Rattle.journal.specs.Lines.{comma_at, uid_words, uids_text as uids_words};
-ghost use Rattle.journal.specs.Lines.{most_on_a_line, removed_text};
+ghost use Rattle.journal.specs.Lines.{most_on_a_line, removed_text, uids_of};
 
 use super::account_text::name_text;
 use creds::Uid;
@@ -14,13 +14,16 @@ pub const MOST_ON_A_LINE: usize = 32;
 
 /// The unique-id of the message so many places after another.
 fn uid_at(removed: &Removed, from: usize, n: usize) -> Option<Uid>
-    ensures { result ≡ slice_get (drop from removed.now) n }
+    ensures { result ≡ slice_get (drop from (uids_of removed.now)) n }
 {
     let place = from.saturating_add(n);
     if place >= removed.len() {
         return None;
     }
-    removed.get(place)
+    match removed.get(place) {
+        Some(message) => Some(message.uid),
+        None => None,
+    }
 }
 
 /// What stands before the unique-id at a place of a line: a comma, but before the first nothing.
@@ -48,7 +51,7 @@ fn put_uid(alloc: Global, text: &mut String, n: usize, uid: Option<Uid>) -> Resu
 /// The unique-ids of a line, from a place on.
 fn uids_text(alloc: Global, removed: &Removed, from: usize) -> Result<String, AllocError>
     ensures { IfOk result (λ text. string_bytes text
-        ≡ uids_words (take most_on_a_line (drop from removed.now))) }
+        ≡ uids_words (take most_on_a_line (drop from (uids_of removed.now)))) }
 {
     let mut text = String::new(alloc);
     for n in 0..MOST_ON_A_LINE {
@@ -66,7 +69,7 @@ pub fn removed_line(
     from: usize,
 ) -> Result<String, AllocError>
     ensures { IfOk result (λ text. string_bytes text ≡ removed_text connection removal.now.name
-        (take most_on_a_line (drop from removal.now.removed))) }
+        (take most_on_a_line (drop from (uids_of removal.now.removed)))) }
 {
     let name = name_text(alloc, removal.name)?;
     let uids = uids_text(alloc, &removal.removed, from)?;
