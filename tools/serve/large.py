@@ -300,8 +300,8 @@ class Large(Case):
             is_in = lambda: not os.path.exists(f"{it.spool}/{name}")
             return 1.5 * parts < self.answered_until(other, is_in) < 3 * parts
 
-        # Each part is read and then stored, and a turn of either has at most one reply; on a machine
-        # with much other work not each has one.
+        # A part is read in one turn and stored in another, each of which has at most one reply; not
+        # each has one on a machine with much other work.
         self.assertTrue(any(comes_in_parts(f"orders.note.f{k}.eml") for k in range(10)))
 
     def test_one_clerk_beside_a_thousand(self):
