@@ -32,6 +32,9 @@ POLICY = RULE.format("keep-payments", "deny", "*", "payment", '"remove"')
 POLICY += RULE.format("work-on-orders", "allow", "orders", "*", '"open", "read", "remove"')
 POLICY += RULE.format("work-on-sales", "allow", "sales", "*", '"open", "read", "remove"')
 CHAIR = b"A chair.\n"
+# The rule that allows all that is allowed here.
+BY = "=work-on-orders"
+RULED, ACCEPTED = f" rule{BY}", f"accepted rule{BY}"
 # The options that the line of a start names: without them, and with each.
 IN_FORCE = "removals=dele idle=600 wait=0 login-seconds=0 make-room=no slow-guesses=no"
 IN_FORCE += " proxy-protocol=no log-message-ids=no log-reads=no list-clerks=no admin-site=no"
@@ -202,14 +205,14 @@ class Day(LogCase):
         return f"""
             event=connect @1
             event=login @1 clerk=ann maildrop=orders by=pass answer=refused reason="login failed"
-            event=login @1 clerk=ann maildrop=orders by=pass answer=accepted
+            event=login @1 clerk=ann maildrop=orders by=pass answer=accepted{RULED}
             event=connect @2
             event=login @2 clerk=bob maildrop=orders {refused}"login failed"
             event=login @2 clerk=bob maildrop=orders {refused}"[IN-USE] maildrop is in use"
             event=login @2 clerk=bob maildrop=sales {refused}"no such maildrop"
             event=closed @2 cause=gone
             event=remove connection=1 clerk=ann maildrop=orders messages=2 answer=done
-            event=removed connection=1 clerk=ann maildrop=orders uids=note.1,note.2
+            event=removed connection=1 clerk=ann maildrop=orders uids=note.1{BY},note.2{BY}
             event=quit @1 clerk=ann maildrop=orders {quits} retr=1/20 top=1/30 denied=0
             event=connect @3
             event=login @3 answer=refused reason="bad arguments"
@@ -235,11 +238,11 @@ class Day(LogCase):
         return f"""
             event=admin @ method=PUT path=/policy status=200 answer="3 rules"{named(other)}
             event=connect @4
-            event=login @4 clerk=bob maildrop=orders by=apop answer=accepted
+            event=login @4 clerk=bob maildrop=orders by=apop answer=accepted{RULED}
             event=admin @ method=PUT path=/policy status=200 answer="3 rules"{named(POLICY)}
             event=quit @4 clerk=bob maildrop=orders marked=1 {quits} dele=1 {rest}
             event=connect @5
-            event=login @5 clerk=ann maildrop=orders by=pass answer=accepted
+            event=login @5 clerk=ann maildrop=orders by=pass answer=accepted{RULED}
             event=admin @ method=DELETE path=/sessions/5 status=200 answer="ended"
             event=closed @5 clerk=ann maildrop=orders marked=0 dele=0 {rest} cause="session ended"
             """
@@ -306,7 +309,7 @@ class Starts(LogCase):
             self.drop(it, "orders.note.n-{:03}.eml", [CHAIR] * count)
             Mail(it).say(*ANN, *[f"DELE {number}" for number in range(1, count)], "QUIT")
             self.wait_told("event=quit")
-        gone = [f"note.{number}" for number in range(1, count)]
+        gone = [f"note.{number}{BY}" for number in range(1, count)]
         uids = [",".join(gone[at : at + 32]) for at in range(0, len(gone), 32)]
         removed = "event=removed connection=1 clerk=ann maildrop=orders uids="
         self.compare(self.lines("removed"), "\n".join(removed + it for it in uids))
@@ -323,13 +326,13 @@ class Starts(LogCase):
     def test_refusals_of_a_store(self):
         """What a store refuses is logged with the call and the cause; nothing as removed."""
         changes = [
-            ("PUT", "/maildrops/sales", None, "add_maildrop"),
-            ("DELETE", "/maildrops/orders", None, "drop_maildrop"),
+            ("PUT", "/maildrops/bills", None, "add_maildrop"),
+            ("DELETE", "/maildrops/sales", None, "drop_maildrop"),
             ("DELETE", "/clerks/c1", None, "drop_clerk"),
             ("PUT", "/policy", POLICY, "set_policy"),
         ]
         with self.log(preexec_fn=limit_files) as it:
-            it.fill(("orders",), CLERKS[:1], POLICY)
+            it.fill(("orders", "sales"), CLERKS[:1], POLICY)
             it.deposit("orders.note.n-1.eml", CHAIR)
             for number in range(1, 1000):
                 if it.ask("PUT", f"/clerks/c{number}", f"pass {PASSWORD}")[0] != 201:
@@ -339,16 +342,14 @@ class Starts(LogCase):
             Mail(it).say(*ANN, "DELE 1", "QUIT")
             self.wait_told("event=quit")
         ann, kept = "clerk=ann maildrop=orders", "some deleted messages not removed"
-        wanted = f"""
-            event=remove connection=1 {ann} messages=1 answer="store failed"
-            event=quit @1 {ann} marked=1 answer="{kept}" dele=1 rset=0 retr=0/0 top=0/0 denied=0
-            """
+        wanted = f'event=remove connection=1 {ann} messages=1 answer="store failed"\nevent=quit @1'
+        wanted += f' {ann} marked=1 answer="{kept}" dele=1 rset=0 retr=0/0 top=0/0 denied=0'
         self.compare(self.lines("remove", "removed", "quit"), wanted)
         wanted, failed = "", '"store failed"'
         for method, path, _, call in [("PUT", f"/clerks/c{number}", None, "put_clerk"), *changes]:
             wanted += f"event=refused call={call} cause={failed}\n"
             wanted += f"event=admin @ method={method} path={path} status=503 answer={failed}\n"
-        self.compare(self.lines("refused", "admin")[number + 2 :], wanted)
+        self.compare(self.lines("refused", "admin")[number + 3 :], wanted)
 
     def test_store_that_is_lost(self):
         """A server whose store was moved logs why it ends, and its end."""
@@ -446,7 +447,7 @@ class Links(LogCase):
             time.sleep(2.5)
             bob.apop("bob/orders", SECRET)
             bob.say("QUIT")
-        self.assertEqual(self.answers("login"), ['refused reason="login failed"', "accepted"])
+        self.assertEqual(self.answers("login"), ['refused reason="login failed"', ACCEPTED])
 
     def test_login_that_waited(self):
         """A login that waited for a maildrop in use logs how long, and no other one does."""
@@ -461,8 +462,8 @@ class Links(LogCase):
             lasted = int(time.monotonic() - began)
             bob.say("QUIT")
         first, second = self.answers("login")
-        self.assertEqual(first, "accepted")
-        self.assertIn(second, [f"accepted waited={it}" for it in range(2, lasted + 1)])
+        self.assertEqual(first, ACCEPTED)
+        self.assertIn(second, [f"{ACCEPTED} waited={it}" for it in range(2, lasted + 1)])
 
     def test_login_behind_guesses(self):
         """A login that waited because of three refused ones, by --slow-guesses, logs how long."""
@@ -474,7 +475,7 @@ class Links(LogCase):
             ann.say("QUIT")
         *refused, answer = self.answers("login")
         self.assertEqual(len(refused), 3)
-        self.assertIn(answer, [f"accepted waited={it}" for it in range(1, lasted + 1)])
+        self.assertIn(answer, [f"{ACCEPTED} waited={it}" for it in range(1, lasted + 1)])
 
     def test_first_lines_of_a_proxy(self):
         """A link from a proxy without its line is closed for that cause; one that ends before its
@@ -489,15 +490,9 @@ class Links(LogCase):
             self.goes(ended, 5)
             Mail(it).say("PROXY TCP4 203.0.113.7 127.0.0.1 51234 1110\r\nQUIT")
             self.wait_told("event=closed connection=1 ")
-        wanted = """
-            event=connect @1
-            event=connect @2
-            event=closed @2 cause="no PROXY line"
-            event=connect @3
-            event=closed @3 cause="no PROXY line"
-            event=connect @4
-            event=closed @4 cause="no PROXY line"
-            event=connect @5
+        refused = 'event=connect @{0}\nevent=closed @{0} cause="no PROXY line"\n'
+        wanted = "event=connect @1\n" + "".join(refused.format(it) for it in (2, 3, 4))
+        wanted += """event=connect @5
             event=closed @5 cause=gone
             event=connect @6
             event=quit connection=6 client=203.0.113.7 answer="bye"
@@ -588,9 +583,9 @@ class Sessions(LogCase):
         ann, rest = "clerk=ann maildrop=orders", "retr=3/30 top=1/10 denied=0"
         quits = f'event=quit @1 {ann} marked=0 answer="bye" dele=1 rset=1 {rest}'
         reads = f"""
-            event=retr @1 {ann} uid=payment.1 octets=10
-            event=retr @1 {ann} uid=note.1 octets=10
-            event=retr @1 {ann} uid=payment.1 octets=10
+            event=retr @1 {ann} uid=payment.1 octets=10{RULED}
+            event=retr @1 {ann} uid=note.1 octets=10{RULED}
+            event=retr @1 {ann} uid=payment.1 octets=10{RULED}
             """
         for has_reads in self.without_and_with("--log-reads", self.read_some):
             self.compare(self.lines("retr", "denied", "quit"), reads * has_reads + quits)
@@ -720,7 +715,7 @@ class Spool(LogCase):
         self.assertEqual(sorted(self.left()), sorted(wanted))
         # With --verbose too nothing but the log's lines is there.
         self.assertEqual([it for it in self.lines() if not re.match(f"{MOMENT} event=", it)], [])
-        removed = "event=removed connection=1 clerk=ann maildrop=orders uids=note.1"
+        removed = f"event=removed connection=1 clerk=ann maildrop=orders uids=note.1{BY}"
         self.assertIn(removed, self.errors())
 
     def test_names_of_other_octets(self):

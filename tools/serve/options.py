@@ -247,7 +247,7 @@ WAITS = [NOTHING, NOTHING, IN_USE.decode().rstrip()]
 GUESS, PASS = "-ERR login failed", SEND_PASS.decode().rstrip()
 SLOWED = [GUESS, NOTHING, GUESS]
 NEW, NEW_ID = "new uid=note.2", "new uid=note.2 message-id=<chair.1@b.example>"
-RETR = "clerk=ann maildrop=orders uid=note.1 octets=7"
+RETR = "clerk=ann maildrop=orders uid=note.1 octets=7 rule=all"
 FAULT = ["popbox: bad address"]
 WHY = 'why: --listen "none": four numbers of 0 to 255, as 192.0.2.7'
 NOTE = "note: none: No such file or directory (os error 2)\n"

@@ -18,6 +18,7 @@ use Rattle.office.specs.declared.account.Way.{Way}
 use Rattle.office.specs.declared.account.Way.TheVariants as way
 use Rattle.office.specs.declared.account.Verdict.{Verdict}
 use Rattle.office.specs.declared.account.Verdict.TheVariants as judged
+use Rattle.session.specs.declared.removed.RemovedMessage.{RemovedMessage}
 use Rattle.serving.specs.declared.wire.Refusal.{Refusal}
 use Rattle.serving.specs.declared.wire.Refusal.TheVariants as refused
 
@@ -32,7 +33,7 @@ way_text way.Apop = codes "apop"
 
 -- how a login was judged: the reply's own words
 abbrev pub verdict_text : Verdict → List ℕ
-verdict_text judged.Accepted = codes "answer=accepted"
+verdict_text (judged.Accepted rule) = codes "answer=accepted rule=" ++ rule
 verdict_text judged.WrongCredential = codes "answer=refused reason=\"login failed\""
 verdict_text judged.ThirdWrongCredential = codes "answer=refused reason=\"login failed, closing\""
 verdict_text (judged.Denied rule) =
@@ -67,11 +68,11 @@ command_text to.Dele = codes "dele"
 command_text to.Retr = codes "retr"
 command_text to.Top = codes "top"
 
--- the line of a message that a RETR began to send
-abbrev pub retr_text : (who : List ℕ) → MessageRow → List ℕ
-retr_text who message =
+-- the line of a message that a RETR began to send, by which rule
+abbrev pub retr_text : (who : List ℕ) → MessageRow → (rule : List ℕ) → List ℕ
+retr_text who message rule =
     codes "event=retr " ++ who ++ codes " uid=" ++ uid_text message.uid
-    ++ codes " octets=" ++ decimal message.octets
+    ++ codes " octets=" ++ decimal message.octets ++ codes " rule=" ++ rule
 
 -- the line of a command that a rule denied for a message
 abbrev pub denied_text : (who : List ℕ) → MessageCommand → Uid → (rule : List ℕ) → List ℕ
@@ -86,13 +87,13 @@ account_text who account.NoName =
     codes "event=login " ++ who ++ codes " answer=refused reason=\"bad arguments\""
 account_text who (account.Quit removal) = quit_text who removal
 account_text who account.QuitBeforeLogin = codes "event=quit " ++ who ++ codes " answer=\"bye\""
-account_text who (account.Retrieved message) = retr_text who message
+account_text who (account.Retrieved message rule) = retr_text who message rule
 account_text who (account.Denied command uid rule) = denied_text who command uid rule
 account_text who account.Nothing = []
 account_text who account.Marked = []
 account_text who account.Unmarked = []
 account_text who account.Taken = []
-account_text who (account.Topped message) = []
+account_text who (account.Topped message rule) = []
 account_text who (account.Ended cause) = []
 
 -- whether an account may have a line; that of a RETR has one if each RETR is to have one
@@ -102,12 +103,12 @@ is_told reads account.NoName = true
 is_told reads (account.Quit removal) = true
 is_told reads account.QuitBeforeLogin = true
 is_told reads (account.Denied command uid rule) = true
-is_told reads (account.Retrieved message) = reads
+is_told reads (account.Retrieved message rule) = reads
 is_told reads account.Nothing = false
 is_told reads account.Marked = false
 is_told reads account.Unmarked = false
 is_told reads account.Taken = false
-is_told reads (account.Topped message) = false
+is_told reads (account.Topped message rule) = false
 is_told reads (account.Ended cause) = false
 
 -- why a connection ended, as the line of its end says it, if the account says so
@@ -123,15 +124,15 @@ cause_text (account.Ended end.FullHouse) =
     codes " cause=\"no login while all places were taken\""
 cause_text (account.Login name by judged.ThirdWrongCredential) =
     codes " cause=\"login failed, closing\""
-cause_text (account.Login name by judged.Accepted) = []
+cause_text (account.Login name by (judged.Accepted rule)) = []
 cause_text (account.Login name by judged.WrongCredential) = []
 cause_text (account.Login name by (judged.Denied rule)) = []
 cause_text (account.Login name by judged.NoSuchMaildrop) = []
 cause_text (account.Login name by judged.InUse) = []
 cause_text (account.Login name by judged.StoreFailed) = []
 cause_text account.NoName = []
-cause_text (account.Retrieved message) = []
-cause_text (account.Topped message) = []
+cause_text (account.Retrieved message rule) = []
+cause_text (account.Topped message rule) = []
 cause_text (account.Denied command uid rule) = []
 cause_text (account.Quit removal) = []
 cause_text account.QuitBeforeLogin = []
@@ -149,34 +150,38 @@ refusal_text refused.NoMemory = codes " cause=\"out of memory\""
 -- ---- what a QUIT removed
 
 -- what an account says that a QUIT removed: nothing if the store failed
-abbrev pub removed_by : Account → List Uid
+abbrev pub removed_by : Account → List RemovedMessage
 removed_by (account.Quit removal) = if removal.is_done then removal.removed else []
 removed_by _ = []
 
--- how many unique-ids are on a line at most
+-- how many messages are on a line at most
 abbrev pub most_on_a_line : ℕ
 most_on_a_line = 32
 
--- a unique-id after a comma
-abbrev pub behind_comma : Uid → List ℕ
-behind_comma uid = codes "," ++ uid_text uid
+-- the unique-id of a message that was removed, and the rule that let the clerk remove it
+abbrev pub message_text : RemovedMessage → List ℕ
+message_text message = uid_text message.uid ++ codes "=" ++ message.rule
 
--- unique-ids, with commas between them
-abbrev pub uids_text : List Uid → List ℕ
-uids_text [] = []
-uids_text (uid ∷ uids) = uid_text uid ++ flat_map behind_comma uids
+-- one after a comma
+abbrev pub behind_comma : RemovedMessage → List ℕ
+behind_comma message = codes "," ++ message_text message
 
--- what stands before the unique-id at a place of a line
+-- messages that were removed, with commas between them
+abbrev pub messages_text : List RemovedMessage → List ℕ
+messages_text [] = []
+messages_text (message ∷ messages) = message_text message ++ flat_map behind_comma messages
+
+-- what stands before the message at a place of a line
 abbrev pub comma_at : ℕ → List ℕ
 comma_at n = if n == 0 then [] else codes ","
 
--- the unique-id at a place of a line, if there is one
-abbrev pub uid_words : ℕ → Option Uid → List ℕ
-uid_words n None = []
-uid_words n (Some uid) = comma_at n ++ uid_text uid
+-- the message at a place of a line, if there is one
+abbrev pub message_words : ℕ → Option RemovedMessage → List ℕ
+message_words n None = []
+message_words n (Some message) = comma_at n ++ message_text message
 
 -- the line of messages that a session's QUIT removed
-abbrev pub removed_text : (connection : ℕ) → LoginName → List Uid → List ℕ
-removed_text connection name uids =
+abbrev pub removed_text : (connection : ℕ) → LoginName → List RemovedMessage → List ℕ
+removed_text connection name messages =
     codes "event=removed connection=" ++ decimal connection ++ codes " " ++ name_text name
-    ++ codes " uids=" ++ uids_text uids
+    ++ codes " uids=" ++ messages_text messages

@@ -25,7 +25,7 @@ use Rattle.journal.specs.declared.client.Client.{Client}
 
 -- an accepted login begins a session, without a mark or a command; another one changes nothing
 abbrev pub judged_so : LoginName → Verdict → Heard → Heard
-judged_so name judged.Accepted heard =
+judged_so name (judged.Accepted rule) heard =
     record {
       name = Some name;
       is_in = true;
@@ -61,9 +61,9 @@ counted_after account.Marked heard = with_mark heard
 counted_after account.Unmarked heard = without_marks heard
 counted_after (account.Quit removal) heard = has_quit heard
 counted_after account.QuitBeforeLogin heard = has_quit heard
-counted_after (account.Retrieved message) heard =
+counted_after (account.Retrieved message rule) heard =
     record heard { counts = with_retr message.octets heard.counts }
-counted_after (account.Topped message) heard =
+counted_after (account.Topped message rule) heard =
     record heard { counts = with_top message.octets heard.counts }
 counted_after (account.Denied command uid rule) heard =
     record heard { counts = with_denial heard.counts }
@@ -75,8 +75,8 @@ counted_after (account.Ended cause) heard = heard
 -- The message that is being sent after an account: one that a RETR or TOP began to send, until all
 -- is taken. A line acts, or lacks memory, only once all is taken; another end takes nothing.
 abbrev pub sending_after : Account → (sending : Option Uid) → Option Uid
-sending_after (account.Retrieved message) sending = Some message.uid
-sending_after (account.Topped message) sending = Some message.uid
+sending_after (account.Retrieved message rule) sending = Some message.uid
+sending_after (account.Topped message rule) sending = Some message.uid
 sending_after account.Nothing sending = sending
 sending_after (account.Ended end.NoMemoryForLine) sending = None
 sending_after (account.Ended cause) sending = sending
@@ -121,7 +121,7 @@ is_number connection (Some n) = n == connection
 
 -- a login that is accepted ends the session that is kept in its maildrop
 abbrev pub left_at : Verdict → (maildrop : List ℕ) → List Client → List Client
-left_at judged.Accepted maildrop clients = map (left_client maildrop) clients
+left_at (judged.Accepted rule) maildrop clients = map (left_client maildrop) clients
 left_at judged.WrongCredential maildrop clients = clients
 left_at judged.ThirdWrongCredential maildrop clients = clients
 left_at (judged.Denied rule) maildrop clients = clients
@@ -132,8 +132,8 @@ left_at judged.StoreFailed maildrop clients = clients
 abbrev pub left_by : Account → List Client → List Client
 left_by (account.Login name by verdict) clients = left_at verdict name.maildrop clients
 left_by account.NoName clients = clients
-left_by (account.Retrieved message) clients = clients
-left_by (account.Topped message) clients = clients
+left_by (account.Retrieved message rule) clients = clients
+left_by (account.Topped message rule) clients = clients
 left_by (account.Denied command uid rule) clients = clients
 left_by account.Taken clients = clients
 left_by account.Marked clients = clients
@@ -286,8 +286,8 @@ abbrev pub behind_account : Account → Client → List ℕ
 behind_account (account.Login name by verdict) client = waited_text client.waited
 behind_account (account.Quit removal) client = counts_text client.heard.counts
 behind_account account.NoName client = []
-behind_account (account.Retrieved message) client = []
-behind_account (account.Topped message) client = []
+behind_account (account.Retrieved message rule) client = []
+behind_account (account.Topped message rule) client = []
 behind_account (account.Denied command uid rule) client = []
 behind_account account.Marked client = []
 behind_account account.Unmarked client = []
@@ -302,9 +302,9 @@ session_of client = who_of client ++ behind_name client.heard.name
 
 -- who an account's line is about; a message's line also names the clerk and the maildrop
 abbrev pub who_in : Account → Client → List ℕ
-who_in (account.Retrieved message) client = session_of client
+who_in (account.Retrieved message rule) client = session_of client
 who_in (account.Denied command uid rule) client = session_of client
-who_in (account.Topped message) client = who_of client
+who_in (account.Topped message rule) client = who_of client
 who_in (account.Login name by verdict) client = who_of client
 who_in (account.Quit removal) client = who_of client
 who_in account.NoName client = who_of client
@@ -325,8 +325,8 @@ told_of account (Some client) =
 abbrev pub is_new : Account → List Denial → Bool
 is_new (account.Denied command uid rule) told =
     gets_a_line (record { command = command; uid = uid; rule = rule }) told
-is_new (account.Retrieved message) told = true
-is_new (account.Topped message) told = true
+is_new (account.Retrieved message rule) told = true
+is_new (account.Topped message rule) told = true
 is_new (account.Login name by verdict) told = true
 is_new (account.Quit removal) told = true
 is_new account.NoName told = true

@@ -34,7 +34,7 @@ fn judged_text(alloc: Global, verdict: Verdict) -> Result<String, AllocError>
     ensures { IfOk result (λ text. string_bytes text ≡ verdict_text verdict) }
 {
     match verdict {
-        Verdict::Accepted => String::from_str(alloc, "answer=accepted"),
+        Verdict::Accepted(rule) => accepted_text(alloc, rule),
         Verdict::WrongCredential => {
             String::from_str(alloc, "answer=refused reason=\"login failed\"")
         }
@@ -55,6 +55,14 @@ fn judged_text(alloc: Global, verdict: Verdict) -> Result<String, AllocError>
             String::from_str(alloc, "answer=refused reason=\"store failed\"")
         }
     }
+}
+
+/// A login that was accepted, as a line says it: by which rule.
+fn accepted_text(alloc: Global, rule: Name) -> Result<String, AllocError>
+    ensures { IfOk result (λ text. string_bytes text ≡ verdict_text (Verdict.Accepted rule)) }
+{
+    let text = format!(in alloc; "answer=accepted rule={rule}")?;
+    Ok(text)
 }
 
 /// A login that a rule denied, as a line says it.
@@ -144,12 +152,17 @@ pub fn command_word(command: MessageCommand) -> &'static str
     }
 }
 
-/// The line of a message that a RETR began to send.
-fn retr_text(alloc: Global, who: &str, message: MessageRow) -> Result<String, AllocError>
-    ensures { IfOk result (λ text. string_bytes text ≡ retr_line who.now message) }
+/// The line of a message that a RETR began to send, by which rule.
+fn retr_text(
+    alloc: Global,
+    who: &str,
+    message: MessageRow,
+    rule: Name,
+) -> Result<String, AllocError>
+    ensures { IfOk result (λ text. string_bytes text ≡ retr_line who.now message rule) }
 {
     let MessageRow { uid, octets } = message;
-    let text = format!(in alloc; "event=retr {who} uid={uid} octets={octets}")?;
+    let text = format!(in alloc; "event=retr {who} uid={uid} octets={octets} rule={rule}")?;
     Ok(text)
 }
 
@@ -176,9 +189,9 @@ pub fn has_line(account: &Account, reads: bool) -> bool
     match account {
         Account::Login(_, _, _) | Account::NoName | Account::Denied(_, _, _) => true,
         Account::Quit(_) | Account::QuitBeforeLogin => true,
-        Account::Retrieved(_) => reads,
+        Account::Retrieved(_, _) => reads,
         Account::Nothing | Account::Marked | Account::Unmarked | Account::Ended(_) => false,
-        Account::Topped(_) | Account::Taken => false,
+        Account::Topped(_, _) | Account::Taken => false,
     }
 }
 
@@ -192,12 +205,12 @@ pub fn line_of(alloc: Global, who: &str, account: &Account) -> Result<String, Al
         Account::NoName => nameless_text(alloc, who),
         Account::Quit(removal) => quit_text(alloc, who, removal),
         Account::QuitBeforeLogin => early_text(alloc, who),
-        Account::Retrieved(message) => retr_text(alloc, who, *message),
+        Account::Retrieved(message, rule) => retr_text(alloc, who, *message, *rule),
         Account::Denied(command, uid, rule) => denied_text(alloc, who, *command, *uid, *rule),
         Account::Nothing | Account::Marked | Account::Unmarked | Account::Ended(_) => {
             Ok(String::new(alloc))
         }
-        Account::Topped(_) | Account::Taken => Ok(String::new(alloc)),
+        Account::Topped(_, _) | Account::Taken => Ok(String::new(alloc)),
     }
 }
 
@@ -216,12 +229,12 @@ pub fn cause_text(account: &Account) -> &'static str
         Account::Ended(End::TooLate) => " cause=\"too late to log in\"",
         Account::Ended(End::FullHouse) => " cause=\"no login while all places were taken\"",
         Account::Login(_, _, Verdict::ThirdWrongCredential) => " cause=\"login failed, closing\"",
-        Account::Login(_, _, Verdict::Accepted | Verdict::WrongCredential) => "",
+        Account::Login(_, _, Verdict::Accepted(_) | Verdict::WrongCredential) => "",
         Account::Login(_, _, Verdict::Denied(_) | Verdict::NoSuchMaildrop) => "",
         Account::Login(_, _, Verdict::InUse | Verdict::StoreFailed) => "",
         Account::NoName | Account::Quit(_) | Account::QuitBeforeLogin => "",
         Account::Nothing | Account::Marked | Account::Unmarked | Account::Taken => "",
-        Account::Retrieved(_) | Account::Topped(_) | Account::Denied(_, _, _) => "",
+        Account::Retrieved(_, _) | Account::Topped(_, _) | Account::Denied(_, _, _) => "",
     }
 }
 

@@ -128,9 +128,9 @@ impl Client {
         ensures { IfOk result (λ text. string_bytes text ≡ who_in account.now self.now) }
     {
         match account {
-            Account::Retrieved(_) | Account::Denied(_, _, _) => self.session(alloc),
+            Account::Retrieved(_, _) | Account::Denied(_, _, _) => self.session(alloc),
             Account::Login(_, _, _) | Account::NoName | Account::QuitBeforeLogin => self.who(alloc),
-            Account::Quit(_) | Account::Topped(_) | Account::Marked => self.who(alloc),
+            Account::Quit(_) | Account::Topped(_, _) | Account::Marked => self.who(alloc),
             Account::Unmarked | Account::Nothing | Account::Ended(_) => self.who(alloc),
             Account::Taken => self.who(alloc),
         }
@@ -217,7 +217,7 @@ impl Client {
                 self.denials.take(denial)
             }
             Account::Login(_, _, _) | Account::NoName | Account::QuitBeforeLogin => Ok(true),
-            Account::Quit(_) | Account::Retrieved(_) | Account::Topped(_) => Ok(true),
+            Account::Quit(_) | Account::Retrieved(_, _) | Account::Topped(_, _) => Ok(true),
             Account::Marked | Account::Unmarked | Account::Nothing => Ok(true),
             Account::Taken | Account::Ended(_) => Ok(true),
         }
@@ -278,7 +278,7 @@ impl Client {
             Account::Login(_, _, _) => waited_text(alloc, self.waited),
             Account::Quit(_) => self.heard.counts_text(alloc),
             Account::NoName | Account::Marked | Account::Unmarked => Ok(String::new(alloc)),
-            Account::Retrieved(_) | Account::Topped(_) => Ok(String::new(alloc)),
+            Account::Retrieved(_, _) | Account::Topped(_, _) => Ok(String::new(alloc)),
             Account::Denied(_, _, _) | Account::Taken => Ok(String::new(alloc)),
             Account::QuitBeforeLogin | Account::Nothing | Account::Ended(_) => {
                 Ok(String::new(alloc))
@@ -499,7 +499,7 @@ fn leave(clients: &mut [Client], maildrop: &Name)
 fn leave_by(clients: &mut [Client], account: &Account)
     ensures { clients.new ≡ left_by account.now clients.old }
 {
-    if let Account::Login(name, _, Verdict::Accepted) = account {
+    if let Account::Login(name, _, Verdict::Accepted(_)) = account {
         leave(clients, &name.maildrop);
     }
 }

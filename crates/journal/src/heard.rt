@@ -33,8 +33,8 @@ fn sending_after(account: &Account, sending: Option<Uid>) -> Option<Uid>
     ensures { result ≡ still_sent account.now sending }
 {
     match account {
-        Account::Retrieved(message) => Some(message.uid),
-        Account::Topped(message) => Some(message.uid),
+        Account::Retrieved(message, _) => Some(message.uid),
+        Account::Topped(message, _) => Some(message.uid),
         Account::Ended(End::NoMemoryForLine) => None,
         Account::Nothing | Account::Ended(_) => sending,
         Account::Taken | Account::Login(_, _, _) | Account::NoName => None,
@@ -80,8 +80,8 @@ impl Heard {
                 self.marked = 0;
                 self.counts.add_reset();
             }
-            Account::Retrieved(message) => self.counts.add_retr(message.octets),
-            Account::Topped(message) => self.counts.add_top(message.octets),
+            Account::Retrieved(message, _) => self.counts.add_retr(message.octets),
+            Account::Topped(message, _) => self.counts.add_top(message.octets),
             Account::Denied(_, _, _) => self.counts.add_denial(),
             Account::Quit(_) | Account::QuitBeforeLogin => {
                 self.is_in = false;
@@ -96,7 +96,7 @@ impl Heard {
         ensures { self.new ≡ judged_so name verdict self.old }
     {
         match verdict {
-            Verdict::Accepted => {
+            Verdict::Accepted(_) => {
                 self.name = Some(name);
                 self.is_in = true;
                 self.marked = 0;

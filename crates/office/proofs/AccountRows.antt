@@ -41,7 +41,7 @@ mrose maildrop = record { clerk = codes "mrose"; maildrop = maildrop }
 abbrev apop : List ℕ
 apop = codes "APOP mrose/orders c4c9334bac560ecc979e58001b3e22fb"
 
-accepted_login : account_behind opened apop Done ≡ Login (mrose (codes "orders")) way.Apop judged.Accepted
+accepted_login : account_behind opened apop Done ≡ Login (mrose (codes "orders")) way.Apop (judged.Accepted (codes "mrose-open"))
 unfolding digits login_name decode_pairs md5 M.digest_bytes M.hash_after M.compress M.rounds M.block_words
 accepted_login = refl
 
@@ -105,7 +105,7 @@ lines_of_a_session : shows (run_judged_at_quit bob_marks) (λ T. next T (codes "
     ≡ Quit (record {
       name = record { clerk = codes "bob"; maildrop = codes "orders" };
       marked = 2;
-      removed = record { class = codes "note"; k = 2 }
+      removed = record { uid = record { class = codes "note"; k = 2 }; rule = codes "bob-rm" }
           ∷ [];
       denied = Some (codes "default");
       is_done = true;
@@ -121,7 +121,7 @@ row class k octets = record { uid = record { class = class; k = k }; octets = oc
 -- what bob reads, and what he may not remove: a RETR, a TOP, a DELE that a rule denies, and numbers of no message
 reads_of_a_session : shows (run (connect 1 ++ says 1 as_bob)) (λ T. next T (codes "RETR 1") ∷ next T (codes "TOP 2 0") ∷ next T (codes "DELE 3") ∷ next T (codes "DELE 1") ∷ next T (codes "RETR 9")
     ∷ next T (codes "DELE 9") ∷ next T (codes "LIST 1") ∷ account_of T (Bytes 1 (codes "RETR 1" ++ line_end)) (Tagged Failed) ∷ [])
-    ≡ Retrieved (row (codes "note") 1 21) ∷ Topped (row (codes "note") 2 15) ∷ Denied to.Dele (record { class = codes "todo"; k = 1 }) (codes "default") ∷ Marked ∷ Nothing
+    ≡ Retrieved (row (codes "note") 1 21) (codes "bob-read") ∷ Topped (row (codes "note") 2 15) (codes "bob-read") ∷ Denied to.Dele (record { class = codes "todo"; k = 1 }) (codes "default") ∷ Marked ∷ Nothing
     ∷ Nothing ∷ Nothing ∷ Nothing ∷ []
 unfolding digits login_name decode_pairs md5 M.digest_bytes M.hash_after M.compress M.rounds M.block_words
 reads_of_a_session = refl
@@ -135,7 +135,7 @@ took_all T t = account_of T (Took 1 (length (rest T 1))) (Tagged t)
 
 takings_of_a_session : shows (run (bob_gives (codes "RETR 1" ++ line_end ++ codes "TOP 2 0" ++ line_end)))
     (λ T. account_of T (Took 1 1) (Tagged Done) ∷ took_all T Done ∷ took_all T Failed ∷ took_all T NoMemory ∷ [])
-    ≡ Nothing ∷ Topped (row (codes "note") 2 15) ∷ Taken ∷ Ended end.NoMemoryForLine ∷ []
+    ≡ Nothing ∷ Topped (row (codes "note") 2 15) (codes "bob-read") ∷ Taken ∷ Ended end.NoMemoryForLine ∷ []
 unfolding digits login_name decode_pairs md5 M.digest_bytes M.hash_after M.compress M.rounds M.block_words
 takings_of_a_session = refl
 

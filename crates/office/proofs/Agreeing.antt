@@ -107,3 +107,9 @@ module _ (B : Records) (G : List Entry) (c : ℕ) (p : Policy) (v : Transaction)
       let who = a.login in
       let rows = sym a.view in
       rw (l, who, rows) (named_alike (row_at (marks G c) v.view) (row_at v.marks v.view) (λ n. marked_row v.view n _ _ (sym (a.marks n))) r)
+
+  pub transaction_who : name_or_nobody (in_session G c) ≡ v.name
+  transaction_who =
+      let l = a.live in
+      let who = a.login in
+      rw (l, who) refl

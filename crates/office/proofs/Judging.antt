@@ -14,8 +14,8 @@ use Rattle.session.specs.View.{to_remove}
 use Rattle.office.specs.History.{Line, Tag, Entry, Said, Says, is_done, in_force}
 use Rattle.office.specs.Connections.{reading, is_quit, closes}
 use Rattle.office.specs.Sessions.{live, marks, view, logs_in, in_session, records, removed, removed_after, removed_by, quits_if}
-use Rattle.office.specs.Replying.{reply_to_cut, line_may_fail, may_fail, state_at}
-use Rattle.office.specs.Accounts.{quit_account, removal_by, quit_seen, named_at, named_seen}
+use Rattle.office.specs.Replying.{name_or_nobody, reply_to_cut, line_may_fail, may_fail, state_at}
+use Rattle.office.specs.Accounts.{quit_account, removal_by, quit_seen, named_at, named_seen, who_in}
 use Rattle.office.specs.Kept.{LineContext, asks, state_of}
 use Rattle.office.specs.Transaction.{Transaction, LiesIn, transaction_of}
 use Rattle.office.specs.Answered.{reply_of, tag_of, HasTransaction, held_after}
@@ -25,7 +25,7 @@ use Rattle.office.specs.declared.login_state.LineOutcome.{LineOutcome}
 use Rattle.office.specs.declared.login_state.LineOutcome.TheVariants as outcome
 use Rattle.office.proofs.Hearing.{lined}
 use Rattle.office.proofs.SameReply.{SameState, same_reply, same_may_fail}
-use Rattle.office.proofs.Agreeing.{AgreesInAuthorization, AgreesInTransaction, same_authorization, same_transaction, transaction_removal, transaction_names}
+use Rattle.office.proofs.Agreeing.{AgreesInAuthorization, AgreesInTransaction, same_authorization, same_transaction, transaction_removal, transaction_names, transaction_who}
 use Rattle.office.proofs.Remembering.{transaction_no_login, transaction_closes}
 use Rattle.office.proofs.LineRecords.{agree_line}
 use Rattle.office.proofs.SmallLemmas.{no_some, and_false}
@@ -37,6 +37,8 @@ pub record Judges (B : Records) (G : List Entry) (c : ℕ) (k : Contents) (d : L
   pub reply : (x : Cut) (w : LineOutcome) → (w ≡ outcome.Failed → asks d.policy t transaction (reading x) ≡ true) → reply_to_cut B G c x (tag_of w) ≡ reply_of w d t transaction x
   pub quits : (w : LineOutcome) → quit_account (in_session G c) (removal_by B G c (tag_of w)) ≡ quit_seen w d.policy transaction
   pub names : (r : Result Command LineFault) → named_at B G c r ≡ named_seen transaction r
+  pub policy : d.policy ≡ in_force B G
+  pub who : who_in transaction ≡ name_or_nobody (in_session G c)
   pub fails : (x : Cut) → asks d.policy t transaction (reading x) ≡ true → line_may_fail B G c x ≡ true
   pub agrees : AreSound k → Agree (records_of k) (records B G) → (w : LineOutcome) (x : Cut) (said : Said)
       → Agree (records_of (held_after w d.policy old (reading x) k)) (records B (record { act = Line c x; tag = tag_of w; said = said } ∷ G))
@@ -87,6 +89,8 @@ authorization_judges B G c k d t a = record {
   reply = λ x w may. replied B G c d t None (same_authorization B G c d t a) x w;
   quits = λ w. let l = a.authorization in rw l refl;
   names = λ r. let l = a.authorization in rw l refl;
+  policy = a.policy;
+  who = let l = a.authorization in rw l refl;
   fails = fails B G c d t None (same_authorization B G c d t a);
   agrees = λ sound g w x said. rw (authorization_records B G c x (tag_of w) said a.authorization) g;
   stays = λ o e x w u. absurd (no_some o e);
@@ -105,6 +109,8 @@ transaction_judges B G c k d t o kept lies a =
       reply = λ x w may. replied B G c d t (Some v) (same_transaction B G c d.policy v a) x w;
       quits = transaction_removal B G c d.policy v a;
       names = transaction_names B G c d.policy v a;
+      policy = a.policy;
+      who = sym (transaction_who B G c d.policy v a);
       fails = fails B G c d t (Some v) (same_transaction B G c d.policy v a);
       agrees = λ sound g w x said. agree_line B G c d.policy o kept a k sound lies g w x said;
       stays = λ o' e x w u. transaction_no_login d.policy v w x u;

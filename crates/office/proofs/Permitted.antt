@@ -14,17 +14,18 @@ use Rattle.session.specs.Session.{Session}
 use Rattle.session.specs.View.{is_marked}
 use Rattle.vault.specs.Changes.{Contents}
 use Rattle.office.specs.History.{Tag, Done, Says}
-use Rattle.office.specs.Accounts.{line_account}
+use Rattle.office.specs.Accounts.{let_in, transaction_account}
 use Rattle.office.specs.declared.account.Account.TheVariants as account
 use Rattle.office.specs.declared.answer.MessageRow.{MessageRow}
 use Rattle.office.specs.Connections.{reading, is_quit}
 use Rattle.office.specs.LongLine.{is_too_long}
 use Rattle.office.specs.Sessions.{logs_in, marks_after_line}
-use Rattle.office.specs.Replying.{LineState, InTransaction, Transaction, is_allowed, is_permitted, when_permitted, reply_to_reading, reply_to}
+use Rattle.office.specs.Replying.{LineState, InAuthorization, InTransaction, Transaction, is_allowed, is_permitted, when_permitted, reply_to_reading, reply_to}
 use Rattle.office.specs.Kept.{LineContext, authorization_line, state_of}
 use Rattle.office.specs.declared.login_state.LoginState.{LoginState}
 use Rattle.office.specs.Permitted.{Permits, Refuses}
 use Rattle.office.specs.Transaction.{GoesOn, held_after_line}
+use Rattle.office.specs.declared.login_state.LineOutcome.{LineOutcome}
 use Rattle.office.specs.declared.login_state.LineOutcome.TheVariants as outcome
 use Rattle.office.specs.Answered.{Becomes, SessionAfter}
 use Rattle.office.proofs.Accounts.{transaction_fault}
@@ -50,26 +51,27 @@ held_reading p k c (Err f) bars = refl
 held_reading p k c (Ok Quit) bars = absurd (true≢false (bars Quit refl))
 held_reading p k c (Ok _) bars = refl
 
-long_silent : (r : Result Command LineFault) (m : Option MessageRow) → NotInSession r → line_account r (Says LineTooLong) None m ≡ account.Nothing
-long_silent (Err (Syntax keyword.User)) m bars = refl
-long_silent (Err (Syntax keyword.Apop)) m bars = refl
-long_silent (Err (Syntax _)) m bars = refl
-long_silent (Err Unknown) m bars = refl
-long_silent (Ok (User name)) m bars = refl
-long_silent (Ok (Pass password)) m bars = refl
-long_silent (Ok (Apop name digest)) m bars = refl
-long_silent (Ok k) m bars = absurd (true≢false (bars k refl))
+long_silent : (w : LineOutcome) (p : Policy) (k : Session) (r : Result Command LineFault) (m : Option MessageRow) → NotInSession r → transaction_account w p k r (Says LineTooLong) m ≡ account.Nothing
+long_silent w p k (Err (Syntax keyword.User)) m bars = refl
+long_silent w p k (Err (Syntax keyword.Apop)) m bars = refl
+long_silent w p k (Err (Syntax _)) m bars = refl
+long_silent w p k (Err Unknown) m bars = refl
+long_silent w p k (Ok (User name)) m bars = refl
+long_silent w p k (Ok (Pass password)) m bars = refl
+long_silent w p k (Ok (Apop name digest)) m bars = refl
+long_silent w p k (Ok command) m bars = absurd (true≢false (bars command refl))
 
 module _ (p : Policy) (v : Transaction) where
   abbrev s : LineState
   s = InTransaction p v
 
-  silent_reading : (r : Result Command LineFault) (m : Option MessageRow) → NotInSession r → line_account r (Says (reply_to_reading s r Done)) None m ≡ account.Nothing
-  silent_reading (Err f) m bars = transaction_fault p v f
-  silent_reading (Ok (User name)) m bars = refl
-  silent_reading (Ok (Pass password)) m bars = refl
-  silent_reading (Ok (Apop name digest)) m bars = refl
-  silent_reading (Ok k) m bars = absurd (true≢false (bars k refl))
+  silent_reading : (w : LineOutcome) (k : Session) (r : Result Command LineFault) (m : Option MessageRow) → NotInSession r
+      → transaction_account w p k r (Says (reply_to_reading s r Done)) m ≡ account.Nothing
+  silent_reading w k (Err f) m bars = transaction_fault p v f
+  silent_reading w k (Ok (User name)) m bars = refl
+  silent_reading w k (Ok (Pass password)) m bars = refl
+  silent_reading w k (Ok (Apop name digest)) m bars = refl
+  silent_reading w k (Ok command) m bars = absurd (true≢false (bars command refl))
 
   keeps_reading : (r : Result Command LineFault) → NotInSession r → (ms : List ℕ) → marks_after_line (Says (reply_to_reading s r Done)) ms ≡ ms
   keeps_reading (Err Unknown) bars ms = refl
@@ -96,8 +98,9 @@ module _ (p : Policy) (v : Transaction) where
         at TooLong long other = long
         at (cutting.Line l) long other = other
 
-    pub refused_silent : (m : Option MessageRow) → line_account (reading x) (Says reply) None m ≡ account.Nothing
-    refused_silent m = by_reading (λ (q : Reply). line_account (reading x) (Says q) None m ≡ account.Nothing) (long_silent (reading x) m not_here) (silent_reading (reading x) m not_here)
+    pub refused_silent : (w : LineOutcome) (k : Session) (m : Option MessageRow) → transaction_account w p k (reading x) (Says reply) m ≡ account.Nothing
+    refused_silent w k m =
+        by_reading (λ (q : Reply). transaction_account w p k (reading x) (Says q) m ≡ account.Nothing) (long_silent w p k (reading x) m not_here) (silent_reading w k (reading x) m not_here)
 
     pub refused_goes_on : (k : Session) → GoesOn reply k k
     refused_goes_on k = record {
@@ -138,3 +141,24 @@ module _ (d : LineContext) (t : LoginState) (x : Cut) (reply : Reply) (h : Refus
       at : (x : Cut) → ((k : Command) → reading x ≡ Ok k → is_allowed (keyword_of k) false (is_some t.user) ≡ false) → logs_in (reading x) (Says (authorization_line d t x)) t.user ≡ None
       at TooLong bars = refl
       at (cutting.Line l) bars = nobody_reading (state_of d t None) (command_of l) t.user bars
+
+lets_reading : (state : LineState) (r : Result Command LineFault) (rule : Option (List ℕ)) → ((k : Command) → r ≡ Ok k → is_permitted state (keyword_of k) ≡ false)
+    → None ≡ let_in (reply_to_reading state r Done) rule
+lets_reading state (Err Unknown) rule bars = refl
+lets_reading state (Err (Syntax k)) rule bars = at (is_permitted state k)
+  where
+    at : (b : Bool) → None ≡ let_in (when_permitted b BadArguments) rule
+    at true = refl
+    at false = refl
+lets_reading state (Ok k) rule bars = rw (bars k refl) refl
+
+-- it lets nobody in
+pub refused_lets_none : (user : Option LoginName) (x : Cut) (reply : Reply) → Refuses false (is_some user) x reply → (rule : Option (List ℕ)) → None ≡ let_in reply rule
+refused_lets_none user x reply h rule = subst (λ (q : Reply). None ≡ let_in q rule) (h.said state Done (λ k. refl)) (at x (λ k is. h.not_allowed k is))
+  where
+    state : LineState
+    state = InAuthorization user (λ name proof. WrongState)
+
+    at : (x : Cut) → ((k : Command) → reading x ≡ Ok k → is_allowed (keyword_of k) false (is_some user) ≡ false) → None ≡ let_in (reply_to state x Done) rule
+    at TooLong bars = refl
+    at (cutting.Line l) bars = lets_reading state (command_of l) rule bars

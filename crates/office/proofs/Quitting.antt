@@ -3,7 +3,7 @@ use Rattle.std.proofs.Common.{◌≡◌, ℕ, ◌==◌, length, arith, Bool, tru
 use Rattle.std.proofs.lemmas.Bool.Decides.{nat_tests}
 use Rattle.std.specs.Prelude.{map}
 use Rattle.std.specs.Str.{bytes_eq}
-use Rattle.creds.specs.declared.uid.Uid.{Uid}
+use Rattle.creds.specs.declared.login_name.LoginName.{LoginName}
 use Rattle.popline.specs.Commands.{Quit}
 use Rattle.popline.specs.Replies.{RemovalFailed}
 use Rattle.policy.specs.Policy.{Policy}
@@ -17,7 +17,8 @@ use Rattle.vault.specs.declared.record.Keyed.{Keyed}
 use Rattle.vault.specs.declared.record.Message.{Message}
 use Rattle.session.specs.Session.{Session}
 use Rattle.session.specs.Session as head
-use Rattle.session.specs.View.{marked, to_remove, denying, is_marked}
+use Rattle.session.specs.View.{marked, to_remove, removed_by, denying, is_marked}
+use Rattle.session.specs.declared.removed.RemovedMessage.{RemovedMessage}
 use Rattle.office.specs.Replying.{quit_says, is_empty}
 use Rattle.office.specs.Output.{Output, OwesReply}
 use Rattle.office.specs.Transaction.{LiesIn, IsAnswered, transaction_asks, transaction_of, keys_to_remove, without_marked}
@@ -52,9 +53,16 @@ store_refused fault.NoClerk r n = cc
 
 -- ---- the marked messages
 
-same_uids : (xs : List Keyed) → map head.uid_of (map head_of xs) ≡ map records.uid_of (map message_of xs)
-same_uids [] = refl
-same_uids (x ∷ xs) = ap (λ (uids : List Uid). head.uid_of (head_of x) ∷ uids) (same_uids xs)
+module _ (p : Policy) (name : LoginName) where
+  abbrev told_of_head : Head → RemovedMessage
+  told_of_head = removed_by head.class_of head.uid_of p name
+
+  abbrev told_of : Message → RemovedMessage
+  told_of = removed_by records.class_of records.uid_of p name
+
+  same_told : (xs : List Keyed) → map told_of_head (map head_of xs) ≡ map told_of (map message_of xs)
+  same_told [] = refl
+  same_told (x ∷ xs) = ap (λ (told : List RemovedMessage). told_of_head (head_of x) ∷ told) (same_told xs)
 
 no_key : (xs : List Keyed) → not (is_empty (map message_of xs)) ≡ false → map head.key_of (map head_of xs) ≡ []
 no_key [] e = refl
@@ -92,11 +100,12 @@ module _ (c : Contents) (p : Policy) (s : Session) (kept : List Keyed) (lies : L
       ∙ (length_marked-map head_of s.marks kept ∙ sym (length_marked-map message_of s.marks kept))
 
   -- what it names as removed
-  pub removed_alike : map head.uid_of (to_remove head.class_of p s.name s.marks s.view) ≡ map records.uid_of (to_remove records.class_of p s.name s.marks (map message_of kept))
+  pub removed_alike : map (told_of_head p s.name) (to_remove head.class_of p s.name s.marks s.view)
+      ≡ map (told_of p s.name) (to_remove records.class_of p s.name s.marks (map message_of kept))
   removed_alike =
-      ap (λ (view : List Head). map head.uid_of (to_remove head.class_of p s.name s.marks view)) lies.heads
-      ∙ (ap (map head.uid_of) (to_remove-map head_of head.class_of p s.name s.marks kept)
-      ∙ (same_uids chosen ∙ sym (ap (map records.uid_of) (to_remove-map message_of records.class_of p s.name s.marks kept))))
+      ap (λ (view : List Head). map (told_of_head p s.name) (to_remove head.class_of p s.name s.marks view)) lies.heads
+      ∙ (ap (map (told_of_head p s.name)) (to_remove-map head_of head.class_of p s.name s.marks kept)
+      ∙ (same_told p s.name chosen ∙ sym (ap (map (told_of p s.name)) (to_remove-map message_of records.class_of p s.name s.marks kept))))
 
   module _ (After : Contents → Type 0) (grown : Bool) (after : Output) where
     pub quit_done : (denied : Option (List ℕ)) → denied ≡ denying head.class_of p s.name s.marks s.view → OwesReply c None after (quit_says denied)

@@ -2,6 +2,7 @@
 use Rattle.std.proofs.Common.{◌≡◌, Result, Ok, Err, refl, sym, subst}
 use Rattle.std.specs.Prelude.{IfOk, IsOkAnd}
 use Rattle.vault.specs.Changes.{Contents}
+use Rattle.vault.specs.Parts.{OnlyLooks}
 use Rattle.vault.specs.declared.vault.Vault.{Ghosts}
 use Rattle.office.specs.Accounts.{reported, told_if_done}
 use Rattle.office.specs.Stopping.{ActsOnce, WasDone}
@@ -38,6 +39,11 @@ pub reported_acts : {V E : Type 0} (vault : Ghosts V) {old new : V} {after : Con
     → ActsOnce vault old new (IsOkAnd (reported a told) (λ (r : LineReport). WasDone r.outcome)) after
 reported_acts vault told (Ok w) it = it
 reported_acts vault told (Err e) it = it
+
+pub reported_looks : {V E : Type 0} (vault : Ghosts V) {old new : V} (told : Account) (a : Result LineOutcome E) → OnlyLooks vault old new (IsOkAnd a WasDone)
+    → OnlyLooks vault old new (IsOkAnd (reported a told) (λ (r : LineReport). WasDone r.outcome))
+reported_looks vault told (Ok w) it = it
+reported_looks vault told (Err e) it = it
 
 -- if nothing is told, nothing is told whether the store fails or not
 pub nothing_told : (w : LineOutcome) → told_if_done w account.Nothing ≡ account.Nothing

@@ -22,17 +22,19 @@ use Rattle.vault.specs.declared.record.Keyed.{Keyed}
 use Rattle.vault.specs.declared.record.Message.{Message as Stored}
 use Rattle.session.specs.declared.pick.Pick.{Pick}
 use Rattle.session.specs.declared.pick.Pick.TheVariants.{NoSuch, Deleted, Denied}
+use Rattle.session.specs.declared.pick.Readable.{Readable}
 use Rattle.session.specs.Session.{Session, picked_for, read_answer}
 use Rattle.session.specs.View.{at_number, is_marked, refer, referred, retrieval, may_read}
 use Rattle.office.specs.Laws.{In}
 use Rattle.office.specs.Replying.{is_readable, served_if}
-use Rattle.office.specs.Output.{Output, Owes, OwesReply, Reads, text_coming}
-use Rattle.office.specs.Transaction.{LiesIn, GoesOn, IsAnswered, HasText, IsServed, transaction_told, refused_pick}
+use Rattle.office.specs.Output.{Output, Owes, OwesReply, Reads, IsBegunAt, text_coming}
+use Rattle.office.specs.Transaction.{LiesIn, GoesOn, IsAnswered, HasText, IsServed, Transaction, transaction_of, transaction_asks, transaction_told, refused_pick, sending, text_reply}
 use Rattle.office.specs.declared.reading.Reading.{Reading}
 use Rattle.office.specs.declared.login_state.LineOutcome.{LineOutcome}
 use Rattle.office.specs.declared.login_state.LineOutcome.TheVariants as outcome
 use Rattle.office.proofs.Alike.{refer-map, at_number-map}
 use Rattle.office.proofs.Listed.{message_of}
+use Rattle.office.proofs.Obeying.{said_so}
 use Rattle.office.proofs.SmallLemmas.{nat_le-true}
 use Rattle.vault.proofs.ListLemmas.{not_true}
 
@@ -56,48 +58,49 @@ in_at_number : {A : Type 0} (xs : List A) (n : ℕ) (x : A) → at_number xs n �
 in_at_number xs zero x e = cc
 in_at_number xs (suc n) x e = there_at xs n x e
 
-abbrev head_referred : Policy → LoginName → Option Keyed → Bool → Result Head Pick
+abbrev head_referred : Policy → LoginName → Option Keyed → Bool → Result Readable Pick
 head_referred p name o b = referred (option_map head_of o) b (Err NoSuch) (Err Deleted) (λ (h : Head). read_answer (retrieval p name h.class) h)
 
 -- a head that is let be read
-read : (b : Bool) (rule : List ℕ) (head h : Head) → ◌≡◌ {A = Result Head Pick} (Ok head) (if b then Ok h else Err (Denied rule)) → (head ≡ h) × (b ≡ true)
-read true rule head h e = (cc, refl)
-read false rule head h e = absurd (cc)
+read : (b : Bool) (rule : List ℕ) (may : Readable) (h : Head) → ◌≡◌ {A = Result Readable Pick} (Ok may) (if b then Ok (record { head = h; rule = rule }) else Err (Denied rule))
+    → (may.head ≡ h) × (b ≡ true)
+read true rule may h e = let same : may ≡ record { head = h; rule = rule } = cc in (ap (λ (r : Readable). r.head) same, refl)
+read false rule may h e = absurd (cc)
 
-found_at : (p : Policy) (s : Session) (kept : List Keyed) (n : ℕ) (head : Head) (o : Option Keyed) → at_number kept n ≡ o → (b : Bool) → is_marked s.marks n ≡ b
-    → ◌≡◌ {A = Result Head Pick} (Ok head) (head_referred p s.name o b) → Found p s kept n head
-found_at p s kept n head None e b f h = absurd (cc)
-found_at p s kept n head (Some x) e true f h = absurd (cc)
-found_at p s kept n head (Some x) e false f h =
+found_at : (p : Policy) (s : Session) (kept : List Keyed) (n : ℕ) (may : Readable) (o : Option Keyed) → at_number kept n ≡ o → (b : Bool) → is_marked s.marks n ≡ b
+    → ◌≡◌ {A = Result Readable Pick} (Ok may) (head_referred p s.name o b) → Found p s kept n may.head
+found_at p s kept n may None e b f h = absurd (cc)
+found_at p s kept n may (Some x) e true f h = absurd (cc)
+found_at p s kept n may (Some x) e false f h =
     let d = retrieval p s.name x.message.class in
-    let r = read d.allowed d.rule head (head_of x) h in
+    let r = read d.allowed d.rule may (head_of x) h in
     record { stored = x; there = in_at_number kept n x e; head_is = r.0; at = e; unmarked = f; readable = r.1 }
 
 -- a reference among the heads, as one among what is stored
 among : (c : Contents) (p : Policy) (s : Session) (kept : List Keyed) → LiesIn c s kept → (n : ℕ) → picked_for p s n ≡ head_referred p s.name (at_number kept n) (is_marked s.marks n)
 among c p s kept lies n =
     let view : at_number s.view n ≡ option_map head_of (at_number kept n) = ap (λ (view : List Head). at_number view n) lies.heads ∙ at_number-map head_of kept n in
-    ap (λ (o : Option Head). referred {B = Result Head Pick} o (is_marked s.marks n) (Err NoSuch) (Err Deleted) (λ (h : Head). read_answer (retrieval p s.name h.class) h)) view
+    ap (λ (o : Option Head). referred {B = Result Readable Pick} o (is_marked s.marks n) (Err NoSuch) (Err Deleted) (λ (h : Head). read_answer (retrieval p s.name h.class) h)) view
 
-pub found : (c : Contents) (p : Policy) (s : Session) (kept : List Keyed) → LiesIn c s kept → (n : ℕ) (head : Head) → ◌≡◌ {A = Result Head Pick} (Ok head) (picked_for p s n) → Found p s kept n head
-found c p s kept lies n head e = found_at p s kept n head (at_number kept n) refl (is_marked s.marks n) refl (e ∙ among c p s kept lies n)
+pub found : (c : Contents) (p : Policy) (s : Session) (kept : List Keyed) → LiesIn c s kept → (n : ℕ) (may : Readable) → ◌≡◌ {A = Result Readable Pick} (Ok may) (picked_for p s n) → Found p s kept n may.head
+found c p s kept lies n may e = found_at p s kept n may (at_number kept n) refl (is_marked s.marks n) refl (e ∙ among c p s kept lies n)
 
 -- what is refused is named: there is no such message, it is marked, or its reading is denied
-refused_read : (d : Decision) (n : ℕ) (why : Pick) (h : Head) (reply : Reply) → ◌≡◌ {A = Result Head Pick} (Err why) (read_answer d h) → refused_pick n why ≡ served_if d reply
+refused_read : (d : Decision) (n : ℕ) (why : Pick) (h : Head) (reply : Reply) → ◌≡◌ {A = Result Readable Pick} (Err why) (read_answer d h) → refused_pick n why ≡ served_if d reply
 refused_read d n why h reply e = at d.allowed e
   where
-    at : (b : Bool) → ◌≡◌ {A = Result Head Pick} (Err why) (if b then Ok h else Err (Denied d.rule)) → refused_pick n why ≡ (if b then reply else DeniedBy d.rule)
+    at : (b : Bool) → ◌≡◌ {A = Result Readable Pick} (Err why) (if b then Ok (record { head = h; rule = d.rule }) else Err (Denied d.rule)) → refused_pick n why ≡ (if b then reply else DeniedBy d.rule)
     at true f = absurd (cc)
     at false f = let same : why ≡ Denied d.rule = cc in ap (refused_pick n) same
 
 refused_at : (p : Policy) (name : LoginName) (n : ℕ) (why : Pick) (reply : Stored → Reply) (o : Option Keyed) (b : Bool)
-    → ◌≡◌ {A = Result Head Pick} (Err why) (head_referred p name o b)
+    → ◌≡◌ {A = Result Readable Pick} (Err why) (head_referred p name o b)
     → refused_pick n why ≡ referred o b NoSuchMessage (AlreadyMarked n) (λ (x : Keyed). served_if (retrieval p name x.message.class) (reply x.message))
 refused_at p name n why reply None b e = let same : why ≡ NoSuch = cc in ap (refused_pick n) same
 refused_at p name n why reply (Some x) true e = let same : why ≡ Deleted = cc in ap (refused_pick n) same
 refused_at p name n why reply (Some x) false e = refused_read (retrieval p name x.message.class) n why (head_of x) (reply x.message) e
 
-refused_said : (c : Contents) (p : Policy) (s : Session) (kept : List Keyed) → LiesIn c s kept → (n : ℕ) (why : Pick) (reply : Stored → Reply) → ◌≡◌ {A = Result Head Pick} (Err why) (picked_for p s n)
+refused_said : (c : Contents) (p : Policy) (s : Session) (kept : List Keyed) → LiesIn c s kept → (n : ℕ) (why : Pick) (reply : Stored → Reply) → ◌≡◌ {A = Result Readable Pick} (Err why) (picked_for p s n)
     → refused_pick n why ≡ refer s.marks (map message_of kept) n NoSuchMessage (AlreadyMarked n) (λ (m : Stored). served_if (retrieval p s.name m.class) (reply m))
 refused_said c p s kept lies n why reply e =
     refused_at p s.name n why reply (at_number kept n) (is_marked s.marks n) (e ∙ among c p s kept lies n)
@@ -131,9 +134,18 @@ module _ (c : Contents) (p : Policy) (s : Session) (kept : List Keyed) (n : ℕ)
       ∙ ap₂ (λ (b d : Bool). not b && d) f.unmarked f.readable
 
 -- it is a number that asks for its message
-pub asks_for : (c : Contents) (p : Policy) (s : Session) (kept : List Keyed) → LiesIn c s kept → (n : ℕ) (head : Head) → ◌≡◌ {A = Result Head Pick} (Ok head) (picked_for p s n)
+asks_for : (c : Contents) (p : Policy) (s : Session) (kept : List Keyed) → LiesIn c s kept → (n : ℕ) (may : Readable) → ◌≡◌ {A = Result Readable Pick} (Ok may) (picked_for p s n)
     → is_readable p s.name (at_number (map message_of kept) n) (is_marked s.marks n) ≡ false → ⊥
-asks_for c p s kept lies n head e none = true≢false (sym (is_asked c p s kept n head (found c p s kept lies n head e)) ∙ none)
+asks_for c p s kept lies n may e none = true≢false (sym (is_asked c p s kept n may.head (found c p s kept lies n may e)) ∙ none)
+
+-- a RETR or TOP asks for its message, and leaves the store as it is
+sending_asks : (p : Policy) (v : Transaction) (n : ℕ) (lines : Option ℕ) → transaction_asks p v (Ok (sending n lines)) ≡ is_readable p v.name (at_number v.view n) (is_marked v.marks n)
+sending_asks p v n None = refl
+sending_asks p v n (Some k) = refl
+
+pub sending_found : (c : Contents) (p : Policy) (s : Session) (kept : List Keyed) → LiesIn c s kept → (n : ℕ) (lines : Option ℕ) (may : Readable) → ◌≡◌ {A = Result Readable Pick} (Ok may) (picked_for p s n)
+    → transaction_asks p (transaction_of s kept) (Ok (sending n lines)) ≡ false → ⊥
+sending_found c p s kept lies n lines may e none = asks_for c p s kept lies n may e (sym (sending_asks p (transaction_of s kept) n lines) ∙ none)
 
 -- ---- the text under a key
 
@@ -204,12 +216,20 @@ found_text c sound p s kept lies n head f =
     )
 
 -- why a message isn't found is what the session says
-module _ (c : Contents) (p : Policy) (s : Session) (kept : List Keyed) (lies : LiesIn c s kept) (n : ℕ) (why : Pick) (e : ◌≡◌ {A = Result Head Pick} (Err why) (picked_for p s n)) where
-  pub retrieve_refused : refused_pick n why ≡ transaction_told p s kept (Retr n)
+module _ (c : Contents) (p : Policy) (s : Session) (kept : List Keyed) (lies : LiesIn c s kept) (n : ℕ) (why : Pick) (e : ◌≡◌ {A = Result Readable Pick} (Err why) (picked_for p s n)) where
+  retrieve_refused : refused_pick n why ≡ transaction_told p s kept (Retr n)
   retrieve_refused = refused_said c p s kept lies n why (λ (m : Stored). Message (octets_of m) (stuffed_lines (lines_of m.text))) e
 
-  pub top_refused : (lines : ℕ) → refused_pick n why ≡ transaction_told p s kept (Top n lines)
+  top_refused : (lines : ℕ) → refused_pick n why ≡ transaction_told p s kept (Top n lines)
   top_refused lines = refused_said c p s kept lies n why (λ (m : Stored). TopPart (stuffed_lines (top_part (lines_of m.text) lines))) e
+
+  -- what becomes of the line then
+  pub sending_denied : (After : Contents → Type 0) (grown : Bool) (after : Output) (lines : Option ℕ) (w : LineOutcome) → w ≡ outcome.Done → OwesReply c (Some s) after (refused_pick n why) → After c
+      → IsAnswered After grown c p s s kept after (Ok (sending n lines)) w
+  sending_denied After grown after None w e said held =
+      said_so After grown c p s s kept after (Ok (Retr n)) w (refused_pick n why) e said retrieve_refused (refused_goes_on n why s) held
+  sending_denied After grown after (Some k) w e said held =
+      said_so After grown c p s s kept after (Ok (Top n k)) w (refused_pick n why) e said (top_refused k) (refused_goes_on n why s) held
 
 some_octets : (xs : List ℕ) → (xs ≡ [] → ⊥) → 0 < length xs
 some_octets [] h = absurd (h refl)
@@ -227,19 +247,19 @@ module _ (c : Contents) (sound : AreSound c) (p : Policy) (s : Session) (kept : 
   size = sym (ap (λ (h : Head). h.octets) f.head_is)
 
   -- a reading of it from its beginning on
-  pub begins : (r : Reading) → r.key ≡ head.key → r.octets ≡ head.octets → r.place ≡ 0 → Reads c s r (text_coming r text)
-  begins r key octets place = record {
+  pub begins : (r : Reading) → IsBegunAt head r → Reads c s r (text_coming r text)
+  begins r at = record {
     stored = f.stored;
     there = lies.there f.stored f.there;
     within = lies.within f.stored f.there;
-    key = sym (key ∙ ap (λ (h : Head). h.key) f.head_is);
-    begun = record { size = size ∙ sym octets; left = let some = some_octets text form.nonempty in omega (arith, some, place, octets, size) };
+    key = sym (at.key ∙ ap (λ (h : Head). h.key) f.head_is);
+    begun = record { size = size ∙ sym at.octets; left = let some = some_octets text form.nonempty in omega (arith, some, at.place, at.octets, size) };
     coming = refl;
   }
 
   module _ (After : Contents → Type 0) (grown : Bool) (o : Output) where
     -- what became of a RETR whose reply was to be these octets
-    pub retrieved : (w : LineOutcome) (octets : List ℕ) → octets ≡ bytes_of (Message (length text) (stuffed_lines (lines_of text))) → IsServed After grown c s octets o w
+    retrieved : (w : LineOutcome) (octets : List ℕ) → octets ≡ bytes_of (Message (length text) (stuffed_lines (lines_of text))) → IsServed After grown c s octets o w
         → IsAnswered After grown c p s s kept o (Ok (Retr n)) w
     retrieved outcome.Done octets is served =
         let e = message_said c p s kept n head f in
@@ -259,7 +279,7 @@ module _ (c : Contents) (sound : AreSound c) (p : Policy) (s : Session) (kept : 
     }
 
     -- the same of a TOP
-    pub topped : (lines : ℕ) (w : LineOutcome) (octets : List ℕ) → octets ≡ bytes_of (TopPart (stuffed_lines (top_part (lines_of text) lines))) → IsServed After grown c s octets o w
+    topped : (lines : ℕ) (w : LineOutcome) (octets : List ℕ) → octets ≡ bytes_of (TopPart (stuffed_lines (top_part (lines_of text) lines))) → IsServed After grown c s octets o w
         → IsAnswered After grown c p s s kept o (Ok (Top n lines)) w
     topped lines outcome.Done octets is served =
         let e = top_said c p s kept n head f lines in
@@ -277,3 +297,8 @@ module _ (c : Contents) (sound : AreSound c) (p : Policy) (s : Session) (kept : 
       may = λ e. is_asked c p s kept n head f;
       cause = λ e. served.owed.1;
     }
+
+    pub sent : (lines : Option ℕ) (w : LineOutcome) (octets : List ℕ) → octets ≡ bytes_of (text_reply lines text) → IsServed After grown c s octets o w
+        → IsAnswered After grown c p s s kept o (Ok (sending n lines)) w
+    sent None = retrieved
+    sent (Some k) = topped k

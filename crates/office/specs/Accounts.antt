@@ -2,6 +2,7 @@
 -- before it.
 use Rattle.std.specs.Prelude.{◌≡◌, ℕ, Bool, true, false, List, []}
 use Rattle.std.specs.Prelude.{◌∷◌, length, map, Option, Some, None, Result, Ok, Err}
+use Rattle.std.specs.Option.{option_map}
 use Rattle.creds.specs.declared.login_name.LoginName.{LoginName}
 use Rattle.popline.specs.Commands.{Command, Capa, User, Pass, Apop, Quit, Stat, ListAll, ListOne}
 use Rattle.popline.specs.Commands.{UidlAll, UidlOne, Retr, Top, Dele, Rset, Noop}
@@ -13,23 +14,26 @@ use Rattle.popline.specs.Replies.{Capabilities, SendPass, LoginFailed, LoginFail
 use Rattle.popline.specs.Replies.{DeniedBy, NoSuchMaildrop, InUse, MaildropHas, DropListing}
 use Rattle.popline.specs.Replies.{ScanListing, ScanLine, UidListing, UidLine, Message, TopPart}
 use Rattle.popline.specs.Replies.{Marked, Okay, NoSuchMessage, AlreadyMarked, Bye, RemovalDenied}
-use Rattle.popline.specs.Replies.{RemovalFailed, StoreFailed}
-use Rattle.policy.specs.Policy.{Policy}
+use Rattle.popline.specs.Replies.{Reply, RemovalFailed, StoreFailed}
+use Rattle.policy.specs.Policy.{Policy, decide}
+use Rattle.policy.specs.declared.rule.Action.TheVariants as action
 use Rattle.popline.specs.Cutting.{Cut}
 use Rattle.vault.specs.Records.{Records, class_of, uid_of, octets_of}
 use Rattle.vault.specs.declared.answer.Head.{Head}
 use Rattle.vault.specs.declared.record.Message as store
 use Rattle.session.specs.declared.pick.Pick.{Pick}
 use Rattle.session.specs.declared.pick.Pick.TheVariants as pick
+use Rattle.session.specs.declared.pick.Readable.{Readable}
 use Rattle.session.specs.Session.{Session}
 use Rattle.session.specs.Session as head
-use Rattle.session.specs.View.{marked as rows_marked, to_remove, denying, refer}
+use Rattle.session.specs.View.{marked as rows_marked, to_remove, removed_by, denying, refer}
+use Rattle.session.specs.View.{retrieval}
 use Rattle.office.specs.History.{Act, Line, Tag, Done, Failed, NoMemory, Said, Says, Silence}
 use Rattle.office.specs.History.{Answers, Entry}
 use Rattle.office.specs.History.{in_force, is_done}
 use Rattle.office.specs.Connections.{is_quit, reading, user}
 use Rattle.office.specs.Sessions.{in_session, marks, view}
-use Rattle.office.specs.Replying.{said_to_line}
+use Rattle.office.specs.Replying.{login_asked, name_or_nobody, nobody, said_to_line}
 use Rattle.office.specs.Events.{Event, EventTag, Ignored, Tagged, Trace}
 use Rattle.office.specs.Events as event
 use Rattle.office.specs.Outcomes.{Outcome, Answered, event_tag_of}
@@ -54,38 +58,44 @@ use Rattle.office.specs.declared.account.Way.TheVariants as way
 use Rattle.office.specs.declared.account.Verdict.{Verdict}
 use Rattle.office.specs.declared.account.Verdict.TheVariants as as_judged
 
--- how a login was judged, by what was said to it; what else may be said judges no login
-abbrev pub verdict : Said → Option Verdict
-verdict (Says (MaildropHas messages octets)) = Some as_judged.Accepted
-verdict (Says LoginFailed) = Some as_judged.WrongCredential
-verdict (Says LoginFailedClosing) = Some as_judged.ThirdWrongCredential
-verdict (Says (DeniedBy rule)) = Some (as_judged.Denied rule)
-verdict (Says NoSuchMaildrop) = Some as_judged.NoSuchMaildrop
-verdict (Says InUse) = Some as_judged.InUse
-verdict (Says StoreFailed) = Some as_judged.StoreFailed
-verdict (Says (Greeting number boot host)) = None
-verdict (Says LineTooLong) = None
-verdict (Says UnknownCommand) = None
-verdict (Says WrongState) = None
-verdict (Says BadArguments) = None
-verdict (Says Capabilities) = None
-verdict (Says SendPass) = None
-verdict (Says (DropListing n m)) = None
-verdict (Says (ScanListing rows)) = None
-verdict (Says (ScanLine n m)) = None
-verdict (Says (UidListing rows)) = None
-verdict (Says (UidLine n uid)) = None
-verdict (Says (Message octets lines)) = None
-verdict (Says (TopPart lines)) = None
-verdict (Says (Marked n)) = None
-verdict (Says Okay) = None
-verdict (Says NoSuchMessage) = None
-verdict (Says (AlreadyMarked n)) = None
-verdict (Says Bye) = None
-verdict (Says (RemovalDenied rule)) = None
-verdict (Says RemovalFailed) = None
-verdict Silence = None
-verdict (Answers answer) = None
+-- a clerk whom this rule let in is accepted
+abbrev pub accepted_by : Option (List ℕ) → Option Verdict
+accepted_by None = None
+accepted_by (Some rule) = Some (as_judged.Accepted rule)
+
+-- how a login was judged, by what was said to it, and the rule that let the clerk in if one did;
+-- what else may be said judges no login
+abbrev pub verdict : Said → (rule : Option (List ℕ)) → Option Verdict
+verdict (Says (MaildropHas messages octets)) rule = accepted_by rule
+verdict (Says LoginFailed) rule = Some as_judged.WrongCredential
+verdict (Says LoginFailedClosing) rule = Some as_judged.ThirdWrongCredential
+verdict (Says (DeniedBy by)) rule = Some (as_judged.Denied by)
+verdict (Says NoSuchMaildrop) rule = Some as_judged.NoSuchMaildrop
+verdict (Says InUse) rule = Some as_judged.InUse
+verdict (Says StoreFailed) rule = Some as_judged.StoreFailed
+verdict (Says (Greeting number boot host)) rule = None
+verdict (Says LineTooLong) rule = None
+verdict (Says UnknownCommand) rule = None
+verdict (Says WrongState) rule = None
+verdict (Says BadArguments) rule = None
+verdict (Says Capabilities) rule = None
+verdict (Says SendPass) rule = None
+verdict (Says (DropListing n m)) rule = None
+verdict (Says (ScanListing rows)) rule = None
+verdict (Says (ScanLine n m)) rule = None
+verdict (Says (UidListing rows)) rule = None
+verdict (Says (UidLine n uid)) rule = None
+verdict (Says (Message octets lines)) rule = None
+verdict (Says (TopPart lines)) rule = None
+verdict (Says (Marked n)) rule = None
+verdict (Says Okay) rule = None
+verdict (Says NoSuchMessage) rule = None
+verdict (Says (AlreadyMarked n)) rule = None
+verdict (Says Bye) rule = None
+verdict (Says (RemovalDenied by)) rule = None
+verdict (Says RemovalFailed) rule = None
+verdict Silence rule = None
+verdict (Answers answer) rule = None
 
 -- the account of a login that was judged, if one was, under a name
 abbrev pub login_told : Option Verdict → Way → Option LoginName → Account
@@ -114,14 +124,34 @@ abbrev pub denial_told : MessageCommand → Option MessageRow → (rule : List �
 denial_told command None rule = account.Nothing
 denial_told command (Some message) rule = account.Denied command message.uid rule
 
--- the account of a DELE, RETR or TOP of a message: that was marked, its text or top was sent, a
--- rule denied it, or none of these
-abbrev pub message_told : MessageCommand → Said → Option MessageRow → Account
-message_told command (Says (Marked number)) message = account.Marked
-message_told command (Says (Message octets lines)) (Some message) = account.Retrieved message
-message_told command (Says (TopPart lines)) (Some message) = account.Topped message
-message_told command (Says (DeniedBy rule)) message = denial_told command message rule
-message_told command _ message = account.Nothing
+-- the account of a DELE, RETR or TOP of a message: that was marked, its text or top was sent by a
+-- rule that lets the clerk read it, a rule denied it, or none of these
+abbrev pub message_told : MessageCommand → Said → (rule : Option (List ℕ)) → Option MessageRow
+    → Account
+message_told command (Says (Marked number)) rule message = account.Marked
+message_told command (Says (Message octets lines)) (Some rule) (Some message) =
+    account.Retrieved message rule
+message_told command (Says (TopPart lines)) (Some rule) (Some message) =
+    account.Topped message rule
+message_told command (Says (DeniedBy by)) rule message = denial_told command message by
+message_told command _ rule message = account.Nothing
+
+-- ---- the rule that allows
+
+-- the rule that decides whether a clerk may open a maildrop
+abbrev pub opening_rule : Policy → LoginName → List ℕ
+opening_rule p name = (decide p name.clerk name.maildrop [] action.Open).rule
+
+-- the rule that decides whether who is in session may read a message
+abbrev pub reading_rule : Policy → (who : LoginName) → MessageRow → List ℕ
+reading_rule p who message = (retrieval p who message.uid.class).rule
+
+-- the rule that decides on what a line asks for: that a message is sent, or on a login
+abbrev pub deciding : Policy → (who : LoginName) → Result Command LineFault
+    → (user : Option LoginName) → (message : Option MessageRow) → Option (List ℕ)
+deciding p who (Ok (Retr n)) user message = option_map (reading_rule p who) message
+deciding p who (Ok (Top n k)) user message = option_map (reading_rule p who) message
+deciding p who r user message = option_map (opening_rule p) (login_asked r user)
 
 -- ---- a line
 
@@ -130,25 +160,27 @@ abbrev pub reset_told : Said → Account
 reset_told (Says (MaildropHas messages octets)) = account.Unmarked
 reset_told _ = account.Nothing
 
--- The account of a command, by what was said to it, the name in force before it and the message
--- that it names. Only a PASS with a name in force and an APOP are logins.
-abbrev pub command_account : Command → Said → (user : Option LoginName)
-    → (message : Option MessageRow) → Account
-command_account (Pass password) said user m = login_told (verdict said) way.Pass user
-command_account (Apop name digest) said user m = login_told (verdict said) way.Apop (Some name)
-command_account (Dele n) said user m = message_told to.Dele said m
-command_account (Retr n) said user m = message_told to.Retr said m
-command_account (Top n k) said user m = message_told to.Top said m
-command_account Rset said user m = reset_told said
-command_account Quit said user m = account.QuitBeforeLogin
-command_account Capa said user m = account.Nothing
-command_account (User name) said user m = account.Nothing
-command_account Stat said user m = account.Nothing
-command_account ListAll said user m = account.Nothing
-command_account (ListOne n) said user m = account.Nothing
-command_account UidlAll said user m = account.Nothing
-command_account (UidlOne n) said user m = account.Nothing
-command_account Noop said user m = account.Nothing
+-- The account of a command, by what was said to it, the rule that decides on what it asks for, the
+-- name in force before it and the message that it names. Only a PASS with a name in force and an
+-- APOP are logins.
+abbrev pub command_account : Command → Said → (rule : Option (List ℕ))
+    → (user : Option LoginName) → (message : Option MessageRow) → Account
+command_account (Pass password) said rule user m = login_told (verdict said rule) way.Pass user
+command_account (Apop name digest) said rule user m =
+    login_told (verdict said rule) way.Apop (Some name)
+command_account (Dele n) said rule user m = message_told to.Dele said rule m
+command_account (Retr n) said rule user m = message_told to.Retr said rule m
+command_account (Top n k) said rule user m = message_told to.Top said rule m
+command_account Rset said rule user m = reset_told said
+command_account Quit said rule user m = account.QuitBeforeLogin
+command_account Capa said rule user m = account.Nothing
+command_account (User name) said rule user m = account.Nothing
+command_account Stat said rule user m = account.Nothing
+command_account ListAll said rule user m = account.Nothing
+command_account (ListOne n) said rule user m = account.Nothing
+command_account UidlAll said rule user m = account.Nothing
+command_account (UidlOne n) said rule user m = account.Nothing
+command_account Noop said rule user m = account.Nothing
 
 -- the account of a line that reads as no command
 abbrev pub fault_told : LineFault → Said → Account
@@ -169,12 +201,17 @@ fault_told (Syntax keyword.Dele) said = account.Nothing
 fault_told (Syntax keyword.Rset) said = account.Nothing
 fault_told (Syntax keyword.Noop) said = account.Nothing
 
--- the account of a line that reads so, by what was said to it, the name in force before it and the
--- message that it names; that of a session's QUIT is another
-abbrev pub line_account : Result Command LineFault → Said → (user : Option LoginName)
-    → (message : Option MessageRow) → Account
-line_account (Ok command) said user message = command_account command said user message
-line_account (Err fault) said user message = fault_told fault said
+-- the same of a line that reads so; that of a session's QUIT is another
+abbrev pub line_account : Result Command LineFault → Said → (rule : Option (List ℕ))
+    → (user : Option LoginName) → (message : Option MessageRow) → Account
+line_account (Ok command) said rule user message = command_account command said rule user message
+line_account (Err fault) said rule user message = fault_told fault said
+
+-- the same, by the policy and by who is in session, which say the rule
+abbrev pub account_under : Policy → (who : LoginName) → Result Command LineFault → Said
+    → (user : Option LoginName) → (message : Option MessageRow) → Account
+account_under p who r said user message =
+    line_account r said (deciding p who r user message) user message
 
 -- a QUIT's account, or that of another line
 abbrev pub quit_or : (quits : Bool) → (quit other : Account) → Account
@@ -186,7 +223,8 @@ abbrev pub removal_by : Records → List Entry → ℕ → Tag → LoginName →
 removal_by B G c t name = record {
   name = name;
   marked = length (rows_marked (marks G c) (view B G c));
-  removed = map uid_of (to_remove class_of (in_force B G) name (marks G c) (view B G c));
+  removed = map (removed_by class_of uid_of (in_force B G) name)
+      (to_remove class_of (in_force B G) name (marks G c) (view B G c));
   denied = denying class_of (in_force B G) name (marks G c) (view B G c);
   is_done = is_done t;
 }
@@ -210,7 +248,8 @@ abbrev pub line_told : Records → List Entry → ℕ → Cut → Tag → Accoun
 line_told B G c x NoMemory = account.Nothing
 line_told B G c x t =
     quit_or (is_quit (reading x)) (quit_account (in_session G c) (removal_by B G c t))
-    (line_account (reading x) (said_to_line B G c x t) (user G c) (named_at B G c (reading x)))
+    (account_under (in_force B G) (name_or_nobody (in_session G c)) (reading x)
+    (said_to_line B G c x t) (user G c) (named_at B G c (reading x)))
 
 -- the account of an event's acts, of which one at most is a line
 abbrev pub acts_account : Records → List Entry → List (Act × Tag) → Account
@@ -292,7 +331,8 @@ abbrev pub removal_told : LineOutcome → Policy → Session → Removal
 removal_told w p s = record {
   name = s.name;
   marked = length (rows_marked s.marks s.view);
-  removed = map head.uid_of (to_remove head.class_of p s.name s.marks s.view);
+  removed = map (removed_by head.class_of head.uid_of p s.name)
+      (to_remove head.class_of p s.name s.marks s.view);
   denied = denying head.class_of p s.name s.marks s.view;
   is_done = was_done w;
 }
@@ -302,7 +342,8 @@ abbrev pub removal_seen : LineOutcome → Policy → Transaction → Removal
 removal_seen w p v = record {
   name = v.name;
   marked = length (rows_marked v.marks v.view);
-  removed = map uid_of (to_remove class_of p v.name v.marks v.view);
+  removed = map (removed_by class_of uid_of p v.name)
+      (to_remove class_of p v.name v.marks v.view);
   denied = denying class_of p v.name v.marks v.view;
   is_done = was_done w;
 }
@@ -315,16 +356,21 @@ row_of_head h = record { uid = head.uid_of h; octets = h.octets }
 abbrev pub row_kept : Session → ℕ → Option MessageRow
 row_kept s n = refer s.marks s.view n None None (λ h. Some (row_of_head h))
 
--- a command did to the message that it names what it says
-abbrev pub done_told : MessageCommand → Option MessageRow → Account
-done_told command None = account.Nothing
-done_told to.Dele (Some message) = account.Marked
-done_told to.Retr (Some message) = account.Retrieved message
-done_told to.Top (Some message) = account.Topped message
+-- a command did to the message that it names what it says, by this rule
+abbrev pub done_told : MessageCommand → Option MessageRow → (rule : List ℕ) → Account
+done_told command None rule = account.Nothing
+done_told to.Dele (Some message) rule = account.Marked
+done_told to.Retr (Some message) rule = account.Retrieved message rule
+done_told to.Top (Some message) rule = account.Topped message rule
+
+-- which command sends a message: RETR, or TOP of so many lines
+abbrev pub sent_by : (lines : Option ℕ) → MessageCommand
+sent_by None = to.Retr
+sent_by (Some k) = to.Top
 
 -- the account of a RETR or TOP at which the store doesn't fail, by whether the message may be read
-abbrev pub sending_told : MessageCommand → Result Head Pick → Option MessageRow → Account
-sending_told command (Ok head) message = done_told command message
+abbrev pub sending_told : MessageCommand → Result Readable Pick → Option MessageRow → Account
+sending_told command (Ok readable) message = done_told command message readable.rule
 sending_told command (Err (pick.Denied rule)) message = denial_told command message rule
 sending_told command (Err pick.NoSuch) message = account.Nothing
 sending_told command (Err pick.Deleted) message = account.Nothing
@@ -358,11 +404,28 @@ quit_seen w p (Some v) = account.Quit (removal_seen w p v)
 abbrev pub transaction_account : LineOutcome → Policy → Session → Result Command LineFault → Said
     → (message : Option MessageRow) → Account
 transaction_account w p s r said message =
-    quit_or (is_quit r) (account.Quit (removal_told w p s)) (line_account r said None message)
+    quit_or (is_quit r) (account.Quit (removal_told w p s))
+    (account_under p s.name r said None message)
+
+-- who is in the session, if there is one
+abbrev pub who_in : Option Transaction → LoginName
+who_in None = nobody
+who_in (Some v) = v.name
+
+-- the rule that let a clerk in, if this is the reply to a login that was accepted
+abbrev pub let_in : Reply → (rule : Option (List ℕ)) → Option (List ℕ)
+let_in (MaildropHas messages octets) rule = rule
+let_in _ rule = None
+
+-- the same, by what the line asks for
+abbrev pub let_in_by : Policy → Result Command LineFault → (user : Option LoginName) → Reply
+    → Option (List ℕ)
+let_in_by p r user reply = let_in reply (option_map (opening_rule p) (login_asked r user))
 
 -- the account of a line by the session, if there is one
 abbrev pub state_account : LineOutcome → Policy → Option Transaction → Result Command LineFault
     → Said
     → (user : Option LoginName) → Account
 state_account w p v r said user =
-    quit_or (is_quit r) (quit_seen w p v) (line_account r said user (named_seen v r))
+    quit_or (is_quit r) (quit_seen w p v)
+    (account_under p (who_in v) r said user (named_seen v r))

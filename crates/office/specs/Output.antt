@@ -6,6 +6,7 @@ use Rattle.std.specs.List.{flat_map}
 use Rattle.mailtext.specs.Streams.{Come, stuffed_from, top_from}
 use Rattle.popline.specs.Replies.{Reply, one_line, scan_text, uid_row_text, bytes_of}
 use Rattle.vault.specs.Changes.{Contents}
+use Rattle.vault.specs.declared.answer.Head.{Head}
 use Rattle.vault.specs.declared.record.Keyed.{Keyed}
 use Rattle.session.specs.Session.{Session, octets_of, uid_of}
 use Rattle.session.specs.View.{unmarked, sizes_of, uids_of}
@@ -80,6 +81,12 @@ text_coming r text = stuffed_from r.stuffer (cut_from r.cut (drop r.place text))
 pub record IsBegun (r : Reading) (text : List ℕ) : Type 0 where
   pub size : length text ≡ r.octets
   pub left : r.place < r.octets
+
+-- `r` is at the beginning of the message of a head
+pub record IsBegunAt (head : Head) (r : Reading) : Type 0 where
+  pub key : r.key ≡ head.key
+  pub octets : r.octets ≡ head.octets
+  pub place : r.place ≡ 0
 
 -- what a listing is still to put; nothing for a message
 abbrev pub listing_coming : Session → Source → List ℕ

@@ -3,11 +3,13 @@
 use Rattle.std.specs.Prelude.{◌≡◌, ℕ, Bool, true, false, ◌<◌, ◌^◌, List, length, take, map}
 use Rattle.std.specs.Prelude.{sum_by, Option, Some, None, Result, Ok}
 use Rattle.mailtext.specs.MailText.{IsMailText}
+use Rattle.mailtext.specs.Text.{lines_of, stuffed_lines, top_part}
 use Rattle.creds.specs.declared.login_name.LoginName.{LoginName}
 use Rattle.popline.specs.Cutting.{Cut}
-use Rattle.popline.specs.Commands.{Command, Capa, Quit}
+use Rattle.popline.specs.Commands.{Command, Capa, Quit, Retr, Top}
 use Rattle.popline.specs.declared.command.LineFault.{LineFault}
 use Rattle.popline.specs.Replies.{Reply, NoSuchMessage, AlreadyMarked, DeniedBy, StoreFailed}
+use Rattle.popline.specs.Replies.{Message, TopPart}
 use Rattle.policy.specs.Policy.{Policy}
 use Rattle.vault.specs.Changes.{Contents, head_of, with_messages, without_keys}
 use Rattle.vault.specs.Calls.{text_under}
@@ -66,6 +68,16 @@ abbrev pub refused_pick : ℕ → Pick → Reply
 refused_pick n NoSuch = NoSuchMessage
 refused_pick n Deleted = AlreadyMarked n
 refused_pick n (Denied rule) = DeniedBy rule
+
+-- RETR of a number, or TOP of so many lines
+abbrev pub sending : ℕ → (lines : Option ℕ) → Command
+sending n None = Retr n
+sending n (Some k) = Top n k
+
+-- the reply that sends a text, or the top of it with so many lines
+abbrev pub text_reply : (lines : Option ℕ) → (text : List ℕ) → Reply
+text_reply None text = Message (length text) (stuffed_lines (lines_of text))
+text_reply (Some k) text = TopPart (stuffed_lines (top_part (lines_of text) k))
 
 -- ---- a line of a session
 

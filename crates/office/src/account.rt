@@ -1,11 +1,13 @@
 //! The account of an event: what the office judged in it.
-ghost use Rattle.std.specs.Prelude.{◌≡◌, None};
+ghost use Rattle.std.specs.Prelude.{◌≡◌, ℕ, List, Option, None};
 ghost use Rattle.popline.specs.Seen.{command_seen, reply_seen};
+ghost use Rattle.policy.specs.Policy.{Policy};
+ghost use Rattle.session.specs.Session.{IsPlan};
 ghost use Rattle.office.specs.History.{Says};
 ghost use Rattle.office.specs.Connections.{reading};
-ghost use Rattle.office.specs.Accounts.{verdict as verdict_of, login_told, reset_told};
+ghost use Rattle.office.specs.Accounts.{verdict as verdict_of, accepted_by, login_told};
 ghost use Rattle.office.specs.Accounts.{done_told, denial_told, message_told, sending_told};
-ghost use Rattle.office.specs.Accounts.{told_if_done, reported, taken_told};
+ghost use Rattle.office.specs.Accounts.{reset_told, told_if_done, reported, taken_told};
 ghost use Rattle.office.specs.Accounts.{command_account, fault_told, line_account};
 ghost use Rattle.office.specs.Accounts.{removal_told, was_done as was_done_so};
 
@@ -14,11 +16,9 @@ use crate::command_line::CommandLine;
 use crate::login_state::LineOutcome;
 use crate::{Outcome, Reason};
 use creds::{LoginName, Name, Uid};
-use policy::Policy;
 use popline::{Command, Keyword, LineFault, Reply};
-use session::{Pick, Removed, Session};
+use session::{Pick, QuitPlan, Readable, Removed, Session};
 use std::alloc::AllocError;
-use vault::Head;
 
 /// By which command a login gives its credential (RFC 1939, 7).
 #[derive(Clone, Copy)]
@@ -30,7 +30,8 @@ pub enum Way {
 /// How a login was judged: that it was accepted, or the first check that it didn't pass.
 #[derive(Clone, Copy)]
 pub enum Verdict {
-    Accepted,
+    /// The clerk was let in: the rule's name.
+    Accepted(Name),
     /// There is no such clerk, the password or digest is wrong, or the clerk's credential is of the
     /// other kind.
     WrongCredential,
@@ -52,7 +53,7 @@ pub struct Removal {
     pub name: LoginName,
     /// How many messages were marked.
     pub marked: usize,
-    /// The marked messages that the policy let the clerk remove, by their unique-ids.
+    /// The marked messages that the policy let the clerk remove, each with the rule that let it.
     pub removed: Removed,
     /// The rule that kept the lowest numbered of the other marked messages, if one did.
     pub denied: Option<Name>,
@@ -90,8 +91,8 @@ pub enum MessageCommand {
     Top,
 }
 
-/// What an office judged in an event. It takes no memory but that of a session which quit, and
-/// holds no password and no digest.
+/// What an office judged in an event. It takes no memory but that of a QUIT's plan, and holds no
+/// password and no digest.
 #[derive(Drop)]
 pub enum Account {
     /// Nothing of what follows.
@@ -105,11 +106,12 @@ pub enum Account {
     Marked,
     /// A session's RSET took all its marks away.
     Unmarked,
-    /// A session's RETR began to send this message.
-    Retrieved(MessageRow),
-    /// A session's TOP began to send the top of this message. The octets are those of the whole
-    /// message, of which TOP may send few.
-    Topped(MessageRow),
+    /// A session's RETR began to send this message, which the rule of this name lets the clerk
+    /// read.
+    Retrieved(MessageRow, Name),
+    /// A session's TOP began to send the top of this message, by the rule of this name. The octets
+    /// are those of the whole message, of which TOP may send few.
+    Topped(MessageRow, Name),
     /// A rule denied a session's command for the message of this unique-id: the rule's name.
     Denied(MessageCommand, Uid, Name),
     /// The client took the last octet that it was owed. If a line acted then, the account is that
@@ -140,12 +142,13 @@ pub struct EventReport {
     pub account: Account,
 }
 
-/// How a login was judged that got this reply; `None` for a reply that judges no login.
-fn judgement(reply: &Reply<'_>) -> Option<Verdict>
-    ensures { result ≡ verdict_of (Says (reply_seen reply.now)) }
+/// How a login was judged that got this reply, by the rule that let the clerk in, if one did;
+/// `None` for a reply that judges no login.
+fn judgement(reply: &Reply<'_>, rule: Option<Name>) -> Option<Verdict>
+    ensures { result ≡ verdict_of (Says (reply_seen reply.now)) rule }
 {
     match reply {
-        Reply::MaildropHas { .. } => Some(Verdict::Accepted),
+        Reply::MaildropHas { .. } => accepted(rule),
         Reply::LoginFailed => Some(Verdict::WrongCredential),
         Reply::LoginFailedClosing => Some(Verdict::ThirdWrongCredential),
         Reply::DeniedBy(rule) => Some(Verdict::Denied(*rule)),
@@ -157,6 +160,16 @@ fn judgement(reply: &Reply<'_>) -> Option<Verdict>
         Reply::DropListing { .. } | Reply::ScanLine { .. } | Reply::UidLine { .. } => None,
         Reply::Marked(_) | Reply::Okay | Reply::NoSuchMessage | Reply::AlreadyMarked(_) => None,
         Reply::Bye | Reply::RemovalDenied(_) | Reply::RemovalFailed => None,
+    }
+}
+
+/// The verdict on a clerk whom a rule let in.
+fn accepted(rule: Option<Name>) -> Option<Verdict>
+    ensures { result ≡ accepted_by rule }
+{
+    match rule {
+        Some(rule) => Some(Verdict::Accepted(rule)),
+        None => None,
     }
 }
 
@@ -183,17 +196,17 @@ fn of_login(judged: Option<Verdict>, by: Way, user: Option<LoginName>) -> Accoun
     Account::Login(name, by, judged)
 }
 
-/// The account of a command that did to the message that it named what it says.
-fn of_doing(command: MessageCommand, named: Option<MessageRow>) -> Account
-    ensures { result ≡ done_told command named }
+/// The account of a command that did to the message that it named what it says, by this rule.
+fn of_doing(command: MessageCommand, named: Option<MessageRow>, rule: Name) -> Account
+    ensures { result ≡ done_told command named rule }
 {
     let Some(message) = named else {
         return Account::Nothing;
     };
     match command {
         MessageCommand::Dele => Account::Marked,
-        MessageCommand::Retr => Account::Retrieved(message),
-        MessageCommand::Top => Account::Topped(message),
+        MessageCommand::Retr => Account::Retrieved(message, rule),
+        MessageCommand::Top => Account::Topped(message, rule),
     }
 }
 
@@ -209,7 +222,8 @@ fn of_denial(command: MessageCommand, named: Option<MessageRow>, rule: Name) -> 
 
 /// The account of a command that got this reply, for the message that it named.
 fn of_message(command: MessageCommand, reply: &Reply<'_>, named: Option<MessageRow>) -> Account
-    ensures { result ≡ message_told command (Says (reply_seen reply.now)) named }
+    ensures { (rule : Option (List ℕ))
+        → result ≡ message_told command (Says (reply_seen reply.now)) rule named }
 {
     match reply {
         Reply::Marked(_) => Account::Marked,
@@ -242,20 +256,22 @@ fn of_fault(fault: LineFault, reply: &Reply<'_>) -> Account
 }
 
 impl Account {
-    /// The account of a command that got this reply, but for a session's QUIT, RETR and TOP. `user`
-    /// is the login name that was in force, `named` the message that the command names.
+    /// The account of a command that got this reply, but for a session's QUIT, RETR and TOP. `rule`
+    /// let the clerk in, `user` is the login name that was in force, `named` the message that the
+    /// command names.
     pub(crate) fn of_command(
         command: &Command<'_>,
         reply: &Reply<'_>,
+        rule: Option<Name>,
         user: Option<LoginName>,
         named: Option<MessageRow>,
     ) -> Account
         ensures { result ≡ command_account (command_seen command.now)
-            (Says (reply_seen reply.now)) user named }
+            (Says (reply_seen reply.now)) rule user named }
     {
         match command {
-            Command::Pass(_) => of_login(judgement(reply), Way::Pass, user),
-            Command::Apop(name, _) => of_login(judgement(reply), Way::Apop, Some(*name)),
+            Command::Pass(_) => of_login(judgement(reply, rule), Way::Pass, user),
+            Command::Apop(name, _) => of_login(judgement(reply, rule), Way::Apop, Some(*name)),
             Command::Dele(_) => of_message(MessageCommand::Dele, reply, named),
             Command::Retr(_) => of_message(MessageCommand::Retr, reply, named),
             Command::Top(_, _) => of_message(MessageCommand::Top, reply, named),
@@ -268,17 +284,19 @@ impl Account {
         }
     }
 
-    /// The account of a line before a login that got this reply. `user` is the login name that was
-    /// in force.
+    /// The account of a line before a login that got this reply. `rule` let the clerk in, `user` is
+    /// the login name that was in force.
     pub(crate) fn of_line(
         line: &CommandLine<'_>,
         reply: &Reply<'_>,
+        rule: Option<Name>,
         user: Option<LoginName>,
     ) -> Account
-        ensures { result ≡ line_account (reading line.now) (Says (reply_seen reply.now)) user None }
+        ensures { result ≡ line_account (reading line.now) (Says (reply_seen reply.now)) rule user
+            None }
     {
         match line.reading() {
-            Ok(command) => Account::of_command(command, reply, user, None),
+            Ok(command) => Account::of_command(command, reply, rule, user, None),
             Err(why) => of_fault(*why, reply),
         }
     }
@@ -287,13 +305,13 @@ impl Account {
     /// names, and whether that may be read.
     pub(crate) fn of_sending(
         command: MessageCommand,
-        readable: &Result<Head, Pick>,
+        readable: &Result<Readable, Pick>,
         named: Option<MessageRow>,
     ) -> Account
         ensures { result ≡ sending_told command readable.now named }
     {
         match readable {
-            Ok(_) => of_doing(command, named),
+            Ok(readable) => of_doing(command, named, readable.rule),
             Err(Pick::Denied(rule)) => of_denial(command, named, *rule),
             Err(Pick::NoSuch | Pick::Deleted) => Account::Nothing,
         }
@@ -318,27 +336,33 @@ impl Account {
         match &self {
             Account::Nothing => Account::Taken,
             Account::Login(_, _, _) | Account::NoName | Account::Marked | Account::Unmarked => self,
-            Account::Retrieved(_) | Account::Topped(_) | Account::Denied(_, _, _) => self,
+            Account::Retrieved(_, _) | Account::Topped(_, _) => self,
+            Account::Denied(_, _, _) => self,
             Account::Taken | Account::Quit(_) | Account::QuitBeforeLogin => self,
             Account::Ended(_) => self,
         }
     }
 
-    /// The account of a session's QUIT, which ends it. `outcome` says whether what the policy lets
-    /// the clerk remove was removed. It takes no memory.
-    pub(crate) fn of_quit(session: Session, policy: &Policy, outcome: LineOutcome) -> Account
-        ensures { result ≡ Account.Quit (removal_told outcome policy.now session) }
+    /// The account of a session's QUIT, by what was planned of it. `outcome` says whether what the
+    /// policy lets the clerk remove was removed.
+    pub(crate) fn of_quit(session: &Session, plan: QuitPlan, outcome: LineOutcome) -> Account
+        ensures { (p : Policy) → IsPlan p session.now plan
+            → result ≡ Account.Quit (removal_told outcome p session.now) }
     {
         let name = LoginName {
             clerk: session.clerk(),
             maildrop: session.maildrop(),
         };
-        let marked = session.marked();
-        let denied = session.denying(policy);
+        let QuitPlan {
+            marked,
+            keys: _keys,
+            removed,
+            denied,
+        } = plan;
         Account::Quit(Removal {
             name,
             marked,
-            removed: session.into_removed(policy),
+            removed,
             denied,
             is_done: was_done(outcome),
         })

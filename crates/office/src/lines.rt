@@ -9,6 +9,7 @@ ghost use Rattle.vault.specs.Call.{Looks};
 ghost use Rattle.vault.specs.Parts.{OnlyLooks};
 ghost use Rattle.office.specs.History.{Says};
 ghost use Rattle.office.specs.Connections.{reading, is_quit, user_after_line, closes, is_failure};
+ghost use Rattle.office.specs.Accounts.{let_in_by};
 ghost use Rattle.office.specs.Sessions.{logs_in};
 ghost use Rattle.office.specs.Replying.{is_allowed};
 ghost use Rattle.office.specs.Stopping.{WasDone, ActsOnce};
@@ -27,13 +28,14 @@ use crate::login::judge;
 use crate::login_state::{LineContext, LineOutcome, LoginState};
 use crate::output::Output;
 use crate::transaction;
-use creds::{LoginName, Proof};
+use creds::{LoginName, Name, Proof};
 use popline::{Command, Cut, Reply};
 use session::Session;
 use std::alloc::{AllocError, Global};
 use vault::{Vault, VaultFault};
 
-/// The reply to a command that may be given before a login, and the session if one begins.
+/// The reply to a command that may be given before a login; and if a session begins, it and the rule
+/// that lets the clerk in.
 fn command_reply<V: Vault>(
     alloc: Global,
     vault: &mut V,
@@ -41,7 +43,7 @@ fn command_reply<V: Vault>(
     locks: &Locks,
     command: &Command<'_>,
     state: LoginState,
-) -> Result<(Reply<'static>, Option<Session>), VaultFault>
+) -> Result<(Reply<'static>, Option<Session>, Option<Name>), VaultFault>
     requires { is_allowed (keyword_of (command_seen command.now)) false (is_some state.user)
         ≡ true }
     ensures said { (c : Contents) → V.holds vault.old c → V.is_clean vault.new
@@ -52,6 +54,8 @@ fn command_reply<V: Vault>(
         → SessionAfter (is_quit (Ok (command_seen command.now)))
         (logs_in (Ok (command_seen command.now)) (Says (reply_seen r.0)) state.user) c
         context.entry.policy.now state.removals (reply_seen r.0) None r.1) }
+    ensures rule { IfOk result (λ r. r.2 ≡ let_in_by context.entry.policy.now
+        (Ok (command_seen command.now)) state.user (reply_seen r.0)) }
     ensures asked { OnErr result (authorization_asks state (Ok (command_seen command.now))
         ≡ true) }
     ensures looks { Looks V.holds V.faults V.is_clean V.is_up V.may_leave vault.old vault.new
@@ -63,8 +67,8 @@ fn command_reply<V: Vault>(
     let failures = state.failures;
     let removals = state.removals;
     match command {
-        Command::Capa => Ok((Reply::Capabilities, None)),
-        Command::User(_) => Ok((Reply::SendPass, None)),
+        Command::Capa => Ok((Reply::Capabilities, None, None)),
+        Command::User(_) => Ok((Reply::SendPass, None, None)),
         Command::Pass(password) => match user {
             None => unreachable!(),
             Some(name) => {
@@ -80,12 +84,13 @@ fn command_reply<V: Vault>(
                 alloc, vault, context, locks, failures, removals, name, &proof,
             )
         }
-        Command::Quit => Ok((Reply::Bye, None)),
+        Command::Quit => Ok((Reply::Bye, None, None)),
         _ => unreachable!(),
     }
 }
 
-/// The reply to a line before a login, and the session if one begins.
+/// The reply to a line before a login; and if a session begins, it and the rule that lets the clerk
+/// in.
 fn reply_to<V: Vault>(
     alloc: Global,
     vault: &mut V,
@@ -93,13 +98,15 @@ fn reply_to<V: Vault>(
     locks: &Locks,
     line: &CommandLine<'_>,
     state: LoginState,
-) -> Result<(Reply<'static>, Option<Session>), VaultFault>
+) -> Result<(Reply<'static>, Option<Session>, Option<Name>), VaultFault>
     ensures said { (c : Contents) → V.holds vault.old c → V.is_clean vault.new
         → IsDone (V.holds vault.new) c c
         (Ok (authorization_line (context_over c context.entry locks.now) state
         line.now)) (seen_as result (λ r. reply_seen r.0)) }
     ensures session { IfOk result (λ r. (c : Contents) → V.holds vault.old c → V.is_clean vault.new
         → Becomes c context.entry.policy.now state line.now (reply_seen r.0) None r.1) }
+    ensures rule { IfOk result (λ r. r.2 ≡ let_in_by context.entry.policy.now (reading line.now)
+        state.user (reply_seen r.0)) }
     ensures asked { OnErr result (authorization_asks state (reading line.now) ≡ true) }
     ensures looks { Looks V.holds V.faults V.is_clean V.is_up V.may_leave vault.old vault.new
         result }
@@ -108,7 +115,7 @@ fn reply_to<V: Vault>(
 {
     match line.permitted(false, state.user.is_some()) {
         Ok(command) => command_reply(alloc, vault, context, locks, command, state),
-        Err(reply) => Ok((reply, None)),
+        Err(reply) => Ok((reply, None, None)),
     }
 }
 
@@ -183,14 +190,14 @@ fn authorization_answer<V: Vault>(
     ensures unasked { authorization_asks state.old (reading line.now) ≡ false
         → vault.new ≡ vault.old }
 {
-    let (reply, begun, outcome) = match reply_to(alloc, vault, context, locks, line, *state) {
-        Ok((reply, begun)) => (reply, begun, LineOutcome::Done),
+    let (reply, begun, rule, outcome) = match reply_to(alloc, vault, context, locks, line, *state) {
+        Ok((reply, begun, rule)) => (reply, begun, rule, LineOutcome::Done),
         Err(VaultFault::NoMemory) => return Err(AllocError),
-        Err(_) => (Reply::StoreFailed, None, LineOutcome::Failed),
+        Err(_) => (Reply::StoreFailed, None, None, LineOutcome::Failed),
     };
     output.say(alloc, &reply)?;
     lock(locks, context.number, &begun)?;
-    let account = Account::of_line(line, &reply, state.user);
+    let account = Account::of_line(line, &reply, rule, state.user);
     *state = next_login_state(line, &reply, *state);
     Ok((LineReport { outcome, account }, begun))
 }
@@ -226,12 +233,10 @@ fn transaction_answer<V: Vault>(
     let mut session = session;
     let maildrop = session.maildrop();
     let answered = transaction::answer(alloc, vault, context.policy, line, output, &mut session)?;
-    let outcome = answered.outcome;
-    *state = transaction::next_login_state(line, outcome, *state);
+    *state = transaction::next_login_state(line, answered.outcome, *state);
     if line.is_quit() {
         release(locks, Some(maildrop));
-        let account = Account::of_quit(session, context.policy, outcome);
-        return Ok((LineReport { outcome, account }, None));
+        return Ok((answered, None));
     }
     Ok((answered, Some(session)))
 }

@@ -11,13 +11,14 @@ ghost use Rattle.vault.specs.Calls.{IsDone, seen_as};
 ghost use Rattle.vault.specs.Call.{Looks};
 ghost use Rattle.session.specs.Session.{started};
 ghost use Rattle.office.specs.Replying.{login_failed};
+ghost use Rattle.office.specs.Accounts.{let_in, opening_rule};
 ghost use Rattle.office.specs.Kept.{judged};
 ghost use Rattle.office.specs.Answered.{context_over};
 ghost use Rattle.office.specs.Entering.{entered, began};
 
 use crate::locks::Locks;
 use crate::login_state::LineContext;
-use creds::{LoginName, Proof};
+use creds::{LoginName, Name, Proof};
 use policy::{Action, Decision, Policy};
 use popline::Reply;
 use session::{Removals, Session};
@@ -65,8 +66,8 @@ fn is_admitted<V: Vault>(
     })
 }
 
-/// Opens a maildrop for a clerk whom the policy lets in: the reply, and the session unless the
-/// maildrop is missing or locked.
+/// Opens a maildrop for a clerk whom a rule lets in: the reply, and the session and the rule, unless
+/// the maildrop is missing or locked.
 fn enter<V: Vault>(
     alloc: Global,
     vault: &mut V,
@@ -74,33 +75,39 @@ fn enter<V: Vault>(
     removals: Removals,
     locks: &Locks,
     name: &LoginName,
-) -> Result<(Reply<'static>, Option<Session>), VaultFault>
+    rule: Name,
+) -> Result<(Reply<'static>, Option<Session>, Option<Name>), VaultFault>
     ensures said { (c : Contents) → V.holds vault.old c → V.is_clean vault.new
         → IsDone (V.holds vault.new) c c (Ok (entered c policy.now locks.now name.now))
         (seen_as result (λ r. reply_seen r.0)) }
     ensures session { IfOk result (λ r. (c : Contents) → V.holds vault.old c → V.is_clean vault.new
         → r.1 ≡ began (reply_seen r.0) (started policy.now removals name.now.clerk name.now.maildrop
         (heads name.now.maildrop c))) }
+    ensures rule { IfOk result (λ r. r.2 ≡ let_in (reply_seen r.0) (Some rule)) }
     ensures looks { Looks V.holds V.faults V.is_clean V.is_up V.may_leave vault.old vault.new
         result }
 {
     let heads = match vault.heads(&name.maildrop) {
         Ok(heads) => heads,
-        Err(VaultFault::NoMaildrop) => return Ok((Reply::NoSuchMaildrop, None)),
+        Err(VaultFault::NoMaildrop) => return Ok((Reply::NoSuchMaildrop, None, None)),
         Err(fault) => return Err(fault),
     };
     if locks.contains_key(&name.maildrop) {
-        return Ok((Reply::InUse, None));
+        return Ok((Reply::InUse, None, None));
     }
     let Ok(session) = Session::start(alloc, name.clerk, name.maildrop, &heads, policy, removals)
     else {
         return Err(VaultFault::NoMemory);
     };
     let (messages, octets) = session.stat();
-    Ok((Reply::MaildropHas { messages, octets }, Some(session)))
+    Ok((
+        Reply::MaildropHas { messages, octets },
+        Some(session),
+        Some(rule),
+    ))
 }
 
-/// The reply to a login, and the session if one begins.
+/// The reply to a login; and if a session begins, it and the rule that lets the clerk in.
 pub(crate) fn judge<V: Vault>(
     alloc: Global,
     vault: &mut V,
@@ -110,7 +117,7 @@ pub(crate) fn judge<V: Vault>(
     removals: Removals,
     name: &LoginName,
     proof: &Proof<'_>,
-) -> Result<(Reply<'static>, Option<Session>), VaultFault>
+) -> Result<(Reply<'static>, Option<Session>, Option<Name>), VaultFault>
     ensures said { (c : Contents) → V.holds vault.old c → V.is_clean vault.new
         → IsDone (V.holds vault.new) c c
         (Ok (judged (context_over c context.entry locks.now) failures
@@ -118,15 +125,18 @@ pub(crate) fn judge<V: Vault>(
     ensures session { IfOk result (λ r. (c : Contents) → V.holds vault.old c → V.is_clean vault.new
         → r.1 ≡ began (reply_seen r.0) (started context.entry.policy.now removals name.now.clerk
         name.now.maildrop (heads name.now.maildrop c))) }
+    ensures rule { IfOk result (λ r. r.2 ≡ let_in (reply_seen r.0)
+        (Some (opening_rule context.entry.policy.now name.now))) }
     ensures looks { Looks V.holds V.faults V.is_clean V.is_up V.may_leave vault.old vault.new
         result }
 {
     if !is_admitted(vault, context.stamp, name, proof)? {
-        return Ok((refusal(failures), None));
+        return Ok((refusal(failures), None, None));
     }
     let opening = opening(context.policy, name);
     if !opening.allowed {
-        return Ok((Reply::DeniedBy(opening.rule), None));
+        return Ok((Reply::DeniedBy(opening.rule), None, None));
     }
-    enter(alloc, vault, context.policy, removals, locks, name)
+    let rule = opening.rule;
+    enter(alloc, vault, context.policy, removals, locks, name, rule)
 }

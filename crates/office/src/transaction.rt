@@ -10,9 +10,9 @@ ghost use Rattle.vault.specs.Calls.{has_grown};
 ghost use Rattle.vault.specs.declared.record.Keyed.{Keyed};
 ghost use Rattle.session.specs.Session.{Session as State};
 ghost use Rattle.office.specs.History.{Says};
-ghost use Rattle.office.specs.Connections.{reading, is_quit};
+ghost use Rattle.office.specs.Connections.{reading};
 ghost use Rattle.office.specs.Kept.{login_state_after};
-ghost use Rattle.office.specs.Accounts.{command_account, line_account, row_kept, named_in};
+ghost use Rattle.office.specs.Accounts.{command_account, transaction_account, row_kept, named_in};
 ghost use Rattle.office.specs.Accounts.{named as row_named};
 ghost use Rattle.office.specs.Telling.{is_told};
 ghost use Rattle.office.specs.Stopping.{WasDone, ActsOnce};
@@ -25,16 +25,16 @@ ghost use Rattle.office.specs.Transaction.{held_after_line};
 ghost use Rattle.office.specs.Transaction.{transaction_user};
 ghost use Rattle.office.specs.Transaction.{transaction_answered};
 
-use crate::account::{Account, LineReport, MessageCommand, report};
+use crate::account::{Account, LineReport, report};
 use crate::answer::MessageRow;
 use crate::command_line::CommandLine;
 use crate::listing::{drop_listing, list, list_uids};
 use crate::login_state::{LineOutcome, LoginState, say};
-use crate::message::{retrieve, top};
+use crate::message::{retrieve, row_at};
 use crate::output::Output;
 use crate::quit::quit;
 use crate::referring::{delete, reset, scan_line, uid_line};
-use creds::{LoginName, Uid};
+use creds::LoginName;
 use policy::Policy;
 use popline::{Command, Reply};
 use session::Session;
@@ -63,33 +63,14 @@ fn plain_reply(session: &mut Session, policy: &Policy, command: &Command<'_>) ->
     }
 }
 
-/// The message of a number, unless it is marked.
-fn row_at(session: &Session, n: u64) -> Option<MessageRow>
-    ensures { result ≡ row_kept session.now n }
-{
-    match session.pick(n) {
-        Ok(head) => Some(MessageRow {
-            uid: Uid {
-                class: head.class,
-                k: head.k,
-            },
-            octets: head.octets,
-        }),
-        Err(_) => None,
-    }
-}
-
-/// The message that a DELE, RETR or TOP names, unless it is marked.
+/// The message that a DELE names, unless it is marked.
 fn message_named(session: &Session, command: &Command<'_>) -> Option<MessageRow>
+    requires { is_told (command_seen command.now) ≡ true }
     ensures { result ≡ row_named (row_kept session.now) (Ok (command_seen command.now)) }
 {
     match command {
         Command::Dele(n) => row_at(session, *n),
-        Command::Retr(n) => row_at(session, *n),
-        Command::Top(n, _) => row_at(session, *n),
-        Command::Capa | Command::User(_) | Command::Pass(_) | Command::Apop(_, _) => None,
-        Command::Quit | Command::Stat | Command::List(_) | Command::Uidl(_) => None,
-        Command::Rset | Command::Noop => None,
+        _ => None,
     }
 }
 
@@ -107,16 +88,16 @@ fn put(
     ensures owed { IfOk result (λ _. (c : Contents) (s : Option State)
         → OwesReply c s output.new (reply_seen reply.now)) }
     ensures account { IfOk result (λ r. r.account ≡ command_account (command_seen command.now)
-        (Says (reply_seen reply.now)) None named) }
+        (Says (reply_seen reply.now)) None None named) }
 {
     let outcome = say(alloc, output, reply)?;
-    let account = Account::of_command(command, reply, None, named);
+    let account = Account::of_command(command, reply, None, None, named);
     Ok(LineReport { outcome, account })
 }
 
 /// Does what a command says that may be given in a session, and puts the reply. Its account is what
-/// it did to the marks or to the message that it names. A QUIT leaves the session and its account
-/// to the caller.
+/// it did to the marks or to the message that it names, or what it removed. A QUIT leaves the
+/// session to the caller.
 fn answer_command<V: Vault>(
     alloc: Global,
     vault: &mut V,
@@ -137,25 +118,18 @@ fn answer_command<V: Vault>(
         → V.holds vault.new c) }
     ensures acts { ActsOnce V.Vault vault.old vault.new (IsOkAnd result (λ r. WasDone r.outcome))
         (held_after_line LineOutcome.Done policy.now session.old (Ok (command_seen command.now))) }
-    ensures account { is_quit (Ok (command_seen command.now)) ≡ false
-        → IfOk result (λ r. (c : Contents) (kept : List Keyed)
-        → LiesIn c session.old kept
-        → r.account ≡ command_account (command_seen command.now)
-        (Says (transaction_answered r.outcome policy.now (transaction_of session.old kept)
-        (Ok (command_seen command.now)))) None
+    ensures account { IfOk result (λ r. (c : Contents) (kept : List Keyed)
+        → LiesIn c session.old kept → r.account ≡ transaction_account r.outcome policy.now
+        session.old (Ok (command_seen command.now)) (Says (transaction_answered r.outcome policy.now
+        (transaction_of session.old kept) (Ok (command_seen command.now))))
         (named_in (transaction_of session.old kept) (Ok (command_seen command.now)))) }
-    ensures quits { is_quit (Ok (command_seen command.now)) ≡ true → session.new ≡ session.old }
     ensures unasked { (c : Contents) (kept : List Keyed) → LiesIn c session.old kept
         → transaction_asks policy.now (transaction_of session.old kept)
         (Ok (command_seen command.now))
         ≡ false → vault.new ≡ vault.old }
 {
-    let named = message_named(session, command);
     match command {
-        Command::Quit => {
-            let answered = quit(alloc, vault, policy, output, session);
-            report(answered, Account::Nothing)
-        }
+        Command::Quit => quit(alloc, vault, policy, output, session),
         Command::List(None) => {
             let answered = list(alloc, session, output);
             report(answered, Account::Nothing)
@@ -164,19 +138,12 @@ fn answer_command<V: Vault>(
             let answered = list_uids(alloc, session, output);
             report(answered, Account::Nothing)
         }
-        Command::Retr(n) => {
-            let readable = session.pick_for(*n, policy);
-            let told = Account::of_sending(MessageCommand::Retr, &readable, named);
-            let answered = retrieve(alloc, vault, output, session, policy, *n);
-            report(answered, told)
-        }
+        Command::Retr(n) => retrieve(alloc, vault, policy, output, session, *n, None),
         Command::Top(n, lines) => {
-            let readable = session.pick_for(*n, policy);
-            let told = Account::of_sending(MessageCommand::Top, &readable, named);
-            let answered = top(alloc, vault, output, session, policy, *n, *lines);
-            report(answered, told)
+            retrieve(alloc, vault, policy, output, session, *n, Some(*lines))
         }
         _ => {
+            let named = message_named(session, command);
             let reply = plain_reply(session, policy, command);
             put(alloc, output, command, &reply, named)
         }
@@ -184,8 +151,8 @@ fn answer_command<V: Vault>(
 }
 
 /// Answers a line of a session: puts its reply, and sets or takes away marks. Its account is what
-/// the line did to the marks or to a message. A QUIT removes the marked messages; the caller then
-/// ends the session, which stays as it is, and gives its account.
+/// the line did to the marks or to a message, or what it removed. A QUIT removes the marked
+/// messages; the caller then ends the session.
 pub(crate) fn answer<V: Vault>(
     alloc: Global,
     vault: &mut V,
@@ -205,13 +172,11 @@ pub(crate) fn answer<V: Vault>(
         → V.holds vault.new c) }
     ensures acts { ActsOnce V.Vault vault.old vault.new (IsOkAnd result (λ r. WasDone r.outcome))
         (held_after_line LineOutcome.Done policy.now session.old (reading line.now)) }
-    ensures account { is_quit (reading line.now) ≡ false
-        → IfOk result (λ r. (c : Contents) (kept : List Keyed)
-        → LiesIn c session.old kept
-        → r.account ≡ line_account (reading line.now) (Says (transaction_reply r.outcome policy.now
-        (transaction_of session.old kept) line.now)) None
+    ensures account { IfOk result (λ r. (c : Contents) (kept : List Keyed)
+        → LiesIn c session.old kept → r.account ≡ transaction_account r.outcome policy.now
+        session.old (reading line.now) (Says (transaction_reply r.outcome policy.now
+        (transaction_of session.old kept) line.now))
         (named_in (transaction_of session.old kept) (reading line.now))) }
-    ensures quits { is_quit (reading line.now) ≡ true → session.new ≡ session.old }
     ensures unasked { (c : Contents) (kept : List Keyed) → LiesIn c session.old kept
         → transaction_asks policy.now (transaction_of session.old kept) (reading line.now) ≡ false
         → vault.new ≡ vault.old }

@@ -126,8 +126,8 @@ fn removes(
     keys: &[MessageKey],
     rule: Option<Name>,
 ) -> Result<bool, Fail> {
-    let (removed, kept) = session.to_remove(policy)?;
-    Ok(removed.as_slice() == keys && kept == rule)
+    let plan = session.plan_quit(policy)?;
+    Ok(plan.keys.as_slice() == keys && plan.removed.len() == keys.len() && plan.denied == rule)
 }
 
 fn name(text: &[u8]) -> Result<Name, Fail> {
@@ -229,7 +229,7 @@ fn is_judged_late(session: &mut Session, policy: &Policy) -> Result<bool, Fail> 
 /// refused for this cause.
 fn is_read(session: &Session, number: u64, policy: &Policy, k: Result<u64, Pick>) -> bool {
     match session.pick_for(number, policy) {
-        Ok(head) => k == Ok(head.k),
+        Ok(readable) => k == Ok(readable.head.k),
         Err(refusal) => k == Err(refusal),
     }
 }

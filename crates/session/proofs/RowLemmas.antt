@@ -3,20 +3,27 @@ use Rattle.std.specs.Prelude.{◌≡◌, ℕ, zero, suc, ◌+◌, ◌<◌, ◌�
 use Rattle.std.specs.Prelude.{count_by, Option, Some, None, Result, Ok, Err, slice_get}
 use Rattle.std.proofs.Common.{refl, sym, ap, ◌∙◌, arith, set, get_or, take, drop, zero-add, true≢false}
 use Rattle.std.specs.List.{find}
-use Rattle.std.specs.Option.{option_map}
+use Rattle.std.specs.Option.{option_map, option_or}
 use Rattle.std.proofs.lemmas.Bool.{or_from, ne_eqb, eq-eqb}
+use Rattle.std.proofs.lemmas.List.{map-append, append-nil}
+use Rattle.std.proofs.lemmas.List.Elements.{filter-append}
+use Rattle.std.proofs.lemmas.List.Folds.{find-append}
 use Rattle.std.proofs.lemmas.List.Sums.{sum_by-cons}
 use Rattle.creds.specs.declared.login_name.LoginName.{LoginName}
 use Rattle.policy.specs.Policy.{Policy}
+use Rattle.policy.specs.declared.decide.Decision.{Decision}
 use Rattle.vault.specs.declared.answer.Head.{Head}
 use Rattle.session.specs.declared.row.Row.{Row}
-use Rattle.session.specs.Session.{Session, class_of, octets_of, key_of, picked, picked_for, read_answer, mark_answer, marking}
-use Rattle.session.specs.View.{numbered_from, at_number, is_marked, unmarked, marked, to_remove, denying, retrieval, removal, may_remove, total_of, refer, referred}
+use Rattle.session.specs.Session.{Session, class_of, octets_of, uid_of, key_of, picked, picked_for, read_answer, mark_answer, marking, IsPlan}
+use Rattle.session.specs.View.{numbered_from, at_number, is_marked, unmarked, marked, to_remove, removed_by, denying, retrieval, removal, may_remove, total_of, refer, referred}
 use Rattle.session.specs.Rows.{heads_of, marked_from, marks_of, session_of, unmarked_from, unmarked_row, octets_unless_marked, row_referred, row_picked, is_removable, is_denied}
-use Rattle.session.specs.Rows.{removable_keys, denying_rule}
+use Rattle.session.specs.Rows.{denying_rule, Plans}
 use Rattle.session.specs.declared.removals.Removals.{Removals}
 use Rattle.session.specs.declared.pick.Pick.{Pick}
 use Rattle.session.specs.declared.pick.Pick.TheVariants.{NoSuch, Deleted}
+use Rattle.session.specs.declared.pick.Readable.{Readable}
+use Rattle.session.specs.declared.quit_plan.QuitPlan.{QuitPlan}
+use Rattle.session.specs.declared.removed.RemovedMessage.{RemovedMessage}
 
 -- ---- which numbers are marked
 
@@ -127,12 +134,9 @@ module _ (policy : Policy) (name : LoginName) where
     removed_from [] n = refl
     removed_from (row ∷ rows) n = removed_at row n (flagged (n + 1) rows) (filter (is_removable policy name) rows) (removed_from rows (n + 1)) row.is_marked
 
-    pub removed-rows : (rows : List Row) → map f (to_remove class_of policy name (marks_of rows) (heads_of rows)) ≡ map of_row (filter (is_removable policy name) rows)
+    removed-rows : (rows : List Row) → map f (to_remove class_of policy name (marks_of rows) (heads_of rows)) ≡ map of_row (filter (is_removable policy name) rows)
     removed-rows rows =
         ap (λ (ms : List (ℕ × Head)). map f (filter allowed (map (λ (row : ℕ × Head). row.1) ms))) (marked-rows rows) ∙ removed_from rows 1
-
-  pub to_remove-rows : (rows : List Row) → map key_of (to_remove class_of policy name (marks_of rows) (heads_of rows)) ≡ removable_keys policy name rows
-  to_remove-rows rows = removed-rows key_of rows
 
   -- ---- what is denied
 
@@ -159,7 +163,7 @@ module _ (policy : Policy) (name : LoginName) where
   denied_from [] n = refl
   denied_from (row ∷ rows) n = denied_at row n (flagged (n + 1) rows) (find (is_denied policy name) rows) (denied_from rows (n + 1)) row.is_marked
 
-  pub denying-rows : (rows : List Row) → denying class_of policy name (marks_of rows) (heads_of rows) ≡ denying_rule policy name rows
+  denying-rows : (rows : List Row) → denying class_of policy name (marks_of rows) (heads_of rows) ≡ denying_rule policy name rows
   denying-rows rows = ap (λ (ms : List (ℕ × Head)). option_map rule_for (find denied_head ms)) (marked-rows rows) ∙ denied_from rows 1
 
 -- ---- references
@@ -210,7 +214,7 @@ module _ (policy : Policy) (name : LoginName) (removals : Removals) (rows : List
   pub marking-refused : (why : Pick) → row_picked rows n ≡ Err why → marking policy (session_of name removals rows) n ≡ Err why
   marking-refused why e = refer-rows rows n (Err NoSuch) (Err Deleted) answer_for ∙ row_referred-refused (at_number rows n) answer_for why e
 
-  abbrev reading_for : Head → Result Head Pick
+  abbrev reading_for : Head → Result Readable Pick
   reading_for head = read_answer (retrieval policy name head.class) head
 
   pub reading-found : (head : Head) → row_picked rows n ≡ Ok head → picked_for policy (session_of name removals rows) n ≡ reading_for head
@@ -350,3 +354,74 @@ exact_total rows octets capped fits =
     let le = octets-le rows in
     let exact : octets ≡ sum_by octets_unless_marked rows = omega arith in
     exact ∙ sym (ap (total_of octets_of) (unmarked-rows rows) ∙ total_of-unmarked_from rows 1)
+
+-- ---- a plan
+
+module _ (policy : Policy) (name : LoginName) where
+  -- a plan of the rows is the session's
+  pub plan-rows : (removals : Removals) (rows : List Row) (plan : QuitPlan) → plan.marked ≡ count_by (λ (row : Row). row.is_marked) rows → Plans policy name rows plan
+      → IsPlan policy (session_of name removals rows) plan
+  plan-rows removals rows plan marked plans = record {
+    marked = marked ∙ sym (length-marked rows);
+    keys = plans.keys ∙ sym (removed-rows policy name key_of rows);
+    removed = plans.removed ∙ sym (removed-rows policy name (removed_by class_of uid_of policy name) rows);
+    denied = plans.denied ∙ sym (denying-rows policy name rows);
+  }
+
+  module _ (rows : List Row) (row : Row) where
+    -- of one more row the plan has what the row asks for
+    removable_more : filter (is_removable policy name) (rows ++ row ∷ []) ≡ filter (is_removable policy name) rows ++ cond (is_removable policy name row) (row ∷ []) []
+    removable_more = filter-append (is_removable policy name) rows (row ∷ [])
+
+    mapped_more : {B : Type 0} (f : Row → B) → map f (filter (is_removable policy name) (rows ++ row ∷ []))
+        ≡ map f (filter (is_removable policy name) rows) ++ map f (cond (is_removable policy name row) (row ∷ []) [])
+    mapped_more f = ap (map f) removable_more ∙ map-append f (filter (is_removable policy name) rows) (cond (is_removable policy name row) (row ∷ []) [])
+
+    abbrev rule_of : Row → List ℕ
+    rule_of r = (removal policy name r.head.class).rule
+
+    map_or : (a b : Option Row) → option_map rule_of (option_or a b) ≡ option_or (option_map rule_of a) (option_map rule_of b)
+    map_or None b = refl
+    map_or (Some x) b = refl
+
+    denied_more : denying_rule policy name (rows ++ row ∷ []) ≡ option_or (denying_rule policy name rows) (option_map rule_of (cond (is_denied policy name row) (Some row) None))
+    denied_more = ap (option_map rule_of) (find-append (is_denied policy name) rows (row ∷ [])) ∙ map_or (find (is_denied policy name) rows) (find (is_denied policy name) (row ∷ []))
+
+    -- the plan of one more row, by what is added for it
+    plans_more : (old new : QuitPlan) → Plans policy name rows old
+        → new.keys.items ≡ old.keys.items ++ map (λ (r : Row). r.head.key) (cond (is_removable policy name row) (row ∷ []) [])
+        → new.removed ≡ old.removed ++ map (λ (r : Row). removed_by class_of uid_of policy name r.head) (cond (is_removable policy name row) (row ∷ []) [])
+        → new.denied ≡ option_or old.denied (option_map rule_of (cond (is_denied policy name row) (Some row) None))
+        → Plans policy name (rows ++ row ∷ []) new
+    plans_more old new so keys removed denied =
+        let added = cond (is_removable policy name row) (row ∷ []) [] in
+        record {
+          keys = keys ∙ ap (λ (ks : List ℕ). ks ++ map (λ (r : Row). r.head.key) added) so.keys ∙ sym (mapped_more (λ (r : Row). r.head.key));
+          removed = removed ∙ ap (λ (ms : List RemovedMessage). ms ++ map (λ (r : Row). removed_by class_of uid_of policy name r.head) added) so.removed
+              ∙ sym (mapped_more (λ (r : Row). removed_by class_of uid_of policy name r.head));
+          denied = denied ∙ ap (λ (o : Option (List ℕ)). option_or o (option_map rule_of (cond (is_denied policy name row) (Some row) None))) so.denied ∙ sym denied_more;
+        }
+
+    or_none : (o : Option (List ℕ)) → o ≡ option_or o None
+    or_none None = refl
+    or_none (Some rule) = refl
+
+    pub plans_unmarked : (plan : QuitPlan) → row.is_marked ≡ false → Plans policy name rows plan → Plans policy name (rows ++ row ∷ []) plan
+    plans_unmarked plan off so = plans_more plan plan so (rw off (sym (append-nil plan.keys.items))) (rw off (sym (append-nil plan.removed))) (rw off (or_none plan.denied))
+
+    pub plans_denied : (old new : QuitPlan) (decision : Decision) → decision ≡ removal policy name row.head.class → row.is_marked ≡ true → decision.allowed ≡ false
+        → new.keys.items ≡ old.keys.items → new.removed ≡ old.removed → new.denied ≡ option_or old.denied (Some decision.rule)
+        → Plans policy name rows old → Plans policy name (rows ++ row ∷ []) new
+    plans_denied old new decision is on off keys removed denied so =
+        let no : may_remove policy name row.head.class ≡ false = sym (ap (λ (d : Decision). d.allowed) is) ∙ off in
+        let by : new.denied ≡ option_or old.denied (Some (rule_of row)) = denied ∙ ap (λ (d : Decision). option_or old.denied (Some d.rule)) is in
+        plans_more old new so (rw (on, no) (keys ∙ sym (append-nil old.keys.items))) (rw (on, no) (removed ∙ sym (append-nil old.removed))) (rw (on, no) by)
+
+    pub plans_allowed : (old new : QuitPlan) (decision : Decision) → decision ≡ removal policy name row.head.class → row.is_marked ≡ true → decision.allowed ≡ true
+        → new.keys.items ≡ old.keys.items ++ row.head.key ∷ [] → new.removed ≡ old.removed ++ record { uid = uid_of row.head; rule = decision.rule } ∷ [] → new.denied ≡ old.denied
+        → Plans policy name rows old → Plans policy name (rows ++ row ∷ []) new
+    plans_allowed old new decision is on allows keys removed denied so =
+        let may : may_remove policy name row.head.class ≡ true = sym (ap (λ (d : Decision). d.allowed) is) ∙ allows in
+        let by : new.removed ≡ old.removed ++ removed_by class_of uid_of policy name row.head ∷ [] =
+        removed ∙ ap (λ (d : Decision). old.removed ++ record { uid = uid_of row.head; rule = d.rule } ∷ []) is in
+        plans_more old new so (rw (on, may) keys) (rw (on, may) by) (rw (on, may) (denied ∙ or_none old.denied))

@@ -1,19 +1,19 @@
 -- A view as the code keeps it, in rows of a head and a mark, and how its rows give the view, the
 -- marks and the answers of a session.
-use Rattle.std.specs.Prelude.{ℕ, Bool, false, not, ◌&&◌, List, filter, map, Option, Some, None, Result, Ok, Err, if◌then◌else◌}
+use Rattle.std.specs.Prelude.{◌≡◌, ℕ, Bool, false, not, ◌&&◌, List, filter, map, Option, Some, None, Result, Ok, Err, if◌then◌else◌}
 use Rattle.std.specs.List.{find}
 use Rattle.std.specs.Option.{option_map}
 use Rattle.creds.specs.declared.login_name.LoginName.{LoginName}
-use Rattle.creds.specs.declared.uid.Uid.{Uid}
 use Rattle.policy.specs.Lane.{Lane}
 use Rattle.policy.specs.Policy.{Policy}
 use Rattle.vault.specs.declared.answer.Head.{Head}
 use Rattle.session.specs.declared.pick.Pick.{Pick}
 use Rattle.session.specs.declared.pick.Pick.TheVariants.{NoSuch, Deleted}
+use Rattle.session.specs.declared.quit_plan.QuitPlan.{QuitPlan}
 use Rattle.session.specs.declared.row.Row.{Row}
 use Rattle.session.specs.declared.removals.Removals.{Removals}
-use Rattle.session.specs.Session.{Session, uid_of}
-use Rattle.session.specs.View.{numbered_from, at_number, referred, removal, may_remove}
+use Rattle.session.specs.Session.{Session, class_of, uid_of}
+use Rattle.session.specs.View.{numbered_from, at_number, referred, removal, may_remove, removed_by}
 
 -- the clerk and the maildrop of a lane, as a login's name
 abbrev pub login_of : Lane → LoginName
@@ -22,10 +22,6 @@ login_of lane = record { clerk = lane.clerk; maildrop = lane.maildrop }
 -- the heads, in order
 abbrev pub heads_of : List Row → List Head
 heads_of rows = map (λ (row : Row). row.head) rows
-
--- the unique-ids, in order
-abbrev pub uids_of_rows : List Row → List Uid
-uids_of_rows rows = map (λ (row : Row). uid_of row.head) rows
 
 -- the numbers of the marked rows, the first row being number n
 abbrev pub marked_from : ℕ → List Row → List ℕ
@@ -68,10 +64,17 @@ is_removable policy name row = row.is_marked && may_remove policy name row.head.
 abbrev pub is_denied : Policy → LoginName → Row → Bool
 is_denied policy name row = row.is_marked && not (may_remove policy name row.head.class)
 
--- the keys of the marked rows that the policy lets the clerk remove
-abbrev pub removable_keys : Policy → LoginName → List Row → List ℕ
-removable_keys policy name rows = map (λ (row : Row). row.head.key) (filter (is_removable policy name) rows)
-
 -- the rule that denies the first marked row whose removal is denied
 abbrev pub denying_rule : Policy → LoginName → List Row → Option (List ℕ)
 denying_rule policy name rows = option_map (λ (row : Row). (removal policy name row.head.class).rule) (find (is_denied policy name) rows)
+
+-- what a plan has of these rows: the keys of those that are removed, what is told
+-- of them, and the rule that denies the first of the others
+pub record Plans (policy : Policy) (name : LoginName) (rows : List Row) (plan : QuitPlan) : Type 0
+  where
+    pub keys : plan.keys.items ≡ map (λ (row : Row). row.head.key)
+        (filter (is_removable policy name) rows)
+    pub removed : plan.removed
+        ≡ map (λ (row : Row). removed_by class_of uid_of policy name row.head)
+        (filter (is_removable policy name) rows)
+    pub denied : plan.denied ≡ denying_rule policy name rows

@@ -1,5 +1,5 @@
 -- A logged-in session as contracts see it, and what its calls answer (RFC 1939, 5 and 6).
-use Rattle.std.specs.Prelude.{ℕ, List, [], Result, Ok, Err, if◌then◌else◌}
+use Rattle.std.specs.Prelude.{◌≡◌, ℕ, List, [], length, map, Result, Ok, Err, if◌then◌else◌}
 use Rattle.creds.specs.declared.uid.Uid.{Uid}
 use Rattle.creds.specs.declared.login_name.LoginName.{LoginName}
 use Rattle.policy.specs.Policy.{Policy}
@@ -7,9 +7,12 @@ use Rattle.policy.specs.declared.decide.Decision.{Decision}
 use Rattle.vault.specs.declared.answer.Head.{Head}
 use Rattle.session.specs.declared.pick.Pick.{Pick}
 use Rattle.session.specs.declared.pick.Pick.TheVariants.{NoSuch, Deleted, Denied}
+use Rattle.session.specs.declared.pick.Readable.{Readable}
+use Rattle.session.specs.declared.quit_plan.QuitPlan.{QuitPlan}
 use Rattle.session.specs.declared.removals.Removals.{Removals}
 use Rattle.session.specs.declared.removals.Removals.TheVariants.{JudgedAtDele, JudgedAtQuit}
-use Rattle.session.specs.View.{visible, refer, retrieval, removal}
+use Rattle.session.specs.View.{visible, refer, marked, retrieval, removal, to_remove, removed_by}
+use Rattle.session.specs.View.{denying}
 
 -- who is logged in to which maildrop, when removals are judged, the heads of the view, and the
 -- numbers marked as deleted
@@ -49,12 +52,14 @@ started policy removals clerk maildrop heads =
 abbrev pub picked : Session → ℕ → Result Head Pick
 picked s n = refer s.marks s.view n (Err NoSuch) (Err Deleted) (λ head. Ok head)
 
--- the head if the decision allows its reading, else the rule that denies it
-abbrev pub read_answer : Decision → Head → Result Head Pick
-read_answer decision head = if decision.allowed then Ok head else Err (Denied decision.rule)
+-- the head and the rule that allows its reading, or the rule that denies it
+abbrev pub read_answer : Decision → Head → Result Readable Pick
+read_answer decision head =
+    if decision.allowed then Ok (record { head = head; rule = decision.rule })
+    else Err (Denied decision.rule)
 
 -- the answer to RETR and TOP: the head of a number, or why it isn't read
-abbrev pub picked_for : Policy → Session → ℕ → Result Head Pick
+abbrev pub picked_for : Policy → Session → ℕ → Result Readable Pick
 picked_for policy s n = refer s.marks s.view n (Err NoSuch) (Err Deleted) (λ head. read_answer (retrieval policy s.name head.class) head)
 
 -- The answer to a DELE of an unmarked message, by the decision on its removal. If removals are
@@ -67,3 +72,15 @@ mark_answer JudgedAtQuit decision = Ok tt
 -- the answer to a DELE of a number: it is marked, or why not
 abbrev pub marking : Policy → Session → ℕ → Result (Unit {0}) Pick
 marking policy s n = refer s.marks s.view n (Err NoSuch) (Err Deleted) (λ head. mark_answer s.removals (removal policy s.name head.class))
+
+-- ---- QUIT
+
+-- What the QUIT of a session does under a policy: the marked messages that it removes, by key and
+-- by what is told of them; and the rule that keeps the lowest numbered of the others.
+pub record IsPlan (policy : Policy) (s : Session) (plan : QuitPlan) : Type 0 where
+  pub marked : plan.marked ≡ length (marked s.marks s.view)
+  pub keys : plan.keys.items ≡ map key_of (to_remove class_of policy s.name s.marks s.view)
+  pub removed : plan.removed
+      ≡ map (removed_by class_of uid_of policy s.name)
+      (to_remove class_of policy s.name s.marks s.view)
+  pub denied : plan.denied ≡ denying class_of policy s.name s.marks s.view

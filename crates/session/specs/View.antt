@@ -9,6 +9,7 @@ use Rattle.policy.specs.declared.decide.Decision.{Decision}
 use Rattle.policy.specs.declared.rule.Action.TheVariants as to
 use Rattle.creds.specs.declared.uid.Uid.{Uid}
 use Rattle.creds.specs.declared.login_name.LoginName.{LoginName}
+use Rattle.session.specs.declared.removed.RemovedMessage.{RemovedMessage}
 
 -- ---- the view
 
@@ -75,6 +76,12 @@ may_remove policy name class = (removal policy name class).allowed
 -- the marked rows that the policy lets the clerk remove, in order
 abbrev pub to_remove : {A : Type 0} → (class_of : A → List ℕ) → Policy → LoginName → List ℕ → List A → List A
 to_remove class_of policy name marks view = filter (λ row. may_remove policy name (class_of row)) (map (λ row. row.1) (marked marks view))
+
+-- a row that is removed: its unique-id, and the rule that allows it
+abbrev pub removed_by : {A : Type 0} → (class_of : A → List ℕ) → (uid_of : A → Uid) → Policy
+    → LoginName → A → RemovedMessage
+removed_by class_of uid_of policy name row =
+    record { uid = uid_of row; rule = (removal policy name (class_of row)).rule }
 
 -- the rule that denies the lowest numbered marked row whose removal is denied
 abbrev pub denying : {A : Type 0} → (class_of : A → List ℕ) → Policy → LoginName → List ℕ → List A → Option (List ℕ)

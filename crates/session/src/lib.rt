@@ -5,6 +5,7 @@
 mod laws;
 mod listing;
 mod pick;
+mod quit_plan;
 mod removals;
 mod removed;
 mod row;
@@ -12,7 +13,8 @@ mod session;
 
 pub use laws::marks_are_asked_by_number;
 pub use listing::{Sizes, Uids};
-pub use pick::Pick;
+pub use pick::{Pick, Readable};
+pub use quit_plan::QuitPlan;
 pub use removals::Removals;
-pub use removed::Removed;
+pub use removed::{Removed, RemovedMessage};
 pub use session::Session;

@@ -1,5 +1,14 @@
-//! Why a reference to a message is refused.
+//! What a reference to a message gives.
 use creds::Name;
+use vault::Head;
+
+/// A message that the clerk may read.
+#[derive(Clone, Copy)]
+pub struct Readable {
+    pub head: Head,
+    /// The rule that lets the clerk read it.
+    pub rule: Name,
+}
 
 /// Why a reference to a message number is refused.
 #[derive(Clone, Copy, PartialEq, Eq, Debug)]

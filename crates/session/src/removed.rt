@@ -1,53 +1,63 @@
-//! What a QUIT removes.
-ghost use Rattle.std.specs.Prelude.{◌≡◌, length, slice_get};
-ghost use Rattle.session.specs.Rows.{uids_of_rows};
+//! What a QUIT removes, by the rules that allow it.
+ghost use Rattle.std.specs.Prelude.{◌≡◌, [], ◌∷◌, ◌++◌, length, slice_get, OnOk};
 
-use crate::row::Row;
-use creds::Uid;
+use creds::{Name, Uid};
+use std::alloc::{AllocError, Global};
 use std::marker::Model;
 
-/// What the QUIT of a session removes: of each message its unique-id, in the order of their
-/// numbers. It has the session's own memory, and takes none.
+/// A message that a QUIT removes.
+#[derive(Clone, Copy)]
+pub struct RemovedMessage {
+    /// Its unique-id.
+    pub uid: Uid,
+    /// The rule that lets the clerk remove it.
+    pub rule: Name,
+}
+
+/// The messages that the QUIT of a session removes, in the order of their numbers.
 #[derive(Drop)]
 pub struct Removed {
-    rows: Vec<Row>,
+    messages: Vec<RemovedMessage>,
 }
 
 impl Model for Removed {
     ghost use Rattle.std.specs.Prelude.{List};
-    ghost use Rattle.creds.specs.declared.uid.Uid.{Uid};
-    ghost use Rattle.session.specs.Rows.{uids_of_rows};
+    ghost use Rattle.session.specs.declared.removed.RemovedMessage.{RemovedMessage};
 
-    ghost Value = { List Uid };
+    ghost Value = { List RemovedMessage };
 
-    ghost view = { λ r. uids_of_rows r.rows.items };
+    ghost view = { λ r. r.messages.items };
 }
 
 impl Removed {
-    /// The messages of these rows.
-    pub(crate) fn new(rows: Vec<Row>) -> Removed
-        ensures { result ≡ uids_of_rows rows.items }
+    /// No messages.
+    pub(crate) fn new(alloc: Global) -> Removed
+        ensures { result ≡ [] }
     {
-        Removed { rows }
+        Removed {
+            messages: Vec::new(alloc),
+        }
+    }
+
+    /// Appends a message.
+    pub(crate) fn push(&mut self, message: RemovedMessage) -> Result<(), AllocError>
+        ensures { OnOk result (self.new ≡ self.old ++ message ∷ []) }
+    {
+        self.messages.push(message)?;
+        Ok(())
     }
 
     /// How many messages they are.
     pub fn len(&self) -> usize
         ensures { result ≡ length self.now }
     {
-        self.rows.len()
+        self.messages.len()
     }
 
-    /// The unique-id of the message at a place, counted from 0.
-    pub fn get(&self, place: usize) -> Option<Uid>
+    /// The message at a place, counted from 0.
+    pub fn get(&self, place: usize) -> Option<RemovedMessage>
         ensures { result ≡ slice_get self.now place }
     {
-        match self.rows.get(place) {
-            None => None,
-            Some(row) => Some(Uid {
-                class: row.head.class,
-                k: row.head.k,
-            }),
-        }
+        self.messages.get(place).copied()
     }
 }

@@ -1,20 +1,19 @@
 //! The messages of a view, each with its mark.
-ghost use Rattle.std.specs.Prelude.{◌≡◌, ◌<◌, ◌≤◌, not, length, map, count_by, sum_by, find, min};
-ghost use Rattle.std.specs.Prelude.{filter, IfOk, OnOk};
-ghost use Rattle.std.specs.Option.{option_copied};
+ghost use Rattle.std.specs.Prelude.{◌≡◌, ◌<◌, ◌≤◌, not, length, map, count_by, sum_by, min};
+ghost use Rattle.std.specs.Prelude.{IfOk, OnOk};
 ghost use Rattle.session.specs.declared.row.Row.{Row};
 ghost use Rattle.session.specs.Session.{class_of, mark_answer};
 ghost use Rattle.session.specs.Rows.{login_of, heads_of, unmarked_row, octets_unless_marked};
-ghost use Rattle.session.specs.Rows.{row_picked, is_removable, is_denied, removable_keys};
-ghost use Rattle.session.specs.Rows.{denying_rule};
+ghost use Rattle.session.specs.Rows.{row_picked, Plans};
 ghost use Rattle.session.specs.View.{visible, retrieval, removal};
 
 use crate::pick::Pick;
+use crate::quit_plan::QuitPlan;
 use crate::removals::Removals;
 use creds::Name;
 use policy::{Action, Decision, Lane};
 use std::alloc::{AllocError, Global};
-use vault::{Head, MessageKey};
+use vault::Head;
 
 /// A message of the view, and whether it is marked as deleted.
 #[derive(Clone, Copy)]
@@ -113,45 +112,18 @@ pub(crate) fn head_at(rows: &[Row], n: u64) -> Result<Head, Pick>
     }
 }
 
-/// The keys of the marked messages that the policy lets the clerk remove.
-pub(crate) fn removable_keys(
-    alloc: Global,
-    lane: &Lane<'_>,
-    rows: &[Row],
-) -> Result<Vec<MessageKey>, AllocError>
-    ensures { IfOk result (λ keys. keys.items
-        ≡ removable_keys lane.now.policy (login_of lane.now) rows.now) }
+/// What a QUIT does with these rows: one pass, in which each marked message is judged once. An `Err`
+/// is want of memory.
+pub(crate) fn planned(alloc: Global, lane: &Lane<'_>, rows: &[Row]) -> Result<QuitPlan, AllocError>
+    ensures marked { IfOk result (λ plan. plan.marked
+        ≡ count_by (λ (row : Row). row.is_marked) rows.now) }
+    ensures plans { IfOk result (λ plan. Plans lane.now.policy (login_of lane.now) rows.now plan) }
 {
-    rows.iter()
-        .filter(|row| row.is_marked && removal(lane, &row.head.class).allowed)
-        .map(|row| row.head.key)
-        .collect(alloc)
-}
-
-/// Keeps the rows of the marked messages that the policy lets the clerk remove.
-pub(crate) fn keep_removable(lane: &Lane<'_>, rows: &mut Vec<Row>)
-    ensures { rows.new.items
-        ≡ filter (is_removable lane.now.policy (login_of lane.now)) rows.old.items }
-{
-    rows.retain(|row| row.is_marked && removal(lane, &row.head.class).allowed);
-}
-
-/// The first marked message whose removal the policy denies.
-fn first_denied<'a>(lane: &Lane<'_>, rows: &'a [Row]) -> Option<&'a Row>
-    ensures { option_copied result ≡ find (is_denied lane.now.policy (login_of lane.now)) rows.now }
-{
-    rows.iter().find(|row| row.is_marked && !removal(lane, &row.head.class).allowed)
-}
-
-/// The name of the rule that denies the removal of the first denied marked message, if any is
-/// denied.
-pub(crate) fn denying_rule(lane: &Lane<'_>, rows: &[Row]) -> Option<Name>
-    ensures { result ≡ denying_rule lane.now.policy (login_of lane.now) rows.now }
-{
-    match first_denied(lane, rows) {
-        Some(row) => Some(removal(lane, &row.head.class).rule),
-        None => None,
+    let mut plan = QuitPlan::new(alloc, marked_count(rows));
+    for row in rows {
+        plan.add(lane, row)?;
     }
+    Ok(plan)
 }
 
 /// Unmarks all rows.

@@ -1,24 +1,23 @@
 //! A session and its calls.
-ghost use Rattle.std.specs.Prelude.{◌≡◌, ℕ, ◌-◌, ◌^◌, ◌<◌, ◌≤◌, ◌||◌, ◌==◌, [], length, map};
+ghost use Rattle.std.specs.Prelude.{◌≡◌, ℕ, ◌-◌, ◌^◌, ◌<◌, ◌≤◌, ◌||◌, ◌==◌, [], length};
 ghost use Rattle.std.specs.Prelude.{min, sum_by, IfOk, OnOk, OnErr};
-ghost use Rattle.session.specs.Session.{class_of, octets_of, uid_of, key_of, started, picked};
-ghost use Rattle.session.specs.Session.{picked_for, marking};
+ghost use Rattle.session.specs.Session.{octets_of, uid_of, started, picked, picked_for};
+ghost use Rattle.session.specs.Session.{marking, IsPlan};
 ghost use Rattle.session.specs.View.{is_marked, marked, unmarked, sizes_of, uids_of};
-ghost use Rattle.session.specs.View.{total_of, to_remove, denying};
+ghost use Rattle.session.specs.View.{total_of};
 
 use crate::listing::{Sizes, Uids};
-use crate::pick::Pick;
+use crate::pick::{Pick, Readable};
+use crate::quit_plan::QuitPlan;
 use crate::removals::Removals;
-use crate::removed::Removed;
 use crate::row::{
-    Row, denying_rule, head_at, judge_mark, keep_removable, marked_count, removable_keys,
-    retrieval, totals, unmark_all, visible_rows,
+    Row, head_at, judge_mark, marked_count, planned, retrieval, totals, unmark_all, visible_rows,
 };
 use creds::{LoginName, Name};
 use policy::Policy;
 use std::alloc::{AllocError, Global};
 use std::marker::Model;
-use vault::{Head, MessageKey};
+use vault::Head;
 
 /// One logged-in session: the messages that the clerk sees, numbered from 1, and which of them are
 /// marked as deleted.
@@ -130,11 +129,11 @@ impl Session {
     }
 
     /// The head of message `n`, if this policy lets the clerk read its class (RFC 1939, 5: RETR;
-    /// 7: TOP).
+    /// 7: TOP), and the rule that lets it.
     ///
     /// `NoSuch` if the view has no such message, else `Deleted` if it is marked, else
     /// `Denied` if the policy denies it. It allocates nothing.
-    pub fn pick_for(&self, n: u64, policy: &Policy) -> Result<Head, Pick>
+    pub fn pick_for(&self, n: u64, policy: &Policy) -> Result<Readable, Pick>
         ensures { result ≡ picked_for policy.now self.now n }
     {
         let head = head_at(&self.rows, n)?;
@@ -143,7 +142,10 @@ impl Session {
         if !decision.allowed {
             return Err(Pick::Denied(decision.rule));
         }
-        Ok(head)
+        Ok(Readable {
+            head,
+            rule: decision.rule,
+        })
     }
 
     /// Marks message `n` as deleted (RFC 1939, 5: DELE). The policy must let the clerk remove its
@@ -174,46 +176,14 @@ impl Session {
         unmark_all(&mut self.rows);
     }
 
-    /// What a QUIT removes under this policy (RFC 1939, 6): the keys of the marked messages that
-    /// the clerk may remove, in order. If the policy denies the removal of marked messages, the
-    /// name of the rule that denies the lowest numbered of them. An `Err` is want of memory.
-    pub fn to_remove(&self, policy: &Policy) -> Result<(Vec<MessageKey>, Option<Name>), AllocError>
-        ensures keys { IfOk result (λ r. r.0.items
-            ≡ map key_of (to_remove class_of policy.now self.now.name self.now.marks
-            self.now.view)) }
-        ensures rule { IfOk result (λ r. r.1
-            ≡ denying class_of policy.now self.now.name self.now.marks self.now.view) }
+    /// What a QUIT does under this policy (RFC 1939, 6). Each marked message is judged once. An
+    /// `Err` is want of memory.
+    pub fn plan_quit(&self, policy: &Policy) -> Result<QuitPlan, AllocError>
+        ensures { IfOk result (λ plan. IsPlan policy.now self.now plan) }
     {
         let alloc = *self.rows.allocator();
         let lane = policy.lane(&self.name.clerk, &self.name.maildrop);
-        let keys = removable_keys(alloc, &lane, &self.rows)?;
-        let rule = denying_rule(&lane, &self.rows);
-        Ok((keys, rule))
-    }
-
-    /// The name of the rule that denies the removal of the lowest numbered marked message that this
-    /// policy keeps, if it keeps one. It allocates nothing.
-    pub fn denying(&self, policy: &Policy) -> Option<Name>
-        ensures { result ≡ denying class_of policy.now self.now.name self.now.marks self.now.view }
-    {
-        let lane = policy.lane(&self.name.clerk, &self.name.maildrop);
-        denying_rule(&lane, &self.rows)
-    }
-
-    /// Ends the session, and gives what its QUIT removes under this policy, by unique-ids in order.
-    /// It allocates nothing.
-    pub fn into_removed(self, policy: &Policy) -> Removed
-        ensures { result ≡ map uid_of (to_remove class_of policy.now self.name self.marks
-            self.view) }
-    {
-        let Session {
-            name,
-            removals: _,
-            rows,
-        } = self;
-        let mut rows = rows;
-        let lane = policy.lane(&name.clerk, &name.maildrop);
-        keep_removable(&lane, &mut rows);
-        Removed::new(rows)
+        let plan = planned(alloc, &lane, &self.rows)?;
+        Ok(plan)
     }
 }

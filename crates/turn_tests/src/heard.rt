@@ -30,7 +30,7 @@ fn way_word(by: Way) -> &'static str {
 /// How a login was judged.
 fn verdict_word(verdict: Verdict) -> &'static str {
     match verdict {
-        Verdict::Accepted => "accepted",
+        Verdict::Accepted(_) => "accepted",
         Verdict::WrongCredential => "wrong credential",
         Verdict::ThirdWrongCredential => "third wrong credential",
         Verdict::Denied(_) => "denied",
@@ -56,8 +56,8 @@ fn login_text(
 fn uids_text(alloc: Global, removed: &Removed) -> Result<String, AllocError> {
     let mut text = String::new(alloc);
     for place in 0..removed.len() {
-        if let Some(uid) = removed.get(place) {
-            text.push_str(format!(in alloc; " {uid}")?.as_str())?;
+        if let Some(message) = removed.get(place) {
+            text.push_str(format!(in alloc; " {}", message.uid)?.as_str())?;
         }
     }
     Ok(text)
@@ -106,8 +106,8 @@ fn account_text(alloc: Global, account: &Account) -> Result<String, AllocError> 
         Account::Unmarked => String::from_str(alloc, "unmarked"),
         Account::Quit(removal) => quit_text(alloc, removal),
         Account::QuitBeforeLogin => String::from_str(alloc, "quit before a login"),
-        Account::Retrieved(message) => sent_text(alloc, "retrieved", message),
-        Account::Topped(message) => sent_text(alloc, "topped", message),
+        Account::Retrieved(message, _) => sent_text(alloc, "retrieved", message),
+        Account::Topped(message, _) => sent_text(alloc, "topped", message),
         Account::Denied(command, uid, rule) => denied_text(alloc, *command, *uid, *rule),
         Account::Ended(_) | Account::Nothing | Account::Taken => Ok(String::new(alloc)),
     }

@@ -4,11 +4,11 @@ use Rattle.std.specs.Fmt.{decimal}
 use Rattle.creds.specs.Uid.{uid_text}
 use Rattle.journal.proofs.account_text.retr_text.Goals as goal
 
-joined : (p w u i o d : List ℕ) → p ++ (w ++ (u ++ (i ++ (o ++ d)))) ≡ p ++ w ++ u ++ i ++ o ++ d
-joined p w u i o d = simp append_assoc
+joined : (p w u i o d t r : List ℕ) → p ++ (w ++ (u ++ (i ++ (o ++ (d ++ (t ++ r)))))) ≡ p ++ w ++ u ++ i ++ o ++ d ++ t ++ r
+joined p w u i o d t r = simp append_assoc
 
 pub returns : goal.returns
 returns c =
     let made : string_bytes c.in_ok-text.text
-    ≡ codes "event=retr " ++ (c.args.who.now ++ (codes " uid=" ++ (uid_text c.args.message.uid ++ (codes " octets=" ++ decimal c.args.message.octets)))) = c.in_ok-text.ensures.ok in
-    made ∙ joined (codes "event=retr ") c.args.who.now (codes " uid=") (uid_text c.args.message.uid) (codes " octets=") (decimal c.args.message.octets)
+    ≡ codes "event=retr " ++ (c.args.who.now ++ (codes " uid=" ++ (uid_text c.args.message.uid ++ (codes " octets=" ++ (decimal c.args.message.octets ++ (codes " rule=" ++ c.args.rule)))))) = c.in_ok-text.ensures.ok in
+    made ∙ joined (codes "event=retr ") c.args.who.now (codes " uid=") (uid_text c.args.message.uid) (codes " octets=") (decimal c.args.message.octets) (codes " rule=") c.args.rule

@@ -1,4 +1,4 @@
-use Rattle.std.proofs.Common.{◌≡◌, ◌++◌, ◌∙◌, ap, rules, List, ℕ, Option, option_map, string_bytes, codes, append_assoc}
+use Rattle.std.proofs.Common.{◌≡◌, ◌++◌, ◌∙◌, ap, rules, List, ℕ, option_map, string_bytes, codes, append_assoc}
 use Rattle.adminhttp.specs.Contents.{line_told}
 use Rattle.journal.specs.AdminLines.{request_text, status_text, answer_text, sets_policy}
 use Rattle.journal.specs.PolicyNames.{policy_value}

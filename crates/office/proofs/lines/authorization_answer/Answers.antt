@@ -2,7 +2,7 @@ use Rattle.std.proofs.Common.{◌≡◌, ◌++◌, ◌∙◌, true, None, refl, 
 use Rattle.popline.specs.Replies.{bytes_of}
 use Rattle.office.specs.History.{Says}
 use Rattle.office.specs.Connections.{reading}
-use Rattle.office.specs.Accounts.{line_account}
+use Rattle.office.specs.Accounts.{line_account, let_in_by}
 use Rattle.office.specs.declared.login_state.LineOutcome.TheVariants as outcome
 use Rattle.office.specs.Kept.{LineContext, authorization_asks}
 use Rattle.office.specs.Answered.{context_over, reply_of}
@@ -24,7 +24,7 @@ returns-clause-answered g c d held clean =
     let j : LineContext = context_over d c.args.context c.args.locks.now in
     elim c.match-reply_to.branch [
       | in-Ok w ↦
-          let put : c.say.new.self ≡ record c.args.output.now { ready = c.args.output.now.ready ++ bytes_of (reply_of c.match-reply_to.reply.2 j t None x) } = search rules in
+          let put : c.say.new.self ≡ record c.args.output.now { ready = c.args.output.now.ready ++ bytes_of (reply_of c.match-reply_to.reply.3 j t None x) } = search rules in
           record {
             owed = owes_put d c.match-reply_to.reply.1 c.args.output.now c.say.new.self _ c.requires put;
             state = search rules;
@@ -33,16 +33,17 @@ returns-clause-answered g c d held clean =
             may = search rules;
             cause = search rules;
             account =
-                let told : c.of_line-account.result ≡ line_account (reading x) (Says (reply_of c.match-reply_to.reply.2 j t None x)) t.user None = search rules in
-                told ∙ authorization_told c.match-reply_to.reply.2 p (reading x) (Says (reply_of c.match-reply_to.reply.2 j t None x)) t.user;
+                let reply = reply_of c.match-reply_to.reply.3 j t None x in
+                let told : c.of_line-account.result ≡ line_account (reading x) (Says reply) (let_in_by p (reading x) t.user reply) t.user None = search rules in
+                told ∙ authorization_told c.match-reply_to.reply.3 p (reading x) reply t.user;
           }
       | in-Err w ↦
-          let failed : c.match-reply_to.reply.2 ≡ outcome.Failed = search rules in
+          let failed : c.match-reply_to.reply.3 ≡ outcome.Failed = search rules in
           let asked : authorization_asks t (reading x) ≡ true = search rules in
           let told = refused_login j t x asked in
           let nobody : c.match-reply_to.reply.1 ≡ None = search rules in
           let none = begins_none (reading x) t.user d p t.removals in
-          let put : c.say.new.self ≡ record c.args.output.now { ready = c.args.output.now.ready ++ bytes_of (reply_of c.match-reply_to.reply.2 j t None x) } = rw (failed, told) (search rules) in
+          let put : c.say.new.self ≡ record c.args.output.now { ready = c.args.output.now.ready ++ bytes_of (reply_of c.match-reply_to.reply.3 j t None x) } = rw (failed, told) (search rules) in
           record {
             owed = owes_put d c.match-reply_to.reply.1 c.args.output.now c.say.new.self _ c.requires put;
             state = rw (failed, told) (search rules);
@@ -51,8 +52,9 @@ returns-clause-answered g c d held clean =
             may = λ f. asked;
             cause = search rules;
             account =
-                let said : c.of_line-account.result ≡ line_account (reading x) (Says (reply_of c.match-reply_to.reply.2 j t None x)) t.user None = rw (failed, told) (search rules) in
-                said ∙ authorization_told c.match-reply_to.reply.2 p (reading x) (Says (reply_of c.match-reply_to.reply.2 j t None x)) t.user;
+                let reply = reply_of c.match-reply_to.reply.3 j t None x in
+                let said : c.of_line-account.result ≡ line_account (reading x) (Says reply) (let_in_by p (reading x) t.user reply) t.user None = rw (failed, told) (search rules) in
+                said ∙ authorization_told c.match-reply_to.reply.3 p (reading x) reply t.user;
           }
     ]
 
@@ -83,6 +85,6 @@ pub returns-clause-looks : goal.returns-clause-looks
 returns-clause-looks g c = elim c.match-reply_to.branch [
   | in-Ok w ↦ looks_once g.V.Vault c.reply_to.ensures.looks (λ own. search rules)
   | in-Err w ↦
-      let failed : c.match-reply_to.reply.2 ≡ outcome.Failed = search rules in
+      let failed : c.match-reply_to.reply.3 ≡ outcome.Failed = search rules in
       looks_once g.V.Vault c.reply_to.ensures.looks (λ own. absurd (rw failed at own))
 ]

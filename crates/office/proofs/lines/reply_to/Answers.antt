@@ -2,7 +2,7 @@ use Rattle.std.proofs.Common.{sym, rules}
 use Rattle.office.specs.History.{Done}
 use Rattle.office.specs.Kept.{state_of}
 use Rattle.office.specs.Answered.{context_over}
-use Rattle.office.proofs.Permitted.{permitted_reply, refused_line, refused_begins}
+use Rattle.office.proofs.Permitted.{permitted_reply, refused_line, refused_begins, refused_lets_none}
 use Rattle.vault.proofs.CallLemmas.{looks_self}
 use Rattle.std.proofs.Common.{None}
 use Rattle.office.proofs.lines.reply_to.Goals as goal
@@ -34,6 +34,14 @@ pub returns-in-Err-clause-session : goal.returns-in-Err-clause-session
 returns-in-Err-clause-session g c d held clean =
     let h = rw c.is_some.ensures at c.in-Err.ensures.err in
     refused_begins (context_over d c.args.context c.args.locks.now) c.args.state c.args.line.now _ h d c.args.context.policy.now
+
+pub returns-in-Ok-clause-rule : goal.returns-in-Ok-clause-rule
+returns-in-Ok-clause-rule g c = rw c.in-Ok.ensures.ok.read c.command_reply.ensures.rule
+
+pub returns-in-Err-clause-rule : goal.returns-in-Err-clause-rule
+returns-in-Err-clause-rule g c =
+    let h = rw c.is_some.ensures at c.in-Err.ensures.err in
+    refused_lets_none c.args.state.user c.args.line.now _ h _
 
 pub returns-in-Err-clause-looks : goal.returns-in-Err-clause-looks
 returns-in-Err-clause-looks g c =

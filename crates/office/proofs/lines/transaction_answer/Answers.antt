@@ -1,14 +1,12 @@
-use Rattle.std.proofs.Common.{◌≡◌, true, false, sym, ◌∙◌, ap, subst, refl, rules, Option, Some, None}
-use Rattle.session.specs.Session.{Session}
+use Rattle.std.proofs.Common.{◌≡◌, true, false, sym, ◌∙◌, subst, refl, rules, Option, Some, None}
 use Rattle.office.specs.History.{Says}
 use Rattle.office.specs.Connections.{reading, is_quit}
-use Rattle.office.specs.Accounts.{transaction_account, removal_told, named_in}
-use Rattle.office.specs.declared.account.Account.TheVariants as account
+use Rattle.office.specs.Accounts.{transaction_account, named_in}
 use Rattle.creds.specs.declared.login_name.LoginName.{LoginName}
 use Rattle.office.specs.Sessions.{logs_in}
 use Rattle.office.specs.Answered.{SessionAfter}
 use Rattle.office.proofs.Remembering.{transaction_no_login}
-use Rattle.office.proofs.Accounts.{quitting, not_quitting, state_told}
+use Rattle.office.proofs.Accounts.{state_told}
 use Rattle.office.specs.Output.{OwesReply}
 use Rattle.office.specs.Transaction.{Transaction, transaction_of, GoesOn, session_if, transaction_reply, transaction_asks}
 use Rattle.office.proofs.AfterLines.{err_or_not}
@@ -37,8 +35,6 @@ returns-then-is_quit-clause-answered g c d v held clean sits =
     let s = c.args.session in
     let q : is_quit (reading x) ≡ true = sym c.is_quit.ensures ∙ c.if-is_quit.true in
     let so = did.answered d sits.0 held clean sits.1 in
-    let told : account.Quit (removal_told w p c.answer.new.session) ≡ transaction_account w p s (reading x) (Says (transaction_reply w p v x)) (named_in v (reading x)) =
-    ap (λ (s : Session). account.Quit (removal_told w p s)) (c.answer.ensures.quits q) ∙ sym (quitting w p s (reading x) _ _ q) in
     record {
       owed = subst (λ (v : Transaction). OwesReply d (session_if true c.answer.new.session) c.answer.new.output (transaction_reply w p v x)) (sym sits.2)
           (subst (λ b. OwesReply d (session_if b c.answer.new.session) c.answer.new.output (transaction_reply w p (transaction_of s sits.0) x)) q so.owed);
@@ -48,8 +44,9 @@ returns-then-is_quit-clause-answered g c d v held clean sits =
       held = so.held;
       may = λ failed. subst (λ (v : Transaction). transaction_asks p v (reading x) ≡ true) (sym sits.2) (so.may failed);
       cause = so.cause;
-      account = state_told d p s v w c.args.state.now.user x _ sits
-          (λ failed. subst (λ (v : Transaction). transaction_asks p v (reading x) ≡ true) (sym sits.2) (so.may failed)) (c.of_quit-account.ensures ∙ told);
+      account = state_told d p s v w c.args.state.now.user x _ sits (λ failed. subst (λ (v : Transaction). transaction_asks p v (reading x) ≡ true) (sym sits.2) (so.may failed))
+          (subst (λ (v : Transaction). c.in_ok-answered.answered.account ≡ transaction_account w p s (reading x) (Says (transaction_reply w p v x)) (named_in v (reading x))) (sym sits.2)
+          (did.account d sits.0 sits.1));
     }
 
 pub returns-clause-answered : goal.returns-clause-answered
@@ -74,7 +71,7 @@ returns-clause-answered g c d v held clean sits =
       cause = so.cause;
       account = state_told d p s v w c.args.state.now.user x _ sits (λ failed. subst (λ (v : Transaction). transaction_asks p v (reading x) ≡ true) (sym sits.2) (so.may failed))
           (subst (λ (v : Transaction). c.in_ok-answered.answered.account ≡ transaction_account w p s (reading x) (Says (transaction_reply w p v x)) (named_in v (reading x))) (sym sits.2)
-          (did.account q d sits.0 sits.1 ∙ sym (not_quitting w p s (reading x) _ _ q)));
+          (did.account d sits.0 sits.1));
     }
 
 pub returns-in_err-answered-clause-err : goal.returns-in_err-answered-clause-err

@@ -35,6 +35,7 @@ pub returns-in-Err : goal.returns-in-Err
 returns-in-Err g c = record {
   said = search rules;
   session = search rules;
+  rule = search rules;
   looks = looks_err g.V.Vault c.in-Err.fault c.in-Err.ensures.looks;
 }
 

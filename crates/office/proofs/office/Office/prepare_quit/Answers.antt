@@ -1,5 +1,5 @@
 -- The store holds what it held, and nothing else changes.
-use Rattle.std.proofs.Common.{false, sym, ◌∙◌, true≢false}
+use Rattle.std.proofs.Common.{sym, ◌∙◌, true≢false}
 use Rattle.vault.proofs.CallLemmas.{looks_self}
 use Rattle.office.proofs.office.Office.prepare_quit.Goals as goal
 

@@ -1,4 +1,4 @@
-use Rattle.std.proofs.Common.{◌≡◌, [], false, true, Some, None, sym, ◌∙◌, ap, nat_cmp, subst, rules, refl, arith}
+use Rattle.std.proofs.Common.{◌≡◌, [], false, Some, None, sym, ◌∙◌, ap, nat_cmp, subst, rules, refl, arith}
 use Rattle.std.specs.BTreeMap.{get, Updates}
 use Rattle.vault.specs.Changes.{AreSound}
 use Rattle.office.specs.Events.{Took, Tagged, given}

@@ -23,7 +23,7 @@ of_lane lane policy name class e = ap (λ (l : Lane). retrieval l.policy (login_
 denied : (decision : Decision) (head : Head) → not decision.allowed ≡ true → read_answer decision head ≡ Err (Denied decision.rule)
 denied decision head e = rw (not-true decision.allowed e) refl
 
-granted : (decision : Decision) (head : Head) → not decision.allowed ≡ false → read_answer decision head ≡ Ok head
+granted : (decision : Decision) (head : Head) → not decision.allowed ≡ false → read_answer decision head ≡ Ok (record { head = head; rule = decision.rule })
 granted decision head e = rw (not-false decision.allowed e) refl
 
 pub returns-in_err-head : goal.returns-in_err-head
