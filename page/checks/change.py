@@ -28,9 +28,8 @@ class Begin(PageCase):
         page.reviewed()
 
     def test_an_empty_server_has_a_policy_by_clicks(self):
-        """Three steps lead to a maildrop, a clerk and a rule; five rules are written by the form;
-        an opened cell says why bob can't remove payments; the rule is changed, seen, put in force,
-        and taken back."""
+        """Three steps lead to a maildrop, a clerk and a rule; five rules are written by the form; a
+        cell says why bob can't remove payments; the rule is changed, and taken back."""
         place = self.site(policy=None)
         page = self.browser(place)
         for word in ("Add a maildrop", "Add a clerk", "Write the first rule", "an example"):
@@ -84,8 +83,7 @@ class Begin(PageCase):
         self.assertTrue(page.may_be_put())
 
     def test_a_rules_form_keeps_the_text_beside_it(self):
-        """A rule that is changed, added, moved or removed by the form leaves comments, and all
-        other lines."""
+        """A rule that is changed, added or removed by the form leaves comments, and all else."""
         place, page = self.office()
         page.draft(OFFICE)
         text = 'name = "keep-payments"\neffect = "deny"'
@@ -205,8 +203,7 @@ class Draft(PageCase):
         self.assertNotIn("note", found)
 
     def test_a_reload_and_a_second_tab_keep_the_draft(self):
-        """The browser keeps the draft, the filters and the opened cell; another tab's change is
-        said, and taken if somebody wants it."""
+        """The browser keeps draft, filters and cell; another tab's change is said, and taken."""
         place, page = self.office()
         page.draft(DRAFT)
         page.click("d-table")
@@ -364,8 +361,7 @@ class Clerks(PageCase):
         page.says("made", "gil/orders", "gil/billing", "gil/support")
 
     def test_what_is_not_known_is_said_so(self):
-        """If nothing answers, no question is asked about a clerk of whom nothing is known, and
-        nothing is sent."""
+        """If nothing answers, no question is asked about a clerk, and nothing is sent."""
         place, page = self.office()
         place.stop("nginx")
         page.fill("clerks", c_name="kim", c_secret="a long one")
@@ -378,8 +374,7 @@ class Clerks(PageCase):
         self.assertIn("isn't known: the proxy says 502", page.sent("clerks", "c-told"))
 
     def test_a_clerk_whom_no_rule_names_is_shown(self):
-        """The clerks are the server's; one whom only the policy names is marked; nobody is asked
-        for by name."""
+        """The clerks are the server's; one whom only the policy names is marked."""
         place = self.site()
         place.administer("DELETE", "/clerks/dan")
         page = self.browser(place)
@@ -436,8 +431,7 @@ class Maildrops(PageCase):
             client.noop()
 
     def test_another_session_of_that_number_goes_on(self):
-        """After a restart numbers begin at 1 again: what isn't that clerk's any more isn't
-        ended."""
+        """What isn't that clerk's any more, after a restart, isn't ended."""
         place, page = self.office()
         first = self.log_in(place)
         page.reload()

@@ -202,8 +202,7 @@ class Door(PageCase):
         self.assertEqual(place.asked("GET", "/api/policy", user="desk"), (200, self.now()[0]))
 
     def at_once(self, count, ask, go_on):
-        """The statuses of requests that are made at once, of which three are refused before
-        `go_on`."""
+        """The statuses of requests at once; three are refused before `go_on`."""
         found = []
         asks = [threading.Thread(target=lambda: found.append(ask()[0])) for _ in range(count)]
         for it in asks:

@@ -18,8 +18,7 @@ OTHERS = "(others)"
 
 class Decisions(PageCase):
     def decisions(self, new, old=None):
-        """What `review-policy --format csv` prints: by clerk and maildrop, by class and action,
-        whether it is allowed, and the rule."""
+        """What `review-policy --format csv` prints, by cell, then by class and action."""
         words = [self.program, "review-policy", "--format", "csv"]
         words += ["--against", self.write("old.toml", old)] if old is not None else []
         words.append(self.write("new.toml", new))
@@ -32,8 +31,7 @@ class Decisions(PageCase):
         return table
 
     def same(self, page, table, mark, clerks=(), maildrops=()):
-        """Fails unless the table has these cells, as `mark` says them; those that only the server
-        has are as (others)."""
+        """Fails unless the table has these cells; what only the server has is as (others)."""
         rows, columns = ({it[n] for it in table} | {*more}
                          for n, more in ((0, clerks), (1, maildrops)))
 
@@ -142,7 +140,8 @@ class Table(Decisions):
         place, page = self.office()
         table = self.decisions(OFFICE)
         self.same(page, table, lambda it: mark_of(table[it]), ["old"])
-        self.assertEqual(page.text("table-of"), "By the policy in force. 5 clerks and 3 maildrops.")
+        said = "By the policy in force. 5 clerks and 3 maildrops. A click at a cell shows why."
+        self.assertEqual(page.text("table-of"), said)
         self.assertFalse(page.shows("legend"))
         for (clerk, maildrop), cell in table.items():
             self.opened(page, clerk, maildrop, cell)
@@ -181,8 +180,7 @@ class Table(Decisions):
         page.says("cell", "The same: c2")
 
     def test_the_drafts_table_is_that_of_csv(self):
-        """The draft's cells are its own, with what it gives and takes; an opened cell has both
-        rules, and is green no more if the draft says no."""
+        """The draft's cells are its own, with what it gives and takes; an opened one has both."""
         place, page = self.office()
         page.draft(DRAFT)
         old, new = self.decisions(OFFICE, DRAFT), self.decisions(DRAFT, OFFICE)
@@ -334,9 +332,8 @@ class Looks(PageCase):
         return page
 
     def test_it_is_read_by_day(self):
-        """Contrast is at least 4.5, all has a name for a screen reader, type is of one scale, and
-        nothing is cut off; lists have one border, a line's buttons one look, an opened cell's title
-        no ring; a form has one line at 1,280 px."""
+        """Contrast is at least 4.5, all has a name, type is of one scale, nothing is cut off; lists
+        have one border, a line's buttons one look, a cell's title no ring, a form one line."""
         page = self.looks_well(width=1280)
         page.view("table/dan/orders")
         page.says("cell-title", "dan")
@@ -380,8 +377,7 @@ class Looks(PageCase):
         self.assertEqual(page.js(at, "#grid tbody tr:nth-child(20) th", 200, 300), [True, False])
 
     def test_everything_is_reached_by_the_keyboard(self):
-        """Arrows lead through the table, Enter opens a cell, Escape closes it, and Tab reaches all
-        that can be pressed."""
+        """Arrows lead through the table, Enter opens a cell, and Tab reaches all else."""
         place, page = self.office()
 
         def focused(key, wanted):

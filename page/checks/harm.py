@@ -174,8 +174,7 @@ class Failures(PageCase):
         self.place, self.page = self.office()
 
     def test_no_companion_means_no_table_and_no_change(self):
-        """Without a review there is no table and nothing is put in force; without the other
-        companion nothing changes; and the page says so."""
+        """Without a companion there is no table, or no change; the page says so."""
         place, page = self.place, self.page
         place.stop("review")
         page.draft(DRAFT)

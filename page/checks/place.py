@@ -359,6 +359,7 @@ class Browser:
     def put_in_force(self, said="In force: "):
         """Puts the draft in force, and waits until the status says so; gives what was asked."""
         self.wait(self.may_be_put, "it can't be put in force")
+        self.js("document.getElementById('status').textContent = ''")
         self.click("d-put")
         asked = self.agree()
         self.says("status", said)

@@ -4,13 +4,8 @@
 import { pause } from './dom.js';
 
 const PROXY = {
-  401: 'no password',
-  403: 'refused',
-  413: 'too large',
-  429: 'too many requests',
-  502: 'what is behind it is down',
-  503: 'too many at once',
-  504: 'no answer in time',
+  401: 'no password', 403: 'refused', 413: 'too large', 429: 'too many requests',
+  502: 'what is behind it is down', 503: 'too many at once', 504: 'no answer in time',
 };
 
 // At most four requests at once: popbox has eight places, for everybody who asks.

@@ -42,7 +42,7 @@ export function begin() {
   const [maildrop, clerk] = [maildrops[0] ?? '*', clerks[0] ?? '*'];
   const first = { clerk: [clerk], maildrop: [maildrop] };
   const rule = hasDraft() ? [h('a', { href: '#policy' }, 'Put the draft in force')] : [
-    button('Write the first rule…', () => editRule(0, first), null, 'strong'), ' or ',
+    button('Write the first rule…', () => editRule(0, first)), ' or ',
     button('Begin with an example', () => replaceDraft(EXAMPLE)),
   ];
   const title = h('h3', null, 'Three steps, and the first clerk can log in');
@@ -52,6 +52,7 @@ export function begin() {
     step(clerks.length, 'A clerk', 'logs in with a name and a password.',
       add('clerks', 'c-name', 'Add a clerk')),
     step(hasRule, 'A rule', 'says who may open, read and remove what.', rule)));
+  $('begin').querySelector('button')?.classList.add('strong'); // what comes next
 }
 
 function step(isDone, what, told, todo) {

@@ -25,7 +25,7 @@ function draw(c, m, takesFocus) {
   open.colSpan = 2;
   const body = h('tbody', null, h('tr', null, rowHead('opens the maildrop'), open),
     h('tr', { class: 'sub' }, ['class', 'reads', 'removes'].map((it) => h('th', null, it))),
-    force.classes.map((name, n) => h('tr', null, rowHead(shownName(name)),
+    force.classes.map((name, n) => h('tr', null, rowHead(shownName(name, force.classes, 'class')),
       decision(now.read[n], then?.read[n]), decision(now.remove[n], then?.remove[n]))));
   const title = h('h3', { id: 'cell-title', tabindex: -1 },
     `${shownName(clerk)} in ${shownName(maildrop)}`);

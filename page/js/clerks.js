@@ -96,14 +96,15 @@ function showMade(name, way, secret) {
   const clerk = clerks.indexOf(clerks.includes(name) ? name : OTHERS);
   const opens = (it, m) => it !== OTHERS && allows(state.alone.cell(clerk, m).open);
   const places = maildrops.filter(opens);
-  const users = places.length ? places.map((it) => `${name}/${it}`) : [`${name}/MAILDROP`];
+  const users = places.map((it) => h('div', null, h('code', null, `${name}/${it}`)));
+  if (!users.length) users.push(`No rule lets ${name} open a maildrop yet; as ${name}/orders then`);
   const line = (what, ...told) => h('tr', null, rowHead(what), data(...told));
   const title = h('h3', null, `For ${name}'s mail program`);
   $('made').replaceChildren(
     h('div', { class: 'head' }, title, button('Close', closeMade)),
     h('table', { class: 'plain' }, h('tbody', null,
       line(KINDS[way], h('code', { id: 'made-secret' }, secret), ' ', copy, copied),
-      line('user name', users.map((it) => h('div', null, h('code', null, it)))),
+      line('user name', users),
       line('server', 'POP3; port 995 if a proxy does TLS, else 1110, or as popbox was started'))),
     dim('The password is shown nowhere again once this is closed.'),
   );

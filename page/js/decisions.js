@@ -4,8 +4,11 @@ import { byName, slowly } from './dom.js';
 
 /** What popbox calls each name that no rule and no group names. */
 export const OTHERS = '(others)';
-/** A name as the page shows it. */
-export const shownName = (name) => (name === OTHERS ? 'any other' : name);
+/** A name as the page shows it. If it is the only one of a list, it stands for every `what`. */
+export function shownName(name, all = [], what = '') {
+  if (name !== OTHERS) return name;
+  return all.length === 1 ? `any ${what}` : 'any other';
+}
 
 /** The names of a policy and those that only the server has, (others) last; and of each its place
  *  in popbox's table, where whom no rule names stands as (others). */

@@ -129,18 +129,17 @@ function toldOfTable() {
   const isSame = draft && state.review?.written === state.force;
   const by = isDraft ? 'By the draft, which is not in force.' : 'By the policy in force.';
   const told = [isSame ? 'The draft says what is in force.' : by];
-  if (changes) {
-    const all = (force.clerks.length * force.maildrops.length).toLocaleString();
-    told.push(` The draft changes ${counted(changes, 'cell')} of ${all}.`);
-  } else if (draft && !isSame) {
-    told.push(' The draft changes nothing of this.');
-  }
+  const all = (force.clerks.length * force.maildrops.length).toLocaleString();
+  if (changes) told.push(` The draft changes ${counted(changes, 'cell')} of ${all}.`);
+  else if (draft && !isSame) told.push(' The draft changes nothing of this.');
   told.push(` ${countedNames(clerks.map((c) => force.clerks[c]), 'clerk')} and `);
   told.push(`${countedNames(columns.map((m) => force.maildrops[m]), 'maildrop')}.`);
   if (!isWhole) told.push(' The filters hide the rest.');
-  const labels = [...force.clerks.map(clerkLabel), ...force.maildrops.map(maildropLabel)];
+  const labels = [...clerks.map((c) => clerkLabel(force.clerks[c])),
+    ...columns.map((m) => maildropLabel(force.maildrops[m]))];
   const lacks = labels.some(([text]) => text.endsWith(' *'));
   if (lacks) told.push(' A * marks a name that the server does not have.');
+  if (!draft) told.push(' A click at a cell shows why.');
   return told;
 }
 

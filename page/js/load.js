@@ -49,11 +49,8 @@ async function takeBefore(name) {
 }
 
 function sayCounts() {
-  const counts = [
-    counted(state.maildrops.length, 'maildrop'),
-    counted(existing().length, 'clerk'),
-    counted(state.sessions.length, 'session'),
-  ];
+  const all = [[state.maildrops, 'maildrop'], [existing(), 'clerk'], [state.sessions, 'session']];
+  const counts = all.map(([it, what]) => counted(it.length, what));
   const who = state.user ? `Signed in as ${state.user}. ` : '';
   say(`${who}${counts.join(', ')}, as of ${new Date().toLocaleTimeString()}`);
 }

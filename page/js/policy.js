@@ -20,8 +20,9 @@ export function drawForce(edit) {
   $('force').replaceChildren(...blocks);
   const { by, at } = putOf(state.name);
   const since = by ? `, put in force by ${by}, ${timeOf(at)}` : '';
-  const rules = count ? counted(count, 'rule') : 'No rule yet';
-  $('force-of').replaceChildren(`${rules}: policy `, h('code', null, state.name), `${since}.`);
+  const title = 'its name, in the event log and of its kept text';
+  const name = count ? [': policy ', h('code', { title }, state.name)] : [];
+  $('force-of').replaceChildren(count ? counted(count, 'rule') : 'No rule', ...name, `${since}.`);
 }
 
 /** `2026-11-29T10-15-02Z` as a person reads it. */
@@ -42,7 +43,8 @@ export function drawBefore(take) {
     return h('tr', null, data(end, h('div', null, h('code', null, name))), data(who), data(text));
   };
   const lacks = state.puts ? 'None is kept yet.' : 'The companion that keeps them is down.';
-  const rows = before.length ? before.map(line) : h('tr', null, h('td', { colspan: 3 }, dim(lacks)));
+  const none = () => h('tr', null, h('td', { colspan: 3 }, dim(lacks)));
+  const rows = before.length ? before.map(line) : none();
   const head = tableHead('in force until', 'put in force by', '');
   $('before-list').replaceChildren(head, h('tbody', null, rows));
 }

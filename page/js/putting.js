@@ -22,18 +22,18 @@ export async function putInForce() {
   $('d-put').disabled = true;
   say('popbox checks it and puts it in force …');
   const path = `/policies?old=${octets(force)}${nobody ? '&nobody=yes' : ''}`;
-  await readBack(await change('POST', path, force + draft), written, force);
+  await readBack(await change('POST', path, force + draft), written, force, draft);
 }
 
 /** Says what is in force after an attempt, whatever was answered. */
-async function readBack(answer, wanted, old) {
+async function readBack(answer, wanted, old, draft) {
   if (answer.status === 200) state.base = wanted;
   if (!await load()) {
     say(`${answer.told}; what is in force can't be read now: Reload`, true);
     return;
   }
   const isPut = state.force === wanted;
-  if (isPut) forgetDraft();
+  if (isPut && state.draft === draft) forgetDraft(); // and none that was begun meanwhile
   await reviewDraft();
   if (answer.status === 200 && isPut) {
     const rules = Number(/in force(?: already)?: (\d+) rules/.exec(answer.told)?.[1]);

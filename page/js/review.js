@@ -137,11 +137,16 @@ const CHANGE = new RegExp(`^(\\S+) (\\S+) (?:(\\S+) )?(open|read|remove): ${RULE
 /** The changes as lists by clerk and maildrop, which open one by one. */
 function drawClerks(all, isOpen) {
   const by = (key, some) => [...Map.groupBy(some, (it) => it[key])];
-  const changes = all.map((line) => CHANGE.exec(line)).filter(Boolean);
+  const changes = all.map((line) => CHANGE.exec(line)).filter(Boolean), { draft } = state.beside;
+  const placeName = (name) => shownName(name, draft.namedMaildrops, 'maildrop');
   return by(1, changes).map(([clerk, some]) => {
-    const drops = by(2, some);
-    const drop = ([name, few]) => folded(summary(name, few), () => drawDecisions(few), isOpen);
-    const title = summary(clerk, some, counted(drops.length, 'maildrop'));
+    const drops = by(2, some), named = drops.filter(([name]) => name !== OTHERS).length;
+    const drop = ([name, few]) => {
+      return folded(summary(placeName(name), few), () => drawDecisions(few), isOpen);
+    };
+    const where = [...named ? [counted(named, 'maildrop')] : [],
+      ...named < drops.length ? [placeName(OTHERS)] : []].join(' and ');
+    const title = summary(shownName(clerk, draft.named, 'clerk'), some, where);
     return folded(title, () => drops.map(drop), isOpen);
   });
 }
@@ -149,17 +154,17 @@ function drawClerks(all, isOpen) {
 function summary(name, some, where) {
   const gives = some.filter((it) => it[7] === 'allow').length, takes = some.length - gives;
   const told = [gives ? `▲ ${gives} allowed` : null, takes ? `▼ ${takes} denied` : null];
-  return `${shownName(name)}: ${told.filter(Boolean).join(', ')}${where ? `, in ${where}` : ''}`;
+  return `${name}: ${told.filter(Boolean).join(', ')}${where ? `, in ${where}` : ''}`;
 }
 
 function drawDecisions(some) {
-  const by = (effect, rule) => {
+  const { classes } = state.beside.draft, by = (effect, rule) => {
     if (rule === 'default') return 'denied, as no rule matches';
     return `${effect === 'allow' ? 'allowed' : 'denied'} by ${rule}`;
   };
   const line = ([, , , kind, action, was, old, effect, rule]) => h('tr', null,
     h('td', { class: effect === 'allow' ? 'up' : 'down' }, effect === 'allow' ? '▲' : '▼'),
-    h('td', null, kind ? `${action} ${shownName(kind)}` : action),
+    h('td', null, kind ? `${action} ${shownName(kind, classes, 'class')}` : action),
     h('td', null, by(effect, rule)), h('td', { class: 'dim' }, `was ${by(was, old)}`));
   return [h('table', { class: 'plain' }, h('tbody', null, some.map(line)))];
 }
