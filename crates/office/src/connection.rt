@@ -1,13 +1,14 @@
 //! One connection: the input that isn't cut yet, and the octets that it is owed.
 ghost use Rattle.std.specs.Prelude.{◌≡◌, ◌+◌, ◌≤◌, ◌<◌, ◌==◌, ◌||◌, nat_lt, ℕ, List, []};
 ghost use Rattle.std.specs.Prelude.{Option, None, true, false, is_some, OnOk, OnErr, IfOk};
-ghost use Rattle.std.specs.Prelude.{IsOkAnd, IsTrue, drop, length, string_bytes};
+ghost use Rattle.std.specs.Prelude.{Ok, IsOkAnd, IsTrue, drop, length, string_bytes};
 ghost use Rattle.popline.specs.Replies.{Greeting, bytes_of, timestamp};
 ghost use Rattle.popline.specs.Cutting.{has_newline, nothing_held};
 ghost use Rattle.vault.specs.Changes.{Contents};
 ghost use Rattle.vault.specs.Call.{Looks};
 ghost use Rattle.vault.specs.Calls.{has_grown, IsPrepared};
 ghost use Rattle.vault.specs.Parts.{OnlyLooks};
+ghost use Rattle.vault.specs.declared.answer.Progress.TheVariants.{Ready};
 ghost use Rattle.office.specs.Stopping.{WasDone, ActsOnce};
 ghost use Rattle.office.specs.Replying.{is_empty};
 ghost use Rattle.office.specs.Output.{nothing_owed, lent_of, is_feeding, reads_text};
@@ -21,18 +22,18 @@ ghost use Rattle.office.specs.Connections.{reading};
 ghost use Rattle.office.specs.Expected.{most_in_a_piece};
 ghost use Rattle.office.specs.Answered.{is_locked_by, HasTransaction, LocksFollow, held_if};
 ghost use Rattle.office.specs.AfterLine.{AfterNext, NothingDone, cut_through, line_of};
-ghost use Rattle.office.specs.Waiting.{is_held_for, coming_login, line_with};
-ghost use Rattle.office.specs.Quitting.{coming_quit, sees_many_in, marks_many_in};
+ghost use Rattle.office.specs.Waiting.{next_brings, line_with};
+ghost use Rattle.office.specs.Quitting.{sees_many_in, marks_many_in};
 ghost use Rattle.office.specs.Quitting.{is_found as is_found_at};
 
 use crate::account::{Account, LineReport};
+use crate::brought::{Brought, brought_by};
 use crate::command_line::CommandLine;
 use crate::lines;
 use crate::locks::Locks;
 use crate::login_state::{LineContext, LineOutcome, LoginState};
 use crate::output::{Output, Source};
 use crate::quit::prepare;
-use crate::waiting::{asks_locked, login_asked};
 use creds::{LoginName, Name};
 use policy::Policy;
 use popline::{Cutter, Reply};
@@ -253,37 +254,21 @@ impl Connection {
         self.state.failures
     }
 
-    /// Whom the line that is whole with this piece would log in: nobody if no line is whole,
-    /// if the line isn't a login, or if somebody is in session. The piece isn't taken.
-    pub fn coming_login(&self, piece: &[u8]) -> Option<LoginName>
-        ensures { result ≡ coming_login (is_some self.now.session) self.now.state.user
+    /// What the line that is whole with this piece brings. The piece isn't taken.
+    pub fn brings(&self, piece: &[u8]) -> Brought
+        ensures { result ≡ next_brings (is_some self.now.session) self.now.state.user
             (line_with self.now piece.now) }
     {
-        if self.session.is_some() {
-            return None;
-        }
-        let mut cutter = self.cutter.copied();
-        let _ = cutter.feed(piece);
-        let Some(cut) = cutter.line() else {
-            return None;
-        };
-        login_asked(&CommandLine::read(cut), self.state.user)
-    }
-
-    /// Whether the line that is whole with this piece is a QUIT without arguments, and somebody is
-    /// in session. The piece isn't taken.
-    pub fn brings_quit(&self, piece: &[u8]) -> bool
-        ensures { result ≡ coming_quit (is_some self.now.session) (line_with self.now piece.now) }
-    {
-        if self.session.is_none() {
-            return false;
-        }
         let mut cutter = self.cutter.copied();
         let _fed = cutter.feed(piece);
         let Some(cut) = cutter.line() else {
-            return false;
+            return Brought::Nothing;
         };
-        CommandLine::read(cut).is_quit()
+        brought_by(
+            &CommandLine::read(cut),
+            self.session.is_some(),
+            self.state.user,
+        )
     }
 
     /// Whether somebody is in session with a view of more than [`MANY`] messages.
@@ -315,21 +300,12 @@ impl Connection {
         ensures answer { IsPrepared result }
         ensures looks { Looks V.holds V.faults V.is_clean V.is_up V.may_leave vault.old vault.new
             result }
+        ensures alone { is_some self.now.session ≡ false → result ≡ Ok Ready }
     {
         match &self.session {
             None => Ok(Progress::Ready),
             Some(session) => prepare(vault, policy, session),
         }
-    }
-
-    /// Whether the line that is whole with this piece is a login to a maildrop that is locked. The
-    /// piece isn't taken.
-    pub fn meets_lock(&self, locks: &Locks, piece: &[u8]) -> bool
-        ensures { result ≡ is_held_for (is_locked_by locks.now)
-            (coming_login (is_some self.now.session) self.now.state.user
-            (line_with self.now piece.now)) }
-    {
-        asks_locked(locks, self.coming_login(piece))
     }
 
     /// Takes the next piece at this moment, and answers the first line that is now whole; the lines

@@ -9,6 +9,7 @@ mod account;
 mod administration;
 mod answer;
 mod bodies;
+mod brought;
 mod command;
 mod command_line;
 mod connection;
@@ -41,6 +42,7 @@ mod waiting;
 pub use account::{Account, End, EventReport, MessageCommand, Removal, Verdict, Way};
 pub use answer::{Answer, Clerks, MessageRow, Messages, SessionRow, Sessions, Totals};
 pub use bodies::answer_body;
+pub use brought::Brought;
 pub use command::AdminCommand;
 pub use event::{Event, Outcome, Reason};
 pub use history_laws::{

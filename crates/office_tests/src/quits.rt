@@ -73,7 +73,7 @@ fn mark_all(alloc: Global, office: &mut Quitting, sent: &mut Vec<u8>) -> Result<
 fn prepare(office: &mut Quitting, times: u32) -> Result<u32, Fail> {
     let mut more = 0u32;
     for _ in 0..times {
-        if office.prepare_quit(1, b"QUIT\r\n")? == Progress::More {
+        if office.prepare_quit(1)? == Progress::More {
             more = more.saturating_add(1);
         }
     }

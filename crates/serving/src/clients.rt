@@ -82,7 +82,7 @@ fn is_long_quit<V: Vault>(office: &Office<V>, connection: u64, piece: &[u8]) -> 
     ensures { (T : Trace) → StandsFor V.holds office.now T → result ≡ true
         → brings_long_quit T connection piece.now ≡ true }
 {
-    office.brings_quit(connection, piece) && office.marks_many(connection)
+    office.brings(connection, piece).is_quit() && office.marks_many(connection)
 }
 
 impl<V: Vault, W: Wire, L: Listener> Server<V, W, L> {

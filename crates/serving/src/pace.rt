@@ -1,11 +1,13 @@
 //! How what comes on a client's link is read: as it comes, or a line at a time, and but for logins
 //! that are kept back.
-ghost use Rattle.std.specs.Prelude.{◌≡◌, ◌≤◌, ◌<◌, ◌==◌, ◌&&◌, not, true, false, None};
+ghost use Rattle.std.specs.Prelude.{◌≡◌, ◌≤◌, ◌<◌, ◌==◌, ◌&&◌, ℕ, List, not, true, false};
+ghost use Rattle.std.specs.Prelude.{None};
 ghost use Rattle.std.specs.Prelude.{length, position, nat_lt};
 ghost use Rattle.office.specs.Events.{Trace};
 ghost use Rattle.office.specs.Trace.{history};
 ghost use Rattle.office.specs.Sessions.{live};
 ghost use Rattle.office.specs.Logins.{login_brought as login_brought_at, refusals};
+ghost use Rattle.office.specs.Waiting.{waits};
 ghost use Rattle.serving.specs.Guesses.{AreNotedSo, IsOriginOf};
 ghost use Rattle.office.specs.Stands.{StandsFor};
 ghost use Rattle.serving.specs.Wires.{ToldOfPorts};
@@ -140,21 +142,38 @@ fn keeps(guesses: &Guesses, pace: Pace, login: &Option<LoginName>) -> bool
     }
 }
 
+/// Whether a login that came on a connection waits for its maildrop's lock, so many seconds at
+/// most; `None`, no login, never does.
+fn awaits_lock<V: Vault>(
+    office: &Office<V>,
+    connection: u64,
+    login: &Option<LoginName>,
+    seconds: u64,
+) -> bool
+    ensures { (T : Trace) (piece : List ℕ) → StandsFor V.holds office.now T
+        → login.now ≡ login_brought_at T connection piece
+        → result ≡ waits T connection piece seconds }
+{
+    match login {
+        None => false,
+        Some(name) => office.waits(connection, name, seconds),
+    }
+}
+
 /// Whether a piece that came, with this login in its next line, stays unread, because the login
 /// waits for its maildrop's lock or is kept back.
 fn is_held_back<V: Vault>(
     office: &Office<V>,
     guesses: &Guesses,
     connection: u64,
-    piece: &[u8],
     pace: Pace,
     login: &Option<LoginName>,
 ) -> bool
-    ensures { (T : Trace) → StandsFor V.holds office.now T
-        → login.now ≡ login_brought_at T connection piece.now
-        → result ≡ is_held T connection piece.now pace guesses.now.refusals.items }
+    ensures { (T : Trace) (piece : List ℕ) → StandsFor V.holds office.now T
+        → login.now ≡ login_brought_at T connection piece
+        → result ≡ is_held T connection piece pace guesses.now.refusals.items }
 {
-    if office.waits(connection, piece, pace.wait) {
+    if awaits_lock(office, connection, login, pace.wait) {
         return true;
     }
     keeps(guesses, pace, login)
@@ -196,8 +215,8 @@ fn part_of_piece<V: Vault>(
     ensures some { (result.count == 0) ≡ false → result.count ≡ first_line_of piece.now }
     ensures most { result.count ≤ 4096 }
 {
-    let login = office.login_brought(connection, piece);
-    if is_held_back(office, guesses, connection, piece, pace, &login) {
+    let login = office.brings(connection, piece).login();
+    if is_held_back(office, guesses, connection, pace, &login) {
         return Part { count: 0, login };
     }
     Part {

@@ -37,9 +37,6 @@ pub trait Clock {
             → gave self.new (a ++ result ∷ []) };
 }
 
-/// The line of a QUIT, as it ends a session.
-const QUIT_LINE: &[u8] = b"QUIT\r\n";
-
 impl<V: Vault, W: Wire, L: Listener> Server<V, W, L> {
     /// If a large file is coming, has the spool read the next piece of it; once all of it was read,
     /// has the store prepare a part of its deposit. Returns whether there is such a file.
@@ -87,7 +84,7 @@ impl<V: Vault, W: Wire, L: Listener> Server<V, W, L> {
             → HasStayedFor (in_a_row quits.old.is_preparing row) quits.new }
     {
         if let Some(connection) = quits.next() {
-            let prepared = self.office.prepare_quit(connection, QUIT_LINE);
+            let prepared = self.office.prepare_quit(connection);
             quits.note_progress(matches!(prepared, Ok(Progress::More)));
             return;
         }

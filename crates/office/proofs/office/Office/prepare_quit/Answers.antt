@@ -1,13 +1,11 @@
 -- The store holds what it held, and nothing else changes.
-use Rattle.std.proofs.Common.{sym, ◌∙◌, true≢false}
+use Rattle.std.proofs.Common.{sym, ◌∙◌}
+use Rattle.office.specs.Kept.{Kept}
+use Rattle.office.specs.Stands.{seen}
+use Rattle.office.proofs.AfterEvents.{kept_at}
+use Rattle.office.proofs.MeetingLocks.{session_live}
 use Rattle.vault.proofs.CallLemmas.{looks_self}
 use Rattle.office.proofs.office.Office.prepare_quit.Goals as goal
-
-pub returns-then-not-brings_quit-clause-stands : goal.returns-then-not-brings_quit-clause-stands
-returns-then-not-brings_quit-clause-stands g c T st clean = st
-
-pub returns-then-not-brings_quit-clause-looks : goal.returns-then-not-brings_quit-clause-looks
-returns-then-not-brings_quit-clause-looks g c = looks_self g.V.Vault _ _ (g.met.V.Vault.settled _)
 
 pub returns-in-None-clause-stands : goal.returns-in-None-clause-stands
 returns-in-None-clause-stands g c T st clean = st
@@ -39,5 +37,7 @@ returns-in-Some-clause-stands g c T st clean = record {
 }
 
 pub returns-in-Some-clause-quits : goal.returns-in-Some-clause-quits
-returns-in-Some-clause-quits g c T st none =
-    absurd (true≢false (sym c.if-not-brings_quit.false ∙ (c.brings_quit.ensures T st ∙ none)))
+returns-in-Some-clause-quits g c T st out =
+    let k : Kept = c.in-Some.connection.now in
+    let m = kept_at T c.args.c st k (sym c.in-Some.ensures.value) in
+    c.prepare_quit.ensures.alone (session_live st.keeps.contents (seen T c.args.c) k.session m.session ∙ out)

@@ -1,39 +1,19 @@
-use Rattle.std.proofs.Common.{◌≡◌, true, false, sym, ◌∙◌, refl}
-use Rattle.office.specs.Replying.{is_empty}
+use Rattle.std.proofs.Common.{sym, ◌∙◌}
 use Rattle.office.specs.Kept.{Kept}
-use Rattle.office.specs.Trace.{is_open}
-use Rattle.office.specs.Stands.{seen, untaken_of}
-use Rattle.office.proofs.Owing.{some_owed}
+use Rattle.office.proofs.SmallLemmas.{no_some}
 use Rattle.office.proofs.MeetingLocks.{waits_so}
 use Rattle.office.proofs.AfterEvents.{kept_at, closed_at}
 use Rattle.office.proofs.office.Office.waits.Goals as goal
 
-pub returns : goal.returns
-returns g c T st =
+pub returns-in-Some : goal.returns-in-Some
+returns-in-Some g c T piece st is =
     let n = c.args.c in
     let k : Kept = c.in-Some.connection.now in
-    let ct = st.keeps.contents in
     let o = c.args.self.now in
     let m = kept_at T n st k (sym c.in-Some.ensures.value) in
-    let nothing = c.owes_nothing.ensures.nothing c.if-not-owes_nothing.false in
-    let p = c.args.piece.now in
-    c.link_waits.ensures
-    ∙ waits_so ct T n p k m nothing o.locks st.locks o.moment c.args.seconds st.moment
+    c.may_wait.ensures ∙ waits_so st.keeps.contents T n piece k m c.args.login.now is o.locks st.locks o.moment c.args.seconds st.moment
 
-pub returns-in_default : goal.returns-in_default
-returns-in_default g c T st =
-    let closed = closed_at T c.args.c st (sym c.in_default.ensures.value) in
-    rw closed refl
-
-pub returns-then-not-owes_nothing : goal.returns-then-not-owes_nothing
-returns-then-not-owes_nothing g c T st =
-    let n = c.args.c in
-    let s = seen T n in
-    let k : Kept = c.in-Some.connection.now in
-    let ct = st.keeps.contents in
-    let m = kept_at T n st k (sym c.in-Some.ensures.value) in
-    let opened : is_open T n ≡ true = m.opened in
-    let owes = sym c.owes_nothing.ensures.value ∙ c.if-not-owes_nothing.true in
-    let some : is_empty (untaken_of s) ≡ false =
-    some_owed ct k.session k.output (untaken_of s) m.owed owes in
-    rw (opened, some) refl
+pub returns-in-None : goal.returns-in-None
+returns-in-None g c T piece st is =
+    let closed = closed_at T c.args.c st (sym c.in-None.ensures.value) in
+    absurd (no_some c.args.login.now (rw closed at is))

@@ -4,9 +4,9 @@ use Rattle.office.specs.Kept.{Kept}
 use Rattle.office.specs.Trace.{is_open}
 use Rattle.office.specs.Stands.{seen, untaken_of}
 use Rattle.office.proofs.Owing.{some_owed}
-use Rattle.office.proofs.MeetingLocks.{quit_so}
+use Rattle.office.proofs.MeetingLocks.{brought_so}
 use Rattle.office.proofs.AfterEvents.{kept_at, closed_at}
-use Rattle.office.proofs.office.Office.brings_quit.Goals as goal
+use Rattle.office.proofs.office.Office.brings.Goals as goal
 
 pub returns : goal.returns
 returns g c T st =
@@ -16,7 +16,7 @@ returns g c T st =
     let m = kept_at T n st k (sym c.in-Some.ensures.value) in
     let nothing = c.owes_nothing.ensures.nothing c.if-not-owes_nothing.false in
     let p = c.args.piece.now in
-    c.brings_quit.ensures ∙ quit_so ct T n p k m nothing
+    c.brings.ensures ∙ brought_so ct T n p k m nothing
 
 pub returns-in_default : goal.returns-in_default
 returns-in_default g c T st =
