@@ -8,6 +8,7 @@ pub mod Scripting
 pub mod Depositing
 pub mod NameTexts
 pub mod Leaving
+pub mod Rounds
 pub mod Parts
 pub mod Looking
 pub mod Origins

@@ -44,6 +44,16 @@ first_of (Some name) back = Some name
 abbrev pub next_of : (last : Option FileName) → List (List ℕ) → Option FileName
 next_of last names = option_and_then file_name_of (first_of (least_of (is_behind (last_text last)) names) (least_of is_file names))
 
+-- going round from a name to the next one, a third is between them
+abbrev pub is_between : (from to : List ℕ) → List ℕ → Bool
+is_between from to name =
+    if comes_before from to then comes_before from name && comes_before name to else comes_before from name || comes_before name to
+
+-- no name is passed over, going round from the last one to the next
+abbrev pub NoneIsPassedOver : Type 0
+NoneIsPassedOver = (last : Option FileName) (names : List (List ℕ)) (next : FileName) → next_of last names ≡ Some next
+    → All (λ name. is_file name ≡ true → is_between (last_text last) (text_of next) name ≡ false) names
+
 -- these names came by since the last one was set, the newest first; their order doesn't matter
 pub record HasSeen (last : Option FileName) (names : List (List ℕ)) (next : NextName) : Type 0 where
   pub text : string_bytes next.last ≡ last_text last

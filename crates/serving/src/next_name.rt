@@ -4,6 +4,7 @@ ghost use Rattle.creds.specs.Names.{comes_before as precedes};
 ghost use Rattle.serving.specs.NextNames.{is_file as has_form, is_behind as follows};
 ghost use Rattle.serving.specs.NextNames.{is_less as is_least, least_after};
 ghost use Rattle.serving.specs.NextNames.{tries_left, tried_of, looks_after, LeftFilesAreTried};
+ghost use Rattle.serving.specs.NextNames.{NoneIsPassedOver};
 
 use crate::file_name::FileName;
 use std::alloc::{AllocError, Global};
@@ -178,7 +179,9 @@ impl LooksWithout {
 }
 
 /// A law: no more than 1,000 looks one after the other, at which one of the files that were left
-/// could be tried, try none of them, whatever else lies in the folder.
+/// could be tried, try none of them, whatever else lies in the folder; and from one to the next no
+/// file of the folder is passed over.
 pub fn left_files_are_tried()
-    ensures { LeftFilesAreTried }
+    ensures looks { LeftFilesAreTried }
+    ensures rounds { NoneIsPassedOver }
 {}
