@@ -1,7 +1,7 @@
 // What the server holds, as it was asked last, and what this browser keeps: the draft, the policy
 // on which it began, and the filters; no password. Draws nothing.
 
-import { ask, digestOf, lines, review, rows } from './ask.js';
+import { ask, digestOf, review, rows } from './ask.js';
 import { byName } from './dom.js';
 import { OTHERS, tableFrom } from './decisions.js';
 
@@ -141,12 +141,4 @@ export async function textOf(digest, written) {
   if (!putOf(digest).at) return written;
   const { status, text } = await ask('GET', `/policies/${digest}`);
   return status === 200 ? text : written;
-}
-
-/** The classes of the messages that the server has, in so many maildrops. */
-export async function classesHeld(most) {
-  const some = state.maildrops.filter((it) => it.n).slice(0, most);
-  const told = await Promise.all(some.map((it) => ask('GET', `/api/maildrops/${it.name}`)));
-  const uids = told.flatMap(({ status, text }) => (status === 200 ? lines(text) : []));
-  return new Set(uids.map((line) => line.slice(0, line.lastIndexOf('.', line.indexOf(' ')))));
 }
