@@ -15,19 +15,23 @@ abbrev pub when_text : Removals → List ℕ
 when_text judged.JudgedAtDele = codes "dele"
 when_text judged.JudgedAtQuit = codes "quit"
 
--- how long clients may take, and whether they make room
-abbrev pub patience_text : Settings → List ℕ
-patience_text s =
+-- the options that are seconds
+abbrev pub seconds_text : Settings → List ℕ
+seconds_text s =
     codes " idle=" ++ decimal s.idle ++ codes " wait=" ++ decimal s.wait
     ++ codes " login-seconds=" ++ decimal s.login_seconds
-    ++ codes " make-room=" ++ yes_or_no s.make_room
 
--- the options that are set or aren't
+-- the options of clients that are set or aren't
 abbrev pub flags_text : Settings → List ℕ
 flags_text s =
-    codes " slow-guesses=" ++ yes_or_no s.slow_guesses
+    codes " make-room=" ++ yes_or_no s.make_room
+    ++ codes " slow-guesses=" ++ yes_or_no s.slow_guesses
     ++ codes " proxy-protocol=" ++ yes_or_no s.proxy_protocol
-    ++ codes " log-message-ids=" ++ yes_or_no s.message_ids
+
+-- what is logged
+abbrev pub logged_text : Settings → List ℕ
+logged_text s =
+    codes " log-message-ids=" ++ yes_or_no s.message_ids
     ++ codes " log-reads=" ++ yes_or_no s.reads
 
 -- the administration's site, if it has one
@@ -43,4 +47,4 @@ admin_text s = codes " list-clerks=" ++ yes_or_no s.lists_clerks ++ site_text s.
 abbrev pub settings_text : Settings → List ℕ
 settings_text s =
     codes " proved=" ++ yes_or_no s.is_proved ++ codes " removals=" ++ when_text s.removals
-    ++ patience_text s ++ flags_text s ++ admin_text s
+    ++ seconds_text s ++ flags_text s ++ logged_text s ++ admin_text s

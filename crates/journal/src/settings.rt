@@ -1,7 +1,7 @@
 //! Whether the server is proved and its options in force, as the line of its start has them.
 ghost use Rattle.std.specs.Prelude.{◌≡◌, IfOk, Some, string_bytes};
-ghost use Rattle.journal.specs.Settings.{yes_or_no, when_text, patience_text, flags_text};
-ghost use Rattle.journal.specs.Settings.{admin_text, site_text, settings_text};
+ghost use Rattle.journal.specs.Settings.{yes_or_no, when_text, seconds_text, flags_text};
+ghost use Rattle.journal.specs.Settings.{logged_text, admin_text, site_text, settings_text};
 
 use creds::HostName;
 use session::Removals;
@@ -45,30 +45,36 @@ fn when_word(removals: Removals) -> &'static str
     }
 }
 
-/// How long clients may take, and whether they make room.
-fn patience_text(alloc: Global, settings: &Settings) -> Result<String, AllocError>
-    ensures { IfOk result (λ text. string_bytes text ≡ patience_text settings.now) }
+/// The options that are seconds.
+fn seconds_text(alloc: Global, settings: &Settings) -> Result<String, AllocError>
+    ensures { IfOk result (λ text. string_bytes text ≡ seconds_text settings.now) }
 {
     let Settings { idle, wait, .. } = *settings;
     let login = settings.login_seconds;
+    let text = format!(in alloc; " idle={idle} wait={wait} login-seconds={login}")?;
+    Ok(text)
+}
+
+/// The options of clients that are set or aren't.
+fn flags_text(alloc: Global, settings: &Settings) -> Result<String, AllocError>
+    ensures { IfOk result (λ text. string_bytes text ≡ flags_text settings.now) }
+{
     let room = yes_or_no(settings.make_room);
+    let guesses = yes_or_no(settings.slow_guesses);
+    let proxied = yes_or_no(settings.proxy_protocol);
     let text = format!(in alloc;
-        " idle={idle} wait={wait} login-seconds={login} make-room={room}"
+        " make-room={room} slow-guesses={guesses} proxy-protocol={proxied}"
     )?;
     Ok(text)
 }
 
-/// The options that are set or aren't.
-fn flags_text(alloc: Global, settings: &Settings) -> Result<String, AllocError>
-    ensures { IfOk result (λ text. string_bytes text ≡ flags_text settings.now) }
+/// What is logged.
+fn logged_text(alloc: Global, settings: &Settings) -> Result<String, AllocError>
+    ensures { IfOk result (λ text. string_bytes text ≡ logged_text settings.now) }
 {
-    let guesses = yes_or_no(settings.slow_guesses);
-    let proxied = yes_or_no(settings.proxy_protocol);
     let ids = yes_or_no(settings.message_ids);
     let reads = yes_or_no(settings.reads);
-    let text = format!(in alloc;
-        " slow-guesses={guesses} proxy-protocol={proxied} log-message-ids={ids} log-reads={reads}"
-    )?;
+    let text = format!(in alloc; " log-message-ids={ids} log-reads={reads}")?;
     Ok(text)
 }
 
@@ -106,9 +112,12 @@ pub fn settings_text(alloc: Global, settings: &Settings) -> Result<String, Alloc
 {
     let proved = yes_or_no(settings.is_proved);
     let removals = when_word(settings.removals);
-    let patience = patience_text(alloc, settings)?;
+    let seconds = seconds_text(alloc, settings)?;
     let flags = flags_text(alloc, settings)?;
+    let logged = logged_text(alloc, settings)?;
     let admin = admin_text(alloc, settings)?;
-    let text = format!(in alloc; " proved={proved} removals={removals}{patience}{flags}{admin}")?;
+    let text = format!(in alloc;
+        " proved={proved} removals={removals}{seconds}{flags}{logged}{admin}"
+    )?;
     Ok(text)
 }

@@ -1,6 +1,6 @@
 -- What comes of a server's options, and of its clock.
-use Rattle.std.proofs.Common.{◌≡◌, ℕ, Bool, true, false, ◌||◌, List, [], ◌∷◌, map, min, length, ◌≤◌, Option, Some, Result, Ok, Err, IsErrAnd, IfErr, refl, sym, ◌∙◌, ap, subst, true≢false}
-use Rattle.std.specs.Prelude.{is_none}
+use Rattle.std.proofs.Common.{◌≡◌, ℕ, Bool, true, false, ◌||◌, List, [], ◌∷◌, ◌++◌, map, min, length, ◌≤◌, Option, Some, None, Result, Ok, Err, IsErrAnd, IfErr, refl, sym, ◌∙◌, ap, subst}
+use Rattle.std.specs.Prelude.{is_some, is_none}
 use Rattle.std.specs.List.{list_any}
 use Rattle.std.proofs.lemmas.List.Folds.{list_any-append}
 use Rattle.serving.specs.HttpTurns.{AreFew, AreShort}
@@ -16,6 +16,7 @@ use Rattle.office.specs.declared.office.Office.{Office}
 use Rattle.converse.specs.declared.fault.Fault.{Fault}
 use Rattle.server.specs.Served.{HasGiven, AreSetBy, HasRunBy, settings_by, site_by, turns_by}
 use Rattle.arguments.specs.declared.options.ServeOptions.{ServeOptions}
+use Rattle.server.specs.declared.serve.Stop.{Stop}
 
 -- ---- the options
 
@@ -81,9 +82,23 @@ no_none : (moments : List ℕ) → list_any is_none (map (λ m. Some m) moments)
 no_none [] = refl
 no_none (m ∷ moments) = no_none moments
 
--- a clock that is broken has stopped
-pub has_stopped : (is_broken : Bool) (notes : List (Option ℕ)) (stopped : Bool) (moments : List ℕ) → HasGiven is_broken notes (answers stopped moments) → is_broken ≡ true → stopped ≡ true
-has_stopped is_broken notes true moments given broken = refl
-has_stopped is_broken notes false moments given broken =
-    absurd (true≢false (sym (given.broken broken)
-    ∙ (list_any-append is_none (map (λ m. Some m) moments) [] ∙ ap (λ b. b || false) (no_none moments))))
+any_none : (stopped : Bool) (moments : List ℕ) → list_any is_none (answers stopped moments) ≡ stopped
+any_none true moments = list_any-append is_none (map (λ m. Some m) moments) (None ∷ []) ∙ ap (λ b. b || true) (no_none moments)
+any_none false moments = list_any-append is_none (map (λ m. Some m) moments) [] ∙ ap (λ b. b || false) (no_none moments)
+
+-- a loop ended early exactly if its clock stopped
+pub has_stopped : (stop : Option Stop) (notes : List (Option ℕ)) (stopped : Bool) (moments : List ℕ) → HasGiven stop notes (answers stopped moments) → stopped ≡ is_some stop
+has_stopped stop notes stopped moments given = sym (given.stopped ∙ any_none stopped moments)
+
+-- one answer more
+pub gave_more : (before stop : Option Stop) (notes more notes_then : List (Option ℕ)) (moment : Option ℕ) → notes_then ≡ notes ++ moment ∷ []
+    → is_some stop ≡ (is_some before || is_none moment) → HasGiven before notes more → HasGiven stop notes_then (more ++ moment ∷ [])
+gave_more before stop notes more notes_then moment e is given = record {
+  is = ap (λ xs. xs ++ moment ∷ []) given.is ∙ sym e;
+  stopped = is
+      ∙ (ap (λ b. b || is_none moment) given.stopped
+      ∙ (ap (λ b. list_any is_none more || b) (sym (or_false (is_none moment))) ∙ sym (list_any-append is_none more (moment ∷ []))));
+} where
+  or_false : (b : Bool) → (b || false) ≡ b
+  or_false true = refl
+  or_false false = refl

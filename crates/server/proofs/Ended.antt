@@ -1,5 +1,5 @@
 -- What a server's status says of the events that its office was given.
-use Rattle.std.proofs.Common.{◌≡◌, ◌≤◌, ◌+◌, ℕ, suc, Bool, List, [], ◌∷◌, ◌++◌, length, length-append, Result, true, refl, sym, ◌∙◌, ap, subst, arith}
+use Rattle.std.proofs.Common.{◌≡◌, ◌≤◌, ◌+◌, ℕ, suc, Bool, List, [], ◌∷◌, ◌++◌, length, length-append, Result, Option, Some, None, true, false, refl, sym, ◌∙◌, ap, subst, arith}
 use Rattle.std.proofs.lemmas.List.Elements.{filter_map-append}
 use Rattle.vault.specs.declared.vault.Vault as a_vault
 use Rattle.office.specs.Events.{Log, Trace}
@@ -15,11 +15,14 @@ use Rattle.serving.specs.declared.listener.Listener as a_listener
 use Rattle.serving.specs.declared.spool.Spool as a_spool
 use Rattle.serving.specs.declared.wire.Wire as a_wire
 use Rattle.converse.specs.declared.fault.Fault.{Fault}
-use Rattle.server.specs.Served.{HasServed, HasNoSite, HasNoClock, HasEnded, HasLostTime, HasServedAnew, HasServedLinks, OverSockets, BehindProxy, HasListened, WasRefused, WasUnsaid, WasEnded}
-use Rattle.server.specs.Served.{IsStatus, IsAsAnswered, IsLost, HasCome, HasNoTime, HasNotBegun, IsNoSite, HasEndedBy}
+use Rattle.server.specs.Served.{HasServed, HasNoSite, HasNoClock, HasEnded, answer_by, HasServedAnew, HasServedLinks, OverSockets, BehindProxy, HasListened, WasRefused, WasUnsaid, WasEnded}
+use Rattle.server.specs.Served.{IsStatus, IsAsAnswered, IsLost, IsStatusAfter, HasDone, HasCome, HasNoTime, HasNotBegun, IsNoSite, HasEndedBy}
 use Rattle.server.specs.Served.{HasServedStore, WithoutLimits, WithoutMemory, WithoutOffice, WithOffice}
 use Rattle.server.specs.Served.{IsServed, NotOpened, Opened, HasRunBy, turns_by}
 use Rattle.arguments.specs.declared.options.ServeOptions.{ServeOptions}
+use Rattle.server.specs.declared.serve.Stop.{Stop}
+use Rattle.server.specs.declared.serve.Stop.TheVariants as why
+use Rattle.std.specs.Prelude.{is_some}
 
 -- each turn gives one Tick
 turn_moments : {V W S H : Type 0} (vault : a_vault.Ghosts V) (Asked : W → List Call → Type 0) (AskedFiles : S → List FileCall → Type 0)
@@ -36,22 +39,27 @@ turn_moments vault Asked AskedFiles Heard T l o w s h _ _ _ _ _ _ _ _ (OneMore t
 
 module _ {V W S H : Type 0} (vault : a_vault.Ghosts V) (wires : a_wire.Ghosts W) (spools : a_spool.Ghosts S) (listeners : a_listener.Ghosts H)
     (T : Trace) (options : ServeOptions) (office : Office V) where
+  ran_turns : (wire : W) (spool : S) (listener : H) (stopped : Bool) (o : Office V) (w : W) (s : S) (h : H) (given : Log)
+      → (run : HasRunBy vault wires spools listeners T options office wire spool listener stopped o w s h given) → length (moments given) ≡ length run.moments
+  ran_turns wire spool listener stopped o w s h given run =
+      turn_moments vault wires.asked spools.asked listeners.heard T run.links office wire spool listener run.moments run.row given run.links_then o run.wire_left s h run.turns
+
   -- what a loop did that ran by the options
-  ran_within : (wire : W) (spool : S) (listener : H) (stopped : Bool) (o : Office V) (w : W) (s : S) (h : H) (given : Log)
-      → HasRunBy vault wires spools listeners T options office wire spool listener stopped o w s h given → length (moments given) ≤ turns_by options.turns
-  ran_within wire spool listener stopped o w s h given run =
-      subst (λ n. n ≤ turns_by options.turns)
-      (sym (turn_moments vault wires.asked spools.asked listeners.heard T run.links office wire spool listener run.moments run.row given run.links_then o run.wire_left s h run.turns)) run.within
+  ran_ended : (wire : W) (spool : S) (listener : H) (stop : Option Stop) (o : Office V) (w : W) (s : S) (h : H) (given : Log)
+      → HasRunBy vault wires spools listeners T options office wire spool listener (is_some stop) o w s h given → IsStatusAfter options (answer_by stop) given
+  ran_ended wire spool listener None o w s h given run = HasDone given (ran_turns wire spool listener false o w s h given run ∙ run.all refl)
+  ran_ended wire spool listener (Some why.StoreLost) o w s h given run = HasCome given
+  ran_ended wire spool listener (Some why.NoTime) o w s h given run = HasNoTime given
 
   -- what one did, by its answer
   loop_ended : (wire : W) (spool : S) (listener : H) (answer : Result ℕ Fault) (o : Office V) (w : W) (s : S) (h : H) (given : Log)
       → HasServed vault wires spools listeners T options office wire spool listener answer o w s h given → HasEndedBy options answer given
   loop_ended wire spool listener _ _ _ _ _ _ (HasNoSite met is) = record { within = omega arith; ended = HasNotBegun met (IsNoSite met is) }
   loop_ended wire spool listener _ _ _ _ _ _ HasNoClock = record { within = omega arith; ended = HasNoTime [] }
-  loop_ended wire spool listener _ _ _ _ _ _ (HasEnded stopped o w s h given run) =
-      record { within = ran_within wire spool listener stopped o w s h given run; ended = HasCome 0 given (omega arith) }
-  loop_ended wire spool listener _ _ _ _ _ _ (HasLostTime o w s h given run) =
-      record { within = ran_within wire spool listener true o w s h given run; ended = HasNoTime given }
+  loop_ended wire spool listener _ _ _ _ _ _ (HasEnded stop o w s h given run) = record {
+    within = subst (λ n. n ≤ turns_by options.turns) (sym (ran_turns wire spool listener (is_some stop) o w s h given run)) run.within;
+    ended = ran_ended wire spool listener stop o w s h given run;
+  }
 
   anew_ended : (wire : W) (answer : Result ℕ Fault) (o : Office V) (given : Log)
       → HasServedAnew vault wires spools listeners T options office wire answer o given → HasEndedBy options answer given
@@ -60,7 +68,7 @@ module _ {V W S H : Type 0} (vault : a_vault.Ghosts V) (wires : a_wire.Ghosts W)
 -- a store that was lost leaves the events as they were
 status_ended : (options : ServeOptions) (answer status : Result ℕ Fault) (given : Log) → HasEndedBy options answer given → IsStatus answer status → HasEndedBy options status given
 status_ended options _ _ given e (IsAsAnswered answer) = e
-status_ended options _ _ given e (IsLost answer) = record { within = e.within; ended = HasCome 1 given (omega arith) }
+status_ended options _ _ given e (IsLost answer) = record { within = e.within; ended = HasCome given }
 
 module _ {V W P S H : Type 0} (vault : a_vault.Ghosts V) (sockets : a_wire.Ghosts W) (proxied : a_wire.Ghosts P) (spools : a_spool.Ghosts S) (listeners : a_listener.Ghosts H)
     (T : Trace) (options : ServeOptions) (office : Office V) where
@@ -72,7 +80,7 @@ module _ {V W P S H : Type 0} (vault : a_vault.Ghosts V) (sockets : a_wire.Ghost
   -- what a server did
   pub listened_ended : (status : Result ℕ Fault) (o : Office V) (given : Log)
       → HasListened vault sockets proxied spools listeners T options office status o given → HasEndedBy options status given
-  listened_ended _ _ _ WasRefused = record { within = omega arith; ended = HasCome 1 [] (omega arith) }
+  listened_ended _ _ _ WasRefused = record { within = omega arith; ended = HasCome [] }
   listened_ended _ _ _ (WasUnsaid met why) = record { within = omega arith; ended = HasNotBegun met why }
   listened_ended _ _ _ (WasEnded wire answer status o given unasked served is) =
       status_ended options answer status given (links_ended wire answer o given served) is

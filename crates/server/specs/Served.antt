@@ -1,7 +1,7 @@
 -- What `popbox serve` does by its options, and what it leaves in a store that kept a trace.
 use Rattle.std.specs.Prelude.{◌≡◌, ◌≤◌, ◌↔◌, ℕ, Bool, true, false, min, List, [], ◌++◌, length}
 use Rattle.std.specs.Prelude.{Option, Some, None, Result, Ok, Err}
-use Rattle.std.specs.Prelude.{is_none}
+use Rattle.std.specs.Prelude.{is_some, is_none}
 use Rattle.std.specs.Borrow.{Bor}
 use Rattle.std.specs.List.{list_any}
 use Rattle.std.specs.Option.{unwrap_or}
@@ -28,6 +28,8 @@ use Rattle.converse.specs.Causes.{of_opening}
 use Rattle.converse.specs.declared.fault.Fault.{Fault}
 use Rattle.converse.specs.declared.fault.Fault.TheVariants as fault
 use Rattle.arguments.specs.declared.options.ServeOptions.{ServeOptions}
+use Rattle.server.specs.declared.serve.Stop.{Stop}
+use Rattle.server.specs.declared.serve.Stop.TheVariants as why
 
 -- ---- the options
 
@@ -73,10 +75,16 @@ opened_by options boot T =
 
 -- ---- the loop
 
--- What a server's clock gave: its notes say that; and if it is broken it gave no moment once.
-pub record HasGiven (is_broken : Bool) (notes answers : List (Option ℕ)) : Type 0 where
+-- What a server's clock gave: its notes say that; and it stopped exactly if it gave no moment once.
+pub record HasGiven (stop : Option Stop) (notes answers : List (Option ℕ)) : Type 0 where
   pub is : answers ≡ notes
-  pub broken : is_broken ≡ true → list_any is_none answers ≡ true
+  pub stopped : is_some stop ≡ list_any is_none answers
+
+-- how a loop ends by why its clock stopped, if it did
+abbrev pub answer_by : Option Stop → Result ℕ Fault
+answer_by None = Ok 0
+answer_by (Some why.StoreLost) = Ok 1
+answer_by (Some why.NoTime) = Err fault.NoClock
 
 -- What came of an office that was served since a trace: it was given some events, of which this
 -- holds.
@@ -114,8 +122,9 @@ pub record HasRunBy {V W S H : Type 0} (vault : a_vault.Ghosts V) (wires : a_wir
   pub within : length moments ≤ turns_by options.turns
   pub all : stopped ≡ false → length moments ≡ turns_by options.turns
 
--- So a loop ended, by the answer: 0 once it ran; a fault before the first turn, and nothing was
--- done; or that the clock couldn't be read, and it stopped.
+-- So a loop ended, by the answer: a fault before the first turn, and nothing was done; or once it
+-- ran, by why its clock stopped: that the store was lost, or couldn't be read. Without a cause it
+-- didn't stop: all turns were done.
 pub data HasServed {V W S H : Type 0} (vault : a_vault.Ghosts V) (wires : a_wire.Ghosts W)
     (spools : a_spool.Ghosts S) (listeners : a_listener.Ghosts H) (T : Trace)
     (options : ServeOptions) (office : Office V) (wire : W) (spool : S) (listener : H)
@@ -125,18 +134,12 @@ pub data HasServed {V W S H : Type 0} (vault : a_vault.Ghosts V) (wires : a_wire
       (Err met) office wire spool listener []
   HasNoClock : HasServed vault wires spools listeners T options office wire spool listener
       (Err fault.NoClock) office wire spool listener []
-  HasEnded : (stopped : Bool) (office_then : Office V) (wire_then : W) (spool_then : S)
+  HasEnded : (stop : Option Stop) (office_then : Office V) (wire_then : W) (spool_then : S)
       (listener_then : H) (given : Log)
       → HasRunBy vault wires spools listeners T options office wire spool listener
-      stopped office_then wire_then spool_then listener_then given
+      (is_some stop) office_then wire_then spool_then listener_then given
       → HasServed vault wires spools listeners T options office wire spool listener
-      (Ok 0) office_then wire_then spool_then listener_then given
-  HasLostTime : (office_then : Office V) (wire_then : W) (spool_then : S) (listener_then : H)
-      (given : Log)
-      → HasRunBy vault wires spools listeners T options office wire spool listener
-      true office_then wire_then spool_then listener_then given
-      → HasServed vault wires spools listeners T options office wire spool listener
-      (Err fault.NoClock) office_then wire_then spool_then listener_then given
+      (answer_by stop) office_then wire_then spool_then listener_then given
 
 -- The same with a spool to whose files nothing was done before, and a listener that heard nothing.
 pub record HasServedAnew {V W S H : Type 0} (vault : a_vault.Ghosts V) (wires : a_wire.Ghosts W)
@@ -233,11 +236,13 @@ pub data IsServed (options : ServeOptions) (boot : ℕ) (T : Trace) : Trace → 
 
 -- ---- a server as a job over a store, which can't name its office
 
--- With which status it may end after these events: 0 or 1; since its clock couldn't be read; or for
--- a fault before its loop, and then there was no event.
+-- With which status it may end after these events: 0 once all turns were done; 1; since its clock
+-- couldn't be read; or for a fault before its loop, and then there was no event.
 pub data IsStatusAfter (options : ServeOptions) : (status : Result ℕ Fault) → (given : Log)
     → Type 0 where
-  HasCome : (status : ℕ) (given : Log) → status ≤ 1 → IsStatusAfter options (Ok status) given
+  HasDone : (given : Log) → length (moments given) ≡ turns_by options.turns
+      → IsStatusAfter options (Ok 0) given
+  HasCome : (given : Log) → IsStatusAfter options (Ok 1) given
   HasNoTime : (given : Log) → IsStatusAfter options (Err fault.NoClock) given
   HasNotBegun : (met : Fault) → IsUnsaid options met → IsStatusAfter options (Err met) []
 

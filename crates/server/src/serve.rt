@@ -1,5 +1,5 @@
 //! `popbox serve`: clients over the network.
-ghost use Rattle.std.specs.Prelude.{◌≡◌, ◌≤◌, ◌↔◌, [], true, None, Err};
+ghost use Rattle.std.specs.Prelude.{◌≡◌, ◌≤◌, ◌↔◌, ◌||◌, [], Err, is_some, is_none};
 ghost use Rattle.std.specs.Prelude.{IfSome, IsSome, IfOk, IfErr};
 ghost use Rattle.vault.specs.Changes.{Contents};
 ghost use Rattle.office.specs.Events.{Trace};
@@ -9,7 +9,8 @@ ghost use Rattle.serving.specs.Settings.{settings, none_set};
 ghost use Rattle.converse.specs.declared.fault.Fault.TheVariants.{CannotWrite, NoClock};
 ghost use Rattle.server.specs.Served.{IsServed, WasServedBySome, limits_by, IsIdleTime};
 ghost use Rattle.server.specs.Served.{AreSetBy, site_by, HasServedStore, IsUnsaid};
-ghost use Rattle.server.specs.Served.{HasGiven, HasServed, HasServedAnew, HasServedLinks};
+ghost use Rattle.server.specs.Served.{HasGiven, answer_by, HasServed, HasServedAnew};
+ghost use Rattle.server.specs.Served.{HasServedLinks};
 ghost use Rattle.server.specs.Served.{HasListened, HasKept, IsStatus};
 
 use crate::by_options::{admin_site, start_settings};
@@ -311,6 +312,15 @@ fn tell_loss<E: Write>(
     status
 }
 
+/// Why a clock gave no moment.
+#[derive(Clone, Copy)]
+enum Stop {
+    /// The store's files aren't those any more that are open.
+    StoreLost,
+    /// The system gave no time.
+    NoTime,
+}
+
 /// The moments of a server's turns: the seconds since its start, until its store is lost. A turn
 /// asks after its wait, and then this looks at the store's files: once it sees that they are lost
 /// nothing more is read or answered.
@@ -319,8 +329,8 @@ struct ServerClock<'a> {
     rt: &'a HostRuntime,
     start: Instant,
     watch: &'a StoreWatch<'a>,
-    /// The system gave no time.
-    is_broken: bool,
+    /// Why it gave no moment, if it once gave none.
+    stop: Option<Stop>,
     /// What it gave, in the proofs alone.
     notes: Notes<Option<u64>>,
 }
@@ -328,7 +338,7 @@ struct ServerClock<'a> {
 impl<'a> ServerClock<'a> {
     /// The clock of a server that starts now.
     fn start(rt: &'a HostRuntime, watch: &'a StoreWatch<'a>) -> Result<ServerClock<'a>, Fault>
-        ensures fresh { IfOk result (λ clock. HasGiven clock.is_broken clock.notes.items []) }
+        ensures fresh { IfOk result (λ clock. HasGiven clock.stop clock.notes.items []) }
         ensures err { IfErr result (λ fault. fault ≡ NoClock) }
     {
         let Ok(start) = Instant::now(rt) else {
@@ -338,28 +348,42 @@ impl<'a> ServerClock<'a> {
             rt,
             start,
             watch,
-            is_broken: false,
+            stop: None,
             notes: Notes::new(),
         })
     }
 
     /// The moment by the system's clock, unless the store is lost.
     fn find(&mut self) -> Option<u64>
-        ensures broken { self.new.is_broken ≡ true → result ≡ None }
+        ensures stop { is_some self.new.stop ≡ (is_some self.old.stop || is_none result) }
         ensures notes { self.new.notes ≡ self.old.notes }
     {
         self.watch.look();
         if self.watch.is_lost() {
+            self.stop = Some(Stop::StoreLost);
             return None;
         }
-        let elapsed = self.start.elapsed(self.rt);
-        self.is_broken = elapsed.is_err();
-        Some(elapsed.ok()?.as_secs())
+        let Ok(elapsed) = self.start.elapsed(self.rt) else {
+            self.stop = Some(Stop::NoTime);
+            return None;
+        };
+        Some(elapsed.as_secs())
+    }
+
+    /// How a loop ended that asked this clock.
+    fn answer(&self) -> Result<u8, Fault>
+        ensures { result ≡ answer_by self.now.stop }
+    {
+        match self.stop {
+            None => Ok(0),
+            Some(Stop::StoreLost) => Ok(1),
+            Some(Stop::NoTime) => Err(Fault::NoClock),
+        }
     }
 }
 
 impl Clock for ServerClock<'_> {
-    ghost gave = { λ clock answers. HasGiven clock.is_broken clock.notes.items answers };
+    ghost gave = { λ clock answers. HasGiven clock.stop clock.notes.items answers };
 
     fn moment(&mut self) -> Option<u64> {
         let moment = self.find();
@@ -437,8 +461,5 @@ fn serve_until<V: Vault, W: Wire, S: Spool, L: Listener>(
     let mut clock = ServerClock::start(rt, watch)?;
     let turns = options.turns.unwrap_or(u64::MAX);
     server.serve_while(&mut links, spool, &mut clock, turns);
-    if clock.is_broken {
-        return Err(Fault::NoClock);
-    }
-    Ok(0)
+    clock.answer()
 }

@@ -1,5 +1,5 @@
 -- Links that wait for a turn at reading: how many had theirs before.
-use Rattle.std.proofs.Common.{◌≡◌, ℕ, zero, suc, ◌+◌, ◌<◌, ◌≤◌, ◌^◌, min, nat_lt, nat_le, Bool, true, false, ◌&&◌, ◌||◌, ◌⊎◌, cond, List, [], ◌∷◌, map, refl, sym, ◌∙◌}
+use Rattle.std.proofs.Common.{◌≡◌, ℕ, zero, suc, ◌+◌, ◌<◌, ◌≤◌, ◌^◌, min, nat_lt, nat_le, Bool, true, false, ◌&&◌, ◌||◌, ◌⊎◌, cond, List, [], ◌∷◌, map, length, set, refl, sym, ◌∙◌}
 use Rattle.std.proofs.Common.{ap, arith, inl, inr, subst, lt-ltb, le-ltb, if◌then◌else◌}
 use Rattle.std.specs.List.{filter, count_by}
 use Rattle.std.proofs.lemmas.Bool.{false≢true, ltb-true, ltb-false, and_parts, and_from, or_parts}
@@ -61,6 +61,25 @@ told f p q (x ∷ xs) = told_at f q x (filter p xs) (many (λ y. p y && q (f y))
 all_told : {X : Type 0} (f : X → ℕ) (q : ℕ → Bool) (xs : List X) → many q (map f xs) ≡ many (λ x. q (f x)) xs
 all_told f q [] = refl
 all_told f q (x ∷ xs) = ap (λ n. one (q (f x)) + n) (all_told f q xs)
+
+-- one takes the place of another, and doesn't pass
+set_many : {X : Type 0} (p : X → Bool) (xs : List X) (i : ℕ) (y : X) → i < length xs → p y ≡ false → many p (set xs i y) ≤ many p xs
+set_many p [] i y h e = absurd (omega (arith, h))
+set_many p (x ∷ xs) zero y h e = let k = ap one e in omega (arith, k)
+set_many p (x ∷ xs) (suc i) y h e = let k = set_many p xs i y (omega (arith, h)) e in omega (arith, k)
+
+ahead_many : (turn : ℕ) (places : List Place) → ahead_of turn places ≡ many (λ (p : Place). nat_lt p.turn turn) places
+ahead_many turn places = sym (counted (λ s. nat_lt s turn) (map (λ (p : Place). p.turn) places)) ∙ all_told (λ (p : Place). p.turn) (λ s. nat_lt s turn) places
+
+-- a link that gets a place has no turn before those that had theirs
+pub seated_behind : (turn turns at most : ℕ) (places : List Place) (i : ℕ) (p : Place) → i < length places → p.turn ≡ min (turns + at) most → turns ≤ most → turn < turns
+    → ahead_of turn (set places i p) ≤ ahead_of turn places
+seated_behind turn turns at most places i p within is fits less =
+    let later : turn ≤ p.turn = omega (arith, is, fits, less) in
+    let k = set_many (λ (q : Place). nat_lt q.turn turn) places i p within (le-ltb p.turn turn later) in
+    let a = ahead_many turn places in
+    let b = ahead_many turn (set places i p) in
+    omega (arith, a, b, k)
 
 -- ---- turns
 

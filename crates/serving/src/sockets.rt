@@ -1,9 +1,9 @@
 //! A wire over sockets.
-ghost use Rattle.std.specs.Prelude.{◌≡◌, ◌≤◌, ◌⊎◌, ◌++◌, ℕ, List, [], length, take, IfSome};
+ghost use Rattle.std.specs.Prelude.{◌≡◌, ◌≤◌, ◌<◌, ◌⊎◌, ◌++◌, ℕ, List, [], length, take, IfSome};
 ghost use Rattle.std.specs.Prelude.{find, option_copied, None};
 ghost use Rattle.serving.specs.Wires.{IsWithin, counted as shown_of};
 ghost use Rattle.serving.specs.Counting.{count_at, counted_with};
-ghost use Rattle.serving.specs.Due.{presses, chosen};
+ghost use Rattle.serving.specs.Due.{presses, chosen, ahead_of};
 ghost use Rattle.serving.specs.Places.{is_same_port, is_place_of, peer_in, address_in, HasPlace};
 
 use crate::ahead::Ahead;
@@ -264,11 +264,13 @@ impl SocketWire {
     }
 
     /// Gives a stream a free place, which keeps its other end, and its port's next number; `None`
-    /// if no place is free, or the system won't watch it.
+    /// if no place is free, or the system won't watch it. Its turn comes after all others'.
     fn seat(&mut self, port: Port, mut stream: TcpStream, peer: SocketAddr) -> Option<Link>
         ensures next { IfSome result (λ link. link.number ≡ count_at port self.old.counts) }
         ensures place { IfSome result (λ link. HasPlace self.new.places.items port link peer) }
         ensures counts { self.new.counts ≡ counted_with port result self.old.counts }
+        ensures behind { (turn : ℕ) → turn < self.old.turns
+            → ahead_of turn self.new.places.items ≤ ahead_of turn self.old.places.items }
     {
         let at = self.places.iter().position(|place| place.stream.is_none())?;
         let both = Interest::READABLE | Interest::WRITABLE;
