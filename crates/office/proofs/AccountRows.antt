@@ -121,7 +121,8 @@ row class k octets = record { uid = record { class = class; k = k }; octets = oc
 -- what bob reads, and what he may not remove: a RETR, a TOP, a DELE that a rule denies, and numbers of no message
 reads_of_a_session : shows (run (connect 1 ++ says 1 as_bob)) (λ T. next T (codes "RETR 1") ∷ next T (codes "TOP 2 0") ∷ next T (codes "DELE 3") ∷ next T (codes "DELE 1") ∷ next T (codes "RETR 9")
     ∷ next T (codes "DELE 9") ∷ next T (codes "LIST 1") ∷ account_of T (Bytes 1 (codes "RETR 1" ++ line_end)) (Tagged Failed) ∷ [])
-    ≡ Retrieved (row (codes "note") 1 21) (codes "bob-read") ∷ Topped (row (codes "note") 2 15) (codes "bob-read") ∷ Denied to.Dele (record { class = codes "todo"; k = 1 }) (codes "default") ∷ Marked ∷ Nothing
+    ≡ Retrieved (row (codes "note") 1 21) (codes "bob-read") ∷ Topped (row (codes "note") 2 15) (codes "bob-read")
+    ∷ Denied to.Dele (record { class = codes "todo"; k = 1 }) (codes "default") ∷ Marked ∷ Nothing
     ∷ Nothing ∷ Nothing ∷ Nothing ∷ []
 unfolding digits login_name decode_pairs md5 M.digest_bytes M.hash_after M.compress M.rounds M.block_words
 reads_of_a_session = refl

@@ -134,7 +134,8 @@ module _ (c : Contents) (p : Policy) (s : Session) (kept : List Keyed) (lies : L
 
   -- the account of a RETR or TOP, by whether the message may be read
   pub sent_so : (w : LineOutcome) (lines : Option ℕ) (told after : Account) → told ≡ sending_told (sent_by lines) (picked_for p s n) (row_kept s n) → after ≡ told_if_done w told
-      → after ≡ transaction_account w p s (Ok (sending n lines)) (Says (transaction_answered w p (transaction_of s kept) (Ok (sending n lines)))) (named_in (transaction_of s kept) (Ok (sending n lines)))
+      → after ≡ transaction_account w p s (Ok (sending n lines)) (Says (transaction_answered w p (transaction_of s kept) (Ok (sending n lines)))) (named_in
+      (transaction_of s kept) (Ok (sending n lines)))
   sent_so outcome.Failed None told after is so = so
   sent_so outcome.Failed (Some k) told after is so = so
   sent_so outcome.Done None told after is so = so ∙ (is ∙ (ap (sending_told to.Retr (picked_for p s n)) (row_alike c s kept lies n)

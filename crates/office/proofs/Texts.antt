@@ -82,14 +82,16 @@ among c p s kept lies n =
     let view : at_number s.view n ≡ option_map head_of (at_number kept n) = ap (λ (view : List Head). at_number view n) lies.heads ∙ at_number-map head_of kept n in
     ap (λ (o : Option Head). referred {B = Result Readable Pick} o (is_marked s.marks n) (Err NoSuch) (Err Deleted) (λ (h : Head). read_answer (retrieval p s.name h.class) h)) view
 
-pub found : (c : Contents) (p : Policy) (s : Session) (kept : List Keyed) → LiesIn c s kept → (n : ℕ) (may : Readable) → ◌≡◌ {A = Result Readable Pick} (Ok may) (picked_for p s n) → Found p s kept n may.head
+pub found : (c : Contents) (p : Policy) (s : Session) (kept : List Keyed) → LiesIn c s kept → (n : ℕ) (may : Readable)
+    → ◌≡◌ {A = Result Readable Pick} (Ok may) (picked_for p s n) → Found p s kept n may.head
 found c p s kept lies n may e = found_at p s kept n may (at_number kept n) refl (is_marked s.marks n) refl (e ∙ among c p s kept lies n)
 
 -- what is refused is named: there is no such message, it is marked, or its reading is denied
 refused_read : (d : Decision) (n : ℕ) (why : Pick) (h : Head) (reply : Reply) → ◌≡◌ {A = Result Readable Pick} (Err why) (read_answer d h) → refused_pick n why ≡ served_if d reply
 refused_read d n why h reply e = at d.allowed e
   where
-    at : (b : Bool) → ◌≡◌ {A = Result Readable Pick} (Err why) (if b then Ok (record { head = h; rule = d.rule }) else Err (Denied d.rule)) → refused_pick n why ≡ (if b then reply else DeniedBy d.rule)
+    at : (b : Bool) → ◌≡◌ {A = Result Readable Pick} (Err why) (if b then Ok (record { head = h; rule = d.rule }) else Err (Denied d.rule))
+        → refused_pick n why ≡ (if b then reply else DeniedBy d.rule)
     at true f = absurd (cc)
     at false f = let same : why ≡ Denied d.rule = cc in ap (refused_pick n) same
 
@@ -100,7 +102,8 @@ refused_at p name n why reply None b e = let same : why ≡ NoSuch = cc in ap (r
 refused_at p name n why reply (Some x) true e = let same : why ≡ Deleted = cc in ap (refused_pick n) same
 refused_at p name n why reply (Some x) false e = refused_read (retrieval p name x.message.class) n why (head_of x) (reply x.message) e
 
-refused_said : (c : Contents) (p : Policy) (s : Session) (kept : List Keyed) → LiesIn c s kept → (n : ℕ) (why : Pick) (reply : Stored → Reply) → ◌≡◌ {A = Result Readable Pick} (Err why) (picked_for p s n)
+refused_said : (c : Contents) (p : Policy) (s : Session) (kept : List Keyed) → LiesIn c s kept → (n : ℕ) (why : Pick) (reply : Stored → Reply)
+    → ◌≡◌ {A = Result Readable Pick} (Err why) (picked_for p s n)
     → refused_pick n why ≡ refer s.marks (map message_of kept) n NoSuchMessage (AlreadyMarked n) (λ (m : Stored). served_if (retrieval p s.name m.class) (reply m))
 refused_said c p s kept lies n why reply e =
     refused_at p s.name n why reply (at_number kept n) (is_marked s.marks n) (e ∙ among c p s kept lies n)
@@ -143,7 +146,8 @@ sending_asks : (p : Policy) (v : Transaction) (n : ℕ) (lines : Option ℕ) →
 sending_asks p v n None = refl
 sending_asks p v n (Some k) = refl
 
-pub sending_found : (c : Contents) (p : Policy) (s : Session) (kept : List Keyed) → LiesIn c s kept → (n : ℕ) (lines : Option ℕ) (may : Readable) → ◌≡◌ {A = Result Readable Pick} (Ok may) (picked_for p s n)
+pub sending_found : (c : Contents) (p : Policy) (s : Session) (kept : List Keyed) → LiesIn c s kept → (n : ℕ) (lines : Option ℕ) (may : Readable)
+    → ◌≡◌ {A = Result Readable Pick} (Ok may) (picked_for p s n)
     → transaction_asks p (transaction_of s kept) (Ok (sending n lines)) ≡ false → ⊥
 sending_found c p s kept lies n lines may e none = asks_for c p s kept lies n may e (sym (sending_asks p (transaction_of s kept) n lines) ∙ none)
 

@@ -34,8 +34,8 @@ use session::Session;
 use std::alloc::{AllocError, Global};
 use vault::{Vault, VaultFault};
 
-/// The reply to a command that may be given before a login; and if a session begins, it and the rule
-/// that lets the clerk in.
+/// The reply to a command that may be given before a login; and if a session begins, it and the
+/// rule that lets the clerk in.
 fn command_reply<V: Vault>(
     alloc: Global,
     vault: &mut V,

@@ -66,8 +66,8 @@ fn is_admitted<V: Vault>(
     })
 }
 
-/// Opens a maildrop for a clerk whom a rule lets in: the reply, and the session and the rule, unless
-/// the maildrop is missing or locked.
+/// Opens a maildrop for a clerk whom a rule lets in: the reply, and the session and the rule,
+/// unless the maildrop is missing or locked.
 fn enter<V: Vault>(
     alloc: Global,
     vault: &mut V,

@@ -138,8 +138,8 @@ fn command_for(lines: Option<u64>) -> MessageCommand
 }
 
 /// Begins to send a message of a session (RFC 1939, 5: RETR), or the top of it with so many lines
-/// (7: TOP), if the policy in force lets the clerk read it. The policy is asked once: the reply, the
-/// account and the store's call go by its answer.
+/// (7: TOP), if the policy in force lets the clerk read it. The policy is asked once: the reply,
+/// the account and the store's call go by its answer.
 pub(crate) fn retrieve<V: Vault>(
     alloc: Global,
     vault: &mut V,

@@ -37,8 +37,8 @@ fn farewell(denied: &Option<Name>) -> Reply<'static>
     }
 }
 
-/// Says farewell, and removes what is planned, all or none. The removal comes last: whatever else may
-/// fail is done before it.
+/// Says farewell, and removes what is planned, all or none. The removal comes last: whatever else
+/// may fail is done before it.
 fn carry_out<V: Vault>(
     alloc: Global,
     vault: &mut V,

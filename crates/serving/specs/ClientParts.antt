@@ -67,8 +67,8 @@ pub record IsPassed (asked : List Call) (now : ℕ) (given : Log) (calls : List 
   pub given_is : given ≡ (event.Tick now, event_tag) ∷ []
   pub calls_are : calls ≡ asked
 
--- So many links came, each with an opening: those whose opening was done got the next seats, and the others were closed. Right before it that connection went whose place
--- it got, if one did.
+-- These links came, each with an opening: those whose opening was done got the next seats, and the
+-- others were closed. Right before it that connection went whose place it got, if one did.
 pub record HaveCome {V : Type 0} (Holds : V → Contents → Type 0) (IsClean : V → Type 0)
     (office office_then : Office V) (make_room : Bool) (seats seats_then : List Seat) (came : List Came)
     (given : Log) (calls : List Call) : Type 0 where
@@ -81,7 +81,8 @@ pub record HaveCome {V : Type 0} (Holds : V → Contents → Type 0) (IsClean : 
   pub seated : seats_then ≡ seats ++ filter_map seat_of came
   pub apart : list_any is_admin calls ≡ false
   pub unwritten : list_any is_client_write calls ≡ false
-  pub room : (B : Records) (L : Log) → StandsFor Holds office (trace_of B L) → IsClean (vault_of office_then) → HaveRoom make_room B L seats came given
+  pub room : (B : Records) (L : Log) → StandsFor Holds office (trace_of B L)
+      → IsClean (vault_of office_then) → HaveRoom make_room B L seats came given
 
 pub record AreAccepted {V : Type 0} (Holds : V → Contents → Type 0) (IsClean : V → Type 0)
     (office office_then : Office V) (make_room : Bool) (seats seats_then : List Seat) (most : ℕ)

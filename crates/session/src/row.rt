@@ -112,8 +112,8 @@ pub(crate) fn head_at(rows: &[Row], n: u64) -> Result<Head, Pick>
     }
 }
 
-/// What a QUIT does with these rows: one pass, in which each marked message is judged once. An `Err`
-/// is want of memory.
+/// What a QUIT does with these rows: one pass, in which each marked message is judged once. An
+/// `Err` is want of memory.
 pub(crate) fn planned(alloc: Global, lane: &Lane<'_>, rows: &[Row]) -> Result<QuitPlan, AllocError>
     ensures marked { IfOk result (λ plan. plan.marked
         ≡ count_by (λ (row : Row). row.is_marked) rows.now) }
