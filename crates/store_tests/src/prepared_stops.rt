@@ -208,8 +208,8 @@ fn expect_whole(
     }
 }
 
-/// Stops the run at each call of one file, or at every fifth. Answers how many runs were stopped, and
-/// how many of these in the work itself.
+/// Stops the run at each call of one file, or at every fifth. Answers how many runs were stopped,
+/// and how many of these in the work itself.
 fn stops(
     alloc: Global,
     held: Held<'_>,
