@@ -1,5 +1,5 @@
 -- What is found of the rows after queries that changed nothing is so of the rows before them.
-use Rattle.std.proofs.Common.{◌≡◌, Bool, List, Result, Ok, sym, subst}
+use Rattle.std.proofs.Common.{◌≡◌, List, Result, Ok, sym, subst}
 use Rattle.sqlite_trees.specs.declared.store.Store.{Ghosts}
 use Rattle.sqlite.specs.Held.{Held, state}
 use Rattle.sqlite.specs.State.{State, HasCleanDisk}
@@ -7,7 +7,7 @@ use Rattle.vault.specs.declared.record.Receipt.{Receipt}
 use Rattle.mailsql.specs.Apart.{AreApart}
 use Rattle.mailsql.specs.Rows.{Rows, HasTables, rows_in}
 use Rattle.sqlvault.specs.Frame.{Asks}
-use Rattle.sqlvault.specs.Parts.{Finds, DepositsAre}
+use Rattle.sqlvault.specs.Parts.{DepositsAre}
 use Rattle.sqlvault.specs.Stored.{Stays}
 use Rattle.sqlvault.proofs.AdoptLemmas.{tables_on, rows_on}
 use Rattle.sqlvault.proofs.StayLemmas.{tables_stay, rows_stay}

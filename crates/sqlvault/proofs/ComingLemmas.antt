@@ -1,6 +1,6 @@
 -- The steps of a deposit in parts.
 use Rattle.std.specs.Prelude.{◌≡◌, ◌+◌, ◌-◌, ◌/◌, ◌%◌, ⊤, Option, Some, None, ℕ, pos, List, length, take, filter, not}
-use Rattle.std.proofs.Common.{inl, ℤ, SFits, w64, to_z, of_z, to_z-of_z, Result, Ok, Err, refl, subst, sym, ap, ◌∙◌, ◌++◌, ◌∷◌, [], append_assoc, append-nil, true}
+use Rattle.std.proofs.Common.{ℤ, SFits, w64, to_z, of_z, to_z-of_z, Result, Ok, Err, refl, subst, sym, ap, ◌∙◌, ◌++◌, ◌∷◌, [], append_assoc, append-nil, true}
 use lib.Seq.{take-append_seam}
 use Rattle.sqlite_trees.specs.declared.store.Store.{Ghosts}
 use Rattle.sqlite.specs.Held.{Held, state}
@@ -35,13 +35,12 @@ use Rattle.sqlvault.specs.Transactions.{Begins, Concludes}
 use Rattle.sqlvault.specs.Frame.{IsOk, MadeOr, Looks, Writes}
 use Rattle.sqlvault.specs.Arrivals.{Arrival, ShowsPart, AcceptsAny, AddsRow, PutsRest, with_put, arrival_row, arrival_uid}
 use Rattle.sqlvault.specs.UnderWay.{Prepares, Finishes, begun}
-use Rattle.sqlvault.specs.declared.work.Work.{Work}
 use Rattle.sqlvault.specs.declared.work.Work.TheVariants as works
 use Rattle.sqlvault.proofs.SmallLemmas.{lt-nat_lt, below_64}
 use Rattle.sqlvault.proofs.HoldsLemmas.{met}
 use Rattle.sqlvault.proofs.StopLemmas.{not_own, or_said}
 use Rattle.sqlvault.proofs.WithinLemmas as within
-use Rattle.sqlvault.proofs.FrameLemmas.{was_clean, begins_clean, concluded_in, of_ended}
+use Rattle.sqlvault.proofs.FrameLemmas.{begins_clean, concluded_in, of_ended}
 use Rattle.sqlvault.proofs.UnderWayLemmas.{prepares_more}
 use Rattle.sqlvault.proofs.DepositLemmas.{judged_unknown}
 use Rattle.sqlvault.proofs.deposit.KeptLemmas.{accepts, deposited, undeposited, kept_after}

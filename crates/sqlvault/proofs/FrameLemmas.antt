@@ -698,6 +698,7 @@ turns_done {store = store} {new = new} c after w r it turns = record {
         → IsDone (Holds (state store new)) c after (Ok tt) (answer_of (as_met ended))
     done (Ok x) held = record { answer = refl; held = held }
     done (Err e) held = refused (Holds (state store new)) c after (Ok tt) e held
+
     own_ok : (ended : Result (Unit {0}) Error) → IsOwn (answer_of (as_met ended)) → IsOk (as_met ended)
     own_ok (Ok x) own = tt
     own_ok (Err e) own = absurd (not_own (Unit {0}) e own)
@@ -741,6 +742,7 @@ concluded_looks {store = store} {new = new} w r begins part keeps it = record {
         → MadeOr (as_met ended) (λ Held. Held c) c (Holds (state store new)) → Holds (state store new) c
     held c (Ok x) it = it
     held c (Err e) it = it
+
     met_ok : (ended : Result (Unit {0}) Error) → IsMet (as_met ended) → IsOk (as_met ended)
     met_ok (Ok x) own = tt
     met_ok (Err e) own = own

@@ -1,9 +1,9 @@
 -- The steps of a removal in parts.
 use Rattle.std.specs.Prelude.{◌≡◌, ◌≤◌, ◌+◌, ◌-◌, Some, None, ℕ, List, drop, take, length}
-use Rattle.std.proofs.Common.{inl, Result, Ok, Err, refl, subst, sym, ap, ◌∙◌, ◌++◌, [], arith}
+use Rattle.std.proofs.Common.{Result, Ok, subst, sym, ap, ◌∙◌, ◌++◌, [], arith}
 use Rattle.std.proofs.lemmas.List.{drop_all, drop-drop, take-append-drop}
 use Rattle.sqlite_trees.specs.declared.store.Store.{Ghosts}
-use Rattle.sqlite.specs.Held.{Held, state}
+use Rattle.sqlite.specs.Held.{Held}
 use Rattle.sqlite.specs.declared.error.Error.{Error}
 use Rattle.vault.specs.Changes.{Contents, without_keys, with_messages}
 use Rattle.vault.specs.Calls.{AreRemoved}
@@ -11,7 +11,6 @@ use Rattle.mailsql.specs.Rows.{Rows}
 use Rattle.sqlvault.specs.Keeps.{Keeps}
 use Rattle.sqlvault.specs.declared.refusal.Refusal.{Refusal}
 use Rattle.sqlvault.specs.Refusals.{answer_of}
-use Rattle.sqlvault.specs.Stands.{Holds}
 use Rattle.sqlvault.specs.Transactions.{Begins, Concludes}
 use Rattle.sqlvault.specs.Frame.{Writes}
 use Rattle.sqlvault.specs.Removals.{Removal, removal_of, with_left, removed_so_far}
@@ -68,11 +67,11 @@ finishes_concluded r rest w said is part it = record {
   clean = λ clean. part.clean (it.clean clean);
   turns = λ clean c h. turns_done c (all_removed r c) w said it (concluded_in
       (λ Held. Held (all_removed r c)) w said c h.rows h.within part (λ to made. (
-      all_removed r c,
-      subst (λ ks. Keeps to (with_messages (without_keys r.maildrop ks c.messages) c)) is
-          (removed_both r.maildrop rest (drop r.left r.keys) to c (made (removed_so_far r c) h.shown)),
-      λ Held held. held,
-    )) it clean);
+        all_removed r c,
+        subst (λ ks. Keeps to (with_messages (without_keys r.maildrop ks c.messages) c)) is
+            (removed_both r.maildrop rest (drop r.left r.keys) to c (made (removed_so_far r c) h.shown)),
+        λ Held held. held,
+      )) it clean);
 }
 
 -- ---- the keys of a piece

@@ -15,7 +15,7 @@ use Rattle.sqlvault.specs.declared.refusal.Refusal.{Refusal}
 use Rattle.sqlvault.specs.Refusals.{answer_of}
 use Rattle.sqlvault.specs.Stands.{Leaves, Within, Halted}
 use Rattle.sqlvault.specs.Transactions.{Begins, Undoes, Concludes}
-use Rattle.sqlvault.specs.Frame.{IsOk, IsMet, Looks, Sees, Writes}
+use Rattle.sqlvault.specs.Frame.{IsMet, Looks, Sees, Writes}
 use Rattle.sqlvault.specs.declared.work.Work.{Work}
 use Rattle.sqlvault.specs.UnderWay.{Shows, HoldsUnder, Prepares, Finishes, GivesUp, under_way}
 use Rattle.sqlvault.proofs.HoldsLemmas.{holds_undone}

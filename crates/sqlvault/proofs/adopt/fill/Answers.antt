@@ -22,11 +22,11 @@ returns g c =
 
 pub returns-in_err-create_tables : goal.returns-in_err-create_tables
 returns-in_err-create_tables g c = rw (passed c.from_residual.ensures.1) (record {
-      clean = was_clean g.S.Store c.args.conn.now c.create_tables.new.conn
-          c.create_tables.ensures.survives;
-      part = λ clean begun. record {
-        halted = c.in_err-create_tables.ensures.err clean begun;
-        stop = creates_no_more (state g.S.Store c.args.conn.now)
-            (state g.S.Store c.create_tables.new.conn) begun clean c.create_tables.ensures.survives;
-      };
-    })
+  clean = was_clean g.S.Store c.args.conn.now c.create_tables.new.conn
+      c.create_tables.ensures.survives;
+  part = λ clean begun. record {
+    halted = c.in_err-create_tables.ensures.err clean begun;
+    stop = creates_no_more (state g.S.Store c.args.conn.now)
+        (state g.S.Store c.create_tables.new.conn) begun clean c.create_tables.ensures.survives;
+  };
+})

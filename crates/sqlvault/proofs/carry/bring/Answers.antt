@@ -13,14 +13,14 @@ use Rattle.sqlvault.proofs.carry.bring.Goals as goal
 
 pub returns-in_err-complete_tables : goal.returns-in_err-complete_tables
 returns-in_err-complete_tables g c = rw (passed c.from_residual.ensures.1) (record {
-      clean = was_clean g.S.Store c.args.conn.now c.complete_tables.new.conn c.complete_tables.ensures.survives;
-      part = λ clean1 b. record {
-        halted = c.in_err-complete_tables.ensures.err clean1 b.begun b.order;
-        stop = completes_no_more (is_first c.args.version) (state g.S.Store c.args.conn.now)
-            (state g.S.Store c.complete_tables.new.conn) b.begun b.order clean1
-            c.complete_tables.ensures.survives;
-      };
-    })
+  clean = was_clean g.S.Store c.args.conn.now c.complete_tables.new.conn c.complete_tables.ensures.survives;
+  part = λ clean1 b. record {
+    halted = c.in_err-complete_tables.ensures.err clean1 b.begun b.order;
+    stop = completes_no_more (is_first c.args.version) (state g.S.Store c.args.conn.now)
+        (state g.S.Store c.complete_tables.new.conn) b.begun b.order clean1
+        c.complete_tables.ensures.survives;
+  };
+})
 
 pub returns : goal.returns
 returns g c =
@@ -52,20 +52,20 @@ returns g c =
 
 pub returns-in_err-move_old : goal.returns-in_err-move_old
 returns-in_err-move_old g c = rw (passed c.from_residual-in_err-move_old.ensures.1) (record {
-      clean = λ clean2. was_clean g.S.Store c.args.conn.now c.complete_tables.new.conn
-          c.complete_tables.ensures.survives (c.move_old.ensures.clean clean2);
-      part = λ clean2 b.
-          let s0 = state g.S.Store c.args.conn.now in
-          let s1 = state g.S.Store c.complete_tables.new.conn in
-          let clean1 = c.move_old.ensures.clean clean2 in
-          let made = c.in_ok-complete_tables.ensures.ok clean1 b.begun b.order in
-          let stop = completes_no_more (is_first c.args.version) s0 s1 b.begun b.order clean1
-          c.complete_tables.ensures.survives in
-          let none = none_made (is_first c.args.version) (rows_in s0.now.trees) (rows_in s1.now.trees)
-          (completed_rows (is_first c.args.version) s0 s1 b made stop) in
-          moved_halts (is_first c.args.version) s0 s1 b made stop (state g.S.Store c.move_old.new.conn)
-          (c.in_err-move_old.ensures.part clean2 (record {
-            of = record { under = completed_inside s0 s1 made; order = made.same ∙ b.order };
-            none = none;
-          }));
-    })
+  clean = λ clean2. was_clean g.S.Store c.args.conn.now c.complete_tables.new.conn
+      c.complete_tables.ensures.survives (c.move_old.ensures.clean clean2);
+  part = λ clean2 b.
+      let s0 = state g.S.Store c.args.conn.now in
+      let s1 = state g.S.Store c.complete_tables.new.conn in
+      let clean1 = c.move_old.ensures.clean clean2 in
+      let made = c.in_ok-complete_tables.ensures.ok clean1 b.begun b.order in
+      let stop = completes_no_more (is_first c.args.version) s0 s1 b.begun b.order clean1
+      c.complete_tables.ensures.survives in
+      let none = none_made (is_first c.args.version) (rows_in s0.now.trees) (rows_in s1.now.trees)
+      (completed_rows (is_first c.args.version) s0 s1 b made stop) in
+      moved_halts (is_first c.args.version) s0 s1 b made stop (state g.S.Store c.move_old.new.conn)
+      (c.in_err-move_old.ensures.part clean2 (record {
+        of = record { under = completed_inside s0 s1 made; order = made.same ∙ b.order };
+        none = none;
+      }));
+})

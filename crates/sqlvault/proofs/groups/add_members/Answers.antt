@@ -39,10 +39,10 @@ loop-member-preserved g c =
 
 pub returns-in_err-add_member : goal.returns-in_err-add_member
 returns-in_err-add_member g c = rw (passed c.from_residual.ensures.1) (let row : Member = record {
-      group = to_z w64 (of_z w64 c.args.group);
-      place = to_z w64 (of_z w64 (to_z w64 c.loop-member.place-bits +ℤ pos 1));
-      clerk = c.as_bytes.result.now;
-    } in
+  group = to_z w64 (of_z w64 c.args.group);
+  place = to_z w64 (of_z w64 (to_z w64 c.loop-member.place-bits +ℤ pos 1));
+  clerk = c.as_bytes.result.now;
+} in
     let Adds : Unit {0} → Rows → Rows → Type 0 = λ _. AddsMember row in
     writes_failed (writes_halted _ tt c.loop-member.invariant.1
     (unwritten g.S.Store c.loop-member.conn c.add_member.new.conn Adds (AddsMember row)

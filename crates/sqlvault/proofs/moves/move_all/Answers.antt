@@ -34,14 +34,14 @@ loop-head-preserved g c = (
 
 pub returns-in_err-move_one-clause-part : goal.returns-in_err-move_one-clause-part
 returns-in_err-move_one-clause-part g c = rw (passed c.from_residual.ensures.1) (record {
-      clean = λ clean. c.loop-head.invariant.0 (c.in_err-move_one.ensures.clean clean);
-      part = λ clean h.
-          let s0 = state g.S.Store c.args.conn.now in
-          let s1 = state g.S.Store c.loop-head.conn in
-          let first = c.loop-head.invariant.1 (c.in_err-move_one.ensures.clean clean) h in
-          halts_behind _ s0 s1 (state g.S.Store c.move_one.new.conn) first.0
-          (c.in_err-move_one.ensures.part clean (record { under = inside_on _ s0 s1 first.0; order = first.1 }));
-    })
+  clean = λ clean. c.loop-head.invariant.0 (c.in_err-move_one.ensures.clean clean);
+  part = λ clean h.
+      let s0 = state g.S.Store c.args.conn.now in
+      let s1 = state g.S.Store c.loop-head.conn in
+      let first = c.loop-head.invariant.1 (c.in_err-move_one.ensures.clean clean) h in
+      halts_behind _ s0 s1 (state g.S.Store c.move_one.new.conn) first.0
+      (c.in_err-move_one.ensures.part clean (record { under = inside_on _ s0 s1 first.0; order = first.1 }));
+})
 
 pub returns-clause-part : goal.returns-clause-part
 returns-clause-part g c = record {

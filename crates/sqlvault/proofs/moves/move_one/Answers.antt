@@ -37,11 +37,11 @@ returns-in-None g c = record {
 
 pub returns-in_err-body : goal.returns-in_err-body
 returns-in_err-body g c = rw (passed c.from_residual.ensures.1) (record {
-      clean = was_clean g.S.Store c.args.conn.now c.find_body.new.conn c.find_body.ensures.survives;
-      part = λ clean1 of.
-          let s0 = state g.S.Store c.args.conn.now in
-          let s1 = state g.S.Store c.find_body.new.conn in
-          part_refused s0 s1 of.under
-          (c.in_err-body.ensures.err clean1 (λ _. of.under.tables) of.order)
-          (asked_carried s0 s1 of.under of.order clean1 c.find_body.ensures.survives);
-    })
+  clean = was_clean g.S.Store c.args.conn.now c.find_body.new.conn c.find_body.ensures.survives;
+  part = λ clean1 of.
+      let s0 = state g.S.Store c.args.conn.now in
+      let s1 = state g.S.Store c.find_body.new.conn in
+      part_refused s0 s1 of.under
+      (c.in_err-body.ensures.err clean1 (λ _. of.under.tables) of.order)
+      (asked_carried s0 s1 of.under of.order clean1 c.find_body.ensures.survives);
+})

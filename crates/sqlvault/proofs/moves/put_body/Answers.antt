@@ -45,18 +45,18 @@ returns g c =
 
 pub returns-in_err-add_keyed : goal.returns-in_err-add_keyed
 returns-in_err-add_keyed g c = rw (passed c.from_residual.ensures.1) (record {
-      clean = was_clean g.S.Store c.args.conn.now c.add_keyed.new.conn c.add_keyed.ensures.survives;
-      part = λ clean1 i.
-          let s0 = state g.S.Store c.args.conn.now in
-          let s1 = state g.S.Store c.add_keyed.new.conn in
-          let body = c.args.body.now in
-          let key = (let f : SFits w64 body.head.key = search rules in to_z-of_z f) in
-          let k = (let f : SFits w64 body.head.k = search rules in to_z-of_z f) in
-          let octets = (let f : SFits w64 body.head.octets = search rules in to_z-of_z f) in
-          let head = same_head body.head _ _ _ _ _ key c.as_slice.ensures c.as_slice-2.ensures k
-          octets in
-          let survives = subst (λ (m : Message). Survives s0 s1 (MayLeave (AddsKeyed m) s0)) head
-          c.add_keyed.ensures.survives in
-          part_refused s0 s1 i (c.in_err-add_keyed.ensures.err clean1) (no_more_in (AddsKeyed body.head) s0 s1
-          i.inside (i.is_open, i.tables) clean1 survives);
-    })
+  clean = was_clean g.S.Store c.args.conn.now c.add_keyed.new.conn c.add_keyed.ensures.survives;
+  part = λ clean1 i.
+      let s0 = state g.S.Store c.args.conn.now in
+      let s1 = state g.S.Store c.add_keyed.new.conn in
+      let body = c.args.body.now in
+      let key = (let f : SFits w64 body.head.key = search rules in to_z-of_z f) in
+      let k = (let f : SFits w64 body.head.k = search rules in to_z-of_z f) in
+      let octets = (let f : SFits w64 body.head.octets = search rules in to_z-of_z f) in
+      let head = same_head body.head _ _ _ _ _ key c.as_slice.ensures c.as_slice-2.ensures k
+      octets in
+      let survives = subst (λ (m : Message). Survives s0 s1 (MayLeave (AddsKeyed m) s0)) head
+      c.add_keyed.ensures.survives in
+      part_refused s0 s1 i (c.in_err-add_keyed.ensures.err clean1) (no_more_in (AddsKeyed body.head) s0 s1
+      i.inside (i.is_open, i.tables) clean1 survives);
+})

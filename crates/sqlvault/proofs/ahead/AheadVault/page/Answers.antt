@@ -63,6 +63,6 @@ returns-in-Err-clause-done g c k h clean =
 
 pub returns-in_err-give_up-clause-done : goal.returns-in_err-give_up-clause-done
 returns-in_err-give_up-clause-done g c = rw (passed c.from_residual.ensures.1) (λ k h clean. record {
-      answer = refusal_any _ c.in_err-give_up.field-0.0 c.in_err-give_up.ensures.answer;
-      held = c.in_err-give_up.ensures.looks.held k clean h;
-    })
+  answer = refusal_any _ c.in_err-give_up.field-0.0 c.in_err-give_up.ensures.answer;
+  held = c.in_err-give_up.ensures.looks.held k clean h;
+})
