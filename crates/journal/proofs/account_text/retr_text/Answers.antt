@@ -9,7 +9,7 @@ joined p w u i o d t r = simp append_assoc
 
 pub returns : goal.returns
 returns c =
+    let behind : List ℕ = codes " octets=" ++ (decimal c.args.message.octets ++ (codes " rule=" ++ c.args.rule)) in
     let made : string_bytes c.in_ok-text.text
-    ≡ codes "event=retr " ++ (c.args.who.now ++ (codes " uid=" ++ (uid_text c.args.message.uid ++ (codes " octets=" ++ (decimal c.args.message.octets ++
-    (codes " rule=" ++ c.args.rule)))))) = c.in_ok-text.ensures.ok in
+    ≡ codes "event=retr " ++ (c.args.who.now ++ (codes " uid=" ++ (uid_text c.args.message.uid ++ behind))) = c.in_ok-text.ensures.ok in
     made ∙ joined (codes "event=retr ") c.args.who.now (codes " uid=") (uid_text c.args.message.uid) (codes " octets=") (decimal c.args.message.octets) (codes " rule=") c.args.rule
