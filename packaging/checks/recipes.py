@@ -431,5 +431,5 @@ class Postfix(Network):
             for subject in ("Subject:your\tinvoice", "Subject: a chair"):
                 words = ["sendmail", "-C", folder, "-f", "a@b.test", f"{name}@office.test"]
                 wants(run(*words, said=f"{subject}\n\nx\n"), (0, "", ""))
-            held = lambda: server.administer("GET", f"/maildrops/{name}").split()[::2]
+            held = lambda: sorted(server.administer("GET", f"/maildrops/{name}").split()[::2])
             wait_for(lambda: held() == ["invoice.1", "note.1"], f"no mail for {name}", 20)

@@ -205,7 +205,7 @@ class Draft(PageCase):
         place.sort("payments")
         page.draft(DRAFT)
         page.says("lacking", "No class payment; there is payments")
-        told = "No rule names what ann, bob, cat, dan, eve may read: payments, note"
+        told = "No rule names what ann, bob, cat, eve may read: payments, note"
         page.says("review", told)
         page.click("d-put")
         self.assertIn(told, page.asks())
