@@ -83,12 +83,6 @@ def drawn(page):
     return {(name(clerk), name(drop)): mark for clerk, drop, mark in page.js(DRAWN)}
 
 
-def whole(page, table, more=0):
-    """Waits until a table is drawn, row by row."""
-    count = len(table) + more
-    page.wait(lambda: len(page.js(DRAWN)) == count, f"the table hasn't {count} cells")
-
-
 def told(is_so, rule):
     return f"{'yes' if is_so else 'no'}, {'no rule' if rule == 'default' else rule}"
 
@@ -308,14 +302,10 @@ return [all('.list :is(th, td)', (it) => it.borderWidth).length,
 """
 
 
-RULE = """[[rule]]
-name = "of-CLERK"
-effect = "allow"
-clerk = "CLERK"
-maildrop = "orders"
-class = "*"
-actions = ["open", "read"]
-"""
+RULE = (
+    '[[rule]]\nname = "of-CLERK"\neffect = "allow"\nclerk = "CLERK"\nmaildrop = "orders"\n'
+    'class = "*"\nactions = ["open", "read"]\n'
+)
 
 
 class Looks(PageCase):
