@@ -17,13 +17,18 @@ from collections import namedtuple
 MOST_HEADER, MOST_FIELD = 1_000_000, 100_000
 # How many seconds of a processor a message may take.
 SECONDS = 2
-# Control characters but tab and line feed, and Unicode's Default_Ignorable_Code_Point.
+# Control characters but tab and line feed, Unicode's Default_Ignorable_Code_Point, and the marks of
+# annotations.
 INVISIBLE = re.compile(
     "[\0-\x08\x0b-\x1f\x7f-\x9f\xad\u034f\u061c\u115f\u1160\u17b4\u17b5\u180b-\u180f\u200b-\u200f"
-    "\u202a-\u202e\u2060-\u206f\u3164\ufe00-\ufe0f\ufeff\uffa0\ufff0-\ufff8\U0001bca0-\U0001bca3"
+    "\u202a-\u202e\u2060-\u206f\u3164\ufe00-\ufe0f\ufeff\uffa0\ufff0-\ufffb\U0001bca0-\U0001bca3"
     "\U0001d173-\U0001d17a\U000e0000-\U000e0fff]+"
 )
 ENCODED_WORD = re.compile(r"=\?[^?]*\?[bq]\?.*?\?=", re.I)
+CHARSET = re.compile(r"=\?[^?]*(?=\?[bq]\?)", re.I)
+# What programs show as a blank, as a mark, or not at all; and what is shown from its end.
+AT_TIMES_SEEN = re.compile("[\t\n\u2028\u2029\ufffd]+")
+BACKWARDS = re.compile("\u202e([^\u202c]*)")
 # One address in angle brackets, with any name before it.
 ONE_ADDRESS = re.compile(r'(?:"(?:[^"\\]|\\.)*"|[^"<>()\\])*(<[^<>"()\s,]+>)\s*')
 ATTACHED = re.compile(
@@ -138,7 +143,8 @@ class Message:
         return fields
 
     def values(self, name):
-        """The fields of a name, unfolded; octets that aren't UTF-8 are read as windows-1252."""
+        """The fields of a name, unfolded; if octets aren't UTF-8, in each way that programs read
+        them."""
         for parts in self.fields.get(name.lower(), []):
             value = b"".join(parts).strip()
             if len(value) > MOST_FIELD:
@@ -147,10 +153,22 @@ class Message:
             try:
                 yield value.decode()
             except UnicodeDecodeError:
+                yield value.decode(errors="replace")
                 yield value.decode("cp1252", "replace")
 
+    def shown(self, name):
+        """What programs may show of the fields of a name."""
+        for value in self.values(name):
+            text = decode(value)
+            yield text
+            if "=?" in value and "\ufffd" in text:
+                self.fault(f"a field {name} has octets that aren't of its charset", value)
+                yield decode(CHARSET.sub("=?windows-1252", value))
+            yield AT_TIMES_SEEN.sub("", text)
+            yield BACKWARDS.sub(lambda it: it[1][::-1], text)
+
     def texts(self, name):
-        return [fold(decode(it)) for it in self.values(name)]
+        return list(dict.fromkeys(map(fold, self.shown(name))))
 
     def list_ids(self):
         return [it.rpartition("<")[2].removesuffix(">") for it in self.texts("list-id")]

@@ -125,8 +125,7 @@ class Backup(BackupCase):
         """A wrong option is refused with status 2 and its name, and --help shows the usage."""
         self.make_store(TEXTS)
         for words, told in (
-            (["--nothing", "1"], "no option --nothing"),
-            (["--keep"], "--keep wants a value"),
+            (["--nothing", "1"], "no option --nothing"), (["--keep"], "--keep wants a value"),
             (["--keep", "0"], "--keep and --longest are numbers from 1 on"),
             (["--longest", "1s"], "--keep and --longest are numbers from 1 on"),
         ):

@@ -30,6 +30,8 @@ class Companions(ScriptCase):
         env = {"POPBOX_PROGRAM": self.program, "POPBOX_KEEP": self.kept, "TMPDIR": self.work}
         env["POPBOX_ADMIN_PORT"] = str(self.port)
         env["POPBOX_SET_POLICY"] = f"{self.packaging}/popbox-set-policy"
+        env["POPBOX_DELIVER"] = f"{self.packaging}/popbox-deliver"
+        env["POPBOX_SORTING"] = f"{self.packaging}/sorting.toml"
         _, said, _ = self.script(f"../page/{name}", said=request, env=env)
         wants(os.listdir(self.work), [])
         head, _, body = said.partition("\r\n\r\n")
@@ -68,7 +70,8 @@ class Companions(ScriptCase):
         wants(os.listdir(self.kept), [])
 
     def test_a_companion_reviews_as_popbox_does(self):
-        """answer-review answers what review-policy and check-policy print, its faults too."""
+        """answer-review answers what review-policy and check-policy print, its faults too, and the
+        classes that the sorting gives."""
         write(f"{self.folder}/old", POLICY)
         draft = write(f"{self.folder}/draft", READ_ONLY)
         popbox = lambda *words: "".join(run(self.program, *words, cwd=self.folder)[1:])
@@ -78,7 +81,7 @@ class Companions(ScriptCase):
         wants(review("table", POLICY, READ_ONLY), (200, told))
         told = popbox(*both, "--only", "changes", "--verbose", "draft")
         wants("remove: allow by rule all -> deny by rule default" in told, True)
-        wants(review("changes", POLICY, READ_ONLY), (200, told))
+        wants(review("changes", POLICY, READ_ONLY), (200, f"{told}class note\n"))
         written = popbox("check-policy", "--write", "draft")
         wants(review("written", f"# Nobody may remove.\n{READ_ONLY}"), (200, written))
         # A text that is no policy, with popbox's own words.

@@ -45,17 +45,12 @@ class Deliver(ScriptCase):
         leaves nothing in the spool."""
         one, spool = b"x\n", self.spool
         for status, words, said in (
-            (64, [spool, "orders"], one),
-            (64, [spool, "orders", "n-1", "more"], one),
+            (64, [spool, "orders"], one), (64, [spool, "orders", "n-1", "more"], one),
             (64, [spool, "orders", "n-1", "orders@office.test", "more"], one),
-            (67, [spool, "Orders", "n-1"], one),
-            (67, [spool, "", "n-1"], one),
-            (67, [spool, "o" * 33, "n-1"], one),
-            (67, [spool, "../orders", "n-1"], one),
-            (65, [spool, "orders", ""], one),
-            (65, [spool, "orders", "n.1"], one),
-            (65, [spool, "orders", "n" * 65], one),
-            (65, [spool, "orders", "n-1"], b""),
+            (67, [spool, "Orders", "n-1"], one), (67, [spool, "", "n-1"], one),
+            (67, [spool, "o" * 33, "n-1"], one), (67, [spool, "../orders", "n-1"], one),
+            (65, [spool, "orders", ""], one), (65, [spool, "orders", "n.1"], one),
+            (65, [spool, "orders", "n" * 65], one), (65, [spool, "orders", "n-1"], b""),
             (75, [f"{self.folder}/none", "orders", "n-1"], one),
         ):
             with self.subTest(words=words):
@@ -68,12 +63,9 @@ class Deliver(ScriptCase):
         """A message of more octets than popbox keeps is refused: each line of the kept form ends
         with CRLF, the last one too, and a CR within a line ends nothing."""
         for text, status in (
-            (b"\r\n" + b"x" * (LARGEST - 4) + b"\r\n", 0),
-            (b"\r\n" + b"x" * (LARGEST - 4), 0),
-            (b"\r\n" + b"x" * (LARGEST - 3), 65),
-            (b"\n" * (LARGEST // 2), 0),
-            (b"\n" * (LARGEST // 2 + 1), 65),
-            (b"x\rx\n" * (LARGEST // 5), 0),
+            (b"\r\n" + b"x" * (LARGEST - 4) + b"\r\n", 0), (b"\r\n" + b"x" * (LARGEST - 4), 0),
+            (b"\r\n" + b"x" * (LARGEST - 3), 65), (b"\n" * (LARGEST // 2), 0),
+            (b"\n" * (LARGEST // 2 + 1), 65), (b"x\rx\n" * (LARGEST // 5), 0),
             (b"x\rx\n" * (LARGEST // 5 + 1), 65),
         ):
             with self.subTest(octets=len(text), end=text[-3:]):

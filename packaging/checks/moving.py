@@ -24,12 +24,9 @@ def write_message(path, class_, octets):
 def make_maildir(box):
     """A Maildir of seven messages, each an octet longer than the one that is older."""
     names = [
-        ("cur", f"{AT - 1_000_000_000}.1.h:2,S", "note"),
-        ("new", f"{AT}.M9P7.h", "note"),
-        ("cur", f"{AT}.M10P7.h:2,RS", "invoice"),
-        ("new", f"{AT}.M10P7Q9.h", "note"),
-        ("cur", f"{AT}.M10P7Q10.h:2,", "invoice"),
-        ("cur", "a name without a second", "note"),
+        ("cur", f"{AT - 1_000_000_000}.1.h:2,S", "note"), ("new", f"{AT}.M9P7.h", "note"),
+        ("cur", f"{AT}.M10P7.h:2,RS", "invoice"), ("new", f"{AT}.M10P7Q9.h", "note"),
+        ("cur", f"{AT}.M10P7Q10.h:2,", "invoice"), ("cur", "a name without a second", "note"),
         ("new", f"{AT + 2}.M1P7.h,S=60", "invoice"),
     ]
     for number, (folder, name, class_) in enumerate(names):

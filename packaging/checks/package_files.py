@@ -8,7 +8,7 @@ import re
 import shutil
 import subprocess
 
-from cases import needs
+from cases import TOP, needs
 from clients import Server, wants
 from harness import ScriptCase, read_text, run, write
 
@@ -49,6 +49,21 @@ class Units(ScriptCase):
         wants([it for it in names if unit.get(it)], [])
         found = [unit[it] for it in ("ProtectSystem", "StateDirectory", "StateDirectoryMode")]
         wants(found, [["strict"], ["popbox"], ["0711"]])
+
+    def test_the_service_asks_for_the_store_that_it_serves(self):
+        """popbox.service, popbox-ready and popbox-backup name the same store."""
+        unit, store = self.settings("popbox.service"), "/var/lib/popbox/mail.db"
+        ready, served = "/usr/lib/popbox/popbox-ready", " ".join(unit["ExecStart"])
+        wants(unit["ExecStartPre"], [ready, "--before", store])
+        wants(unit["ExecStartPost"], [ready, "$MAINPID", store])
+        wants(unit["ExecStopPost"], [ready, "--after", store])
+        wants(served.count(f"/usr/bin/popbox serve --store {store} --spool "), 1)
+        found = [unit[it] for it in ("User", "UMask", "StateDirectory")]
+        wants(found, [["popbox"], ["0077"], ["popbox"]])
+        copies = self.settings("popbox-backup.service")["ExecStart"]
+        wants(copies, ["/usr/sbin/popbox-backup", "$POPBOX_BACKUP_OPTIONS"])
+        backup = read_text(f"{self.packaging}/popbox-backup")
+        wants(re.search(r"^store=(\S+)", backup, re.M)[1], store)
 
     def test_each_unit_is_one_that_systemd_knows(self):
         """systemd knows each section and setting of the units."""
@@ -115,6 +130,7 @@ class Installation(ScriptCase):
         mount = SCRATCH.format(self.folder)
         env = {**os.environ, "PATH": f"{self.folder}/bin:{os.environ['PATH']}"}
         ran = run("unshare", "--mount", "sh", "-c", mount, "sh", *words, env=env)
+        self.said = ran[2]
         wants((words, ran[0], ran[2] if ran[0] else ""), (words, 0, ""))
         return ran[1]
 
@@ -142,6 +158,21 @@ class Installation(ScriptCase):
         os.makedirs(f"{self.inside}/spool", 0o700)
         self.calls("postinst", "configure", "")
         wants(self.modes(), ["popbox popbox 711", "root root 700"])
+
+    def test_an_upgrade_says_that_no_older_package_opens_the_store(self):
+        """It says so if the store is of version 1 or 2, which the start carries over."""
+        self.calls("postinst", "configure", "")
+        wants((self.said, os.listdir(self.inside)), ("", ["spool"]))
+        store, told = f"{self.inside}/mail.db", "popbox: no older package opens the store"
+        older = [f"{TOP}/trials/older-store", "make"]
+        for made, is_told in (
+            ([*older, "1", "0", store], True), ([*older, "2", "0", store], True),
+            ([self.program, "replay", "--store", store], False),
+        ):
+            wants((made, run(*made)[0]), (made, 0))
+            self.calls("postinst", "configure", "0.1.0-1")
+            wants((made, told in self.said), (made, is_told))
+            os.remove(store)
 
     def calls(self, script, *words):
         """What a script of the package has systemd do, on a machine that systemd runs."""

@@ -197,10 +197,8 @@ class Names(SetPolicy):
         """A clerk or a maildrop that a rule names and the server doesn't have is noted."""
         self.server.administer("PUT", "/clerks/ann", "pass x")
         for clerk, maildrop, told in (
-            ("ann", "orders", []),
-            ("ann", "ordrs", ["note: no maildrop on the server: ordrs"]),
-            ("anne", "sales", ["note: no clerk on the server: anne"]),
-            ("*", "*", []),
+            ("ann", "orders", []), ("ann", "ordrs", ["note: no maildrop on the server: ordrs"]),
+            ("anne", "sales", ["note: no clerk on the server: anne"]), ("*", "*", []),
             ("x", "sales", ["note: no clerk on the server: x"]),
         ):
             new = write(self.new, rule(clerk, maildrop, ["open"]))
@@ -239,7 +237,7 @@ class Refuses(SetPolicy):
         status, said, why, after = self.set_policy("--yes", faulty)
         wants((status, said, after), (1, "", self.before))
         wants(why.startswith("popbox-set-policy: popbox: rule 1: "), True)
-        wants((f"why: {faulty}, rule 1: " in why, why.endswith(NOTHING)), (True, True))
+        wants((f"why: {faulty}, rule 1 all: " in why, why.endswith(NOTHING)), (True, True))
         # One that lets nobody in, also by a program that says which build it is.
         speaks = ["--program", self.speaks()]
         for text in ("# No rule.\n", rule("x", "*", ["read", "remove"])):
@@ -276,10 +274,8 @@ class Refuses(SetPolicy):
         wants((status, said), (1, ""))
         wants(why.splitlines()[-1], "popbox-set-policy: the server doesn't tell its policy")
         for words, told in (
-            (["--nothing"], "no option --nothing"),
-            ([self.new, self.new], "two files"),
-            (["--back", self.new], "--back and a file"),
-            (["--port"], "--port wants a value"),
+            (["--nothing"], "no option --nothing"), ([self.new, self.new], "two files"),
+            (["--back", self.new], "--back and a file"), (["--port"], "--port wants a value"),
             (["--port", "abc"], "no port abc"),
         ):
             found = self.script("popbox-set-policy", *words)

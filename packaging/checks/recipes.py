@@ -361,9 +361,10 @@ class Limits(Network):
             wants(self.say(server.pop, OTHER, "wrong"), "-ERR login failed\r\n")
         time.sleep(5)
         wants((said("Total failed"), said("Currently banned")), (0, 0))
-        for _ in range(12):
+        # Three a connection: the third one's refusal says that the connection is closed.
+        for _ in range(4):
             with contextlib.suppress(OSError):
-                self.say(server.pop, CLERK, "wrong")
+                self.say(server.pop, CLERK, *["wrong"] * 3)
         wait_for(lambda: said("Currently banned"), "no ban", 60)
         wait_for(lambda: self.is_refused(server.pop, CLERK), "it is let in", 60)
         wants("[IN-USE]" in self.say(server.pop, OTHER, "s3 cret"), True)
@@ -373,52 +374,62 @@ class Limits(Network):
             return self.connect(port, source).close()
         return True
 
-    def say(self, port, source, secret):
-        """The reply to a secret of ann's; the connection stays open."""
+    def say(self, port, source, *secrets):
+        """The reply to the last of these secrets of ann's; the connection stays open."""
         link = self.connect(port, source)
         lines = link.makefile("rb")
         lines.readline()
-        link.sendall(f"USER ann/orders\r\nPASS {secret}\r\n".encode())
-        return [lines.readline().decode() for _ in range(2)][1]
+        for secret in secrets:
+            link.sendall(f"USER ann/orders\r\nPASS {secret}\r\n".encode())
+            reply = [lines.readline().decode() for _ in range(2)][1]
+        return reply
 
 
 class Postfix(Network):
     """Mail by postfix.md."""
 
-    def test_mail_to_a_maildrop_that_was_just_added_comes_in(self):
-        """Mail that is sent as soon as the table has a maildrop is delivered, and none bounces."""
-        needs("postfix", "sendmail")
+    def commands(self, folder, port):
+        """The first three of its commands, for this office: what sets Postfix up, what lists the
+        maildrops, and what makes the sorting."""
+        rules = f"{self.folder}/sorting.toml"
+        program = f'POPBOX_SORTING={rules} exec {self.packaging}/popbox-deliver "$@"'
+        text = read_text(f"{self.packaging}/recipes/postfix.md")
+        for old, new in (
+            ("/etc/postfix", folder), ("postconf -", f"postconf -c {folder} -"),
+            ("user=popbox-spool", "user=nobody"), ("/var/lib/popbox/spool", self.spool),
+            ("systemctl restart postfix", f"postfix -c {folder} start"),
+            ("/usr/lib/popbox/popbox-deliver", self.command("deliver", program)),
+            ("    postmap", f"    postmap -c {folder}"), ("1111", str(port)),
+            ("    postfix reload", f"    postfix -c {folder} reload"),
+            ("/etc/popbox/sorting.toml", rules),
+        ):
+            text = text.replace(old, new)
+        return re.findall(r"\n\n((?:    .*\n)+)", text)[:3]
+
+    def test_mail_comes_in_sorted_also_to_a_maildrop_that_was_just_added(self):
+        """Mail that is sent as soon as the table has a maildrop comes in, by the class that the
+        sorting says, and none bounces."""
+        needs("postfix", "sendmail", "curl")
         os.chmod(self.folder, 0o755)
+        os.chmod(self.spool, 0o777)
         folder, home = f"{self.folder}/postfix", f"{self.folder}/queue"
         shutil.copytree("/etc/postfix", folder)
-        os.makedirs(f"{self.folder}/data")
+        for it in (f"{self.folder}/data", home):
+            os.mkdir(it)
         shutil.chown(f"{self.folder}/data", "postfix")
-        os.mkdir(home)
-        deliver = self.command("deliver", f'cat >/dev/null; echo "$1" >>{self.folder}/come')
-        os.chmod(write(f"{self.folder}/come", ""), 0o666)
-        text = read_text(f"{self.packaging}/recipes/postfix.md")
-        setup, listing = re.findall(r"\n\n((?:    .*\n)+)", text)[:2]
-        for old, new in (
-            ("/etc/postfix", folder), ("postconf", f"postconf -c {folder}"),
-            ("user=popbox-spool", "user=nobody"), ("systemctl restart postfix", "POSTFIX start"),
-            ("/usr/lib/popbox/popbox-deliver /var/lib/popbox/spool", deliver),
-            ("postmap", f"postmap -c {folder}"), ("postfix reload", "POSTFIX reload"), ("POSTFIX", f"postfix -c {folder}"),
-            ("curl -s http://127.0.0.1:1111/maildrops", f"cat {self.folder}/maildrops"),
-        ):
-            setup, listing = setup.replace(old, new), listing.replace(old, new)
+        server = self.office()
+        setup, listing, sorting = self.commands(folder, server.admin)
         own = f"queue_directory={home} data_directory={self.folder}/data inet_interfaces=127.0.0.1"
         own += f" maillog_file_prefixes={self.folder} maillog_file={self.folder}/log"
         must("postconf", "-c", folder, "-e", *own.split())
         must("postconf", "-c", folder, "-F", "*/*/chroot=n")
-        write(f"{self.folder}/maildrops", "orders 1 20\n")
         self.addCleanup(run, "postfix", "-c", folder, "stop")
-        must("sh", "-ec", setup + listing)
-        names = [f"m{number}" for number in range(4)]
-        for name in ["orders", *names]:
-            with open(f"{self.folder}/maildrops", "a", encoding="ascii") as file:
-                file.write(f"{name} 0 0\n")
+        must("sh", "-ec", setup + listing + sorting)
+        for name in ["orders", *(f"m{number}" for number in range(4))]:
+            server.administer("PUT", f"/maildrops/{name}")
             must("sh", "-ec", listing)
-            words = ["sendmail", "-C", folder, "-f", "a@b.test", f"{name}@office.test"]
-            wants(run(*words, said="Subject: x\n\nx\n"), (0, "", ""))
-            come = lambda: read_text(f"{self.folder}/come").split()
-            wait_for(lambda: name in come(), f"no mail for {name}", 20)
+            for subject in ("Subject:your\tinvoice", "Subject: a chair"):
+                words = ["sendmail", "-C", folder, "-f", "a@b.test", f"{name}@office.test"]
+                wants(run(*words, said=f"{subject}\n\nx\n"), (0, "", ""))
+            held = lambda: sorted(server.administer("GET", f"/maildrops/{name}").split()[::2])
+            wait_for(lambda: held() == ["invoice.1", "note.1"], f"no mail for {name}", 20)

@@ -7,7 +7,7 @@ import shutil
 import sys
 
 from clients import wants
-from harness import ScriptCase, read_text, write
+from harness import LIMIT, ScriptCase, read_text, write
 
 SORTING = """
 [[sort]]
@@ -45,20 +45,14 @@ PART = "Content-Type: multipart/mixed; boundary=b\n\n--b\n\nx\n--b\n{}\n\n"
 # Headers, and the class of each.
 ROWS = (
     # RFC 5322, 2.2: no blank has to follow the colon; 4.5: one may stand before it.
-    ("Subject: complaint about Bob", "complaint"),
-    ("Subject:complaint about Bob", "complaint"),
-    ("Subject:\tcomplaint about Bob", "complaint"),
-    ("Subject : complaint about Bob", "complaint"),
-    ("sUBJECT: A COMPLAINT", "complaint"),
-    ("Subject: com\u00adplaint", "complaint"),
-    ("Subject: com\u200bpla\u2060int", "complaint"),
-    ("Subject: \uff43omplaint", "complaint"),
-    ("Subject: re\u0301clamation", "complaint"),
-    ("Subject: gross\u00a0 \t error", "complaint"),
+    ("Subject: complaint about Bob", "complaint"), ("Subject:complaint about Bob", "complaint"),
+    ("Subject:\tcomplaint about Bob", "complaint"), ("Subject : complaint about Bob", "complaint"),
+    ("sUBJECT: A COMPLAINT", "complaint"), ("Subject: com\u00adplaint", "complaint"),
+    ("Subject: com\u200bpla\u2060int", "complaint"), ("Subject: \uff43omplaint", "complaint"),
+    ("Subject: re\u0301clamation", "complaint"), ("Subject: gross\u00a0 \t error", "complaint"),
     ("Subject: grosserror", "note"),
     # 2.2.3: folded.
-    ("Subject: about Bob:\r\n\tcomplaint", "complaint"),
-    ("Subject:\n complaint", "complaint"),
+    ("Subject: about Bob:\r\n\tcomplaint", "complaint"), ("Subject:\n complaint", "complaint"),
     ("Subject: gross\n error", "complaint"),
     # RFC 2047: a blank between two encoded words says nothing; each is decoded once.
     ("Subject: =?utf-8?B?Y29tcGxhaW50?=", "complaint"),
@@ -66,19 +60,14 @@ ROWS = (
     ("Subject: =?utf-8?Q?comp?=\n =?utf-8?B?bGFpbnQ=?=", "complaint"),
     ("Subject: =?iso-8859-1?q?r=E9cla?= =?utf-8?q?mation?=", "complaint"),
     ("Subject: =?utf-8?q?r=C3?= =?utf-8?q?=A9clamation?=", "complaint"),
-    (f"Subject: =?utf-8?B?{TWICE}?=", "note"),
-    ("Subject: =?x-none?q?complaint?=", "complaint"),
+    (f"Subject: =?utf-8?B?{TWICE}?=", "note"), ("Subject: =?x-none?q?complaint?=", "complaint"),
     # A word that Python's email fails on doesn't hide the others.
     ("Subject: =?utf-8?B?Y29tcGxhaW50?= =?unicode_escape?q?=5Cud800?=", "complaint"),
     ("Subject: =?utf-8?q?a=0AFrom:_a@bank.example?=", "note"),
-    ("Subject: r\u00e9clamation", "complaint"),
-    (b"Subject: r\xe9clamation", "complaint"),
-    ("Subject: a chair", "note"),
-    ("X-Subject: complaint", "note"),
-    ("Date: Tue, 1 Dec 2026 09:00:00 +0000", "note"),
-    ("", "note"),
-    ("\nSubject: complaint", "note"),
-    ("Subject: a chair\n\nSubject: complaint", "note"),
+    ("Subject: r\u00e9clamation", "complaint"), (b"Subject: r\xe9clamation", "complaint"),
+    ("Subject: a chair", "note"), ("X-Subject: complaint", "note"),
+    ("Date: Tue, 1 Dec 2026 09:00:00 +0000", "note"), ("", "note"),
+    ("\nSubject: complaint", "note"), ("Subject: a chair\n\nSubject: complaint", "note"),
     # Any of two.
     ("Subject: a chair\nSubject: complaint", "complaint"),
     ("From: m@evil.example\nFrom: a@bank.example", "payment"),
@@ -88,20 +77,15 @@ ROWS = (
     # What can't be read fits nothing, and hides nothing.
     ("X-Y: " + "y" * 100_000 + "\nSubject: complaint", "complaint"),
     ("".join(f"X-{it}: {'y' * 90}\n" for it in range(1000)) + "Subject: complaint", "complaint"),
-    ("Subject: com\0plaint", "complaint"),
-    ("X-Y: 1\rSubject: complaint", "complaint"),
-    ("Subject: com\rplaint", "complaint"),
-    ("X Y: 1\nno field\nSubject: complaint", "complaint"),
+    ("Subject: com\0plaint", "complaint"), ("X-Y: 1\rSubject: complaint", "complaint"),
+    ("Subject: com\rplaint", "complaint"), ("X Y: 1\nno field\nSubject: complaint", "complaint"),
     ("From ann Thu Nov 26 09:15:02 2026\nSubject: complaint", "complaint"),
     # RFC 5322, 3.4: an address is what is parsed as one.
-    ("From: a@bank.example", "payment"),
-    ("From: A. Bank <a@BANK.example>", "payment"),
+    ("From: a@bank.example", "payment"), ("From: A. Bank <a@BANK.example>", "payment"),
     ("From: A. Bank <a@bank.example> (for you)", "payment"),
     ("From: Bank: a@bank.example, b@bank.example;", "payment"),
-    ("From: anna@books.example", "payment"),
-    ("From: joanna@books.example", "note"),
-    ("From: a@mail.bank.example", "note"),
-    ("From: a@notbank.example", "note"),
+    ("From: anna@books.example", "payment"), ("From: joanna@books.example", "note"),
+    ("From: a@mail.bank.example", "note"), ("From: a@notbank.example", "note"),
     ("From: a@bank.example.evil.example", "note"),
     ('From: "M" <m@evil.example> (a@bank.example', "note"),
     ("From: m@evil.example (a@bank.example)", "note"),
@@ -111,8 +95,7 @@ ROWS = (
     ("From: =?utf-8?Q?a=40bank.example?= <m@evil.example>", "note"),
     ("From: =?utf-8?Q?a=40bank.example?=", "note"),
     ("From: =?utf-8?Q?=3Ca=40bank.example=3E?= m@evil.example", "note"),
-    ('From: "a@bank.example"@evil.example', "note"),
-    ("From: a@bank.example@evil.example", "note"),
+    ('From: "a@bank.example"@evil.example', "note"), ("From: a@bank.example@evil.example", "note"),
     ("From: <@bank.example:m@evil.example>", "note"),
     ("From: m@evil.example\nReply-To: a@bank.example\nSender: a@bank.example", "note"),
     ("From: " + "(" * 10_000 + "a@bank.example", "note"),
@@ -127,20 +110,29 @@ ROWS = (
     ("To: legal@office.test, orders+legal-not@office.test", "note"),
     ("Delivered-To: lawyer@office.test", "note"),
     ("List-Id: The news <News.Lists.example>", "list"),
-    ('List-Id: "<news.lists.example>" <lists.evil.example>', "note"),
-    ("x-spam-flag: YES", "spam"),
+    ('List-Id: "<news.lists.example>" <lists.evil.example>', "note"), ("x-spam-flag: YES", "spam"),
     ("X-Spam-Flag: no", "note"),
     ("Subject: Offer 12\n" + PART.format('Content-Type: a/b;\n name="b.pdf"'), "offer"),
     ("Subject: Offer 12\n" + PART.format("content-disposition: attachment"), "offer"),
     ("Subject: Offer 12\n" + PART.format("Content-Disposition: inline"), "note"),
     ("Subject: Offer 12", "note"),
     ("Subject: An offer 12\n" + PART.format("Content-Disposition: attachment"), "note"),
+    # Octets that aren't of their charset, and what some programs show and others don't.
+    (b"Subject: r\xc3\xa9clamation \xff", "complaint"),
+    (b"Subject: r\xc3\xa9cla\xffmation", "complaint"), (b"Subject: Offer\xff 12", "note"),
+    ("Subject: =?utf-8?q?r=E9clamation?=", "complaint"),
+    ("Subject: =?x-none?q?r=E9cla?= =?us-ascii?b?bWF0aW9u?=", "complaint"),
+    ("Subject: =?utf-8?q?com=0Apla=C2=ADint?=", "complaint"),
+    ("Subject: com\u2028pla\ufff9int", "complaint"),
+    ("Subject: a \u202etnialpmoc\u202c", "complaint"),
+    (b"Subject: " + "complaint".encode("utf-16"), "complaint"),
+    # Out of reach: letters of another script, and marks over a letter.
+    ("Subject: c\u043emplaint", "note"), ("Subject: com\u0301plaint", "note"),
 )
 
 # What keeps all mail back, and what is said of it.
 FAULTS = (
-    ("[otherwise", "Expected ']'"),
-    (b"\xff", "'utf-8' codec can't decode"),
+    ("[otherwise", "Expected ']'"), (b"\xff", "'utf-8' codec can't decode"),
     ("", "it has no [otherwise]"),
     ('[[sort]]\nclass = "payment"\nsubject = "x"', "it has no [otherwise]"),
     ('[otherwise]\nclass = "Note"', "otherwise: it has no class of 1 to 32 of a-z, 0-9 and -"),
@@ -178,19 +170,15 @@ later ^Subject: """
 CARRIED = (
     ("From: <a@bank.example>\nSubject: your invoice\n\n", "payment"),
     ("Subject: Your INVOICE\r\nFrom: a@b.example\r\n\r\n", "invoice"),
-    ("From: a@b.example\n\nSubject: invoice\n", "note"),
-    ("Subject: your\n invoice\n\n", "invoice"),
+    ("From: a@b.example\n\nSubject: invoice\n", "note"), ("Subject: your\n invoice\n\n", "invoice"),
     ("Subject: =?utf-8?B?eW91ciBpbnY=?= =?utf-8?Q?oi=63e?=\n\n", "invoice"),
-    ("From: =?utf-8?Q?a=40bank.example?=\n\n", "note"),
-    ("Subject: a chair\n\n", "later"),
-    ("X-Where: caf\u00e9\n\n", "cafe"),
-    ("Subject: =?ISO-8859-1?q?caf=E9?=\n\n", "cafe"),
+    ("From: =?utf-8?Q?a=40bank.example?=\n\n", "note"), ("Subject: a chair\n\n", "later"),
+    ("X-Where: caf\u00e9\n\n", "cafe"), ("Subject: =?ISO-8859-1?q?caf=E9?=\n\n", "cafe"),
     ("Subject: =?iso-8859-1*de?q?caf=E9?=\n\n", "cafe"),
     ("Subject: =?windows-1252?B?Y2Fm6Q==?=\n\n", "cafe"),
     ("Subject: your\n\tinvoice\n\n", "invoice"),
     ("Subject: =?utf-8?q?a=0AFrom:_a@bank.example?=\n\n", "later"),
-    ("Subject: =?utf-8?q?your_inv=6fice?=\n\n", "invoice"),
-    ("\nSubject: your invoice\n", "note"),
+    ("Subject: =?utf-8?q?your_inv=6fice?=\n\n", "invoice"), ("\nSubject: your invoice\n", "note"),
     ("Subject: your invoice\r\nX-Where: here", "invoice"),
 )
 # Lines that nothing carries over, since a field's name isn't at their front.
@@ -330,6 +318,7 @@ class Sorting(ScriptCase):
             (b'From: "M" <a@bank.example> (x', "note", "a field from can't be read: '\"M\" <a@"),
             (b"X: " + b"y" * 1_000_000 + b"\nSubject: complaint", "note", "has more than 1000000"),
             (b"Subject: complaint" + b"y" * 100_000, "complaint", "has more than 100000 "),
+            (b"Subject: =?x?q?=FF?=", "note", "subject has octets that aren't of its charset: '=?x"),
         )
         for text, class_, why in rows:
             with self.subTest(why):
@@ -474,28 +463,40 @@ POLICY = "".join(
 
 
 class Policies(ScriptCase):
-    def set_policy(self, server, given):
-        """What popbox-set-policy says about classes, with a sorting that gives these."""
+    def set_policy(self, server, given, answer=b"y\n"):
+        """What popbox-set-policy says about classes and asks, with a sorting that gives these."""
         tables = (f'[[sort]]\nclass = "{it}"\nsubject = "{it}"\n' for it in given)
         rules = "".join(tables) + '[otherwise]\nclass = "note"\n'
         rules = write(f"{self.folder}/sorting.toml", rules)
         env = {"POPBOX_DELIVER": f"{self.packaging}/popbox-deliver", "POPBOX_SORTING": rules}
         new = write(f"{self.folder}/new.toml", POLICY)
         words = ["--port", str(server.admin), "--keep", f"{self.folder}/kept"]
-        words += ["--program", self.program, "--yes", new]
-        status, _, why = self.script("popbox-set-policy", *words, env=env)
-        wants(status, 0)
+        words += ["--program", self.program, new]
+        # Only a terminal is shown the question.
+        terminal, end = os.openpty()
+        os.write(terminal, answer)
+        with self.begin("popbox-set-policy", *words, env=env, stdin=end) as run:
+            why = run.communicate(timeout=LIMIT)[1].decode()
+        os.close(terminal)
+        os.close(end)
+        is_set = server.administer("GET", "/policy") != ""
+        wants((run.returncode == 0, is_set), (answer == b"y\n",) * 2)
         server.administer("PUT", "/policy", "# None")
-        return re.findall("^note: (the sorting .*|no rule .*)", why, re.M)
+        asked = re.findall(r"^Set this policy(.*)\? \[y/N\] ", why, re.M)
+        return [*re.findall("^note: (the sorting .*|no rule .*)", why, re.M), *asked]
 
     def test_a_policy_is_held_against_the_sorting(self):
         """popbox-set-policy notes each class that only one of the two has, and who may read one
-        that no rule names."""
+        that no rule names; the question says the latter once more."""
         only = "the sorting never gives: complaint"
-        unnamed = "no rule names what ann may read: "
+        unnamed, asked = "no rule names what ann may read: ", ", by which ann may read "
         with self.office() as server:
-            wants(self.set_policy(server, ["complaint"]), [])
-            wants(self.set_policy(server, ["complaints"]), [only, f"{unnamed}complaints"])
-            wants(self.set_policy(server, []), [only])
-            wants(self.set_policy(server, ["complaint", "x", "y"]), [f"{unnamed}x y"])
-            wants(self.set_policy(server, ["No class"]), [])
+            server.administer("PUT", "/policy", "# None")
+            wants(self.set_policy(server, ["complaint"]), [""])
+            told = [only, f"{unnamed}complaints", f"{asked}complaints"]
+            for answer in (b"n\n", b"y\n"):
+                wants(self.set_policy(server, ["complaints"], answer), told)
+            wants(self.set_policy(server, []), [only, ""])
+            told = [f"{unnamed}x y", f"{asked}x y"]
+            wants(self.set_policy(server, ["complaint", "x", "y"]), told)
+            wants(self.set_policy(server, ["No class"]), [""])

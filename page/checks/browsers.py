@@ -61,28 +61,15 @@ class Chromium(webdriver.Chrome):
 # Selenium's names of the commands that the cases give, and Firefox's own. Debian has no
 # geckodriver, which turns those of WebDriver into these.
 COMMANDS = {
-    "newSession": "NewSession",
-    "get": "Navigate",
-    "getTitle": "GetTitle",
-    "goBack": "Back",
-    "refresh": "Refresh",
-    "setTimeouts": "SetTimeouts",
-    "w3cExecuteScript": "ExecuteScript",
-    "findElement": "FindElement",
-    "findElements": "FindElements",
-    "w3cGetActiveElement": "GetActiveElement",
-    "getElementText": "GetElementText",
-    "getElementTagName": "GetElementTagName",
-    "getElementAriaLabel": "GetComputedLabel",
-    "sendKeysToElement": "ElementSendKeys",
-    "clickElement": "ElementClick",
-    "actions": "PerformActions",
-    "newWindow": "NewWindow",
-    "switchToWindow": "SwitchToWindow",
-    "w3cGetCurrentWindowHandle": "GetWindowHandle",
-    "setWindowRect": "SetWindowRect",
-    "screenshot": "TakeScreenshot",
-    "printPage": "Print",
+    "newSession": "NewSession", "get": "Navigate", "getTitle": "GetTitle", "goBack": "Back",
+    "refresh": "Refresh", "setTimeouts": "SetTimeouts", "w3cExecuteScript": "ExecuteScript",
+    "findElement": "FindElement", "findElements": "FindElements",
+    "w3cGetActiveElement": "GetActiveElement", "getElementText": "GetElementText",
+    "getElementTagName": "GetElementTagName", "getElementAriaLabel": "GetComputedLabel",
+    "sendKeysToElement": "ElementSendKeys", "clickElement": "ElementClick",
+    "actions": "PerformActions", "newWindow": "NewWindow", "switchToWindow": "SwitchToWindow",
+    "w3cGetCurrentWindowHandle": "GetWindowHandle", "setWindowRect": "SetWindowRect",
+    "screenshot": "TakeScreenshot", "printPage": "Print",
 }
 # No question before the password, nor for that of another site's frame or script, which is asked of
 # a person; and no request to its makers.

@@ -118,7 +118,7 @@ class Draft(PageCase):
         bad = OFFICE.replace('class = "legal"', 'class = "lEgal"')
         page.draft(bad)
         line = bad[: bad.index('class = "lEgal"')].count("\n") + 1
-        told = "Rule 9: `class` is `lEgal`, and not `*` or 1 to 32 of a-z, 0-9 and -"
+        told = "Rule 9 dan-no-legal: `class` is `lEgal`, and not `*` or 1 to 32 of a-z, 0-9 and -"
         self.assertEqual(page.text("fault"), f"{told} Go to line {line}")
         self.assertFalse(page.may_be_put())
         page.click("#fault button")
@@ -204,8 +204,9 @@ class Draft(PageCase):
         self.assertEqual(place.get("/policy"), "")
 
     def test_names_that_the_server_lacks_are_said(self):
-        """A clerk, a maildrop or a class that the server doesn't have is named, with the nearest
-        that it has; a class that a message has isn't."""
+        """A clerk or a maildrop that the server doesn't have, or a class that the sorting never
+        gives, is named, with the nearest that there is. A class that the sorting gives and no rule
+        names is said, with who may read it, and the question says it once more."""
         place, page = self.office()
         text = OFFICE.replace('"bob", "dan"', '"bbo", "dan"')
         text = text.replace('maildrop = "billing"', 'maildrop = "biling"')
@@ -215,6 +216,13 @@ class Draft(PageCase):
         told = "No clerk bbo; there is bob", "No class paymnt; there is payment"
         found = page.says("lacking", *told)
         self.assertNotIn("note", found)
+        place.sort("payments")
+        page.draft(DRAFT)
+        page.says("lacking", "No class payment; there is payments")
+        told = "No rule names what ann, bob, cat, eve may read: payments, note"
+        page.says("review", told)
+        page.click("d-put")
+        self.assertIn(told, page.asks())
 
     def test_a_reload_and_a_second_tab_keep_the_draft(self):
         """The browser keeps draft, filters and cell; another tab's change is said, and taken."""

@@ -71,6 +71,7 @@ class Site:
         if policy is not None:
             self.fill(policy)
         make_key(folder, "page", "localhost")
+        self.sort("payment", "complaint", "legal", "invoice")
         hashed = made("openssl", "passwd", "-6", PASSWORD).strip()
         with open(f"{folder}/users", "w", encoding="ascii") as users:
             users.write(f"{USER}:{hashed}\ndesk:{hashed}\n")
@@ -110,6 +111,12 @@ class Site:
         for number, kind in enumerate(("payment", "note", "note", "complaint")):
             self.server.drop(f"orders.{kind}.d{number}.eml", b"Subject: a chair\n\nA chair.\n")
         self.server.wait_for_spool()
+
+    def sort(self, *given):
+        """Makes a sorting that gives these classes, and note."""
+        with open(f"{self.folder}/sorting.toml", "w", encoding="ascii") as file:
+            file.writelines(f'[[sort]]\nclass = "{it}"\nsubject = "{it}"\n' for it in given)
+            file.write('[otherwise]\nclass = "note"\n')
 
     def write_configuration(self):
         """The package's site, with other paths, and Debian's nginx.conf around it in short."""
@@ -161,6 +168,8 @@ class Site:
             "POPBOX_ADMIN_PORT": str(self.admin),
             "POPBOX_SET_POLICY": f"{TOP}/packaging/popbox-set-policy",
             "POPBOX_KEEP": self.keep,
+            "POPBOX_DELIVER": f"{TOP}/packaging/popbox-deliver",
+            "POPBOX_SORTING": f"{self.folder}/sorting.toml",
         }
         words = ["systemd-socket-activate", "--accept", "--inetd", "-l", path, "-E", "PATH"]
         words += [word for it in settings for word in ("-E", it)]

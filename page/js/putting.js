@@ -9,12 +9,13 @@ import { reviewDraft } from './review.js';
 import { state } from './store.js';
 
 export async function putInForce() {
-  const { draft, force, written, gives, takes, never } = state.review;
+  const { draft, force, written, gives, takes, never, unnamed } = state.review;
   const nobody = !state.beside.draft.told.cells.some((cell) => allows(cell.open));
   const body = [
     paragraph(`Decisions that become allowed: ${gives.length}; denied: ${takes.length}.`),
     never.length ? warning(`Rules that never decide: ${never.length}.`) : null,
     nobody ? warning('By this draft nobody may open any maildrop.') : null,
+    unnamed ? warning(`${unnamed}.`) : null,
     paragraph('It binds at once, also clerks who are in.'),
     paragraph('What is in force now is kept: “History” gives it back.'),
   ];

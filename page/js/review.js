@@ -3,11 +3,11 @@
 import { lines, review } from './ask.js';
 import { diff, nearest } from './diff.js';
 import { $, counted, dim, folded, h } from './dom.js';
-import { besideOf, OTHERS, shownName, tableFrom } from './decisions.js';
+import { allows, besideOf, OTHERS, shownName, tableFrom } from './decisions.js';
 import { goToFault } from './draft.js';
 import { drawTable } from './grid.js';
 import { tablesOf } from './rules.js';
-import { addClerks, classesHeld, hasDraft, isStale, serverNames, state } from './store.js';
+import { addClerks, hasDraft, isStale, serverNames, state } from './store.js';
 
 let aborter = null;
 export function forgetReview() {
@@ -50,10 +50,12 @@ async function reviewNow(draft, force, signal) {
   const beside = besideOf(...await Promise.all(tables));
   if (signal.aborted) return;
   state.beside = beside;
-  state.review = { draft, force, written, ...sorted(changes) };
+  const told = sorted(changes), unnamed = unnamedIn(written, told.given, beside.draft);
+  if (unnamed) told.notes.push(unnamed);
+  state.review = { draft, force, written, unnamed, ...told };
   drawReview();
   await addClerks(beside.draft.named);
-  await drawLacking(signal);
+  if (!signal.aborted) drawLacking();
 }
 
 /** The lines of a review by what they say. */
@@ -64,7 +66,20 @@ function sorted(text) {
     takes: some(/ -> deny /),
     never: some(/ never decides: /),
     notes: some(/^note: /).map((line) => line.slice(6)),
+    given: some(/^class /).map((line) => line.slice(6)),
   };
+}
+
+/** The classes that rules of a policy name. */
+const namedIn = (policy) => [...policy.matchAll(/^class = "([^"*]+)"$/gm)].map(([, name]) => name);
+
+/** Says who may read classes that the sorting gives and no rule names; nothing if nobody may. */
+function unnamedIn(policy, given, { classes, told }) {
+  const unnamed = given.filter((name) => !namedIn(policy).includes(name));
+  const may = ({ open, read }) => allows(open) && allows(read[classes.indexOf(OTHERS)]);
+  const clerks = [...new Set(told.cells.filter(may).map((cell) => shownName(cell.clerk)))];
+  if (!unnamed.length || !clerks.length) return '';
+  return `No rule names what ${clerks.join(', ')} may read: ${unnamed.join(', ')}`;
 }
 
 // ---- A fault
@@ -82,7 +97,7 @@ function drawFault(told) {
 export function faultLine(fault, draft) {
   const line = /, line (\d+): /.exec(fault);
   if (line) return Number(line[1]);
-  const [, kind, n] = /\b(rule|group) (\d+): /.exec(fault) ?? [];
+  const [, kind, n] = /\b(rule|group) (\d+)(?: \S+)?: /.exec(fault) ?? [];
   const all = draft.split('\n'), place = tablesOf(all, kind)[n - 1];
   if (!place) return 0;
   const key = /: `(\w+)` /.exec(fault)?.[1];
@@ -189,9 +204,11 @@ export function drawLinesOf(all) {
     drawn.length ? drawn : dim('no line differs'))];
 }
 
-/** The names of the draft that the server doesn't have, each with the nearest that it has. */
-async function drawLacking(signal) {
+/** The names of the draft that the server or its sorting doesn't have, each with the nearest that
+ *  it has. Without a sorting its fault is a note. */
+function drawLacking() {
   const { draft } = state.beside, { clerks, maildrops } = serverNames(), told = [];
+  const { given, written } = state.review;
   const lacks = (what, all, has, isLacking) => {
     for (const name of all.filter((it) => it !== OTHERS && isLacking(it))) {
       const near = nearest(name, has);
@@ -200,11 +217,10 @@ async function drawLacking(signal) {
   };
   lacks('clerk', draft.named, clerks, (name) => state.clerks.get(name) === null);
   lacks('maildrop', draft.namedMaildrops, maildrops, (name) => !maildrops.includes(name));
-  const known = new Set(state.alone?.classes), isNew = (name) => !known.has(name);
-  if (draft.classes.some(isNew)) (await classesHeld(30)).forEach((name) => known.add(name));
-  lacks('class', draft.classes, [...known].filter((it) => it !== OTHERS), isNew);
-  if (signal.aborted || told.length === 0) return;
-  const title = h('h3', null, 'Names that the server does not have');
+  const classes = given.length ? [...new Set(namedIn(written))] : [];
+  lacks('class', classes, given, (name) => !given.includes(name));
+  if (told.length === 0) return;
+  const title = h('h3', null, 'Names that the server or its sorting does not have');
   const list = h('ul', { class: 'fault' }, told.map((it) => h('li', null, it)));
   $('lacking').replaceChildren(title, list);
 }

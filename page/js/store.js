@@ -1,7 +1,7 @@
 // What the server holds, as it was asked last, and what this browser keeps: the draft, the policy
 // on which it began, and the filters; no password. Draws nothing.
 
-import { ask, lines, policyName, review, rows } from './ask.js';
+import { ask, policyName, review, rows } from './ask.js';
 import { byName } from './dom.js';
 import { OTHERS, tableFrom } from './decisions.js';
 
@@ -130,12 +130,4 @@ export async function textInForce() {
   if (!putOf(state.name).at) return state.force;
   const { status, text } = await ask('GET', `/policies/${state.name}`);
   return status === 200 ? text : state.force;
-}
-
-/** The classes of the messages that the server has, in so many maildrops. */
-export async function classesHeld(most) {
-  const some = state.maildrops.filter((it) => it.n).slice(0, most);
-  const told = await Promise.all(some.map((it) => ask('GET', `/api/maildrops/${it.name}`)));
-  const uids = told.flatMap(({ status, text }) => (status === 200 ? lines(text) : []));
-  return new Set(uids.map((line) => line.slice(0, line.lastIndexOf('.', line.indexOf(' ')))));
 }

@@ -2,6 +2,7 @@
 //! policy's reader says which key that is; here it is worded.
 
 use super::bad_line::tell_value;
+use creds::Name;
 use policy::{Place, PlacedFault, Policy, PolicyFault};
 use std::alloc::Global;
 use std::io::Write;
@@ -56,31 +57,36 @@ fn tell_fault_in<E: Write>(
     table: &Table,
     placed: PlacedFault,
 ) -> io::Result<()> {
-    if let Some(number) = placed.fault.group_number() {
-        write!(err, "why: {name}, group {number}: ")?;
-        return match table_at(table, "group", number) {
-            Some(group) => tell_in(err, table, group, placed),
-            None => writeln!(err, "{}", placed.fault.name()),
-        };
-    }
-    match placed.fault.rule_number() {
-        Some(0) => {
+    let (list, number) = match (placed.fault.group_number(), placed.fault.rule_number()) {
+        (Some(number), _) => ("group", number),
+        (None, Some(0)) => {
             write!(err, "why: {name}: the key ")?;
             tell_stray(err, table, placed.place)?;
-            writeln!(
+            return writeln!(
                 err,
                 " stands at the top, where `group` and `rule` alone may"
-            )
+            );
         }
-        Some(number) => {
-            write!(err, "why: {name}, rule {number}: ")?;
-            match table_at(table, "rule", number) {
-                Some(rule) => tell_in(err, table, rule, placed),
-                None => writeln!(err, "{}", placed.fault.name()),
-            }
+        (None, Some(number)) => ("rule", number),
+        (None, None) => return tell_whole(err, name, placed),
+    };
+    write!(err, "why: {name}, {list} {number}")?;
+    match table_at(table, list, number) {
+        Some(one) => {
+            tell_name(err, one, placed.place)?;
+            tell_in(err, table, list, one, placed)
         }
-        None => tell_whole(err, name, placed),
+        None => writeln!(err, ": {}", placed.fault.name()),
     }
+}
+
+/// Prints the name of a group or rule, unless it has none or the fault lies in it.
+fn tell_name<E: Write>(err: &mut E, one: &Table, place: Place) -> io::Result<()> {
+    let name = text_at(one, "name");
+    if key_at(place) != "name" && Name::read(name.as_bytes()).is_some() {
+        write!(err, " {name}")?;
+    }
+    write!(err, ": ")
 }
 
 /// Prints a fault of the policy as a whole.
@@ -125,19 +131,17 @@ fn key_at(place: Place) -> &'static str {
 fn tell_in<E: Write>(
     err: &mut E,
     table: &Table,
+    list: &str,
     one: &Table,
     placed: PlacedFault,
 ) -> io::Result<()> {
     match placed.fault {
-        PolicyFault::GroupKeys(_) => tell_keys(err, one, placed.place, "name and members"),
-        PolicyFault::MissingKey(_) | PolicyFault::UnknownKey(_) => tell_keys(
-            err,
-            one,
-            placed.place,
-            "name, effect, clerk, maildrop, class and actions",
-        ),
-        PolicyFault::GroupDouble(_) => tell_double(err, table, "group", one),
-        PolicyFault::DoubleName(_) => tell_double(err, table, "rule", one),
+        PolicyFault::GroupKeys(_) | PolicyFault::MissingKey(_) | PolicyFault::UnknownKey(_) => {
+            tell_keys(err, one, placed.place, list)
+        }
+        PolicyFault::GroupDouble(_) | PolicyFault::DoubleName(_) => {
+            tell_double(err, table, list, one)
+        }
         PolicyFault::GroupMembers(_) => tell_members(err, one, placed.place),
         PolicyFault::BadActions(_) => writeln!(
             err,
@@ -163,15 +167,35 @@ fn form_at(placed: PlacedFault) -> &'static str {
     }
 }
 
-/// Prints the key that a table lacks, or the one that none of its kind has.
-fn tell_keys<E: Write>(err: &mut E, one: &Table, place: Place, keys: &str) -> io::Result<()> {
-    match place {
-        Place::Stray(_) => {
-            write!(err, "the key ")?;
-            tell_stray(err, one, place)?;
-            writeln!(err, " is none of {keys}")
-        }
-        _ => writeln!(err, "the key `{}` is missing", key_at(place)),
+/// Prints the key that a table lacks, and the first one that none of its kind has: it may be the
+/// one that is missing, with a letter wrong.
+fn tell_keys<E: Write>(err: &mut E, one: &Table, place: Place, list: &str) -> io::Result<()> {
+    let is_missing = !matches!(place, Place::Stray(_));
+    if is_missing {
+        write!(err, "the key `{}` is missing", key_at(place))?;
+    }
+    let Some(at) = one.keys().position(|key| !is_key_of(list, key.as_str())) else {
+        return writeln!(err);
+    };
+    write!(err, "{}the key ", if is_missing { ", and " } else { "" })?;
+    tell_stray(err, one, Place::Stray(at))?;
+    match list {
+        "group" => writeln!(err, " is none of name and members"),
+        _ => writeln!(
+            err,
+            " is none of name, effect, clerk, maildrop, class and actions"
+        ),
+    }
+}
+
+/// Whether a group, or a rule, has this key.
+fn is_key_of(list: &str, key: &str) -> bool {
+    match list {
+        "group" => matches!(key, "name" | "members"),
+        _ => matches!(
+            key,
+            "name" | "effect" | "clerk" | "maildrop" | "class" | "actions"
+        ),
     }
 }
 
