@@ -5,6 +5,7 @@ import hashlib
 import os
 import poplib
 
+from clients import stopped
 from place import DRAFT, OFFICE, PageCase
 from selenium.webdriver.common.keys import Keys
 
@@ -177,6 +178,19 @@ class Draft(PageCase):
         page.wait(lambda: len(page.cells("before-list")) == 2, "it isn't kept")
         self.assertRegex(page.cells("before-list")[0][1], "^admin, ")
         self.assertEqual([it[0][-16:] for it in page.cells("before-list")], names[::-1])
+
+    def test_a_draft_that_is_begun_meanwhile_stays(self):
+        """What is typed while a draft is put in force isn't forgotten with it."""
+        place, page = self.office()
+        page.draft(DRAFT)
+        page.wait(page.may_be_put, "it can't be put in force")
+        with stopped(place.server):
+            page.click("d-put")
+            page.agree()
+            page.says("status", "puts it in force")
+            page.fill(None, draft=f"{DRAFT}# more\n")
+        page.says("status", "In force: 11 rules.")
+        self.assertEqual(page.value("draft"), f"{DRAFT}# more\n")
 
     def test_that_nobody_may_open_is_warned_of(self):
         """A draft without a rule is put in force only after a warning."""

@@ -250,11 +250,10 @@ class Door(PageCase):
         place, text = self.place, self.place.read("nginx.conf")
         make_key(place.folder, "ann", "ann")
         for old, new in (
-            ('auth_basic "popbox"', "auth_basic off"),
+            ('auth_basic "popbox"', "auth_basic off"), ("$remote_user", "$ssl_client_s_dn"),
             ("#ssl_client_certificate", "ssl_client_certificate"),
             ("/etc/ssl/certs/popbox-admins.pem", f"{place.folder}/ann.pem"),
             ("#ssl_verify_client", "ssl_verify_client"),
-            ("$remote_user", "$ssl_client_s_dn"),
         ):
             self.assertIn(old, text)
             text = text.replace(old, new)

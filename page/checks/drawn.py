@@ -16,36 +16,6 @@ from selenium.webdriver.common.keys import Keys
 OTHERS = "(others)"
 
 
-class Decisions(PageCase):
-    def decisions(self, new, old=None):
-        """What `review-policy --format csv` prints, by cell, then by class and action."""
-        words = [self.program, "review-policy", "--format", "csv"]
-        words += ["--against", self.write("old.toml", old)] if old is not None else []
-        words.append(self.write("new.toml", new))
-        ran = subprocess.run(words, capture_output=True, text=True, check=False)
-        table = {}
-        for row in [*csv.reader(io.StringIO(ran.stdout))][1:]:
-            clerk, maildrop, kind, action, allowed, rule = row
-            cell = table.setdefault((clerk, maildrop), {})
-            cell[kind, action] = (allowed == "allow", rule)
-        return table
-
-    def same(self, page, table, mark, clerks=(), maildrops=()):
-        """Fails unless the table has these cells; what only the server has is as (others)."""
-        rows, columns = ({it[n] for it in table} | {*more}
-                         for n, more in ((0, clerks), (1, maildrops)))
-
-        def at(clerk, maildrop):
-            clerk = clerk if any(it[0] == clerk for it in table) else OTHERS
-            return clerk, maildrop if any(it[1] == maildrop for it in table) else OTHERS
-
-        want = {(c, m): mark(at(c, m)) for c in rows for m in columns}
-        found = drawn(page)
-        names = [it for it in {**found, **want} if found.get(it) != want.get(it)]
-        some = [(it, found.get(it), want.get(it)) for it in names[:3]]
-        self.assertEqual((len(names), some), (0, []))
-
-
 def mark_of(cell):
     """The mark of the page's legend for these decisions."""
     reads = [is_so for (_, action), (is_so, _) in cell.items() if action == "read"]
@@ -83,12 +53,6 @@ def drawn(page):
     return {(name(clerk), name(drop)): mark for clerk, drop, mark in page.js(DRAWN)}
 
 
-def whole(page, table, more=0):
-    """Waits until a table is drawn, row by row."""
-    count = len(table) + more
-    page.wait(lambda: len(page.js(DRAWN)) == count, f"the table hasn't {count} cells")
-
-
 def told(is_so, rule):
     return f"{'yes' if is_so else 'no'}, {'no rule' if rule == 'default' else rule}"
 
@@ -113,7 +77,35 @@ document.addEventListener('keydown', (it) => waits.push(performance.now() - it.t
 """
 
 
-class Table(Decisions):
+class Table(PageCase):
+    def decisions(self, new, old=None):
+        """What `review-policy --format csv` prints, by cell, then by class and action."""
+        words = [self.program, "review-policy", "--format", "csv"]
+        words += ["--against", self.write("old.toml", old)] if old is not None else []
+        words.append(self.write("new.toml", new))
+        ran = subprocess.run(words, capture_output=True, text=True, check=False)
+        table = {}
+        for row in [*csv.reader(io.StringIO(ran.stdout))][1:]:
+            clerk, maildrop, kind, action, allowed, rule = row
+            cell = table.setdefault((clerk, maildrop), {})
+            cell[kind, action] = (allowed == "allow", rule)
+        return table
+
+    def same(self, page, table, mark, clerks=(), maildrops=()):
+        """Fails unless the table has these cells; what only the server has is as (others)."""
+        rows, columns = ({it[n] for it in table} | {*more}
+                         for n, more in ((0, clerks), (1, maildrops)))
+
+        def at(clerk, maildrop):
+            clerk = clerk if any(it[0] == clerk for it in table) else OTHERS
+            return clerk, maildrop if any(it[1] == maildrop for it in table) else OTHERS
+
+        want = {(c, m): mark(at(c, m)) for c in rows for m in columns}
+        found = drawn(page)
+        names = [it for it in {**found, **want} if found.get(it) != want.get(it)]
+        some = [(it, found.get(it), want.get(it)) for it in names[:3]]
+        self.assertEqual((len(names), some), (0, []))
+
     def opened(self, page, clerk, maildrop, cell, then=None):
         """Fails unless the opened cell says which rule decides each question, and the draft's."""
 
@@ -308,14 +300,10 @@ return [all('.list :is(th, td)', (it) => it.borderWidth).length,
 """
 
 
-RULE = """[[rule]]
-name = "of-CLERK"
-effect = "allow"
-clerk = "CLERK"
-maildrop = "orders"
-class = "*"
-actions = ["open", "read"]
-"""
+RULE = (
+    '[[rule]]\nname = "of-CLERK"\neffect = "allow"\nclerk = "CLERK"\nmaildrop = "orders"\n'
+    'class = "*"\nactions = ["open", "read"]\n'
+)
 
 
 class Looks(PageCase):
@@ -337,9 +325,8 @@ class Looks(PageCase):
         page = self.looks_well(width=1280)
         page.view("table/dan/orders")
         page.says("cell-title", "dan")
-        ring = "return getComputedStyle(document.activeElement).outlineStyle"
-        found = page.focused().get_attribute("id"), page.js(ring)
-        self.assertEqual(found, ("cell-title", "none"))
+        ring = "const it = document.activeElement; return it.id + getComputedStyle(it).outlineStyle"
+        self.assertEqual(page.js(ring), "cell-titlenone")
         page.view("clerks")
         self.assertEqual(page.js(LOOKS), [1, 1, []])
         self.assertLess(page.js(HIGH_OF, "#c-form"), 50)

@@ -29,11 +29,10 @@ function draw(c, m, takesFocus) {
       decision(now.read[n], then?.read[n]), decision(now.remove[n], then?.remove[n]))));
   const title = h('h3', { id: 'cell-title', tabindex: -1 },
     `${shownName(clerk)} in ${shownName(maildrop)}`);
-  const told = draft ? ['By the policy in force, and by the draft if it differs.'] : [];
   $('cell').replaceChildren(
     h('div', { class: 'head' }, title, button('Close', closeCell, 'Close (Escape)')),
     h('p', null, `${words(now, force.classes)}.`.replace(/^./, (it) => it.toUpperCase())),
-    ...told.map((it) => dim(it)),
+    ...draft ? [dim('By the policy in force, and by the draft if it differs.')] : [],
     ...sameAs(c, maildrop),
     h('table', null, body),
   );
