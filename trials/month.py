@@ -344,7 +344,6 @@ class Office:
         self.policy, self.day, self.fetches, self.again = Policy(policy), 0, 0, 0
 
     def bind(self, policy):
-        """A policy came into force."""
         self.policy = Policy(policy)
         self.policies.append(self.policy.rules)
 
