@@ -138,8 +138,16 @@ fn full_house_ends_nobody(rt: HostRuntime) -> Result<(), Fail> {
 fn newcomers_get_the_oldest_places(rt: HostRuntime) -> Result<(), Fail> {
     let here = [IpAddr::V4(Ipv4Addr::new(192, 0, 2, 1)); 80];
     for from in [&here[..0], &here[..]] {
-        let ends = ends_by(rt.alloc(), 0, Some(from), &[(64, 5), (0, 6), (2, 7), (1, 8)])?;
-        assert!(rt; ends.as_str() == "1 full house, 2 full house, 3 full house, ", "{ends}");
+        let ends = ends_by(
+            rt.alloc(),
+            0,
+            Some(from),
+            &[(64, 5), (0, 6), (2, 7), (1, 8)],
+        )?;
+        assert!(rt;
+            ends.as_str() == "1 full house, 2 full house, 3 full house, ",
+            "{ends}"
+        );
     }
     Ok(())
 }
@@ -153,6 +161,9 @@ fn newcomers_get_places_of_the_address_with_most(rt: HostRuntime) -> Result<(), 
     from[1] = IpAddr::V4(Ipv4Addr::new(192, 0, 2, 3));
     from[2] = IpAddr::V4(Ipv4Addr::new(192, 0, 2, 3));
     let ends = ends_by(rt.alloc(), 0, Some(&from[..]), &[(64, 5), (3, 6)])?;
-    assert!(rt; ends.as_str() == "4 full house, 5 full house, 6 full house, ", "{ends}");
+    assert!(rt;
+        ends.as_str() == "4 full house, 5 full house, 6 full house, ",
+        "{ends}"
+    );
     Ok(())
 }
