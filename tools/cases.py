@@ -14,8 +14,9 @@ import tempfile
 import time
 import unittest
 
-TOOLS = os.path.dirname(os.path.realpath(__file__))
-TOP = os.path.dirname(TOOLS)
+from crates import TOP, read_words
+
+TOOLS = f"{TOP}/tools"
 PROGRAM = f"{TOP}/crates/popbox/out/popbox"
 
 
@@ -43,8 +44,7 @@ def needs(*commands):
 
 
 def compile_preload(name, folder):
-    """Compiles tools/preload/NAME.c, which the loader puts before the C library, and gives the
-    path of the library, in this folder."""
+    """Compiles tools/preload/NAME.c, in this folder, for the loader; gives the library's path."""
     needs("cc")
     library = f"{folder}/{name}.so"
     words = ["cc", "-O2", "-shared", "-fPIC", "-o", library, f"{TOOLS}/preload/{name}.c"]
@@ -81,10 +81,25 @@ class Result(unittest.TextTestResult):
         print(f"{test.id()}: {self.told}, {time.monotonic() - self.begun:.1f} s", flush=True)
 
 
+def find_program(words):
+    """The path of the program that the first of these words names, or else of tools/build's."""
+    program = os.path.abspath(words[0]) if words else PROGRAM
+    if not os.access(program, os.X_OK):
+        sys.exit(f"{program} isn't there: tools/build builds it, tools/run-unproved another")
+    return program
+
+
+def tell(tool, differs, counts):
+    """Prints what differs, and counts, each after a tool's name; and exits."""
+    for it in differs:
+        print(f"{tool}: {it}", file=sys.stderr)
+    print(f"{tool}: {counts}")
+    sys.exit(bool(differs))
+
+
 def read_line(text, options):
     """Gives Case what the command line says, and gives the words after each -k."""
-    if {"-h", "--help"} & {*sys.argv[1:]}:
-        sys.exit(print(text.strip()))
+    read_words(text)
     line = argparse.ArgumentParser(usage=text.partition(":")[0])
     line.add_argument("-k", action="append", default=[])
     line.add_argument("program", nargs="?", type=os.path.abspath, default=PROGRAM)
@@ -102,8 +117,7 @@ def main(text, folder, **options):
     """Runs those cases of a folder beside this file that the command line asks for, and exits.
     `text` is the tool's help. Each of the options, with its default, is an attribute of Case."""
     words = read_line(text, options)
-    if not os.access(Case.program, os.X_OK):
-        sys.exit(f"{Case.program} isn't there: tools/build builds it, tools/run-unproved another")
+    find_program([Case.program])
     # What a case began is ended with it.
     signal.signal(signal.SIGTERM, signal.default_int_handler)
     loader = unittest.TestLoader()

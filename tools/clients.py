@@ -4,6 +4,7 @@ import contextlib
 import hashlib
 import os
 import re
+import resource
 import select
 import signal
 import socket
@@ -334,6 +335,12 @@ def stopped(server):
         yield
     finally:
         os.kill(server.run.pid, signal.SIGCONT)
+
+
+def limit_files(octets):
+    """Lets no file of this process grow past so many octets: a write that would is refused."""
+    signal.signal(signal.SIGXFSZ, signal.SIG_IGN)
+    resource.setrlimit(resource.RLIMIT_FSIZE, (octets, octets))
 
 
 def put(file, text):

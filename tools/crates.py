@@ -5,6 +5,7 @@ import contextlib
 import os
 import signal
 import subprocess
+import sys
 import tempfile
 import threading
 import time
@@ -13,12 +14,22 @@ TOP = os.path.dirname(os.path.dirname(os.path.realpath(__file__)))
 # Where a control group says how much memory it may have.
 LIMITS = ("/sys/fs/cgroup/memory.max", "/sys/fs/cgroup/memory/memory.limit_in_bytes")
 
+# What ends a run.
+SIGNALS = (signal.SIGINT, signal.SIGTERM, signal.SIGHUP)
+
 # `rt try` runs a check beside each build, for a hint about names alone, which takes the processor as
 # long as the build itself. Whoever builds many at once ends it: `rt check` names such names too.
 # What only the hint's check has among its words: it begins at a function that isn't there.
 WORDS = b"\0--start\0no function"
 # How often a run of `rt try` is looked at until its hint's check has begun, in seconds.
 PAUSE = 0.1
+
+
+def read_words(text):
+    """The words of the command line; if one asks for help, this prints a text and exits."""
+    if {"-h", "--help"} & {*sys.argv[1:]}:
+        sys.exit(print(text.strip()))
+    return sys.argv[1:]
 
 
 def read_crates():

@@ -8,29 +8,19 @@
  * has a higher number than the file says doesn't begin, and the file of that name with `.at` has
  * the number of the wait. It calls the system alone.
  */
-#define _GNU_SOURCE
-#include <fcntl.h>
+#include "files.h"
 #include <netinet/in.h>
 #include <netinet/tcp.h>
 #include <stdarg.h>
 #include <stdio.h>
-#include <stdlib.h>
 #include <string.h>
 #include <sys/epoll.h>
 #include <sys/socket.h>
-#include <sys/syscall.h>
 #include <time.h>
-#include <unistd.h>
 
 static void tell(const char *line, int count)
 {
-    const char *calls = getenv("CALLS");
-    int flags = O_WRONLY | O_CREAT | O_APPEND;
-    long file = calls ? syscall(SYS_openat, AT_FDCWD, calls, flags, 0600) : -1;
-    if (file < 0)
-        return;
-    syscall(SYS_write, file, line, count);
-    syscall(SYS_close, file);
+    put(getenv("CALLS"), O_APPEND, line, count);
 }
 
 /* The port of a link's other end, or 0. */
@@ -52,12 +42,7 @@ static void tell_link(const char *word, int link, long first, long second)
 static long gate(const char *name)
 {
     char text[20] = {0};
-    long file = syscall(SYS_openat, AT_FDCWD, name, O_RDONLY);
-    if (file < 0)
-        return -1;
-    syscall(SYS_read, file, text, sizeof text - 1);
-    syscall(SYS_close, file);
-    return strtol(text, NULL, 10);
+    return get(name, text, sizeof text - 1) < 0 ? -1 : strtol(text, NULL, 10);
 }
 
 /* Keeps a wait from its beginning, as long as the gate says so. */
@@ -70,9 +55,7 @@ static void hold(void)
     waits++;
     while (name && gate(name) >= 0 && gate(name) < waits) {
         snprintf(at, sizeof at, "%s.at", name);
-        long file = syscall(SYS_openat, AT_FDCWD, at, O_WRONLY | O_CREAT | O_TRUNC, 0600);
-        syscall(SYS_write, file, line, snprintf(line, sizeof line, "%ld", waits));
-        syscall(SYS_close, file);
+        put(at, O_TRUNC, line, snprintf(line, sizeof line, "%ld", waits));
         syscall(SYS_nanosleep, &moment, NULL);
     }
 }

@@ -7,35 +7,8 @@
  * otherwise, so that a slow machine loses no time. It calls the system alone, since a program may ask
  * before the C library's own parts are ready.
  */
-#define _GNU_SOURCE
-#include <fcntl.h>
-#include <stdlib.h>
-#include <sys/syscall.h>
+#include "files.h"
 #include <time.h>
-#include <unistd.h>
-
-/* Tells that a moment with these seconds is told. */
-static void tell_seen(const char *text, long count)
-{
-    const char *name = getenv("SEEN");
-    long file = name ? syscall(SYS_openat, AT_FDCWD, name, O_WRONLY | O_CREAT | O_TRUNC, 0600) : -1;
-    if (file >= 0) {
-        syscall(SYS_write, file, text, count);
-        syscall(SYS_close, file);
-    }
-}
-
-/* Reads the text of a file that a variable names. Gives how many octets it has. */
-static long read_file(const char *variable, char *text, long room)
-{
-    const char *name = getenv(variable);
-    long file = name ? syscall(SYS_openat, AT_FDCWD, name, O_RDONLY) : -1, count = 0;
-    if (file >= 0) {
-        count = syscall(SYS_read, file, text, room);
-        syscall(SYS_close, file);
-    }
-    return count;
-}
 
 /* The number that a text begins with. */
 static long number(const char *text, long count)
@@ -51,9 +24,9 @@ static long added(void)
 {
     static long told;
     char text[20];
-    long count = read_file("CLOCK", text, sizeof text), seconds = number(text, count);
+    long count = get(getenv("CLOCK"), text, sizeof text), seconds = number(text, count);
     if (seconds != told)
-        tell_seen(text, count);
+        put(getenv("SEEN"), O_TRUNC, text, count < 0 ? 0 : count);
     told = seconds;
     return seconds;
 }
@@ -62,7 +35,7 @@ static long added(void)
 static long date_added(void)
 {
     char text[20];
-    return number(text, read_file("DATE", text, sizeof text));
+    return number(text, get(getenv("DATE"), text, sizeof text));
 }
 
 /* Keeps a clock at the first moment that it told. */

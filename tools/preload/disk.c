@@ -7,28 +7,17 @@
  * while the file that GATE names is there; `refused NAME` tells of it. With BREAKS, a signal breaks
  * off the first write to standard output (EINTR). It calls the system alone.
  */
-#define _GNU_SOURCE
+#include "files.h"
 #include <errno.h>
-#include <fcntl.h>
 #include <fnmatch.h>
 #include <limits.h>
 #include <stdio.h>
-#include <stdlib.h>
 #include <sys/stat.h>
-#include <sys/syscall.h>
-#include <unistd.h>
 
 static void tell(const char *word, const char *name)
 {
     char line[PATH_MAX + 16];
-    const char *calls = getenv("CALLS");
-    int flags = O_WRONLY | O_CREAT | O_APPEND, count;
-    long file = calls ? syscall(SYS_openat, AT_FDCWD, calls, flags, 0600) : -1;
-    if (file < 0)
-        return;
-    count = snprintf(line, sizeof line, "%s %s\n", word, name);
-    syscall(SYS_write, file, line, count);
-    syscall(SYS_close, file);
+    put(getenv("CALLS"), O_APPEND, line, snprintf(line, sizeof line, "%s %s\n", word, name));
 }
 
 /* The name of an open file, or an empty one. */
@@ -65,14 +54,6 @@ static int fails(const char *word, const char *name)
     return 1;
 }
 
-/* Whether a sync of an open file is to fail. */
-static int fails_open(int file)
-{
-    char name[PATH_MAX];
-    name_open(file, name);
-    return fails("sync", name);
-}
-
 ssize_t write(int file, const void *octets, size_t count)
 {
     static int breaks;
@@ -86,7 +67,9 @@ ssize_t write(int file, const void *octets, size_t count)
 
 static int sync_by(long call, int file)
 {
-    int failed = fails_open(file) ? -1 : (int)syscall(call, file);
+    char name[PATH_MAX];
+    name_open(file, name);
+    int failed = fails("sync", name) ? -1 : (int)syscall(call, file);
     if (!failed)
         tell_open("sync", file);
     return failed;

@@ -43,8 +43,7 @@ def errors(octets):
 
 
 class Hostile(Case):
-    """A server whose maildrop `orders` is attacked, and whose maildrop `quiet` another clerk
-    reads."""
+    """A server whose maildrop `orders` is attacked, while another clerk reads `quiet`."""
 
     @classmethod
     def setUpClass(cls):

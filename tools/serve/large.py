@@ -65,8 +65,7 @@ class Script:
 
 
 def dotted(lines, most):
-    """These lines, and as many after them as so many octets have room for, of 1 to 71 octets, each
-    with a dot in front."""
+    """These lines, and then, up to so many octets, lines of 1 to 71 with a dot in front."""
     lines, number = list(lines), 0
     left = most - sum(len(line) + 2 for line in lines)
     while left >= number % 71 + 3:

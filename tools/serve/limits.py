@@ -193,8 +193,7 @@ class Turns(Case):
 
 
 def hold_at_wait(folder, number):
-    """Lets a server with preload/calls.c begin this wait of its turns, and holds it before the
-    next one; gives the number of that."""
+    """Holds a server with preload/calls.c before the wait after this one; gives its number."""
     put(f"{folder}/gate", str(number))
     held = []
 

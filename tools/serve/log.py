@@ -8,13 +8,11 @@ import hashlib
 import itertools
 import os
 import re
-import resource
-import signal
 import subprocess
 import time
 
 from clients import REPLY, SPOOL, Case, Client, Mail, is_silent, put, stopped, wait_for
-from clients import without_slow
+from clients import limit_files, without_slow
 
 MOMENT = r"\d\d\d\d-\d\d-\d\dT\d\d:\d\d:\d\dZ"
 PASSWORD, SECRET, WRONG = "s3cret word", "tan5taaf", "gue55ed"
@@ -101,8 +99,7 @@ class LogCase(Case):
             self.assertNotIn(it, "\n".join(lines))
 
     def without_and_with(self, option, do):
-        """Does something with two servers, first without an option and then with it; gives after
-        each whether it had it."""
+        """Does something with a server without an option, then one with it; gives which it was."""
         for words in ((), (option,)):
             self.renew()
             with self.filled(*words) as server:
@@ -270,18 +267,11 @@ class Day(LogCase):
             event=closed @7 cause=gone"""
 
 
-def limit_files():
-    """Lets no file of this process have more than 200,000 octets, as on a full disk."""
-    signal.signal(signal.SIGXFSZ, signal.SIG_IGN)
-    resource.setrlimit(resource.RLIMIT_FSIZE, (200_000, 200_000))
-
-
 class Starts(LogCase):
     """What a start logs, what the store refuses, and logs that nobody takes."""
 
     def start(self, options):
-        """Starts a server with those of these options that are other than by default; fails unless
-        it logs them."""
+        """Starts a server with those options that aren't the default; fails unless it logs all."""
         words = [it.partition("=") for it in {*options.split()} - {*IN_FORCE.split()}]
         words = [f"--{name}" if value == "yes" else f"--{name}={value}" for name, _, value in words]
         self.renew()
@@ -331,7 +321,7 @@ class Starts(LogCase):
             ("DELETE", "/clerks/c1", None, "drop_clerk"),
             ("PUT", "/policy", POLICY, "set_policy"),
         ]
-        with self.log(preexec_fn=limit_files) as it:
+        with self.log(preexec_fn=lambda: limit_files(200_000)) as it:
             it.fill(("orders", "sales"), CLERKS[:1], POLICY)
             it.deposit("orders.note.n-1.eml", CHAIR)
             for number in range(1, 1000):
