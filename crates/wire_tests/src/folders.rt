@@ -92,30 +92,6 @@ fn a_large_file_that_was_left_rests(rt: HostRuntime) -> Result<(), Fail> {
     Ok(())
 }
 
-/// A file that was left is named again though there is always a new one.
-#[test]
-fn new_files_do_not_stop_one_that_was_left(rt: HostRuntime) -> Result<(), Fail> {
-    let _ = fs::remove_dir_all(&rt, "stopped-of-a-test");
-    fs::create_dir(&rt, "stopped-of-a-test")?;
-    fs::write(&rt, "stopped-of-a-test/b.note.x.eml", "text")?;
-    let name = FileName::read(b"b.note.x.eml").ok_or("name")?;
-    let new = FileName::read(b"a.note.x.eml").ok_or("name")?;
-    let mut spool = FolderSpool::new(&rt, rt.alloc(), "stopped-of-a-test");
-    assert!(rt; is_next(&mut spool, None, name));
-    let mut count = 0u32;
-    for _ in 0..LOOKS {
-        fs::write(&rt, "stopped-of-a-test/a.note.x.eml", "text")?;
-        if !is_next(&mut spool, Some(name), new) {
-            break;
-        }
-        assert!(rt; spool.remove(&new));
-        count = count.saturating_add(1);
-    }
-    assert!(rt; count >= 1000, "{count}");
-    fs::remove_dir_all(&rt, "stopped-of-a-test")?;
-    Ok(())
-}
-
 /// Whether a file has this text.
 fn has(rt: &HostRuntime, path: &str, text: &str) -> Result<bool, Fail> {
     Ok(fs::read(rt, path)?.as_slice() == text.as_bytes())
