@@ -485,8 +485,8 @@ class Proxies(Case):
             client.send(wrong)
             client.ends()
         it.end()
-        logins = re.findall(r"event=login .* client=(\S+) .* answer=(\S+)\n", self.errors())
-        self.assertEqual(logins, [("203.0.113.7", "accepted")])
+        logins = re.findall(r"event=login .* client=(\S+) .* (answer=.*)\n", self.errors())
+        self.assertEqual(logins, [("203.0.113.7", "answer=accepted rule=all")])
 
     def test_a_proxys_client_and_an_administrator_of_one_number_are_two(self):
         """At each port the links are counted by themselves."""
